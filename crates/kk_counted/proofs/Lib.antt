@@ -34,6 +34,7 @@ pub mod GainBounds
 pub mod TokenStates
 pub mod Places
 pub mod Looks
+pub mod LooksAlike
 pub mod SoundGoing
 pub mod Functions
 pub mod Evenness

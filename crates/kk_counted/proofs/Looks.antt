@@ -109,7 +109,7 @@ module _ (outside : ℕ → ℕ) (heap : Heap) (counts : Counts outside heap) wh
       by_part None counted later = (refl, tt)
       by_part (Some w) counted later = later w counted
 
-  found_same : (way : List ℕ) (v : Value) → IsCounted heap v → found_at (cell_at heap) way v ≡ found_at (slice_get (forwards heap)) way v
+  pub found_same : (way : List ℕ) (v : Value) → IsCounted heap v → found_at (cell_at heap) way v ≡ found_at (slice_get (forwards heap)) way v
   found_same way v counted =
       let r = value_same way v counted in
       by_value (value_at (cell_at heap) way v) r.1 ∙ ap (λ (o : Option Value). and_then o (answer_of (slice_get (forwards heap)))) r.0

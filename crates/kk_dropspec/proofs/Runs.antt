@@ -1,18 +1,20 @@
 -- Runs of specialised code come to the same states.
-use Rattle.std.proofs.Common.{◌≡◌, ℕ, zero, suc, List, [], ◌∷◌, ◌++◌, map, refl, sym, ap, ◌∙◌}
+use Rattle.std.proofs.Common.{◌≡◌, ℕ, zero, suc, ◌+◌, List, [], ◌∷◌, ◌++◌, map, refl, sym, ap, ◌∙◌}
 use Rattle.std.specs.Prelude.{slice_index_or}
-use Rattle.kk_base.specs.Machines.{state, trace}
+use Rattle.kk_base.specs.Machines.{state, trace, weight_unless, weight_of}
 use Rattle.kk_syntax.specs.PositionsOf.{PositionTable}
 use Rattle.kk_source.specs.Notes.{Note}
+use Rattle.kk_source.specs.State.{Environment}
 use Rattle.kk_source.specs.Actions.{Action, goes, puts, takes, builds, calls, performed}
-use Rattle.kk_counted.specs.CountedCodes.{CountedFunction}
+use Rattle.kk_counted.specs.CountedCodes.{Counted, give, tail_call, branch, case, compute, inside, read, open_cell, if_unique, dup, drop, CountedFunction}
+use Rattle.kk_counted.specs.CountedCosts.{code_cost, control_cost, counted_cost}
 use Rattle.kk_counted.specs.Heaps.{Heap}
 use Rattle.kk_counted.specs.CountedStates.{CountedSetting, CountedFrame, CountedControl, running, stopped, stuck, CountedConfiguration, CountedState, no_function, counted_first_state, counted_end_at}
 use Rattle.kk_counted.specs.CountedMachine.{counted_code_step, counted_machine}
 use Rattle.kk_counted.specs.Spending.{IsSpent}
 use Rattle.kk_counted.specs.Keeping.{IsKept, FitsAlways}
 use Rattle.kk_counted.proofs.SoundRuns.{keeps_sound}
-use Rattle.kk_dropspec.specs.Specialised.{special_function, special_setting, special_control, special_configuration}
+use Rattle.kk_dropspec.specs.Specialised.{special, special_function, special_setting, special_control, special_configuration}
 use Rattle.kk_dropspec.specs.SameRuns.{AreSameAfter}
 use Rattle.kk_dropspec.proofs.Steps.{special_action, steps_same}
 
@@ -36,6 +38,28 @@ end_same : (control : CountedControl) → counted_end_at (special_control contro
 end_same (running code environment joins) = refl
 end_same (stopped by) = refl
 end_same stuck = refl
+
+-- the step at a code costs what that of its specialised form costs
+code_costs : (code : Counted) (environment : Environment) (heap : Heap)
+    → code_cost (special code) environment heap ≡ code_cost code environment heap
+code_costs (give x) environment heap = refl
+code_costs (tail_call f arguments) environment heap = refl
+code_costs (branch x positive negative) environment heap = refl
+code_costs (case x decisions arms) environment heap = refl
+code_costs (compute x form arguments rest) environment heap = refl
+code_costs (inside x block rest) environment heap = refl
+code_costs (read x c fields rest) environment heap = refl
+code_costs (open_cell x c fields used rest) environment heap = refl
+code_costs (if_unique x c fields used rest) environment heap = refl
+code_costs (dup x rest) environment heap = refl
+code_costs (drop x rest) environment heap = refl
+
+weighs_same : (control : CountedControl) (heap : Heap)
+    → weight_unless (counted_end_at (special_control control)) (control_cost (special_control control) heap)
+    ≡ weight_unless (counted_end_at control) (control_cost control heap)
+weighs_same (running code environment joins) heap = code_costs code environment heap
+weighs_same (stopped by) heap = refl
+weighs_same stuck heap = refl
 
 function_at : (functions : List CountedFunction) (n : ℕ)
     → slice_index_or (map special_function functions) n no_function ≡ special_function (slice_index_or functions n no_function)
@@ -84,6 +108,21 @@ module _ (positions : PositionTable) (setting : CountedSetting) (weight other : 
             ∙ ap (λ notes. ((counted_machine weight setting).step s).0 ++ notes) rest.1,
       )
 
+  -- so many steps cost as much
+  costs_same : (n : ℕ) (s : CountedState) → ((k : ℕ) → Kept (state (counted_machine weight setting) k s).machine)
+      → weight_of (counted_machine counted_cost (special_setting setting)) n (special_state s)
+      ≡ weight_of (counted_machine counted_cost setting) n s
+  costs_same zero s kept = refl
+  costs_same (suc n) s kept =
+      let later : List Note × CountedState → ℕ = λ told. weight_of (counted_machine counted_cost (special_setting setting)) n told.1 in
+      let next = next_same s.machine.control s.machine.frames s.machine.heap s.input (kept zero) in
+      ap (λ (told : List Note × CountedState).
+      (counted_machine counted_cost (special_setting setting)).weight (special_state s) + later told) next
+      ∙ (ap (λ (cost : ℕ). cost + later (special_pair ((counted_machine weight setting).step s)))
+      (weighs_same s.machine.control s.machine.heap)
+      ∙ ap (λ (rest : ℕ). (counted_machine counted_cost setting).weight s + rest)
+      (costs_same n ((counted_machine weight setting).step s).1 (λ k. kept (suc k))))
+
 pub runs_same : (positions : PositionTable) (setting : CountedSetting) (weight other : CountedState → ℕ) (input : List ℕ)
     → IsSpent positions setting.program
     → FitsAlways weight setting input → (n : ℕ) → AreSameAfter n weight other setting input
@@ -94,6 +133,10 @@ runs_same positions setting weight other input spent fits n =
       ends =
           ap (λ (s : CountedState). counted_end_at s.machine.control) states ∙ end_same
           (state (counted_machine weight setting) n (counted_first_state setting input)).machine.control;
+      costs =
+          ap (weight_of (counted_machine counted_cost (special_setting setting)) n) (first_same setting input)
+          ∙ costs_same positions setting weight other n (counted_first_state setting input)
+          (keeps_sound positions setting weight input spent fits);
     }
   where
     same : (state (counted_machine other (special_setting setting)) n (special_state (counted_first_state setting input))

@@ -1,5 +1,5 @@
 -- The counted machine follows the core machine at calls.
-use Rattle.std.proofs.Common.{◌≡◌, ◌⊎◌, inl, inr, ℕ, suc, Bool, true, false, List, [], ◌∷◌, ◌++◌, length, map, Option, Some, arith, refl, sym, ap, ◌∙◌, subst}
+use Rattle.std.proofs.Common.{◌≡◌, ◌⊎◌, inl, inr, ℕ, suc, ◌+◌, ◌*◌, ◌≤◌, Bool, true, false, List, [], ◌∷◌, ◌++◌, length, map, Option, Some, arith, refl, sym, ap, ◌∙◌, subst}
 use Rattle.std.specs.Prelude.{if◌then◌else◌, slice_get, nat_le}
 use Rattle.kk_syntax.specs.declared.program.Form.TheVariants.{Call}
 use Rattle.kk_syntax.specs.Shapes.{is_among, without}
@@ -11,10 +11,12 @@ use Rattle.kk_source.specs.Actions.{calls, performed}
 use Rattle.kk_source.specs.Step.{lent_places, bind_parameters}
 use Rattle.kk_source.proofs.Live.{among_front, among_back}
 use Rattle.kk_core.specs.Codes.{Code, tail_call, FunctionCode}
+use Rattle.kk_core.specs.Costs.{step_cost, part_cost}
 use Rattle.kk_core.specs.CoreStates.{CoreSetting, Join, CallFrame, CoreConfiguration}
 use Rattle.kk_core.specs.CoreMachine.{at_end, in_code, tail_step, call_step}
 use Rattle.kk_counted.specs.CountedCodes as Counted
 use Rattle.kk_counted.specs.CountedCodes.{CountedFunction}
+use Rattle.kk_counted.specs.CountedCosts.{form_cost, value_cost, drop_cost}
 use Rattle.kk_counted.specs.Heaps.{Heap, forwards}
 use Rattle.kk_counted.specs.CountedStates.{CountedFrame, CountedConfiguration}
 use Rattle.kk_counted.specs.CountedMachine.{tail_step as counted_tail_step, call_step as counted_call_step, in_code as counted_in_code, at_end as counted_at_end}
@@ -29,6 +31,7 @@ use Rattle.kk_insert.specs.Meaning.{inserted_setting}
 use Rattle.kk_insert.specs.Insertion.{used, lends, owns, own, insert, inserted_function, inserted_functions}
 use Rattle.kk_insert.specs.Promise.{IsInsertable}
 use Rattle.kk_insert.proofs.Sets.{in_either, part_all}
+use Rattle.kk_insert.proofs.Lengths.{positions_few, values_length, owned_length}
 use Rattle.kk_insert.proofs.Owned.{in_owns}
 use Rattle.kk_insert.proofs.Spent.{lent_arguments}
 use Rattle.kk_insert.proofs.Programs.{inserted_there}
@@ -80,26 +83,33 @@ module _ (setting : CoreSetting) (promise : IsInsertable setting.positions setti
       → IsSound (values_of environment (own setting.positions lent
       (left_by (left_of setting.positions setting.code.functions lent joins)) (tail_call f arguments)) ++ below) heap
       → slice_get setting.code.functions f ≡ Some function → length (map (value_of environment) arguments) ≡ function.parameters
-      → Follows setting.positions setting.code.functions (inserted_setting setting) 1
+      → (most : ℕ) → step_cost + part_cost * length arguments + drop_cost * (length (own setting.positions lent
+      (left_by (left_of setting.positions setting.code.functions lent joins)) (tail_call f arguments)) + length below) ≤ most
+      → Follows setting.positions setting.code.functions (inserted_setting setting) 1 most
       (tail_step (slice_get setting.code.functions f) (map (value_of environment) arguments) from) input
       (with_input (conf (insert setting.positions lent (left_by (left_of setting.positions setting.code.functions lent joins))
       (tail_call f arguments)) environment (image_joins setting.positions setting.code.functions lent joins) frames heap) input)
-  follows_tail f arguments environment (join ∷ joins) function ok reached sound there many = absurd (not_tail ok.lends_on.0)
+  follows_tail f arguments environment (join ∷ joins) function ok reached sound there many most costs = absurd (not_tail ok.lends_on.0)
     where
       not_tail : false ≡ true → ⊥
       not_tail is = absurd (cc)
-  follows_tail f arguments environment [] function ok reached sound there many =
-      subst (λ (o : Option FunctionCode). Follows setting.positions setting.code.functions (inserted_setting setting) 1
+  follows_tail f arguments environment [] function ok reached sound there many most costs =
+      subst (λ (o : Option FunctionCode). Follows setting.positions setting.code.functions (inserted_setting setting) 1 most
       (tail_step o (map (value_of environment) arguments) from) input
       (with_input (conf (insert setting.positions lent [] (tail_call f arguments)) environment [] frames heap) input)) (sym there)
       (dups_first (inserted_setting setting)
       (Stands setting.positions setting.code.functions
       (record { machine = in_code function (map (value_of environment) arguments) from; input = input })) environment
       [] frames below input 1 []
-      setting.positions lent (used setting.positions (Call f) arguments) [] (Counted.tail_call f arguments) heap sound
+      setting.positions lent (used setting.positions (Call f) arguments) [] (Counted.tail_call f arguments) heap
+      most (form_cost + value_cost * length arguments + drop_cost * length below)
+      (omega (arith, costs, positions_few (is_owned setting.positions [] f) 0 arguments)) sound
       (subst (λ (s : Store). AreReached s below environment lent) store reached)
       (λ after cells sound_then.
-      path_step (inserted_setting setting) 0 [] []
+      path_step (inserted_setting setting) 0
+      (drop_cost * (length (used setting.positions (Call f) arguments) + 0)
+      + (form_cost + value_cost * length arguments + drop_cost * length below))
+      (drop_cost * (length (used setting.positions (Call f) arguments) + length below)) [] []
       (Stands setting.positions setting.code.functions
       (record { machine = in_code function (map (value_of environment) arguments) from; input = input }))
       (with_input (conf (Counted.tail_call f arguments) environment [] frames after) input)
@@ -121,6 +131,7 @@ module _ (setting : CoreSetting) (promise : IsInsertable setting.positions setti
           ),
         ),
       )
+      (omega arith)
       (enters setting from lent below frames after (store ∙ same_store heap after (sym cells)) waits input f function
       (map (value_of environment) arguments) (promise.each f function there) many
       (λ at among.
@@ -136,7 +147,13 @@ module _ (setting : CoreSetting) (promise : IsInsertable setting.positions setti
         refs_of_both environment (used setting.positions (Call f) arguments) [] q,
         ap (λ vs. refs vs q) (values_at environment (is_owned setting.positions [] f) 0 arguments),
       ))
-      sound_then))))
+      sound_then)
+      (drop_cost * (length (used setting.positions (Call f) arguments) + length below))
+      (omega (
+        arith,
+        ap length (values_at environment (is_owned setting.positions [] f) 0 arguments),
+        values_length environment (at_positions (is_owned setting.positions [] f) 0 arguments),
+      )))))
 
   module _ (x f : ℕ) (arguments : List ℕ) (rest : Code) (environment : Environment) (joins : List Join)
       (rest_ok : RestOk setting.positions setting.code.functions lent
@@ -218,12 +235,14 @@ module _ (setting : CoreSetting) (promise : IsInsertable setting.positions setti
     pub call_at : (function : FunctionCode) → slice_get setting.code.functions f ≡ Some function
         → length values ≡ function.parameters
         → IsSound (values_of environment (used setting.positions (Call f) arguments ++ held) ++ below) heap
-        → Follows setting.positions setting.code.functions (inserted_setting setting) 1
+        → (most : ℕ) → form_cost + value_cost * length arguments
+        + drop_cost * (length (used setting.positions (Call f) arguments) + length held + length below) ≤ most
+        → Follows setting.positions setting.code.functions (inserted_setting setting) 1 most
         (call_step setting f (slice_get setting.code.functions f) values
         (λ lent. record { variable = x; rest = rest; joins = joins; environment = environment; lent = lent }) from) input
         (with_input before_call input)
-    call_at function there many sound =
-        subst (λ (o : Option FunctionCode). Follows setting.positions setting.code.functions (inserted_setting setting) 1
+    call_at function there many sound most costs =
+        subst (λ (o : Option FunctionCode). Follows setting.positions setting.code.functions (inserted_setting setting) 1 most
         (call_step setting f o values
         (λ lent. record { variable = x; rest = rest; joins = joins; environment = environment; lent = lent }) from) input
         (with_input before_call input)) (sym there)
@@ -257,25 +276,27 @@ module _ (setting : CoreSetting) (promise : IsInsertable setting.positions setti
             is)
 
         by_test : (t : Bool) → nat_le setting.depth (suc (length from.frames)) ≡ t
-            → Follows setting.positions setting.code.functions (inserted_setting setting) 1
+            → Follows setting.positions setting.code.functions (inserted_setting setting) 1 most
             (calls (suc (length from.frames))
             (if t then at_end stack_full from else in_code function values (record from { frames = waiting ∷ from.frames })))
             input (with_input before_call input)
         by_test true is =
-            path_step (inserted_setting setting) 0 (called (suc (length from.frames)) ∷ []) []
+            path_step (inserted_setting setting) 0 most 0 (called (suc (length from.frames)) ∷ []) []
             (Stands setting.positions setting.code.functions (record { machine = at_end stack_full from; input = input }))
             (with_input before_call input) (with_input (counted_at_end stack_full before_call) input) (step_is true is)
-            (tt, (tt, (tt, (is_there, tt))))
-            (path_here (inserted_setting setting)
+            (tt, (tt, (tt, (is_there, tt)))) (omega (arith, costs))
+            (path_here (inserted_setting setting) 0
             (Stands setting.positions setting.code.functions (record { machine = at_end stack_full from; input = input }))
             (with_input (counted_at_end stack_full before_call) input) (refl, (refl, tt)))
         by_test false is =
-            path_step (inserted_setting setting) 0 (called (suc (length from.frames)) ∷ []) []
+            path_step (inserted_setting setting) 0 most
+            (drop_cost * (length (used setting.positions (Call f) arguments) + (length held + length below))) (called (suc (length from.frames)) ∷ []) []
             (Stands setting.positions setting.code.functions
             (record { machine = in_code function values (record from { frames = waiting ∷ from.frames }); input = input }))
             (with_input before_call input)
             (with_input (counted_in_code (inserted_function setting.positions f function) values
             (record before_call { frames = image ∷ frames })) input) (step_is false is) (tt, (tt, (tt, (is_there, tt))))
+            (omega (arith, costs))
             (enters setting (record from { frames = waiting ∷ from.frames }) lent (values_of environment held ++ below)
             (image ∷ frames) heap store waits_longer input f function values (promise.each f function there) many lents
             (moved (values_of environment (used setting.positions (Call f) arguments ++ held) ++ below)
@@ -288,4 +309,11 @@ module _ (setting : CoreSetting) (promise : IsInsertable setting.positions setti
               refs_of_both environment (used setting.positions (Call f) arguments) held q,
               ap (λ vs. refs vs q) (values_at environment (is_owned setting.positions [] f) 0 arguments),
             ))
-            sound))
+            sound)
+            (drop_cost * (length (used setting.positions (Call f) arguments) + (length held + length below)))
+            (omega (
+              arith,
+              ap length (values_at environment (is_owned setting.positions [] f) 0 arguments),
+              values_length environment (at_positions (is_owned setting.positions [] f) 0 arguments),
+              owned_length environment held below,
+            )))

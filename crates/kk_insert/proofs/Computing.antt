@@ -1,5 +1,5 @@
 -- The counted machine follows the core machine at forms.
-use Rattle.std.proofs.Common.{◌≡◌, ℕ, ◌+◌, Bool, true, false, List, [], ◌∷◌, ◌++◌, length, map, Some, None, arith, refl, sym, ap, ◌∙◌, subst}
+use Rattle.std.proofs.Common.{◌≡◌, ℕ, suc, ◌+◌, ◌*◌, ◌≤◌, Bool, true, false, List, [], ◌∷◌, ◌++◌, length, map, Some, None, arith, refl, sym, ap, ◌∙◌, subst}
 use Rattle.std.specs.Fmt.{signed_decimal}
 use Rattle.std.specs.Prelude.{if◌then◌else◌, nat_le}
 use Rattle.kk_base.specs.Trace.{output, input as taken, input_end}
@@ -15,6 +15,7 @@ use Rattle.kk_source.specs.Notes.{seen, built}
 use Rattle.kk_source.specs.Actions.{builds, print_step, performed}
 use Rattle.kk_source.specs.FormEffects.{truth, integer_of, unary_result, binary_result, argument, piece_of, byte_value}
 use Rattle.kk_core.specs.Codes.{Code, compute}
+use Rattle.kk_core.specs.Costs.{step_cost, part_cost}
 use Rattle.kk_core.specs.CoreStates.{CoreSetting, Join, CallFrame, CoreConfiguration}
 use Rattle.kk_core.specs.CoreMachine.{bound_then, at_end, held_for, held_by_frames, form_step}
 use Rattle.kk_source.specs.NeverStuck.{ArgumentsFit}
@@ -22,11 +23,12 @@ use Rattle.kk_core.specs.Kinds.{TakesKinds}
 use Rattle.kk_core.specs.NeverStuck.{CallFits}
 use Rattle.kk_core.proofs.TakenKinds.{takes_kinds}
 use Rattle.kk_counted.specs.CountedCodes as Counted
+use Rattle.kk_counted.specs.CountedCosts.{form_cost, value_cost, drop_cost}
 use Rattle.kk_counted.specs.Heaps.{Heap, count_at, forwards, busy}
 use Rattle.kk_counted.specs.CountedStates.{CountedFrame, CountedConfiguration}
 use Rattle.kk_counted.specs.CountedMachine.{at_end as counted_at_end, counted_code_step}
 use Rattle.kk_counted.specs.References.{refs_of, refs, counted_fields, IsSound}
-use Rattle.kk_counted.specs.Spending.{left_by}
+use Rattle.kk_counted.specs.Spending.{left_by, is_owned}
 use Rattle.kk_counted.specs.Keeping.{values_of, HasNoCell, HaveNoCells, TakesNoCells, AreReached, CallsOne}
 use Rattle.kk_counted.proofs.Counting.{refs_append, counted_within}
 use Rattle.kk_counted.proofs.Heaps.{positive}
@@ -37,6 +39,7 @@ use Rattle.kk_insert.specs.Meaning.{inserted_setting}
 use Rattle.kk_insert.specs.Insertion.{used, lends, owns, own, back, insert, inserted_functions}
 use Rattle.kk_insert.specs.Promise.{IsInsertable}
 use Rattle.kk_insert.proofs.Sets.{false_if, no_both}
+use Rattle.kk_insert.proofs.Lengths.{positions_few}
 use Rattle.kk_insert.proofs.Owned.{lends_part}
 use Rattle.kk_insert.proofs.Paths.{conf, with_input, Path, path_here, path_step}
 use Rattle.kk_insert.proofs.Standing.{left_of, image_joins, CodeOk, RestOk, JoinsOk, FramesStand, Stands, Follows}
@@ -138,9 +141,16 @@ module _ (setting : CoreSetting) (constructors : List ConstructorTree) (promise 
       (record { variable = x; value = v } ∷ environment)
       (image_joins setting.positions setting.code.functions lent joins) frames heap
 
+  -- what is saved behind a form, for its value and what is owned besides
+  abbrev saved_behind : ℕ
+  saved_behind = drop_cost * (suc (length (without (x ∷ []) now)) + length below)
+
+  abbrev form_costs : ℕ
+  form_costs = form_cost + value_cost * length arguments + saved_behind
+
   value_lands : (v : Value) (input : List ℕ) → ((q : ℕ) → refs_of v q ≡ 0) → HaveNoCells (values_of environment arguments)
       → IsSound (values_of environment (arguments ++ without (x ∷ []) now) ++ below) heap
-      → Path (inserted_setting setting) 0 []
+      → Path (inserted_setting setting) 0 saved_behind []
       (Stands setting.positions setting.code.functions
       (record { machine = bound_then x v rest environment joins from; input = input })) (with_input (with_value v) input)
   value_lands v input free none sound =
@@ -153,12 +163,12 @@ module _ (setting : CoreSetting) (constructors : List ConstructorTree) (promise 
         refs_of_both environment arguments (without (x ∷ []) now) q,
         no_refs (values_of environment arguments) q none,
       ))
-      sound
+      sound saved_behind (omega arith)
 
   module _ (input : List ℕ) where
-    abbrev FollowsForm : Form → Type 0
-    FollowsForm form =
-        Follows setting.positions setting.code.functions (inserted_setting setting) 1
+    abbrev FollowsForm : ℕ → Form → Type 0
+    FollowsForm most form =
+        Follows setting.positions setting.code.functions (inserted_setting setting) 1 most
         (form_step setting form (map (value_of environment) arguments) x rest environment joins from) input
         (with_input (before_form form) input)
 
@@ -169,16 +179,16 @@ module _ (setting : CoreSetting) (constructors : List ConstructorTree) (promise 
         ([], with_input (with_value v) input)
         → Fits setting form (values_of environment arguments)
         → ((q : ℕ) → refs_of v q ≡ 0) → HaveNoCells (values_of environment arguments)
-        → IsSound (values_of environment (arguments ++ without (x ∷ []) now) ++ below) heap
-        → Path (inserted_setting setting) 1 []
+        → IsSound (values_of environment (arguments ++ without (x ∷ []) now) ++ below) heap → (most : ℕ) → form_costs ≤ most
+        → Path (inserted_setting setting) 1 most []
         (Stands setting.positions setting.code.functions
         (record { machine = bound_then x v rest environment joins from; input = input })) (with_input (before_form form) input)
-    value_comes form v is fits free none sound =
-        path_step (inserted_setting setting) 0 [] []
+    value_comes form v is fits free none sound most costs =
+        path_step (inserted_setting setting) 0 most saved_behind [] []
         (Stands setting.positions setting.code.functions
         (record { machine = bound_then x v rest environment joins from; input = input })) (with_input (before_form form) input)
         (with_input (with_value v) input) is
-        (tt, (fits.0, (tt, fits.1))) (value_lands v input free none sound)
+        (tt, (fits.0, (tt, fits.1))) (omega (arith, costs)) (value_lands v input free none sound)
 
     print_comes : (form : Form) (piece : List ℕ)
         → performed (counted_code_step (inserted_setting setting) (Counted.compute x form arguments (behind form)) environment
@@ -186,21 +196,21 @@ module _ (setting : CoreSetting) (constructors : List ConstructorTree) (promise 
         (print_step piece (with_value unit)) input
         → Fits setting form (values_of environment arguments)
         → HaveNoCells (values_of environment arguments)
-        → IsSound (values_of environment (arguments ++ without (x ∷ []) now) ++ below) heap
-        → Follows setting.positions setting.code.functions (inserted_setting setting) 1
+        → IsSound (values_of environment (arguments ++ without (x ∷ []) now) ++ below) heap → (most : ℕ) → form_costs ≤ most
+        → Follows setting.positions setting.code.functions (inserted_setting setting) 1 most
         (print_step piece (bound_then x unit rest environment joins from)) input (with_input (before_form form) input)
-    print_comes form [] is fits none sound =
-        path_step (inserted_setting setting) 0 [] []
+    print_comes form [] is fits none sound most costs =
+        path_step (inserted_setting setting) 0 most saved_behind [] []
         (Stands setting.positions setting.code.functions
         (record { machine = bound_then x unit rest environment joins from; input = input }))
         (with_input (before_form form) input) (with_input (with_value unit) input) is
-        (tt, (fits.0, (tt, fits.1))) (value_lands unit input (λ q. refl) none sound)
-    print_comes form (byte ∷ bytes) is fits none sound =
-        path_step (inserted_setting setting) 0 (seen (output (byte ∷ bytes)) ∷ []) []
+        (tt, (fits.0, (tt, fits.1))) (omega (arith, costs)) (value_lands unit input (λ q. refl) none sound)
+    print_comes form (byte ∷ bytes) is fits none sound most costs =
+        path_step (inserted_setting setting) 0 most saved_behind (seen (output (byte ∷ bytes)) ∷ []) []
         (Stands setting.positions setting.code.functions
         (record { machine = bound_then x unit rest environment joins from; input = input }))
         (with_input (before_form form) input) (with_input (with_value unit) input) is
-        (tt, (fits.0, (tt, fits.1))) (value_lands unit input (λ q. refl) none sound)
+        (tt, (fits.0, (tt, fits.1))) (omega (arith, costs)) (value_lands unit input (λ q. refl) none sound)
 
     -- ---- constructions
 
@@ -258,7 +268,7 @@ module _ (setting : CoreSetting) (constructors : List ConstructorTree) (promise 
           (record { variable = x; value = place at } ∷ environment)
           (image_joins setting.positions setting.code.functions lent joins) frames longer
 
-      cell_lands : Path (inserted_setting setting) 0 []
+      cell_lands : Path (inserted_setting setting) 0 saved_behind []
           (Stands setting.positions setting.code.functions
           (record {
             machine = record (bound_then x (place (length from.store)) rest environment joins from)
@@ -272,6 +282,7 @@ module _ (setting : CoreSetting) (constructors : List ConstructorTree) (promise 
           (place (length from.store) ∷ (values_of environment (without (x ∷ []) now) ++ below)) rest_ok joins_ok
           (λ y at is named. reached_longer from.store cell below at (reached y at is named)) refl
           (λ q. omega (arith, refs_append (values_of environment (without (x ∷ []) now)) below q)) sound_longer
+          saved_behind (omega arith)
 
       abbrev found : ℕ
       found = live from.store (values ++ (held_for x rest joins environment ++ held_by_frames from.frames))
@@ -284,17 +295,17 @@ module _ (setting : CoreSetting) (constructors : List ConstructorTree) (promise 
           (subst (λ (s : Store). AreReached s below environment lent) store reached) sound
           ∙ ap (λ (s : Store). live s (values ++ (held_for x rest joins environment ++ held_by_frames from.frames))) (sym store)
 
-      made : performed (counted_code_step (inserted_setting setting)
+      made : (most : ℕ) → form_costs ≤ most → performed (counted_code_step (inserted_setting setting)
           (Counted.compute x (Construct c) arguments (behind (Construct c))) environment
           (image_joins setting.positions setting.code.functions lent joins) (before_form (Construct c))) input
           ≡ performed (builds (busy heap)
           (if nat_le setting.cells (busy heap) then counted_at_end heap_full (before_form (Construct c)) else with_cell
           (length heap))) input
-          → Follows setting.positions setting.code.functions (inserted_setting setting) 1
+          → Follows setting.positions setting.code.functions (inserted_setting setting) 1 most
           (builds found (if nat_le setting.cells found then at_end heap_full from else record
           (bound_then x (place (length from.store)) rest environment joins from) { store = from.store ++ cell ∷ [] })) input
           (with_input (before_form (Construct c)) input)
-      made step = by_test (nat_le setting.cells found) refl
+      made most costs step = by_test (nat_le setting.cells found) refl
         where
           step_is : (t : Bool) → nat_le setting.cells found ≡ t
               → performed (counted_code_step (inserted_setting setting)
@@ -318,20 +329,21 @@ module _ (setting : CoreSetting) (constructors : List ConstructorTree) (promise 
               input) is))
 
           by_test : (t : Bool) → nat_le setting.cells found ≡ t
-              → Follows setting.positions setting.code.functions (inserted_setting setting) 1
+              → Follows setting.positions setting.code.functions (inserted_setting setting) 1 most
               (builds found (if t then at_end heap_full from else record
               (bound_then x (place (length from.store)) rest environment joins from) { store = from.store ++ cell ∷ [] })) input
               (with_input (before_form (Construct c)) input)
           by_test true is =
-              path_step (inserted_setting setting) 0 (built found ∷ []) []
+              path_step (inserted_setting setting) 0 most 0 (built found ∷ []) []
               (Stands setting.positions setting.code.functions (record { machine = at_end heap_full from; input = input }))
               (with_input (before_form (Construct c)) input)
               (with_input (counted_at_end heap_full (before_form (Construct c))) input) (step_is true is) (tt, (tt, (tt, (tt, tt))))
-              (path_here (inserted_setting setting)
+              (omega (arith, costs))
+              (path_here (inserted_setting setting) 0
               (Stands setting.positions setting.code.functions (record { machine = at_end heap_full from; input = input }))
               (with_input (counted_at_end heap_full (before_form (Construct c))) input) (refl, (refl, tt)))
           by_test false is =
-              path_step (inserted_setting setting) 0 (built found ∷ []) []
+              path_step (inserted_setting setting) 0 most saved_behind (built found ∷ []) []
               (Stands setting.positions setting.code.functions
               (record {
                 machine = record (bound_then x (place (length from.store)) rest environment joins from)
@@ -339,7 +351,7 @@ module _ (setting : CoreSetting) (constructors : List ConstructorTree) (promise 
                 input = input;
               }))
               (with_input (before_form (Construct c)) input) (with_input (with_cell (length from.store)) input) (step_is false is)
-              (tt, (tt, (tt, (tt, tt)))) cell_lands
+              (tt, (tt, (tt, (tt, tt)))) (omega (arith, costs)) cell_lands
 
 module _ (setting : CoreSetting) (constructors : List ConstructorTree) (promise : IsInsertable setting.positions setting.code)
     (from : CoreConfiguration) (lent : List ℕ) (below : List Value) (frames : List CountedFrame) (heap : Heap)
@@ -350,77 +362,90 @@ module _ (setting : CoreSetting) (constructors : List ConstructorTree) (promise 
     (left_of setting.positions setting.code.functions lent joins) x rest)
     (joins_ok : JoinsOk setting.positions setting.code.functions lent joins)
     (reached : AreReached from.store below environment lent) where
-  reads : (input : List ℕ) (arguments : List ℕ) → HaveNoCells (values_of environment arguments)
+  -- what a form costs, with what is saved behind it
+  abbrev CostsAt : ℕ → List ℕ → Form → Type 0
+  CostsAt most arguments form =
+      form_cost + value_cost * length arguments + drop_cost * (suc (length (used setting.positions form arguments)
+      + length (held setting constructors promise from lent below frames heap store waits x arguments rest environment joins rest_ok
+      joins_ok reached form)) + length below) ≤ most
+
+  reads : (input : List ℕ) (arguments : List ℕ) (most : ℕ) → CostsAt most arguments ReadByte
+      → HaveNoCells (values_of environment arguments)
       → SoundAt setting constructors promise from lent below frames heap store waits x arguments rest environment joins rest_ok
       joins_ok reached ReadByte
       → FollowsForm setting constructors promise from lent below frames heap store waits x arguments rest environment joins rest_ok
-      joins_ok reached input ReadByte
-  reads [] arguments none sound =
-      path_step (inserted_setting setting) 0 (seen input_end ∷ []) []
+      joins_ok reached input most ReadByte
+  reads [] arguments most costs none sound =
+      path_step (inserted_setting setting) 0 most
+      (saved_behind setting constructors promise from lent below frames heap store waits x arguments rest environment joins rest_ok
+      joins_ok reached) (seen input_end ∷ []) []
       (Stands setting.positions setting.code.functions
       (record { machine = bound_then x (byte_value None) rest environment joins from; input = [] }))
       (with_input (before_form setting constructors promise from lent below frames heap store waits x arguments rest environment
       joins rest_ok joins_ok reached ReadByte) [])
       (with_input (with_value setting constructors promise from lent below frames heap store waits x arguments rest environment
-      joins rest_ok joins_ok reached (byte_value None)) []) refl (tt, (none, (tt, (tt, tt))))
+      joins rest_ok joins_ok reached (byte_value None)) []) refl (tt, (none, (tt, (tt, tt)))) (omega (arith, costs))
       (value_lands setting constructors promise from lent below frames heap store waits x arguments rest environment joins rest_ok
       joins_ok reached (byte_value None) [] (byte_free None) none sound)
-  reads (byte ∷ bytes) arguments none sound =
-      path_step (inserted_setting setting) 0 (seen (taken byte) ∷ []) []
+  reads (byte ∷ bytes) arguments most costs none sound =
+      path_step (inserted_setting setting) 0 most
+      (saved_behind setting constructors promise from lent below frames heap store waits x arguments rest environment joins rest_ok
+      joins_ok reached) (seen (taken byte) ∷ []) []
       (Stands setting.positions setting.code.functions
       (record { machine = bound_then x (byte_value (Some byte)) rest environment joins from; input = bytes }))
       (with_input (before_form setting constructors promise from lent below frames heap store waits x arguments rest environment
       joins rest_ok joins_ok reached ReadByte) (byte ∷ bytes))
       (with_input (with_value setting constructors promise from lent below frames heap store waits x arguments rest environment
-      joins rest_ok joins_ok reached (byte_value (Some byte))) bytes) refl (tt, (none, (tt, (tt, tt))))
+      joins rest_ok joins_ok reached (byte_value (Some byte))) bytes) refl (tt, (none, (tt, (tt, tt)))) (omega (arith, costs))
       (value_lands setting constructors promise from lent below frames heap store waits x arguments rest environment joins rest_ok
       joins_ok reached (byte_value (Some byte)) bytes (byte_free (Some byte)) none sound)
 
   module _ (input : List ℕ) where
-    constructs : (c : ℕ) (arguments : List ℕ)
+    constructs : (c : ℕ) (arguments : List ℕ) (most : ℕ) → CostsAt most arguments (Construct c)
         → SoundAt setting constructors promise from lent below frames heap store waits x arguments rest environment joins rest_ok
         joins_ok reached (Construct c)
         → FollowsForm setting constructors promise from lent below frames heap store waits x arguments rest environment joins
-        rest_ok joins_ok reached input (Construct c)
-    constructs c [] sound =
+        rest_ok joins_ok reached input most (Construct c)
+    constructs c [] most costs sound =
         value_comes setting constructors promise from lent below frames heap store waits x
         [] rest environment joins rest_ok joins_ok reached input (Construct c) (constant c) refl (tt, (tt, tt)) (λ q. refl) tt sound
-    constructs c (y ∷ ys) sound =
+        most (omega (arith, costs))
+    constructs c (y ∷ ys) most costs sound =
         made setting constructors promise from lent below frames heap store waits x
-        (y ∷ ys) rest environment joins rest_ok joins_ok reached input c sound refl
+        (y ∷ ys) rest environment joins rest_ok joins_ok reached input c sound most (omega (arith, costs)) refl
 
     -- the step of each form
-    pub form_at : (form : Form) (arguments : List ℕ)
+    pub form_at : (form : Form) (arguments : List ℕ) (most : ℕ) → CostsAt most arguments form
         → ArgumentsFit constructors setting.code.texts (CallFits constructors setting.code) form
         (map (value_of environment) arguments) → is_among arguments x ≡ false
         → SoundAt setting constructors promise from lent below frames heap store waits x arguments rest environment joins rest_ok
         joins_ok reached form
         → FollowsForm setting constructors promise from lent below frames heap store waits x arguments rest environment joins
-        rest_ok joins_ok reached input form
-    form_at (Number n) arguments fits new sound =
+        rest_ok joins_ok reached input most form
+    form_at (Number n) arguments most costs fits new sound =
         value_comes setting constructors promise from lent below frames heap store waits x arguments rest environment joins rest_ok
         joins_ok reached input (Number n) (integer n) refl
         (form_fits setting constructors (Number n) (map (value_of environment) arguments) fits tt) (λ q. refl)
-        (takes_none setting constructors (Number n) (map (value_of environment) arguments) fits) sound
-    form_at Nothing arguments fits new sound =
+        (takes_none setting constructors (Number n) (map (value_of environment) arguments) fits) sound most (omega (arith, costs))
+    form_at Nothing arguments most costs fits new sound =
         value_comes setting constructors promise from lent below frames heap store waits x arguments rest environment joins rest_ok
         joins_ok reached input Nothing unit refl
         (form_fits setting constructors Nothing (map (value_of environment) arguments) fits tt) (λ q. refl)
-        (takes_none setting constructors Nothing (map (value_of environment) arguments) fits) sound
-    form_at ReadByte arguments fits new sound = reads input arguments
+        (takes_none setting constructors Nothing (map (value_of environment) arguments) fits) sound most (omega (arith, costs))
+    form_at ReadByte arguments most costs fits new sound = reads input arguments most costs
         (takes_none setting constructors ReadByte (map (value_of environment) arguments) fits) sound
-    form_at (PrintText form text) arguments fits new sound =
+    form_at (PrintText form text) arguments most costs fits new sound =
         print_comes setting constructors promise from lent below frames heap store waits x arguments rest environment joins rest_ok
         joins_ok reached input (PrintText form text) (piece_of form (text_at setting.code.texts text)) refl
         (form_fits setting constructors (PrintText form text) (map (value_of environment) arguments) fits tt)
-        (takes_none setting constructors (PrintText form text) (map (value_of environment) arguments) fits) sound
-    form_at (Unary operator) arguments fits new sound =
+        (takes_none setting constructors (PrintText form text) (map (value_of environment) arguments) fits) sound most (omega (arith, costs))
+    form_at (Unary operator) arguments most costs fits new sound =
         value_comes setting constructors promise from lent below frames heap store waits x arguments rest environment joins rest_ok
         joins_ok reached input (Unary operator) (unary_result operator (argument 0 (map (value_of environment) arguments))) refl
         (form_fits setting constructors (Unary operator) (map (value_of environment) arguments) fits tt)
         (unary_free operator (argument 0 (map (value_of environment) arguments)))
-        (takes_none setting constructors (Unary operator) (map (value_of environment) arguments) fits) sound
-    form_at (Binary operator) arguments fits new sound =
+        (takes_none setting constructors (Unary operator) (map (value_of environment) arguments) fits) sound most (omega (arith, costs))
+    form_at (Binary operator) arguments most costs fits new sound =
         value_comes setting constructors promise from lent below frames heap store waits x arguments rest environment joins rest_ok
         joins_ok reached input (Binary operator)
         (binary_result operator (argument 0 (map (value_of environment) arguments))
@@ -428,20 +453,20 @@ module _ (setting : CoreSetting) (constructors : List ConstructorTree) (promise 
         (form_fits setting constructors (Binary operator) (map (value_of environment) arguments) fits tt)
         (number_free operator (integer_of (argument 0 (map (value_of environment) arguments)))
         (integer_of (argument 1 (map (value_of environment) arguments))))
-        (takes_none setting constructors (Binary operator) (map (value_of environment) arguments) fits) sound
-    form_at (Print form) arguments fits new sound =
+        (takes_none setting constructors (Binary operator) (map (value_of environment) arguments) fits) sound most (omega (arith, costs))
+    form_at (Print form) arguments most costs fits new sound =
         print_comes setting constructors promise from lent below frames heap store waits x arguments rest environment joins rest_ok
         joins_ok reached input (Print form)
         (piece_of form (signed_decimal (integer_of (argument 0 (map (value_of environment) arguments))))) refl
         (form_fits setting constructors (Print form) (map (value_of environment) arguments) fits tt)
-        (takes_none setting constructors (Print form) (map (value_of environment) arguments) fits) sound
-    form_at (Construct c) arguments fits new sound = constructs c arguments sound
-    form_at (Call f) arguments fits new sound =
+        (takes_none setting constructors (Print form) (map (value_of environment) arguments) fits) sound most (omega (arith, costs))
+    form_at (Construct c) arguments most costs fits new sound = constructs c arguments most costs sound
+    form_at (Call f) arguments most costs fits new sound =
         call_at setting promise from lent below frames heap store waits input x f arguments rest environment joins rest_ok joins_ok
         reached
         (false_if (is_among (lends setting.positions (Call f) arguments) x)
         (λ is. no_both ⊥ (is_among arguments x) (lends_part setting.positions (Call f) arguments x is) new))
-        fits.0 fits.1 fits.2 sound
+        fits.0 fits.1 fits.2 sound most (omega (arith, costs))
 
 -- the step of a code that computes
 module _ (setting : CoreSetting) (constructors : List ConstructorTree) (promise : IsInsertable setting.positions setting.code)
@@ -457,12 +482,14 @@ module _ (setting : CoreSetting) (constructors : List ConstructorTree) (promise 
       (left_by (left_of setting.positions setting.code.functions lent joins)) (compute x form arguments rest)) ++ below) heap
       → ArgumentsFit constructors setting.code.texts (CallFits constructors setting.code) form
       (map (value_of environment) arguments)
-      → Follows setting.positions setting.code.functions (inserted_setting setting) 1
+      → (most : ℕ) → step_cost + part_cost * length arguments + drop_cost * (length (own setting.positions lent
+      (left_by (left_of setting.positions setting.code.functions lent joins)) (compute x form arguments rest)) + length below) ≤ most
+      → Follows setting.positions setting.code.functions (inserted_setting setting) 1 most
       (form_step setting form (map (value_of environment) arguments) x rest environment joins from) input
       (with_input (conf (insert setting.positions lent (left_by (left_of setting.positions setting.code.functions lent joins))
       (compute x form arguments rest)) environment
       (image_joins setting.positions setting.code.functions lent joins) frames heap) input)
-  follows_compute x form arguments rest ok sound fits =
+  follows_compute x form arguments rest ok sound fits most costs =
       dups_first (inserted_setting setting)
       (Stands setting.positions setting.code.functions
       (performed (form_step setting form (map (value_of environment) arguments) x rest environment joins from) input).1)
@@ -475,7 +502,9 @@ module _ (setting : CoreSetting) (constructors : List ConstructorTree) (promise 
       (Counted.compute x form arguments (back lent (lends setting.positions form arguments) x
       (own setting.positions lent (left_by (left_of setting.positions setting.code.functions lent joins)) rest)
       (insert setting.positions lent (left_by (left_of setting.positions setting.code.functions lent joins)) rest)))
-      heap sound (subst (λ (s : Store). AreReached s below environment lent) store reached)
+      heap most (form_cost + value_cost * length arguments + (drop_cost + drop_cost * length below))
+      (omega (arith, costs, used_few form))
+      sound (subst (λ (s : Store). AreReached s below environment lent) store reached)
       (λ after cells sound_then. form_at setting constructors promise from lent below frames after
       (store ∙ same_store heap after (sym cells)) waits x rest environment joins
       (record {
@@ -489,5 +518,20 @@ module _ (setting : CoreSetting) (constructors : List ConstructorTree) (promise 
         apart = ok.apart;
         small = omega (arith, ok.small);
       })
-      joins_ok reached input form arguments fits
+      joins_ok reached input form arguments
+      (drop_cost * (length (used setting.positions form arguments) + length (owns lent (lends setting.positions form arguments)
+      (without (x ∷ []) (own setting.positions lent
+      (left_by (left_of setting.positions setting.code.functions lent joins)) rest))))
+      + (form_cost + value_cost * length arguments + (drop_cost + drop_cost * length below))) (omega arith) fits
       (false_if (is_among arguments x) (λ is. no_both ⊥ (is_among ok.bound x) (ok.fine.0 x is) ok.fine.1.0)) sound_then)
+    where
+      used_few : (form : Form) → length (used setting.positions form arguments) ≤ length arguments
+      used_few (Number n) = omega arith
+      used_few Nothing = omega arith
+      used_few ReadByte = omega arith
+      used_few (PrintText form text) = omega arith
+      used_few (Unary operator) = omega arith
+      used_few (Binary operator) = omega arith
+      used_few (Print form) = omega arith
+      used_few (Construct c) = omega arith
+      used_few (Call f) = positions_few (is_owned setting.positions [] f) 0 arguments

@@ -1,5 +1,5 @@
 -- The counted machine follows the core machine where a value is given and where a function is entered.
-use Rattle.std.proofs.Common.{◌≡◌, ◌⊎◌, inl, inr, ℕ, ◌+◌, ◌<◌, true, false, List, [], ◌∷◌, ◌++◌, length, arith, refl, sym, ap, ◌∙◌, subst}
+use Rattle.std.proofs.Common.{◌≡◌, ◌⊎◌, inl, inr, ℕ, suc, ◌+◌, ◌*◌, ◌<◌, ◌≤◌, true, false, List, [], ◌∷◌, ◌++◌, length, arith, refl, sym, ap, ◌∙◌, subst}
 use Rattle.kk_syntax.specs.Shapes.{is_among, without}
 use Rattle.kk_syntax.specs.PositionsOf.{PositionTable, is_lent}
 use Rattle.kk_source.specs.State.{Value, unit, place, Store, Environment, ended}
@@ -10,6 +10,7 @@ use Rattle.kk_source.specs.Step.{bind_parameters}
 use Rattle.kk_core.specs.Codes.{Code, give, FunctionCode}
 use Rattle.kk_core.specs.CoreStates.{CoreSetting, Join, CallFrame, CoreConfiguration}
 use Rattle.kk_core.specs.CoreMachine.{bound_then, at_end, give_step, in_code}
+use Rattle.kk_core.specs.Costs.{step_cost}
 use Rattle.kk_core.specs.NeverStuck.{ResultFits}
 use Rattle.kk_syntax.specs.Programs.{ConstructorTree}
 use Rattle.kk_counted.specs.Heaps.{busy}
@@ -17,6 +18,7 @@ use Rattle.kk_counted.proofs.Reaching.{none_counted}
 use Rattle.kk_core.specs.Sizes.{below as numbers_below}
 use Rattle.kk_counted.specs.CountedCodes as Counted
 use Rattle.kk_counted.specs.CountedCodes.{CountedFunction}
+use Rattle.kk_counted.specs.CountedCosts.{form_cost, dup_cost, drop_cost}
 use Rattle.kk_counted.specs.Heaps.{Heap, forwards}
 use Rattle.kk_counted.specs.CountedStates.{CountedSetting, CountedJoin, CountedFrame, CountedState}
 use Rattle.kk_counted.specs.CountedStates as Final
@@ -31,6 +33,7 @@ use Rattle.kk_insert.specs.Meaning.{inserted_setting}
 use Rattle.kk_insert.specs.Insertion.{dups, dropping, lent_of, owns, wants, own, back, insert, inserted_function}
 use Rattle.kk_insert.specs.Promise.{IsFunctionInsertable}
 use Rattle.kk_insert.proofs.Sets.{no_self, no_both, false_if}
+use Rattle.kk_insert.proofs.Lengths.{even_append, wants_few, values_length, owned_length}
 use Rattle.kk_insert.proofs.Owned.{owns_either, own_apart, wants_in, wants_even}
 use Rattle.kk_insert.proofs.Programs.{lent_parameter, is_fine, owned_parameter, numbers_apart}
 use Rattle.kk_insert.proofs.Paths.{conf, with_input, Path, path_here, path_step}
@@ -38,15 +41,26 @@ use Rattle.kk_insert.proofs.Settling.{From, GoesOn, sound_even, either_counted, 
 use Rattle.kk_insert.proofs.Standing.{left_of, image_joins, image_frame, RestOk, JoinsOk, FramesStand, rest_code, Stands, Follows}
 use Rattle.kk_insert.proofs.Following.{arrives}
 
--- the dups before a code that uses variables up
-pub dups_first : (setting : CountedSetting) (P : CountedState → Type 0) (environment : Environment) (joins : List CountedJoin)
+-- The dups before a code that uses variables up. Each of its uses takes one at most; and then the cost of a drop is saved for each.
+pub dups_first : (setting : CountedSetting) (P : ℕ → CountedState → Type 0) (environment : Environment) (joins : List CountedJoin)
     (frames : List CountedFrame) (below : List Value) (input : List ℕ) (least : ℕ) (events : List Note)
-    (positions : PositionTable) (lent xs after : List ℕ) (code : Counted.Counted) (heap : Heap)
+    (positions : PositionTable) (lent xs after : List ℕ) (code : Counted.Counted) (heap : Heap) (most later : ℕ)
+    → dup_cost * length xs + (drop_cost * length xs + (drop_cost * length (owns lent xs after) + later)) ≤ most
     → IsSound (values_of environment (owns lent xs after) ++ below) heap → AreReached (forwards heap) below environment lent
-    → GoesOn setting P environment joins frames below input least events code (xs ++ after) heap
-    → From setting P environment joins frames below input least events (dups (wants lent xs after) code) heap
-dups_first setting P environment joins frames below input least events positions lent xs after code heap sound reached next =
-    dups_path setting P environment joins frames below input least events (wants lent xs after) (owns lent xs after) code heap sound
+    → GoesOn setting P environment joins frames below input least events (drop_cost * (length xs + length after) + later) code
+    (xs ++ after) heap
+    → From setting P environment joins frames below input least events most (dups (wants lent xs after) code) heap
+dups_first setting P environment joins frames below input least events positions lent xs after code heap most later costs sound
+    reached next =
+    dups_path setting P environment joins frames below input least events (wants lent xs after) (owns lent xs after) code heap most
+    (drop_cost * (length xs + length after) + later)
+    (omega (
+      arith,
+      costs,
+      wants_few lent xs after,
+      even_append (wants lent xs after) (owns lent xs after) xs after (wants_even positions lent xs after),
+    ))
+    sound
     (λ y is. either_counted environment (owns lent xs after) lent below heap y sound reached
     (wants_in positions lent xs after y is))
     (λ last cells sound_then. next last cells
@@ -67,6 +81,12 @@ module _ (setting : CoreSetting) (from : CoreConfiguration) (lent : List ℕ) (b
     (heap : Heap)
     (store : from.store ≡ forwards heap)
     (waits : FramesStand setting.positions setting.code.functions from.store from.frames frames below) (input : List ℕ) where
+  -- what is saved where a code runs
+  abbrev saved_at : List ℕ → List Join → Code → ℕ
+  saved_at variables joins code =
+      drop_cost * length (own setting.positions variables
+      (left_by (left_of setting.positions setting.code.functions variables joins)) code) + drop_cost * length below
+
   -- a value comes to a variable behind a form or a call
   pub lands : (x : ℕ) (v : Value) (rest : Code) (environment : Environment) (joins : List Join) (given : List ℕ) (all : List Value)
       → RestOk setting.positions setting.code.functions lent (left_of setting.positions setting.code.functions lent joins) x rest
@@ -77,7 +97,10 @@ module _ (setting : CoreSetting) (from : CoreConfiguration) (lent : List ℕ) (b
       (without (x ∷ []) (own setting.positions lent
       (left_by (left_of setting.positions setting.code.functions lent joins)) rest)))) q + refs below q))
       → IsSound all heap
-      → Path (inserted_setting setting) 0 []
+      → (most : ℕ) → drop_cost * (suc (length (owns lent given
+      (without (x ∷ []) (own setting.positions lent
+      (left_by (left_of setting.positions setting.code.functions lent joins)) rest)))) + length below) ≤ most
+      → Path (inserted_setting setting) 0 most []
       (Stands setting.positions setting.code.functions
       (record { machine = bound_then x v rest environment joins from; input = input }))
       (with_input (conf (back lent given x
@@ -85,7 +108,7 @@ module _ (setting : CoreSetting) (from : CoreConfiguration) (lent : List ℕ) (b
       (insert setting.positions lent (left_by (left_of setting.positions setting.code.functions lent joins)) rest))
       (record { variable = x; value = v } ∷ environment)
       (image_joins setting.positions setting.code.functions lent joins) frames heap) input)
-  lands x v rest environment joins given all rest_ok joins_ok reached new even sound =
+  lands x v rest environment joins given all rest_ok joins_ok reached new even sound most costs =
       back_path (inserted_setting setting)
       (Stands setting.positions setting.code.functions
       (record { machine = bound_then x v rest environment joins from; input = input }))
@@ -94,13 +117,14 @@ module _ (setting : CoreSetting) (from : CoreConfiguration) (lent : List ℕ) (b
       setting.positions lent given x (own setting.positions lent
       (left_by (left_of setting.positions setting.code.functions lent joins)) rest)
       (insert setting.positions lent (left_by (left_of setting.positions setting.code.functions lent joins)) rest) heap
+      most (drop_cost * length below) (omega (arith, costs))
       (own_apart setting.positions lent (left_by (left_of setting.positions setting.code.functions lent joins)) rest rest_ok.apart)
       (landed x v environment (owns lent given
       (without (x ∷ []) (own setting.positions lent
       (left_by (left_of setting.positions setting.code.functions lent joins)) rest))) below all heap
       (not_held setting.positions lent given x
       (own setting.positions lent (left_by (left_of setting.positions setting.code.functions lent joins)) rest) new) even sound)
-      (λ after cells sound_then. path_here (inserted_setting setting)
+      (λ after cells sound_then. path_here (inserted_setting setting) (saved_at lent joins rest)
       (Stands setting.positions setting.code.functions
       (record { machine = bound_then x v rest environment joins from; input = input }))
       (with_input (conf (insert setting.positions lent (left_by (left_of setting.positions setting.code.functions lent joins)) rest)
@@ -110,30 +134,39 @@ module _ (setting : CoreSetting) (from : CoreConfiguration) (lent : List ℕ) (b
       (record { variable = x; value = v } ∷ environment) joins after cells
       (rest_code setting.positions setting.code.functions lent
       (left_of setting.positions setting.code.functions lent joins) x rest rest_ok) joins_ok
-      (reached_bound from.store below environment lent x v rest_ok.unlent reached) sound_then))
+      (reached_bound from.store below environment lent x v rest_ok.unlent reached) sound_then (saved_at lent joins rest)
+      (omega arith)))
 
   -- a function's body is entered
   pub enters : (f : ℕ) (function : FunctionCode) (values : List Value)
       → IsFunctionInsertable setting.positions setting.code.functions f function → length values ≡ function.parameters
       → ((at : ℕ) → Among (at_positions (is_lent setting.positions f) 0 values) at → Reached from.store below at)
       → IsSound (at_positions (is_owned setting.positions [] f) 0 values ++ below) heap
-      → Path (inserted_setting setting) 0 []
+      → (most : ℕ) → drop_cost * (length (at_positions (is_owned setting.positions [] f) 0 values) + length below) ≤ most
+      → Path (inserted_setting setting) 0 most []
       (Stands setting.positions setting.code.functions (record { machine = in_code function values from; input = input }))
       (with_input (conf (inserted_function setting.positions f function).body (bind_parameters 0 values []) [] frames heap) input)
-  enters f function values promise many lents sound =
+  enters f function values promise many lents sound most costs =
       dropping_path (inserted_setting setting)
       (Stands setting.positions setting.code.functions (record { machine = in_code function values from; input = input }))
       (bind_parameters 0 values []) [] frames below input 0 []
       (at_positions (is_owned setting.positions [] f) 0 (numbers_from 0 function.parameters))
       (own setting.positions (lent_of setting.positions f function) [] function.body)
       (insert setting.positions (lent_of setting.positions f function) [] function.body) heap
+      most (drop_cost * length below)
+      (omega (
+        arith,
+        costs,
+        ap length owned_are,
+        values_length (bind_parameters 0 values [])
+            (at_positions (is_owned setting.positions [] f) 0 (numbers_from 0 function.parameters)),
+      ))
       (numbers_apart (is_owned setting.positions [] f) 0 function.parameters)
       (own_apart setting.positions (lent_of setting.positions f function) [] function.body tt)
       (owned_parameter setting.positions setting.code.functions f function promise)
-      (subst (λ us. IsSound (us ++ below) heap)
-      (sym (ap (λ n. values_of (bind_parameters 0 values []) (at_positions (is_owned setting.positions [] f) 0 (numbers_from 0 n)))
-      (sym many) ∙ parameters_owned (is_owned setting.positions [] f) 0 values [])) sound)
+      (subst (λ us. IsSound (us ++ below) heap) (sym owned_are) sound)
       (λ after cells sound_then. path_here (inserted_setting setting)
+      (saved_at (lent_of setting.positions f function) [] function.body)
       (Stands setting.positions setting.code.functions (record { machine = in_code function values from; input = input }))
       (with_input (conf (insert setting.positions (lent_of setting.positions f function) [] function.body)
       (bind_parameters 0 values []) [] frames after) input)
@@ -147,8 +180,16 @@ module _ (setting : CoreSetting) (from : CoreConfiguration) (lent : List ℕ) (b
         apart = tt;
         small = promise.small;
       }) tt
-      (λ y at is named. by_case y at is (parameter_among (is_lent setting.positions f) 0 values [] y at named)) sound_then))
+      (λ y at is named. by_case y at is (parameter_among (is_lent setting.positions f) 0 values [] y at named)) sound_then
+      (saved_at (lent_of setting.positions f function) [] function.body) (omega arith)))
     where
+      owned_are : values_of (bind_parameters 0 values [])
+          (at_positions (is_owned setting.positions [] f) 0 (numbers_from 0 function.parameters))
+          ≡ at_positions (is_owned setting.positions [] f) 0 values
+      owned_are =
+          ap (λ n. values_of (bind_parameters 0 values []) (at_positions (is_owned setting.positions [] f) 0 (numbers_from 0 n)))
+          (sym many) ∙ parameters_owned (is_owned setting.positions [] f) 0 values []
+
       nothing : (y : ℕ) → is_among [] y ≡ true → is_among (numbers_below function.parameters) y ≡ true
       nothing y is = absurd (cc)
 
@@ -168,6 +209,13 @@ module _ (setting : CoreSetting) (from : CoreConfiguration) (lent : List ℕ) (b
 
 module _ (setting : CoreSetting) (constructors : List ConstructorTree) (from : CoreConfiguration) (lent : List ℕ)
     (below : List Value) (heap : Heap) (store : from.store ≡ forwards heap) (input : List ℕ) where
+  -- what a function that waits owns
+  abbrev waiting_owned : List ℕ → List ℕ → CallFrame → List ℕ
+  waiting_owned variables given frame =
+      owns variables given
+      (without (frame.variable ∷ []) (own setting.positions variables
+      (left_by (left_of setting.positions setting.code.functions variables frame.joins)) frame.rest))
+
   gives : (x : ℕ) (environment : Environment) (joins : List Join) (core_frames : List CallFrame) (frames : List CountedFrame)
       → FramesStand setting.positions setting.code.functions from.store from.frames frames below
       → FramesStand setting.positions setting.code.functions from.store core_frames frames below
@@ -176,12 +224,16 @@ module _ (setting : CoreSetting) (constructors : List ConstructorTree) (from : C
       → IsSound (values_of environment ((x ∷ []) ++ left_by (left_of setting.positions setting.code.functions lent joins)) ++
       below) after
       → ResultFits constructors setting.code (value_of environment x) joins core_frames
-      → Follows setting.positions setting.code.functions (inserted_setting setting) 1
+      → (most : ℕ) → form_cost + drop_cost * (suc (length (left_by
+      (left_of setting.positions setting.code.functions lent joins))) + length below) ≤ most
+      → Follows setting.positions setting.code.functions (inserted_setting setting) 1 most
       (give_step (value_of environment x) joins core_frames environment from) input
       (with_input (conf (Counted.give x) environment (image_joins setting.positions setting.code.functions lent joins) frames after)
       input)
-  gives x environment (join ∷ joins) core_frames frames waits stand joins_ok reached after cells sound fits =
-      path_step (inserted_setting setting) 0 [] []
+  gives x environment (join ∷ joins) core_frames frames waits stand joins_ok reached after cells sound fits most costs =
+      path_step (inserted_setting setting) 0 most (drop_cost * suc (length (without (join.variable ∷ [])
+      (own setting.positions lent (left_by (left_of setting.positions setting.code.functions lent joins)) join.rest)))
+      + drop_cost * length below) [] []
       (Stands setting.positions setting.code.functions
       (record { machine = bound_then join.variable (value_of environment x) join.rest environment joins from; input = input }))
       (with_input (conf (Counted.give x) environment
@@ -191,7 +243,7 @@ module _ (setting : CoreSetting) (constructors : List ConstructorTree) (from : C
       (insert setting.positions lent (left_by (left_of setting.positions setting.code.functions lent joins)) join.rest))
       (record { variable = join.variable; value = value_of environment x } ∷ environment)
       (image_joins setting.positions setting.code.functions lent joins) frames after) input)
-      refl (tt, (tt, (tt, (tt, tt))))
+      refl (tt, (tt, (tt, (tt, tt)))) (omega (arith, costs))
       (landing_path (inserted_setting setting)
       (Stands setting.positions setting.code.functions
       (record { machine = bound_then join.variable (value_of environment x) join.rest environment joins from; input = input }))
@@ -199,6 +251,9 @@ module _ (setting : CoreSetting) (constructors : List ConstructorTree) (from : C
       (image_joins setting.positions setting.code.functions lent joins) frames below input 0 []
       join.variable (own setting.positions lent (left_by (left_of setting.positions setting.code.functions lent joins)) join.rest)
       (insert setting.positions lent (left_by (left_of setting.positions setting.code.functions lent joins)) join.rest) after
+      (drop_cost * suc (length (without (join.variable ∷ [])
+      (own setting.positions lent (left_by (left_of setting.positions setting.code.functions lent joins)) join.rest)))
+      + drop_cost * length below) (drop_cost * length below) (omega arith)
       (own_apart setting.positions lent (left_by (left_of setting.positions setting.code.functions lent joins)) join.rest
       joins_ok.0.apart)
       (landed join.variable (value_of environment x) environment
@@ -216,6 +271,7 @@ module _ (setting : CoreSetting) (constructors : List ConstructorTree) (from : C
             (left_by (left_of setting.positions setting.code.functions lent joins)) join.rest))) below q,
       )) sound)
       (λ last cells_then sound_then. path_here (inserted_setting setting)
+      (saved_at setting from lent below frames heap store waits input lent joins join.rest)
       (Stands setting.positions setting.code.functions
       (record { machine = bound_then join.variable (value_of environment x) join.rest environment joins from; input = input }))
       (with_input (conf (insert setting.positions lent
@@ -227,14 +283,14 @@ module _ (setting : CoreSetting) (constructors : List ConstructorTree) (from : C
       (rest_code setting.positions setting.code.functions lent
       (left_of setting.positions setting.code.functions lent joins) join.variable join.rest joins_ok.0) joins_ok.1
       (reached_bound from.store below environment lent join.variable (value_of environment x) joins_ok.0.unlent reached)
-      sound_then)))
-  gives x environment [] [] [] waits stand joins_ok reached after cells sound fits =
-      path_step (inserted_setting setting) 0 [] []
+      sound_then (saved_at setting from lent below frames heap store waits input lent joins join.rest) (omega arith))))
+  gives x environment [] [] [] waits stand joins_ok reached after cells sound fits most costs =
+      path_step (inserted_setting setting) 0 most 0 [] []
       (Stands setting.positions setting.code.functions (record { machine = at_end ended from; input = input }))
       (with_input (conf (Counted.give x) environment [] [] after) input)
       (with_input (record { control = Final.stopped ended; frames = []; heap = after }) input)
-      refl (tt, (tt, (tt, (tt, tt))))
-      (path_here (inserted_setting setting)
+      refl (tt, (tt, (tt, (tt, tt)))) (omega (arith, costs))
+      (path_here (inserted_setting setting) 0
       (Stands setting.positions setting.code.functions (record { machine = at_end ended from; input = input }))
       (with_input (record { control = Final.stopped ended; frames = []; heap = after }) input) (refl, (refl, none)))
     where
@@ -249,13 +305,13 @@ module _ (setting : CoreSetting) (constructors : List ConstructorTree) (from : C
                 (λ v. refs_of v q) fits,
             ap (λ vs. refs vs q) stand,
           ))
-  gives x environment [] [] (c ∷ cs) waits stand joins_ok reached after cells sound fits = absurd stand
-  gives x environment [] (frame ∷ older) [] waits stand joins_ok reached after cells sound fits = absurd stand
-  gives x environment [] (frame ∷ older) (c ∷ cs) waits stand joins_ok reached after cells sound fits =
-      subst (λ (other : CountedFrame). Follows setting.positions setting.code.functions (inserted_setting setting) 1
+  gives x environment [] [] (c ∷ cs) waits stand joins_ok reached after cells sound fits most costs = absurd stand
+  gives x environment [] (frame ∷ older) [] waits stand joins_ok reached after cells sound fits most costs = absurd stand
+  gives x environment [] (frame ∷ older) (c ∷ cs) waits stand joins_ok reached after cells sound fits most costs =
+      subst (λ (other : CountedFrame). Follows setting.positions setting.code.functions (inserted_setting setting) 1 most
       (give_step (value_of environment x) [] (frame ∷ older) environment from) input
       (with_input (conf (Counted.give x) environment [] (other ∷ cs) after) input)) (sym stand.1.0.is)
-      (path_step (inserted_setting setting) 0 [] []
+      (path_step (inserted_setting setting) 0 most (drop_cost * (suc (length (waiting_owned stand.1.0.lent stand.1.0.given frame)) + length stand.0)) [] []
       (Stands setting.positions setting.code.functions
       (record {
         machine = bound_then frame.variable (value_of environment x) frame.rest frame.environment frame.joins
@@ -268,6 +324,7 @@ module _ (setting : CoreSetting) (constructors : List ConstructorTree) (from : C
       (record { variable = frame.variable; value = value_of environment x } ∷ frame.environment)
       (image_joins setting.positions setting.code.functions stand.1.0.lent frame.joins) cs after) input)
       refl (tt, (tt, (tt, (tt, tt))))
+      (omega (arith, costs, ap length stand.1.0.owned, owned_length frame.environment (waiting_owned stand.1.0.lent stand.1.0.given frame) stand.0))
       (lands setting (record from { frames = older }) stand.1.0.lent stand.0 cs after
       (store ∙ same_store heap after (sym cells)) stand.1.1 input
       frame.variable (value_of environment x) frame.rest frame.environment frame.joins stand.1.0.given
@@ -275,12 +332,9 @@ module _ (setting : CoreSetting) (constructors : List ConstructorTree) (from : C
       (λ q. omega (
         arith,
         ap (λ us. refs us q) stand.1.0.owned,
-        refs_append
-            (values_of frame.environment (owns stand.1.0.lent stand.1.0.given
-            (without (frame.variable ∷ []) (own setting.positions stand.1.0.lent
-            (left_by (left_of setting.positions setting.code.functions stand.1.0.lent frame.joins)) frame.rest)))) stand.0 q,
+        refs_append (values_of frame.environment (waiting_owned stand.1.0.lent stand.1.0.given frame)) stand.0 q,
       ))
-      sound))
+      sound (drop_cost * (suc (length (waiting_owned stand.1.0.lent stand.1.0.given frame)) + length stand.0)) (omega arith)))
 
   pub follows_give : (x : ℕ) (environment : Environment) (joins : List Join) (frames : List CountedFrame)
       → FramesStand setting.positions setting.code.functions from.store from.frames frames below
@@ -288,17 +342,20 @@ module _ (setting : CoreSetting) (constructors : List ConstructorTree) (from : C
       → IsSound (values_of environment (own setting.positions lent
       (left_by (left_of setting.positions setting.code.functions lent joins)) (give x)) ++ below) heap
       → ResultFits constructors setting.code (value_of environment x) joins from.frames
-      → Follows setting.positions setting.code.functions (inserted_setting setting) 1
+      → (most : ℕ) → step_cost + drop_cost * (length (own setting.positions lent
+      (left_by (left_of setting.positions setting.code.functions lent joins)) (give x)) + length below) ≤ most
+      → Follows setting.positions setting.code.functions (inserted_setting setting) 1 most
       (give_step (value_of environment x) joins from.frames environment from) input
       (with_input (conf (insert setting.positions lent (left_by (left_of setting.positions setting.code.functions lent joins))
       (give x)) environment (image_joins setting.positions setting.code.functions lent joins) frames heap) input)
-  follows_give x environment joins frames waits joins_ok reached sound fits =
+  follows_give x environment joins frames waits joins_ok reached sound fits most costs =
       dups_first (inserted_setting setting)
       (Stands setting.positions setting.code.functions
       (performed (give_step (value_of environment x) joins from.frames environment from) input).1) environment
       (image_joins setting.positions setting.code.functions lent joins) frames below input 1
       (performed (give_step (value_of environment x) joins from.frames environment from) input).0
       setting.positions lent (x ∷ []) (left_by (left_of setting.positions setting.code.functions lent joins))
-      (Counted.give x) heap sound (subst (λ (s : Store). AreReached s below environment lent) store reached)
+      (Counted.give x) heap most (form_cost + drop_cost * length below) (omega (arith, costs)) sound (subst (λ (s : Store). AreReached s below environment lent) store reached)
       (λ after cells sound_then. gives x environment joins from.frames frames waits waits joins_ok reached after cells sound_then
-      fits)
+      fits (drop_cost * (1 + length (left_by (left_of setting.positions setting.code.functions lent joins)))
+      + (form_cost + drop_cost * length below)) (omega arith))

@@ -1,5 +1,5 @@
 -- The counted machine follows the core machine at blocks, branches, cases, uses and openings.
-use Rattle.std.proofs.Common.{◌≡◌, ◌⊎◌, inl, inr, ℕ, zero, suc, ◌≤◌, ◌==◌, ◌||◌, ◌&&◌, Bool, true, false, not, List, [], ◌∷◌, ◌++◌, length, Option, Some, None, arith, refl, sym, ap, ◌∙◌, subst}
+use Rattle.std.proofs.Common.{◌≡◌, ◌⊎◌, inl, inr, ℕ, zero, suc, ◌+◌, ◌*◌, ◌≤◌, ◌==◌, ◌||◌, ◌&&◌, Bool, true, false, not, List, [], ◌∷◌, ◌++◌, length, Option, Some, None, arith, refl, sym, ap, ◌∙◌, subst}
 use Rattle.std.specs.Prelude.{if◌then◌else◌, slice_get, filter}
 use Rattle.kk_syntax.specs.Shapes.{is_among, without}
 use Rattle.kk_source.specs.State.{Value, place, Cell, Store, Environment}
@@ -11,10 +11,13 @@ use Rattle.kk_source.specs.FormEffects.{is_true}
 use Rattle.kk_core.specs.Codes.{Code, branch, case, use_of, unpack, inside, Arms, no_arm, arm}
 use Rattle.kk_core.specs.CoreStates.{CoreSetting, Join, CoreConfiguration, CoreState}
 use Rattle.kk_core.specs.CoreMachine.{at_code, bind_fields, fields_opened, unpack_step, arm_at, case_step}
+use Rattle.kk_core.specs.Costs.{step_cost, part_cost}
 use Rattle.kk_core.specs.Decisions.{NodeTree, chosen}
 use Rattle.kk_core.specs.Kinds.{IsTruth}
+use Rattle.kk_core.specs.Looks.{looks_taken}
 use Rattle.kk_core.specs.Sizes.{forms, forms_of_arms, most_forms}
 use Rattle.kk_counted.specs.CountedCodes as Counted
+use Rattle.kk_counted.specs.CountedCosts.{dup_cost, drop_cost}
 use Rattle.kk_counted.specs.Heaps.{Heap, forwards, count_at, cell_at, fields_held}
 use Rattle.kk_counted.specs.CountedStates.{CountedFrame, CountedState}
 use Rattle.kk_counted.specs.CountedMachine.{with_heap, arm_at as counted_arm_at, case_step as counted_case_step, if_made_by, Named, cell_named, used_values, other_values, opened_heap, open_step}
@@ -26,11 +29,13 @@ use Rattle.kk_counted.proofs.Heaps.{Became, ref_here, positive, value_counted, f
 use Rattle.kk_counted.proofs.Variables.{refs_of_both, fields_fresh, field_past, field_or_old, field_is_one, used_refs, fields_part as refs_part}
 use Rattle.kk_counted.proofs.Reaching.{one_among, same_store, store_fields, reached_field}
 use Rattle.kk_counted.proofs.Looks.{cell_same, chosen_same}
+use Rattle.kk_counted.proofs.LooksAlike.{looks_same}
 use Rattle.kk_counted.proofs.SoundSteps.{became_sound}
 use Rattle.kk_insert.specs.Meaning.{inserted_setting}
 use Rattle.kk_insert.specs.Insertion.{before, common, dups, dropping, own, own_arms, insert, insert_arms, opening}
 use Rattle.kk_insert.specs.Promise.{LendsOn, AllLendOn}
 use Rattle.kk_insert.proofs.Sets.{no_both, false_if, Part, among_next, one_only, in_back, filter_in, without_clear, in_without, clear_back, before_front, before_back, clear_fresh, apart_filter, filter_alike, among_filter}
+use Rattle.kk_insert.proofs.Lengths.{even_length, filter_length}
 use Rattle.kk_insert.proofs.Fine.{FineFields, IsFine, AreFine}
 use Rattle.kk_insert.proofs.Owned.{own_part, own_apart, owns_after, rest_part}
 use Rattle.kk_insert.proofs.Spent.{looked_at, at_tail, fields_even, owns_kept, owns_new}
@@ -49,10 +54,12 @@ module _ (setting : CoreSetting) (from : CoreConfiguration) (lent : List ℕ) (b
       → AreReached from.store below environment lent
       → IsSound (values_of environment (own setting.positions lent
       (left_by (left_of setting.positions setting.code.functions lent joins)) code) ++ below) after
+      → (credit : ℕ) → drop_cost * (length (own setting.positions lent
+      (left_by (left_of setting.positions setting.code.functions lent joins)) code) + length below) ≤ credit
       → Stands setting.positions setting.code.functions (record { machine = at_code code environment joins from; input = input })
-      (with_input (conf (insert setting.positions lent (left_by (left_of setting.positions setting.code.functions lent joins)) code)
+      credit (with_input (conf (insert setting.positions lent (left_by (left_of setting.positions setting.code.functions lent joins)) code)
       environment (image_joins setting.positions setting.code.functions lent joins) frames after) input)
-  arrives code environment joins after cells ok joins_ok reached sound = (
+  arrives code environment joins after cells ok joins_ok reached sound credit saved = (
     refl,
     record {
       lent = lent;
@@ -66,6 +73,7 @@ module _ (setting : CoreSetting) (from : CoreConfiguration) (lent : List ℕ) (b
       joins_ok = joins_ok;
       reached = reached;
       sound = sound;
+      saved = saved;
     },
   )
 
@@ -86,38 +94,47 @@ module _ (setting : CoreSetting) (from : CoreConfiguration) (lent : List ℕ) (b
     abbrev SoundNow : Code → Type 0
     SoundNow code = IsSound (values_of environment (owning code) ++ below) heap
 
-    abbrev Does : ℕ → Action CoreConfiguration → Counted.Counted → Type 0
-    Does least action code = Follows setting.positions setting.code.functions (inserted_setting setting) least action input
+    -- what is saved while a code runs that owns so many variables
+    abbrev credit_of : List ℕ → ℕ
+    credit_of owned = drop_cost * (length owned + length below)
+
+    abbrev Does : (least most : ℕ) → Action CoreConfiguration → Counted.Counted → Type 0
+    Does least most action code = Follows setting.positions setting.code.functions (inserted_setting setting) least most action input
         (with_input (conf code environment (image_joins setting.positions setting.code.functions lent joins) frames heap) input)
 
-    abbrev DoesBy : (CountedState → Type 0) → ℕ → Action CoreConfiguration → Counted.Counted → Type 0
-    DoesBy Q least action code = FollowsBy setting.positions setting.code.functions Q (inserted_setting setting) least action input
+    abbrev DoesBy : (CountedState → Type 0) → (least most : ℕ) → Action CoreConfiguration → Counted.Counted → Type 0
+    DoesBy Q least most action code =
+        FollowsBy setting.positions setting.code.functions Q (inserted_setting setting) least most action input
         (with_input (conf code environment (image_joins setting.positions setting.code.functions lent joins) frames heap) input)
 
-    abbrev StandsAs : List Note × CoreState → CountedState → Type 0
-    StandsAs done u = Stands setting.positions setting.code.functions done.1 u
+    abbrev StandsAs : List Note × CoreState → ℕ → CountedState → Type 0
+    StandsAs done = Stands setting.positions setting.code.functions done.1
 
     reached_now : AreReached (forwards heap) below environment lent
     reached_now = subst (λ (s : Store). AreReached s below environment lent) store reached
 
     -- what a code does not use is dropped before it
-    dropped_first : (all : List ℕ) (code : Code) → Ok code → AreApart all → Part (owning code) all
-        → IsSound (values_of environment all ++ below) heap
-        → Does 0 (goes (at_code code environment joins from)) (dropping all (owning code) (inserted_code code))
-    dropped_first all code ok apart part sound =
+    dropped_first : (all : List ℕ) (code : Code) (most : ℕ) → credit_of all ≤ most → Ok code → AreApart all
+        → Part (owning code) all → IsSound (values_of environment all ++ below) heap
+        → Does 0 most (goes (at_code code environment joins from)) (dropping all (owning code) (inserted_code code))
+    dropped_first all code most costs ok apart part sound =
         dropping_path (inserted_setting setting) (StandsAs (performed (goes (at_code code environment joins from)) input))
         environment (image_joins setting.positions setting.code.functions lent joins) frames below input 0 []
-        all (owning code) (inserted_code code) heap apart (own_apart setting.positions lent (left_by left) code ok.apart) part sound
+        all (owning code) (inserted_code code) heap most (drop_cost * length below) (omega (arith, costs)) apart
+        (own_apart setting.positions lent (left_by left) code ok.apart) part sound
         (λ after cells sound_then. path_here (inserted_setting setting)
+        (drop_cost * length (owning code) + drop_cost * length below)
         (StandsAs (performed (goes (at_code code environment joins from)) input))
         (with_input (conf (inserted_code code) environment
         (image_joins setting.positions setting.code.functions lent joins) frames after) input)
-        (arrives code environment joins after cells ok joins_ok reached sound_then))
+        (arrives code environment joins after cells ok joins_ok reached sound_then
+        (drop_cost * length (owning code) + drop_cost * length below) (omega arith)))
 
-    pub follows_use : (x : ℕ) (rest : Code) → Ok (use_of x rest) → SoundNow (use_of x rest)
-        → Does 0 (goes (at_code rest environment joins from)) (inserted_code (use_of x rest))
-    follows_use x rest ok sound =
-        dropped_first (owning (use_of x rest)) rest
+    pub follows_use : (x : ℕ) (rest : Code) (most : ℕ) → step_cost + credit_of (owning (use_of x rest)) ≤ most
+        → Ok (use_of x rest) → SoundNow (use_of x rest)
+        → Does 0 most (goes (at_code rest environment joins from)) (inserted_code (use_of x rest))
+    follows_use x rest most costs ok sound =
+        dropped_first (owning (use_of x rest)) rest most (omega (arith, costs))
         (record {
           bound = ok.bound;
           fine = ok.fine.1;
@@ -130,17 +147,18 @@ module _ (setting : CoreSetting) (from : CoreConfiguration) (lent : List ℕ) (b
         (own_apart setting.positions lent (left_by left) (use_of x rest) ok.apart)
         (owns_after setting.positions lent (x ∷ []) (owning rest)) sound
 
-    pub follows_branch : (x : ℕ) (positive negative : Code) → Ok (branch x positive negative)
+    pub follows_branch : (x : ℕ) (positive negative : Code) (most : ℕ)
+        → step_cost + credit_of (owning (branch x positive negative)) ≤ most → Ok (branch x positive negative)
         → SoundNow (branch x positive negative) → IsTruth (value_of environment x)
-        → Does 1 (goes (at_code (if is_true (value_of environment x) then positive else negative) environment joins from))
+        → Does 1 most (goes (at_code (if is_true (value_of environment x) then positive else negative) environment joins from))
         (inserted_code (branch x positive negative))
-    follows_branch x positive negative ok sound tested = by_test (is_true (value_of environment x)) refl
+    follows_branch x positive negative most costs ok sound tested = by_test (is_true (value_of environment x)) refl
       where
         by_test : (t : Bool) → is_true (value_of environment x) ≡ t
-            → Does 1 (goes (at_code (if t then positive else negative) environment joins from))
+            → Does 1 most (goes (at_code (if t then positive else negative) environment joins from))
             (inserted_code (branch x positive negative))
         by_test true is =
-            path_step (inserted_setting setting) 0 [] []
+            path_step (inserted_setting setting) 0 most (credit_of (owning (branch x positive negative))) [] []
             (StandsAs (performed (goes (at_code positive environment joins from)) input))
             (with_input (conf (inserted_code (branch x positive negative)) environment
             (image_joins setting.positions setting.code.functions lent joins) frames heap) input)
@@ -151,7 +169,8 @@ module _ (setting : CoreSetting) (from : CoreConfiguration) (lent : List ℕ) (b
             (owning (branch x positive negative)) (owning negative) (inserted_code negative)) environment
             (image_joins setting.positions setting.code.functions lent joins) frames heap)) input) is)
             (tt, (tt, (tt, (tt, tested))))
-            (dropped_first (owning (branch x positive negative)) positive
+            (omega (arith, costs))
+            (dropped_first (owning (branch x positive negative)) positive (credit_of (owning (branch x positive negative))) (omega arith)
             (record {
               bound = ok.bound;
               fine = ok.fine.1.0;
@@ -165,7 +184,7 @@ module _ (setting : CoreSetting) (from : CoreConfiguration) (lent : List ℕ) (b
             (λ y is. owns_after setting.positions lent (x ∷ []) (before (owning positive) (owning negative)) y
             (before_front (owning positive) (owning negative) y is)) sound)
         by_test false is =
-            path_step (inserted_setting setting) 0 [] []
+            path_step (inserted_setting setting) 0 most (credit_of (owning (branch x positive negative))) [] []
             (StandsAs (performed (goes (at_code negative environment joins from)) input))
             (with_input (conf (inserted_code (branch x positive negative)) environment
             (image_joins setting.positions setting.code.functions lent joins) frames heap) input)
@@ -176,7 +195,8 @@ module _ (setting : CoreSetting) (from : CoreConfiguration) (lent : List ℕ) (b
             (owning (branch x positive negative)) (owning negative) (inserted_code negative)) environment
             (image_joins setting.positions setting.code.functions lent joins) frames heap)) input) is)
             (tt, (tt, (tt, (tt, tested))))
-            (dropped_first (owning (branch x positive negative)) negative
+            (omega (arith, costs))
+            (dropped_first (owning (branch x positive negative)) negative (credit_of (owning (branch x positive negative))) (omega arith)
             (record {
               bound = ok.bound;
               fine = ok.fine.1.1;
@@ -190,19 +210,20 @@ module _ (setting : CoreSetting) (from : CoreConfiguration) (lent : List ℕ) (b
             (λ y is. owns_after setting.positions lent (x ∷ []) (before (owning positive) (owning negative)) y
             (before_back (owning positive) (owning negative) y is)) sound)
 
-    pub follows_inside : (x : ℕ) (block rest : Code) → Ok (inside x block rest) → SoundNow (inside x block rest)
-        → Does 1 (goes (at_code block environment (record { variable = x; rest = rest } ∷ joins) from))
+    pub follows_inside : (x : ℕ) (block rest : Code) (most : ℕ) → step_cost + credit_of (owning (inside x block rest)) ≤ most
+        → Ok (inside x block rest) → SoundNow (inside x block rest)
+        → Does 1 most (goes (at_code block environment (record { variable = x; rest = rest } ∷ joins) from))
         (inserted_code (inside x block rest))
-    follows_inside x block rest ok sound =
-        path_step (inserted_setting setting) 0 [] []
+    follows_inside x block rest most costs ok sound =
+        path_step (inserted_setting setting) 0 most (credit_of (owning (inside x block rest))) [] []
         (StandsAs (performed (goes (at_code block environment (record { variable = x; rest = rest } ∷ joins) from)) input))
         (with_input (conf (inserted_code (inside x block rest)) environment
         (image_joins setting.positions setting.code.functions lent joins) frames heap) input)
         (with_input (conf (insert setting.positions lent (without (x ∷ []) (owning rest)) block) environment
         (image_joins setting.positions setting.code.functions lent (record { variable = x; rest = rest } ∷ joins)) frames heap)
         input)
-        refl (tt, (tt, (tt, (tt, tt))))
-        (path_here (inserted_setting setting)
+        refl (tt, (tt, (tt, (tt, tt)))) (omega (arith, costs))
+        (path_here (inserted_setting setting) (credit_of (owning (inside x block rest)))
         (StandsAs (performed (goes (at_code block environment (record { variable = x; rest = rest } ∷ joins) from)) input))
         (with_input (conf (insert setting.positions lent (without (x ∷ []) (owning rest)) block) environment
         (image_joins setting.positions setting.code.functions lent (record { variable = x; rest = rest } ∷ joins)) frames heap)
@@ -230,7 +251,7 @@ module _ (setting : CoreSetting) (from : CoreConfiguration) (lent : List ℕ) (b
             small = omega (arith, ok.small);
           },
           joins_ok,
-        ) reached sound))
+        ) reached sound (credit_of (owning (inside x block rest))) (omega arith)))
 
     -- ---- cases
 
@@ -276,17 +297,20 @@ module _ (setting : CoreSetting) (from : CoreConfiguration) (lent : List ℕ) (b
 
     -- the first state is at the case, and none behind it is
     pub follows_case : (Test : Store → Value → List NodeTree → Type 0) (x : ℕ) (decisions : List NodeTree) (arms : Arms) (row : ℕ)
-        (body : Code) → Ok (case x decisions arms) → SoundNow (case x decisions arms)
+        (body : Code) (most : ℕ)
+        → step_cost + part_cost * looks_taken (slice_get from.store) (value_of environment x) decisions
+        + credit_of (owning (case x decisions arms)) ≤ most → Ok (case x decisions arms) → SoundNow (case x decisions arms)
         → chosen (slice_get from.store) (value_of environment x) decisions ≡ Some row → arm_at arms row ≡ Some body
         → Test from.store (value_of environment x) decisions
-        → DoesBy (PassingBy Test (inserted_setting setting)) 1
+        → DoesBy (PassingBy Test (inserted_setting setting)) 1 most
         (case_step (and_then (chosen (slice_get from.store) (value_of environment x) decisions) (arm_at arms)) environment
         joins from) (inserted_code (case x decisions arms))
-    follows_case Test x decisions arms row body ok sound row_is body_is tested =
-        subst (λ (o : Option Code). DoesBy (PassingBy Test (inserted_setting setting)) 1 (case_step o environment joins from)
+    follows_case Test x decisions arms row body most costs ok sound row_is body_is tested =
+        subst (λ (o : Option Code). DoesBy (PassingBy Test (inserted_setting setting)) 1 most (case_step o environment joins from)
         (inserted_code (case x decisions arms)))
         (sym (ap (λ (o : Option ℕ). and_then o (arm_at arms)) row_is ∙ body_is))
-        (path_next (PassingBy Test (inserted_setting setting)) (inserted_setting setting) 0 [] []
+        (path_next (PassingBy Test (inserted_setting setting)) (inserted_setting setting) 0 most
+        (credit_of (owning (case x decisions arms))) [] []
         (StandsAs (performed (goes (at_code body environment joins from)) input))
         (with_input (conf (inserted_code (case x decisions arms)) environment
         (image_joins setting.positions setting.code.functions lent joins) frames heap) input)
@@ -308,12 +332,14 @@ module _ (setting : CoreSetting) (from : CoreConfiguration) (lent : List ℕ) (b
             ),
           ),
         )
-        (path_by (Passing (inserted_setting setting)) (PassingBy Test (inserted_setting setting)) (inserted_setting setting) 0 []
+        (omega (arith, costs, looks))
+        (path_by (Passing (inserted_setting setting)) (PassingBy Test (inserted_setting setting)) (inserted_setting setting) 0
+        (credit_of (owning (case x decisions arms))) []
         (StandsAs (performed (goes (at_code body environment joins from)) input))
         (with_input (conf (dropping (owning (case x decisions arms)) (owning body) (inserted_code body)) environment
         (image_joins setting.positions setting.code.functions lent joins) frames heap) input)
         (passing_by Test (inserted_setting setting))
-        (dropped_first (owning (case x decisions arms)) body
+        (dropped_first (owning (case x decisions arms)) body (credit_of (owning (case x decisions arms))) (omega arith)
         (record { bound = ok.bound; fine = good.0; lends_on = good.1.0; part = ok.part; apart = ok.apart; small = good.1.1.0 })
         (own_apart setting.positions lent (left_by left) (case x decisions arms) ok.apart) good.1.1.1 sound)))
       where
@@ -330,6 +356,19 @@ module _ (setting : CoreSetting) (from : CoreConfiguration) (lent : List ℕ) (b
             ≡ Some (dropping (owning (case x decisions arms)) (owning body) (inserted_code body))
         arm_there = arm_is arms (owning (case x decisions arms)) row ∙ ap (inserted_if (owning (case x decisions arms))) body_is
 
+        x_counted : IsCounted heap (value_of environment x)
+        x_counted =
+            either_counted environment (owning (case x decisions arms)) lent below heap x sound reached_now
+            (looked_at setting.positions lent x (own_arms setting.positions lent (left_by left) arms))
+
+        -- the cells are counted that the tests look at
+        looks : looks_taken (cell_at heap) (value_of environment x) decisions
+            ≡ looks_taken (slice_get from.store) (value_of environment x) decisions
+        looks =
+            looks_same (refs (values_of environment (owning (case x decisions arms)) ++ below)) heap sound.counts
+            (value_of environment x) x_counted decisions
+            ∙ ap (λ (s : Store). looks_taken (slice_get s) (value_of environment x) decisions) (sym store)
+
         found : and_then (chosen (cell_at heap) (value_of environment x) decisions)
             (counted_arm_at (insert_arms setting.positions lent (left_by left) (owning (case x decisions arms)) arms)) ≡ Some
             (dropping (owning (case x decisions arms)) (owning body) (inserted_code body))
@@ -337,9 +376,7 @@ module _ (setting : CoreSetting) (from : CoreConfiguration) (lent : List ℕ) (b
             ap (λ (o : Option ℕ). and_then o
             (counted_arm_at (insert_arms setting.positions lent (left_by left) (owning (case x decisions arms)) arms)))
             (chosen_same (refs (values_of environment (owning (case x decisions arms)) ++ below)) heap sound.counts
-            (value_of environment x)
-            (either_counted environment (owning (case x decisions arms)) lent below heap x sound reached_now
-            (looked_at setting.positions lent x (own_arms setting.positions lent (left_by left) arms))) decisions
+            (value_of environment x) x_counted decisions
             ∙ row_there)
             ∙ arm_there
 
@@ -348,7 +385,8 @@ module _ (setting : CoreSetting) (from : CoreConfiguration) (lent : List ℕ) (b
     module _ (x c : ℕ) (fields : List ℕ) (rest : Code) (ok : Ok (unpack x c fields rest))
         (sound : SoundNow (unpack x c fields rest)) (at : ℕ) (vs : List Value)
         (named : value_of environment x ≡ place at) (cell_is : slice_get from.store at ≡ Some (record { made_by = c; fields = vs }))
-        (many : length vs ≡ length fields) where
+        (many : length vs ≡ length fields) (most : ℕ)
+        (costs : step_cost + part_cost * length fields + credit_of (owning (unpack x c fields rest)) ≤ most) where
       rest_ok : Ok rest
       rest_ok =
           record {
@@ -424,21 +462,28 @@ module _ (setting : CoreSetting) (from : CoreConfiguration) (lent : List ℕ) (b
 
       arrives_rest : (after : Heap) → cells_of after ≡ cells_of heap
           → IsSound (values_of (bind_fields fields vs environment) (owning rest) ++ below) after
-          → Path (inserted_setting setting) 0 [] (StandsAs step_done)
+          → Path (inserted_setting setting) 0 (credit_of (owning rest)) [] (StandsAs step_done)
           (with_input (conf (inserted_code rest) (bind_fields fields vs environment)
           (image_joins setting.positions setting.code.functions lent joins) frames after) input)
       arrives_rest after cells sound_then =
-          path_here (inserted_setting setting) (StandsAs step_done)
+          path_here (inserted_setting setting) (credit_of (owning rest)) (StandsAs step_done)
           (with_input (conf (inserted_code rest) (bind_fields fields vs environment)
           (image_joins setting.positions setting.code.functions lent joins) frames after) input)
           (arrives rest (bind_fields fields vs environment) joins after cells rest_ok joins_ok
-          (reached_fields ok.fine.1.1.1.0) sound_then)
+          (reached_fields ok.fine.1.1.1.0) sound_then (credit_of (owning rest)) (omega arith))
+
+      -- what is owned then, by the fields in use and the others
+      fields_length : length (common (owning rest) fields) + length (without fields (owning rest)) ≡ length (owning rest)
+      fields_length =
+          sym (even_length (owning rest) (common (owning rest) fields) (without fields (owning rest))
+          (λ weight. sym (fields_even (owning rest) fields now_apart ok.fine.1.0 weight)))
 
       follows_read : owning (unpack x c fields rest) ≡ without fields (owning rest)
-          → Does 1 (goes (at_code rest (bind_fields fields vs environment) joins from))
+          → Does 1 most (goes (at_code rest (bind_fields fields vs environment) joins from))
           (Counted.read x c fields (dups (common (owning rest) fields) (inserted_code rest)))
       follows_read owned =
-          path_step (inserted_setting setting) 0 [] [] (StandsAs step_done)
+          path_step (inserted_setting setting) 0 most
+          (dup_cost * length (common (owning rest) fields) + credit_of (owning rest)) [] [] (StandsAs step_done)
           (with_input (conf (Counted.read x c fields (dups (common (owning rest) fields) (inserted_code rest))) environment
           (image_joins setting.positions setting.code.functions lent joins) frames heap) input)
           (with_input (conf (dups (common (owning rest) fields) (inserted_code rest)) (bind_fields fields vs environment)
@@ -449,9 +494,17 @@ module _ (setting : CoreSetting) (from : CoreConfiguration) (lent : List ℕ) (b
           (conf (Counted.read x c fields (dups (common (owning rest) fields) (inserted_code rest))) environment
           (image_joins setting.positions setting.code.functions lent joins) frames heap)) input) opens)
           (tt, (tt, (tt, (is_cell, tt))))
+          (omega (
+            arith,
+            costs,
+            ap length owned,
+            fields_length,
+            filter_length (is_among (owning rest)) fields,
+          ))
           (dups_path (inserted_setting setting) (StandsAs step_done) (bind_fields fields vs environment)
           (image_joins setting.positions setting.code.functions lent joins) frames below input 0 []
           (common (owning rest) fields) (without fields (owning rest)) (inserted_code rest) heap
+          (dup_cost * length (common (owning rest) fields) + credit_of (owning rest)) (credit_of (owning rest)) (omega arith)
           (subst (λ us. IsSound (us ++ below) heap)
           (ap (values_of environment) owned
           ∙ sym (fields_fresh fields vs environment (without fields (owning rest)) others_fresh)) sound)
@@ -465,10 +518,10 @@ module _ (setting : CoreSetting) (from : CoreConfiguration) (lent : List ℕ) (b
       kept_refs q = refs (values_of environment (without fields (owning rest)) ++ below) q
 
       follows_open : owning (unpack x c fields rest) ≡ x ∷ without fields (owning rest)
-          → Does 1 (goes (at_code rest (bind_fields fields vs environment) joins from))
+          → Does 1 most (goes (at_code rest (bind_fields fields vs environment) joins from))
           (Counted.open_cell x c fields (common (owning rest) fields) (inserted_code rest))
       follows_open owned =
-          path_step (inserted_setting setting) 0 [] [] (StandsAs step_done)
+          path_step (inserted_setting setting) 0 most (credit_of (owning rest)) [] [] (StandsAs step_done)
           (with_input (conf (Counted.open_cell x c fields (common (owning rest) fields) (inserted_code rest)) environment
           (image_joins setting.positions setting.code.functions lent joins) frames heap) input)
           (with_input (conf (inserted_code rest) (bind_fields fields vs environment)
@@ -484,16 +537,27 @@ module _ (setting : CoreSetting) (from : CoreConfiguration) (lent : List ℕ) (b
           (conf (inserted_code rest) (bind_fields fields vs environment)
           (image_joins setting.positions setting.code.functions lent joins) frames heap))) input) became.is)
           (tt, (tt, (tt, (is_cell, tt))))
+          (omega (
+            arith,
+            costs,
+            ap length owned,
+            fields_length,
+            ap length in_use,
+            filter_length (is_among (common (owning rest) fields)) fields,
+          ))
           (arrives_rest became.heap became.cells
           (sound_even (bind_fields fields vs environment)
           (filter (is_among (common (owning rest) fields)) fields ++ without fields (owning rest))
           (owning rest) below became.heap
-          (λ weight. ap (λ ys. total weight (ys ++ without fields (owning rest)))
-          (filter_alike (is_among (common (owning rest) fields)) (is_among (owning rest)) fields
-          (λ y is. among_filter (is_among (owning rest)) fields y ∙ ap (λ b. b && is_among (owning rest) y) is))
+          (λ weight. ap (λ ys. total weight (ys ++ without fields (owning rest))) in_use
           ∙ fields_even (owning rest) fields now_apart ok.fine.1.0 weight)
           sound_then))
         where
+          in_use : filter (is_among (common (owning rest) fields)) fields ≡ common (owning rest) fields
+          in_use =
+              filter_alike (is_among (common (owning rest) fields)) (is_among (owning rest)) fields
+              (λ y is. among_filter (is_among (owning rest)) fields y ∙ ap (λ b. b && is_among (owning rest) y) is)
+
           became : Became heap (opened_heap at (used_values (common (owning rest) fields) fields vs) heap)
               (with_fields (used_values (common (owning rest) fields) fields vs) kept_refs)
           became =
@@ -527,11 +591,11 @@ module _ (setting : CoreSetting) (from : CoreConfiguration) (lent : List ℕ) (b
               ))
               sound
 
-      pub follows_unpack : Does 1 (unpack_step
+      pub follows_unpack : Does 1 most (unpack_step
           (fields_opened from.store c (value_of environment x)) fields rest environment joins from)
           (inserted_code (unpack x c fields rest))
       follows_unpack =
-          subst (λ (o : Option (List Value)). Does 1 (unpack_step o fields rest environment joins from)
+          subst (λ (o : Option (List Value)). Does 1 most (unpack_step o fields rest environment joins from)
           (inserted_code (unpack x c fields rest))) (sym core_opens)
           (by_tests (is_among lent x) refl (is_among (owning rest) x) refl)
         where
@@ -544,7 +608,7 @@ module _ (setting : CoreSetting) (from : CoreConfiguration) (lent : List ℕ) (b
               [ inl one ↦ inl one | inr two ↦ inr (in_without fields (owning rest) x two not_field) ]))
 
           by_tests : (t : Bool) → is_among lent x ≡ t → (u : Bool) → is_among (owning rest) x ≡ u
-              → Does 1 (goes (at_code rest (bind_fields fields vs environment) joins from))
+              → Does 1 most (goes (at_code rest (bind_fields fields vs environment) joins from))
               (opening (t || u) x c fields (common (owning rest) fields) (inserted_code rest))
           by_tests true one u two = follows_read (stays (inl one))
           by_tests false one true two = follows_read (stays (inr two))

@@ -1,5 +1,6 @@
 mod Examples
 pub mod Sets
+pub mod Lengths
 pub mod Fine
 pub mod Owned
 pub mod Spent

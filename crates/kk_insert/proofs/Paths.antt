@@ -1,7 +1,6 @@
 -- Steps of the counted machine, one after the other, to a state of some kind.
-use Rattle.std.proofs.Common.{◌≡◌, ℕ, zero, suc, ◌*◌, ◌≤◌, ◌<◌, List, [], ◌++◌, map, Option, Some, None, arith, refl, sym, ap, ◌∙◌, subst}
-use Rattle.kk_base.specs.Machines.{Machine, weight_unless, trace, state, weight_of}
-use Rattle.kk_base.proofs.Machines.{weight_of-at_most}
+use Rattle.std.proofs.Common.{◌≡◌, ℕ, zero, suc, ◌+◌, ◌≤◌, ◌<◌, List, [], ◌++◌, map, Option, Some, None, arith, refl, sym, ap, ◌∙◌, subst}
+use Rattle.kk_base.specs.Machines.{Machine, trace, state, weight_of}
 use Rattle.kk_source.specs.State.{Value, Store, Environment, End}
 use Rattle.kk_source.specs.Live.{value_of}
 use Rattle.kk_source.specs.Actions.{Action, goes, performed}
@@ -11,13 +10,14 @@ use Rattle.kk_core.specs.Kinds.{IsTruth, TakesKinds}
 use Rattle.kk_counted.specs.CountedCodes.{Counted, give, tail_call, branch, case, compute, inside, read, open_cell, if_unique, dup, drop}
 use Rattle.kk_counted.specs.Heaps.{Heap, forwards, dup_value, drop_value}
 use Rattle.kk_counted.specs.CountedStates.{CountedSetting, CountedJoin, CountedFrame, CountedControl, running, stopped, stuck, CountedConfiguration, CountedState}
-use Rattle.kk_counted.specs.CountedMachine.{with_heap, counted_code_step, counted_ending_of, counted_machine, NotStuck}
+use Rattle.kk_counted.specs.CountedCosts.{counted_cost}
+use Rattle.kk_counted.specs.CountedMachine.{with_heap, counted_code_step, counted_machine, NotStuck}
 use Rattle.kk_counted.specs.Keeping.{FitsAt, HasShape}
 use Rattle.kk_insert.specs.Meaning.{EndsClean}
 
--- steps weigh nothing here
+-- steps weigh what they cost
 abbrev pub lower : CountedSetting → Machine CountedState Note End
-lower setting = counted_machine (λ s. 0) setting
+lower setting = counted_machine counted_cost setting
 
 -- what may be known of a case: of its value in a store, and of its decisions
 abbrev pub no_test : Store → Value → List NodeTree → Type 0
@@ -74,57 +74,69 @@ conf code environment joins frames heap =
 abbrev pub with_input : CountedConfiguration → List ℕ → CountedState
 with_input c input = record { machine = c; input = input }
 
-weighs_nothing : (how : Option End) → weight_unless how 0 ≤ 0
-weighs_nothing None = omega arith
-weighs_nothing (Some end) = omega arith
-
-pub no_weight : (setting : CountedSetting) (n : ℕ) (t : CountedState) → weight_of (lower setting) n t ≤ 0
-no_weight setting n t =
-    let w : weight_of (lower setting) n t ≤ 0 * n = weight_of-at_most (lower setting) 0
-    (λ s. weighs_nothing (counted_ending_of s)) n t in
-    omega (arith, w)
-
--- from a state some steps with these notes, at least so many, lead to a state of a kind, through states of another kind
-pub record PathBy (Q : CountedState → Type 0) (setting : CountedSetting) (least : ℕ) (events : List Note)
-    (P : CountedState → Type 0) (t : CountedState) : Type 0 where
+-- From a state some steps with these notes, at least so many, lead to a state of a kind, through states of another kind. What
+-- they cost, and what is saved behind them, is at most `most`; and the kind says for how much a state stands that is saved.
+pub record PathBy (Q : CountedState → Type 0) (setting : CountedSetting) (least most : ℕ) (events : List Note)
+    (P : ℕ → CountedState → Type 0) (t : CountedState) : Type 0 where
   pub steps : ℕ
+  pub saved : ℕ
   pub enough : least ≤ steps
+  pub paid : weight_of (lower setting) steps t + saved ≤ most
   pub tells : trace (lower setting) steps t ≡ events
   pub passes : (k : ℕ) → k < steps → Q (state (lower setting) k t)
-  pub ends : P (state (lower setting) steps t)
+  pub ends : P saved (state (lower setting) steps t)
 
 -- through states that are not at a case
-abbrev pub Path : CountedSetting → ℕ → List Note → (CountedState → Type 0) → CountedState → Type 0
+abbrev pub Path : CountedSetting → ℕ → ℕ → List Note → (ℕ → CountedState → Type 0) → CountedState → Type 0
 Path setting = PathBy (Passing setting) setting
 
 -- a path through states of one kind is one through states of another
-pub path_by : (Q R : CountedState → Type 0) (setting : CountedSetting) (least : ℕ) (events : List Note) (P : CountedState → Type 0)
-    (t : CountedState) → ((u : CountedState) → Q u → R u) → PathBy Q setting least events P t → PathBy R setting least events P t
-path_by Q R setting least events P t other path =
+pub path_by : (Q R : CountedState → Type 0) (setting : CountedSetting) (least most : ℕ) (events : List Note)
+    (P : ℕ → CountedState → Type 0) (t : CountedState) → ((u : CountedState) → Q u → R u)
+    → PathBy Q setting least most events P t → PathBy R setting least most events P t
+path_by Q R setting least most events P t other path =
     record {
       steps = path.steps;
+      saved = path.saved;
       enough = path.enough;
+      paid = path.paid;
       tells = path.tells;
       passes = λ k less. other (state (lower setting) k t) (path.passes k less);
       ends = path.ends;
     }
 
-pub path_here : (setting : CountedSetting) (P : CountedState → Type 0) (t : CountedState) → P t → Path setting 0 [] P t
-path_here setting P t holds =
-    record { steps = 0; enough = omega arith; tells = refl; passes = λ k less. absurd (omega (arith, less)); ends = holds }
+-- no step: all is saved
+pub path_here : (setting : CountedSetting) (most : ℕ) (P : ℕ → CountedState → Type 0) (t : CountedState) → P most t
+    → Path setting 0 most [] P t
+path_here setting most P t holds =
+    record {
+      steps = 0;
+      saved = most;
+      enough = omega arith;
+      paid = omega arith;
+      tells = refl;
+      passes = λ k less. absurd (omega (arith, less));
+      ends = holds;
+    }
 
 -- a step, and then others
-pub path_next : (Q : CountedState → Type 0) (setting : CountedSetting) (least : ℕ) (now events : List Note)
-    (P : CountedState → Type 0) (t u : CountedState) → (lower setting).step t ≡ (now, u) → Q t → PathBy Q setting least events P u
-    → PathBy Q setting (suc least) (now ++ events) P t
-path_next Q setting least now events P t u is passing rest =
+pub path_next : (Q : CountedState → Type 0) (setting : CountedSetting) (least most later : ℕ) (now events : List Note)
+    (P : ℕ → CountedState → Type 0) (t u : CountedState) → (lower setting).step t ≡ (now, u) → Q t
+    → (lower setting).weight t + later ≤ most → PathBy Q setting least later events P u
+    → PathBy Q setting (suc least) most (now ++ events) P t
+path_next Q setting least most later now events P t u is passing costs rest =
     record {
       steps = suc rest.steps;
+      saved = rest.saved;
       enough = omega (arith, rest.enough);
+      paid =
+          let whole : weight_of (lower setting) (suc rest.steps) t ≡ (lower setting).weight t + weight_of (lower setting) rest.steps u
+          = ap (λ (next : List Note × CountedState). (lower setting).weight t + weight_of (lower setting) rest.steps next.1) is in
+          omega (arith, whole, costs, rest.paid);
       tells = ap (λ (next : List Note × CountedState). next.0 ++ trace (lower setting) rest.steps next.1) is
           ∙ ap (λ later. now ++ later) rest.tells;
       passes = passes;
-      ends = subst (λ (next : List Note × CountedState). P (state (lower setting) rest.steps next.1)) (sym is) rest.ends;
+      ends = subst (λ (next : List Note × CountedState). P rest.saved (state (lower setting) rest.steps next.1)) (sym is) rest.ends;
     }
   where
     passes : (k : ℕ) → k < suc rest.steps → Q (state (lower setting) k t)
@@ -132,21 +144,23 @@ path_next Q setting least now events P t u is passing rest =
     passes (suc k) less = subst (λ (next : List Note × CountedState). Q (state (lower setting) k next.1)) (sym is)
         (rest.passes k (omega (arith, less)))
 
-pub path_step : (setting : CountedSetting) (least : ℕ) (now events : List Note) (P : CountedState → Type 0) (t u : CountedState)
-    → (lower setting).step t ≡ (now, u) → Passing setting t → Path setting least events P u
-    → Path setting (suc least) (now ++ events) P t
+pub path_step : (setting : CountedSetting) (least most later : ℕ) (now events : List Note) (P : ℕ → CountedState → Type 0)
+    (t u : CountedState) → (lower setting).step t ≡ (now, u) → Passing setting t → (lower setting).weight t + later ≤ most
+    → Path setting least later events P u → Path setting (suc least) most (now ++ events) P t
 path_step setting = path_next (Passing setting) setting
 
-pub path_less : (setting : CountedSetting) (least fewer : ℕ) (events : List Note) (P : CountedState → Type 0) (t : CountedState)
-    → fewer ≤ least → Path setting least events P t → Path setting fewer events P t
-path_less setting least fewer events P t less path =
+-- a path of so many steps is one of fewer, and one that may cost more
+pub path_less : (setting : CountedSetting) (least fewer most more : ℕ) (events : List Note) (P : ℕ → CountedState → Type 0)
+    (t : CountedState) → fewer ≤ least → most ≤ more → Path setting least most events P t → Path setting fewer more events P t
+path_less setting least fewer most more events P t less costs path =
     record {
       steps = path.steps;
+      saved = path.saved;
       enough = omega (arith, less, path.enough);
+      paid = omega (arith, costs, path.paid);
       tells = path.tells;
       passes = path.passes;
-      ends
-          = path.ends;
+      ends = path.ends;
     }
 
 -- the step at a code

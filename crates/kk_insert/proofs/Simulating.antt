@@ -1,9 +1,9 @@
 -- The counted machine of an inserted program does what the core machine does, step for step.
-use Rattle.std.proofs.Common.{Some, ◌∙◌, ◌≡◌, ℕ, zero, suc, ◌+◌, ◌*◌, ◌≤◌, true, List, [], ◌∷◌, ◌++◌, arith, refl, sym, ap, subst, mul-le-mul_right}
+use Rattle.std.proofs.Common.{Some, ◌∙◌, ◌≡◌, ℕ, zero, suc, ◌+◌, ◌*◌, ◌≤◌, true, List, [], ◌∷◌, ◌++◌, length, arith, refl, sym, ap, subst, mul-le-mul_right}
 use Rattle.std.proofs.lemmas.Option.{get_or_from_slice_get}
 use Rattle.std.specs.Prelude.{slice_get, slice_index_or}
 use Rattle.kk_base.specs.Agreements.{Agree}
-use Rattle.kk_base.specs.Machines.{Machine, step_unless, state}
+use Rattle.kk_base.specs.Machines.{Machine, step_unless, weight_unless, state}
 use Rattle.kk_base.specs.Simulations.{Reaches, Simulates}
 use Rattle.kk_base.proofs.Simulations.{ended_reaches, simulates_agree, simulates_passing}
 use Rattle.kk_syntax.specs.Programs.{ConstructorTree}
@@ -16,6 +16,7 @@ use Rattle.kk_source.specs.Notes.{Note}
 use Rattle.kk_core.specs.Codes.{Code, give, tail_call, branch, case, compute, use_of, unpack, inside, FunctionCode}
 use Rattle.kk_core.specs.CoreStates.{CoreSetting, Join, CoreControl, running, stopped, CoreConfiguration, CoreState, no_code, core_start, core_first_state, core_end_at}
 use Rattle.kk_core.specs.CoreMachine.{code_step, core_step_at, core_machine}
+use Rattle.kk_core.specs.Costs.{control_cost, core_cost}
 use Rattle.kk_core.specs.Decisions.{NodeTree}
 use Rattle.kk_core.specs.Kinds as Core
 use Rattle.kk_core.specs.Kinds.{TestsAlike}
@@ -24,6 +25,7 @@ use Rattle.kk_core.specs.Sizes.{forms, most_forms, below as numbers_below}
 use Rattle.kk_counted.specs.CountedCodes as Codes
 use Rattle.kk_counted.specs.CountedCodes.{CountedFunction}
 use Rattle.kk_counted.specs.Heaps.{Heap, forwards}
+use Rattle.kk_counted.specs.CountedCosts.{drop_cost, counted_cost}
 use Rattle.kk_counted.specs.CountedStates as Counted
 use Rattle.kk_counted.specs.CountedStates.{CountedFrame, CountedConfiguration, CountedState, no_function, counted_start, counted_first_state}
 use Rattle.kk_counted.specs.CountedMachine.{NotStuck}
@@ -35,8 +37,12 @@ use Rattle.kk_counted.proofs.SoundRuns.{keeps_sound}
 use Rattle.kk_insert.specs.Insertion.{dropping, lent_of, own, insert, inserted_function, inserted_functions}
 use Rattle.kk_insert.specs.Meaning.{inserted_setting, pace, LeavesNone, EndsClean, counted_notes, KeepsMeaning, FindsAsMany}
 use Rattle.kk_insert.specs.Promise.{IsInsertable}
+use Rattle.kk_insert.proofs.Sets.{Part}
+use Rattle.kk_insert.proofs.Fine.{IsFine}
+use Rattle.kk_insert.proofs.Lengths.{part_none}
+use Rattle.kk_insert.proofs.Owned.{own_part}
 use Rattle.kk_insert.proofs.Programs.{is_fine, inserted_there, inserted_is_spent}
-use Rattle.kk_insert.proofs.Paths.{lower, IsFed, PassingBy, Passing, passing_by, conf, with_input, no_weight, PathBy, path_by}
+use Rattle.kk_insert.proofs.Paths.{lower, IsFed, PassingBy, Passing, passing_by, conf, with_input, PathBy, path_by}
 use Rattle.kk_insert.proofs.Standing.{left_of, image_joins, CodeOk, Active, StandsAt, Stands, FollowsBy, Follows}
 use Rattle.kk_insert.proofs.Following.{follows_use, follows_branch, follows_case, follows_inside, follows_unpack}
 use Rattle.kk_insert.proofs.Entering.{follows_give}
@@ -68,13 +74,13 @@ least (use_of x rest) = 0
 least _ = 1
 
 module _ (setting : CoreSetting) (constructors : List ConstructorTree) (promise : IsInsertable setting.positions setting.code) where
-  abbrev StandsFor : CoreState → CountedState → Type 0
-  StandsFor s t = Stands setting.positions setting.code.functions s t
+  abbrev StandsFor : CoreState → ℕ → CountedState → Type 0
+  StandsFor = Stands setting.positions setting.code.functions
 
-  waits_few : (control : CoreControl) (s : CoreConfiguration) (c : CountedConfiguration)
-      → StandsAt setting.positions setting.code.functions control s c → waiting control ≤ most_forms
-  waits_few (running code environment joins) s c active = omega (arith, uses_few code, active.code_ok.small)
-  waits_few (stopped by) s c stands = omega arith
+  waits_few : (control : CoreControl) (s : CoreConfiguration) (credit : ℕ) (c : CountedConfiguration)
+      → StandsAt setting.positions setting.code.functions control s credit c → waiting control ≤ most_forms
+  waits_few (running code environment joins) s credit c active = omega (arith, uses_few code, active.code_ok.small)
+  waits_few (stopped by) s credit c stands = omega arith
 
   -- what is known of cases is known of the code
   abbrev IsTested : (Store → Value → List NodeTree → Type 0) → CoreControl → CoreConfiguration → Type 0
@@ -89,25 +95,28 @@ module _ (setting : CoreSetting) (constructors : List ConstructorTree) (promise 
 
   -- the step of each code
   code_follows : (Test : Store → Value → List NodeTree → Type 0) (code : Code) (environment : Environment) (joins : List Join)
-      (from : CoreConfiguration) (c : CountedConfiguration) (input : List ℕ)
-      → Active setting.positions setting.code.functions code environment joins from c
+      (from : CoreConfiguration) (credit : ℕ) (c : CountedConfiguration) (input : List ℕ)
+      → Active setting.positions setting.code.functions code environment joins from credit c
       → CodeFits constructors setting.code code environment joins from → IsTested Test (running code environment joins) from
       → FollowsBy setting.positions setting.code.functions (PassingBy Test (inserted_setting setting)) (inserted_setting setting)
-      (least code) (code_step setting code environment joins from) input (with_input c input)
-  code_follows Test code environment joins from c input active fits tested =
+      (least code) (control_cost (running code environment joins) from.store + credit) (code_step setting code environment joins from)
+      input (with_input c input)
+  code_follows Test code environment joins from credit c input active fits tested =
       subst (λ (other : CountedConfiguration). FollowsBy setting.positions setting.code.functions
       (PassingBy Test (inserted_setting setting)) (inserted_setting setting)
-      (least code) (code_step setting code environment joins from) input (with_input other input)) (sym active.is)
-      (by_code code active.code_ok active.sound fits tested)
+      (least code) (control_cost (running code environment joins) from.store + credit) (code_step setting code environment joins from)
+      input (with_input other input)) (sym active.is)
+      (by_code code active.code_ok active.sound active.saved fits tested)
     where
       widened : (code : Code)
           → Follows setting.positions setting.code.functions (inserted_setting setting) (least code)
-          (code_step setting code environment joins from) input (image active.lent code environment joins active.frames active.heap input)
+          (control_cost (running code environment joins) from.store + credit) (code_step setting code environment joins from) input (image active.lent code environment joins active.frames active.heap input)
           → FollowsBy setting.positions setting.code.functions (PassingBy Test (inserted_setting setting)) (inserted_setting setting)
-          (least code) (code_step setting code environment joins from) input (image active.lent code environment joins active.frames active.heap input)
+          (least code) (control_cost (running code environment joins) from.store + credit)
+          (code_step setting code environment joins from) input (image active.lent code environment joins active.frames active.heap input)
       widened code path =
           path_by (Passing (inserted_setting setting)) (PassingBy Test (inserted_setting setting)) (inserted_setting setting)
-          (least code) (performed (code_step setting code environment joins from) input).0
+          (least code) (control_cost (running code environment joins) from.store + credit) (performed (code_step setting code environment joins from) input).0
           (Stands setting.positions setting.code.functions (performed (code_step setting code environment joins from) input).1)
           (image active.lent code environment joins active.frames active.heap input) (passing_by Test (inserted_setting setting)) path
 
@@ -117,44 +126,57 @@ module _ (setting : CoreSetting) (constructors : List ConstructorTree) (promise 
           → IsSound (values_of environment
           (own setting.positions active.lent (left_by (left_of setting.positions setting.code.functions active.lent joins))
           code) ++ active.below) active.heap
+          → drop_cost * (length (own setting.positions active.lent
+          (left_by (left_of setting.positions setting.code.functions active.lent joins)) code) + length active.below) ≤ credit
           → CodeFits constructors setting.code code environment joins from → IsTested Test (running code environment joins) from
           → FollowsBy setting.positions setting.code.functions (PassingBy Test (inserted_setting setting)) (inserted_setting setting)
-          (least code) (code_step setting code environment joins from) input (image active.lent code environment joins active.frames active.heap input)
-      by_code (give x) ok sound fits tested =
+          (least code) (control_cost (running code environment joins) from.store + credit)
+          (code_step setting code environment joins from) input (image active.lent code environment joins active.frames active.heap input)
+      by_code (give x) ok sound saved fits tested =
           widened (give x)
           (follows_give setting constructors from active.lent active.below active.heap active.store input x environment joins
-          active.frames active.waits active.joins_ok active.reached sound fits)
-      by_code (tail_call f arguments) ok sound fits tested =
+          active.frames active.waits active.joins_ok active.reached sound fits
+          (control_cost (running (give x) environment joins) from.store + credit) (omega (arith, saved)))
+      by_code (tail_call f arguments) ok sound saved fits tested =
           widened (tail_call f arguments)
           (follows_tail setting promise from active.lent active.below active.frames active.heap active.store active.waits input f
-          arguments environment joins fits.0 ok active.reached sound fits.1 fits.2)
-      by_code (branch x positive negative) ok sound fits tested =
+          arguments environment joins fits.0 ok active.reached sound fits.1 fits.2
+          (control_cost (running (tail_call f arguments) environment joins) from.store + credit) (omega (arith, saved)))
+      by_code (branch x positive negative) ok sound saved fits tested =
           widened (branch x positive negative)
           (follows_branch setting from active.lent active.below active.frames active.heap active.store active.waits input environment
-          joins active.joins_ok active.reached x positive negative ok sound fits)
-      by_code (case x decisions arms) ok sound fits tested =
+          joins active.joins_ok active.reached x positive negative
+          (control_cost (running (branch x positive negative) environment joins) from.store + credit) (omega (arith, saved))
+          ok sound fits)
+      by_code (case x decisions arms) ok sound saved fits tested =
           follows_case setting from active.lent active.below active.frames active.heap active.store active.waits input environment
-          joins active.joins_ok active.reached Test x decisions arms fits.0 fits.1 ok sound fits.2 fits.3 tested
-      by_code (compute x form arguments rest) ok sound fits tested =
+          joins active.joins_ok active.reached Test x decisions arms fits.0 fits.1
+          (control_cost (running (case x decisions arms) environment joins) from.store + credit) (omega (arith, saved))
+          ok sound fits.2 fits.3 tested
+      by_code (compute x form arguments rest) ok sound saved fits tested =
           widened (compute x form arguments rest)
           (follows_compute setting constructors promise from active.lent active.below active.frames active.heap active.store
-          active.waits input environment joins active.joins_ok active.reached x form arguments rest ok sound fits)
-      by_code (use_of x rest) ok sound fits tested =
+          active.waits input environment joins active.joins_ok active.reached x form arguments rest ok sound fits
+          (control_cost (running (compute x form arguments rest) environment joins) from.store + credit) (omega (arith, saved)))
+      by_code (use_of x rest) ok sound saved fits tested =
           widened (use_of x rest)
           (follows_use setting from active.lent active.below active.frames active.heap active.store active.waits input environment
-          joins active.joins_ok active.reached x rest ok sound)
-      by_code (unpack x c fields rest) ok sound fits tested =
+          joins active.joins_ok active.reached x rest
+          (control_cost (running (use_of x rest) environment joins) from.store + credit) (omega (arith, saved)) ok sound)
+      by_code (unpack x c fields rest) ok sound saved fits tested =
           widened (unpack x c fields rest)
           (follows_unpack setting from active.lent active.below active.frames active.heap active.store active.waits input environment
-          joins active.joins_ok active.reached x c fields rest ok sound fits.0 fits.1 fits.2 fits.3 fits.4)
-      by_code (inside x block rest) ok sound fits tested =
+          joins active.joins_ok active.reached x c fields rest ok sound fits.0 fits.1 fits.2 fits.3 fits.4
+          (control_cost (running (unpack x c fields rest) environment joins) from.store + credit) (omega (arith, saved)))
+      by_code (inside x block rest) ok sound saved fits tested =
           widened (inside x block rest)
           (follows_inside setting from active.lent active.below active.frames active.heap active.store active.waits input environment
-          joins active.joins_ok active.reached x block rest ok sound)
+          joins active.joins_ok active.reached x block rest
+          (control_cost (running (inside x block rest) environment joins) from.store + credit) (omega (arith, saved)) ok sound)
 
-  module _ (Test : Store → Value → List NodeTree → Type 0) (weight : CoreState → ℕ) where
+  module _ (Test : Store → Value → List NodeTree → Type 0) where
     abbrev upper : Machine CoreState Note End
-    upper = core_machine weight setting
+    upper = core_machine core_cost setting
 
     -- a state finds what it asks for, and it is known of its case
     abbrev IsSane : CoreConfiguration → Type 0
@@ -162,13 +184,13 @@ module _ (setting : CoreSetting) (constructors : List ConstructorTree) (promise 
 
     -- so do those from a state on
     abbrev Sane : CoreState → Type 0
-    Sane s = (n : ℕ) → IsSane (state (core_machine weight setting) n s).machine
+    Sane s = (n : ℕ) → IsSane (state upper n s).machine
 
     abbrev Passed : CountedState → Type 0
     Passed = PassingBy Test (inserted_setting setting)
 
     abbrev Related : ℕ → ℕ → CoreState → CountedState → Type 0
-    Related credit idle s t = (waiting s.machine.control ≤ idle) × (StandsFor s t × Sane s)
+    Related credit idle s t = (waiting s.machine.control ≤ idle) × (StandsFor s credit t × Sane s)
 
     abbrev Reached : ℕ → ℕ → CoreState → List Note × CoreState → CountedState → Type 0
     Reached credit idle s next t =
@@ -181,17 +203,18 @@ module _ (setting : CoreSetting) (constructors : List ConstructorTree) (promise 
     enough_moves steps (suc at_least) idle before after enough more waits few =
         omega (arith, mul-le-mul_right pace (let one : 1 ≤ steps = omega (arith, enough) in one), few)
 
-    by_path : (credit idle before at_least : ℕ) (s : CoreState) (next : List Note × CoreState) (t : CountedState)
-        → PathBy Passed (inserted_setting setting) at_least next.0 (StandsFor next.1) t → Sane next.1
+    by_path : (credit idle before at_least most : ℕ) (s : CoreState) (next : List Note × CoreState) (t : CountedState)
+        → PathBy Passed (inserted_setting setting) at_least most next.0 (StandsFor next.1) t → most ≤ upper.weight s + credit
+        → Sane next.1
         → (at_least ≡ 0 → suc (waiting next.1.machine.control) ≤ before) → before ≤ idle → Reached credit idle s next t
-    by_path credit idle before at_least s next t path sane more waits =
+    by_path credit idle before at_least most s next t path costs sane more waits =
         record {
           steps = path.steps;
-          credit_after = credit;
+          credit_after = path.saved;
           idle_after = waiting next.1.machine.control;
-          paid = omega (arith, no_weight (inserted_setting setting) path.steps t);
+          paid = omega (arith, path.paid, costs);
           moves = enough_moves path.steps at_least idle before (waiting next.1.machine.control) path.enough more waits
-              (waits_few next.1.machine.control next.1.machine
+              (waits_few next.1.machine.control next.1.machine path.saved
               (state (lower (inserted_setting setting)) path.steps t).machine path.ends.1);
           events_are = path.tells;
           passes = path.passes;
@@ -211,33 +234,37 @@ module _ (setting : CoreSetting) (constructors : List ConstructorTree) (promise 
     uses_less (unpack x c fields rest) environment joins from input none = absurd (omega (arith, none))
     uses_less (inside x block rest) environment joins from input none = absurd (omega (arith, none))
 
-    ends_alike : (control : CoreControl) (s : CoreConfiguration) (c : CountedConfiguration)
-        → StandsAt setting.positions setting.code.functions control s c → Counted.counted_end_at c.control ≡ core_end_at control
-    ends_alike (running code environment joins) s c active = ap
+    ends_alike : (control : CoreControl) (s : CoreConfiguration) (credit : ℕ) (c : CountedConfiguration)
+        → StandsAt setting.positions setting.code.functions control s credit c → Counted.counted_end_at c.control ≡ core_end_at control
+    ends_alike (running code environment joins) s credit c active = ap
         (λ (other : CountedConfiguration). Counted.counted_end_at other.control) active.is
-    ends_alike (stopped by) s c stands = ap Counted.counted_end_at stands.0
+    ends_alike (stopped by) s credit c stands = ap Counted.counted_end_at stands.0
 
     reaches_at : (control : CoreControl) (credit idle : ℕ) (s : CoreState) (t : CountedState) → s.machine.control ≡ control
-        → waiting control ≤ idle → t.input ≡ s.input → StandsAt setting.positions setting.code.functions control s.machine t.machine
-        → StandsFor s t → Sane s
+        → waiting control ≤ idle → t.input ≡ s.input → StandsAt setting.positions setting.code.functions control s.machine credit t.machine
+        → StandsFor s credit t → Sane s
         → Reached credit idle s (upper.step s) t
     reaches_at (running code environment joins) credit idle s t at waits inputs active stands sane =
         subst (λ (next : List Note × CoreState). Reached credit idle s next t) (sym step_is)
-        (by_path credit idle (uses_first code) (least code) s
+        (by_path credit idle (uses_first code) (least code) (control_cost (running code environment joins) s.machine.store + credit) s
         (performed (code_step setting code environment joins s.machine) s.input) t
         (subst (λ (i : List ℕ). PathBy Passed (inserted_setting setting) (least code)
-        (performed (code_step setting code environment joins s.machine) s.input).0
+        (control_cost (running code environment joins) s.machine.store + credit) (performed (code_step setting code environment joins s.machine) s.input).0
         (StandsFor (performed (code_step setting code environment joins s.machine) s.input).1) (with_input t.machine i))
         (sym inputs)
-        (code_follows Test code environment joins s.machine t.machine s.input active
+        (code_follows Test code environment joins s.machine credit t.machine s.input active
         (subst (λ (control : CoreControl). ControlFits constructors setting.code control s.machine) at (sane 0).0).1
         (subst (λ (control : CoreControl). IsTested Test control s.machine) at (sane 0).1)))
+        (omega (arith, costs_are))
         (λ n. subst (λ (next : List Note × CoreState). IsSane (state upper n next.1).machine) step_is (sane (suc n)))
         (uses_less code environment joins s.machine s.input) waits)
       where
         step_is : upper.step s ≡ performed (code_step setting code environment joins s.machine) s.input
         step_is = ap (λ (control : CoreControl). step_unless (core_end_at control) s
             (performed (core_step_at setting control s.machine) s.input)) at
+
+        costs_are : upper.weight s ≡ control_cost (running code environment joins) s.machine.store
+        costs_are = ap (λ (control : CoreControl). weight_unless (core_end_at control) (control_cost control s.machine.store)) at
     reaches_at (stopped by) credit idle s t at waits inputs ends stands sane =
         ended_reaches upper (lower (inserted_setting setting)) Related Passed pace credit idle s t by (omega arith)
         (subst (λ (control : CoreControl). waiting control ≤ idle) (sym at) waits, (stands, sane))
@@ -254,13 +281,13 @@ module _ (setting : CoreSetting) (constructors : List ConstructorTree) (promise 
         record {
           by = λ credit idle s t related. reaches_at s.machine.control credit idle s t refl related.0 related.1.0.0 related.1.0.1
               related.1.0 related.1.1;
-          alike = λ credit idle s t related. ends_alike s.machine.control s.machine t.machine related.1.0.1;
+          alike = λ credit idle s t related. ends_alike s.machine.control s.machine credit t.machine related.1.0.1;
         }
 
     -- ---- the start
 
     start_stands : (input : List ℕ)
-        → StandsFor (core_first_state setting input) (counted_first_state (inserted_setting setting) input)
+        → StandsFor (core_first_state setting input) 0 (counted_first_state (inserted_setting setting) input)
     start_stands input = (refl, active)
       where
         fetched : slice_index_or setting.code.functions setting.code.main no_code ≡ promise.main.0
@@ -282,7 +309,7 @@ module _ (setting : CoreSetting) (constructors : List ConstructorTree) (promise 
             promise.main.1.1
 
         active_main : Active setting.positions setting.code.functions promise.main.0.body [] []
-            (record { control = running promise.main.0.body [] []; frames = []; store = [] })
+            (record { control = running promise.main.0.body [] []; frames = []; store = [] }) 0
             (conf (inserted_function setting.positions setting.code.main promise.main.0).body [] [] [] [])
         active_main =
             record {
@@ -295,8 +322,7 @@ module _ (setting : CoreSetting) (constructors : List ConstructorTree) (promise 
               waits = refl;
               code_ok = record {
                 bound = numbers_below promise.main.0.parameters;
-                fine = is_fine setting.positions setting.code.functions setting.code.main promise.main.0
-                    (promise.each setting.code.main promise.main.0 promise.main.1.0);
+                fine = main_fine;
                 lends_on = (promise.each setting.code.main promise.main.0 promise.main.1.0).tails;
                 part = λ y is. nothing y is;
                 apart = tt;
@@ -305,8 +331,23 @@ module _ (setting : CoreSetting) (constructors : List ConstructorTree) (promise 
               joins_ok = tt;
               reached = λ y at is named. no_place at named;
               sound = record { counts = λ q. none_owned q; older = λ at. tt };
+              saved = omega (
+                arith,
+                part_none (own setting.positions (lent_of setting.positions setting.code.main promise.main.0) [] promise.main.0.body)
+                    (subst (λ (n : ℕ). Part
+                    (own setting.positions (lent_of setting.positions setting.code.main promise.main.0) [] promise.main.0.body)
+                    (numbers_below n)) promise.main.1.1
+                    (own_part setting.positions (lent_of setting.positions setting.code.main promise.main.0) []
+                    (numbers_below promise.main.0.parameters) promise.main.0.body main_fine (λ y is. nothing y is))),
+              );
             }
           where
+            main_fine : IsFine (lent_of setting.positions setting.code.main promise.main.0)
+                (numbers_below promise.main.0.parameters) promise.main.0.body
+            main_fine =
+                is_fine setting.positions setting.code.functions setting.code.main promise.main.0
+                (promise.each setting.code.main promise.main.0 promise.main.1.0)
+
             nothing : (y : ℕ) → is_among [] y ≡ true → is_among (numbers_below promise.main.0.parameters) y ≡ true
             nothing y is = absurd (cc)
 
@@ -327,14 +368,14 @@ module _ (setting : CoreSetting) (constructors : List ConstructorTree) (promise 
                 all_units (x ∷ xs) q = omega (arith, all_units xs q)
 
         active : Active setting.positions setting.code.functions
-            (slice_index_or setting.code.functions setting.code.main no_code).body [] [] (core_start setting)
+            (slice_index_or setting.code.functions setting.code.main no_code).body [] [] (core_start setting) 0
             (counted_start (inserted_setting setting))
         active =
             subst (λ (main : FunctionCode). Active setting.positions setting.code.functions main.body [] []
-            (record { control = running main.body [] []; frames = []; store = [] }) (counted_start (inserted_setting setting)))
+            (record { control = running main.body [] []; frames = []; store = [] }) 0 (counted_start (inserted_setting setting)))
             (sym fetched)
             (subst (λ (main : CountedFunction). Active setting.positions setting.code.functions promise.main.0.body [] []
-            (record { control = running promise.main.0.body [] []; frames = []; store = [] }) (conf main.body [] [] [] []))
+            (record { control = running promise.main.0.body [] []; frames = []; store = [] }) 0 (conf main.body [] [] [] []))
             (sym fetched_too) active_main)
 
 -- each state that is passed, where in each core state it is known of cases
@@ -350,28 +391,28 @@ module _ (setting : CoreSetting) (constructors : List ConstructorTree) (weight :
   abbrev first_counted : CountedState
   first_counted = counted_first_state (inserted_setting setting) input
 
-  related : Related setting constructors promise Test weight 0 pace first_core first_counted
+  related : Related setting constructors promise Test 0 pace first_core first_counted
   related = (
     omega (
       arith,
-      waits_few setting constructors promise first_core.machine.control first_core.machine first_counted.machine
-          (start_stands setting constructors promise Test weight input).1,
+      waits_few setting constructors promise first_core.machine.control first_core.machine 0 first_counted.machine
+          (start_stands setting constructors promise Test input).1,
     ),
-    (start_stands setting constructors promise Test weight input, λ n. (never n, tested n)),
+    (start_stands setting constructors promise Test input, λ n. (never n, tested n)),
   )
 
-  agrees : Agree (core_machine weight setting) (lower (inserted_setting setting)) 0 (λ m. m * pace + pace + 1) first_core
+  agrees : Agree (core_machine core_cost setting) (lower (inserted_setting setting)) 0 (λ m. m * pace + pace + 1) first_core
       first_counted
   agrees =
-      simulates_agree (core_machine weight setting) (lower (inserted_setting setting))
-      (Related setting constructors promise Test weight) (PassingBy Test (inserted_setting setting)) pace
-      (simulates setting constructors promise Test weight) 0 pace first_core first_counted related
+      simulates_agree (core_machine core_cost setting) (lower (inserted_setting setting))
+      (Related setting constructors promise Test) (PassingBy Test (inserted_setting setting)) pace
+      (simulates setting constructors promise Test) 0 pace first_core first_counted related
 
   pub all_passed : (n : ℕ) → PassingBy Test (inserted_setting setting) (state (lower (inserted_setting setting)) n first_counted)
   all_passed n =
-      simulates_passing (core_machine weight setting) (lower (inserted_setting setting))
-      (Related setting constructors promise Test weight) (PassingBy Test (inserted_setting setting)) pace
-      (simulates setting constructors promise Test weight) 0 pace first_core first_counted related n
+      simulates_passing (core_machine core_cost setting) (lower (inserted_setting setting))
+      (Related setting constructors promise Test) (PassingBy Test (inserted_setting setting)) pace
+      (simulates setting constructors promise Test) 0 pace first_core first_counted related n
 
 -- ---- where nothing is known of cases
 
@@ -410,13 +451,13 @@ module _ (setting : CoreSetting) (constructors : List ConstructorTree) (weight :
 
 -- An inserted program keeps the meaning of a program that is never stuck.
 pub keeps_meaning : (setting : CoreSetting) (constructors : List ConstructorTree) (weight : CoreState → ℕ) (input : List ℕ)
-    → IsInsertable setting.positions setting.code → NeverStuck constructors weight setting input → KeepsMeaning weight setting input
+    → IsInsertable setting.positions setting.code → NeverStuck constructors weight setting input → KeepsMeaning setting input
 keeps_meaning setting constructors weight input promise never =
     record {
       agrees = agrees setting constructors weight input promise never any_test
           (tested_at setting constructors weight input promise never);
       never_stuck = λ weights n. (passing n).0;
-      sound = λ weights n. keeps_sound setting.positions (inserted_setting setting) (λ s. 0) input
+      sound = λ weights n. keeps_sound setting.positions (inserted_setting setting) counted_cost input
           (inserted_is_spent setting.positions setting.code promise) (λ k. (passing k).1.0) n;
       clean = λ weights n. (passing n).1.1.0;
     }
@@ -515,5 +556,5 @@ finds_as_many setting constructors weight input promise sane =
           (done.steps, ap (λ (notes : List Note). slice_get notes k) done.events_are ∙ is);
     }
   where
-    kept : KeepsMeaning weight setting input
+    kept : KeepsMeaning setting input
     kept = keeps_meaning setting constructors weight input promise sane

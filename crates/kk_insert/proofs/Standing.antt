@@ -1,5 +1,5 @@
 -- When a state of the counted machine stands for one of the core machine.
-use Rattle.std.proofs.Common.{◌≡◌, ℕ, ◌≤◌, false, List, [], ◌∷◌, ◌++◌, Option, Some, None}
+use Rattle.std.proofs.Common.{◌≡◌, ℕ, ◌+◌, ◌*◌, ◌≤◌, false, List, [], ◌∷◌, ◌++◌, length, Option, Some, None}
 use Rattle.kk_syntax.specs.Shapes.{is_among, without}
 use Rattle.kk_syntax.specs.PositionsOf.{PositionTable}
 use Rattle.kk_source.specs.State.{Value, Store, Environment}
@@ -8,6 +8,7 @@ use Rattle.kk_core.specs.Codes.{Code, FunctionCode}
 use Rattle.kk_core.specs.CoreStates.{Join, CallFrame, CoreControl, running, stopped, CoreConfiguration, CoreState}
 use Rattle.kk_core.specs.Sizes.{forms, most_forms}
 use Rattle.kk_counted.specs.Heaps.{Heap, forwards}
+use Rattle.kk_counted.specs.CountedCosts.{drop_cost}
 use Rattle.kk_counted.specs.CountedStates as Counted
 use Rattle.kk_counted.specs.CountedStates.{CountedSetting, CountedJoin, CountedFrame, CountedConfiguration, CountedState}
 use Rattle.kk_counted.specs.References.{refs, IsSound}
@@ -111,7 +112,8 @@ module _ (positions : PositionTable) (source : List FunctionCode) where
 
   -- ---- states
 
-  pub record Active (code : Code) (environment : Environment) (joins : List Join) (from : CoreConfiguration)
+  -- the cost of a drop is saved for each reference that the function that runs owns, and each of those that wait
+  pub record Active (code : Code) (environment : Environment) (joins : List Join) (from : CoreConfiguration) (credit : ℕ)
       (c : CountedConfiguration) : Type 0 where
     pub lent : List ℕ
     pub below : List Value
@@ -124,19 +126,21 @@ module _ (positions : PositionTable) (source : List FunctionCode) where
     pub joins_ok : JoinsOk lent joins
     pub reached : AreReached from.store below environment lent
     pub sound : IsSound (values_of environment (own positions lent (left_by (left_of lent joins)) code) ++ below) heap
+    pub saved : drop_cost * (length (own positions lent (left_by (left_of lent joins)) code) + length below) ≤ credit
 
-  abbrev pub StandsAt : CoreControl → CoreConfiguration → CountedConfiguration → Type 0
-  StandsAt (running code environment joins) s c = Active code environment joins s c
-  StandsAt (stopped by) s c = (c.control ≡ Counted.stopped by) × LeavesNone by c.heap
+  abbrev pub StandsAt : CoreControl → CoreConfiguration → ℕ → CountedConfiguration → Type 0
+  StandsAt (running code environment joins) s credit c = Active code environment joins s credit c
+  StandsAt (stopped by) s credit c = (c.control ≡ Counted.stopped by) × LeavesNone by c.heap
 
-  abbrev pub Stands : CoreState → CountedState → Type 0
-  Stands s t = (t.input ≡ s.input) × StandsAt s.machine.control s.machine t.machine
+  abbrev pub Stands : CoreState → ℕ → CountedState → Type 0
+  Stands s credit t = (t.input ≡ s.input) × StandsAt s.machine.control s.machine credit t.machine
 
-  -- the counted machine does what an action of the core machine does, through states of a kind
-  abbrev pub FollowsBy : (CountedState → Type 0) → CountedSetting → ℕ → Action CoreConfiguration → List ℕ → CountedState → Type 0
-  FollowsBy Q setting least action input t =
-      PathBy Q setting least (performed action input).0 (Stands (performed action input).1) t
+  -- the counted machine does what an action of the core machine does, through states of a kind, at a cost of at most `most`
+  abbrev pub FollowsBy : (CountedState → Type 0) → CountedSetting → (least most : ℕ) → Action CoreConfiguration → List ℕ
+      → CountedState → Type 0
+  FollowsBy Q setting least most action input t =
+      PathBy Q setting least most (performed action input).0 (Stands (performed action input).1) t
 
   -- through states that are not at a case
-  abbrev pub Follows : CountedSetting → ℕ → Action CoreConfiguration → List ℕ → CountedState → Type 0
+  abbrev pub Follows : CountedSetting → (least most : ℕ) → Action CoreConfiguration → List ℕ → CountedState → Type 0
   Follows setting = FollowsBy (Passing setting) setting

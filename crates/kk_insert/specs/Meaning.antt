@@ -4,9 +4,11 @@ use Rattle.kk_base.specs.Agreements.{Agree}
 use Rattle.kk_base.specs.Machines.{trace}
 use Rattle.kk_source.specs.Notes.{Note}
 use Rattle.kk_source.specs.State.{End, ended, heap_full, stack_full}
-use Rattle.kk_core.specs.CoreStates.{CoreSetting, CoreState, core_first_state}
+use Rattle.kk_core.specs.CoreStates.{CoreSetting, core_first_state}
 use Rattle.kk_core.specs.CoreMachine.{core_machine}
+use Rattle.kk_core.specs.Costs.{core_cost}
 use Rattle.kk_core.specs.Sizes.{most_forms}
+use Rattle.kk_counted.specs.CountedCosts.{counted_cost}
 use Rattle.kk_counted.specs.Heaps.{Heap, busy}
 use Rattle.kk_counted.specs.CountedStates.{CountedSetting, CountedControl, stopped, CountedConfiguration, CountedState, counted_first_state}
 use Rattle.kk_counted.specs.CountedMachine.{counted_machine, NotStuck}
@@ -44,11 +46,11 @@ counted_notes setting input n =
     trace (counted_machine (λ s. 0) (inserted_setting setting)) n (counted_first_state (inserted_setting setting) input)
 
 -- On an input both machines tell the same notes and end alike: what the core machine does in n steps the counted machine does in
--- some, and what the counted machine does in m steps the core machine does within `m * pace + pace + 1`. The counted machine is
--- never stuck, its heap is sound in each state, and where it has ended by itself no cell is left. What a core step weighs is a
--- parameter; counted steps weigh nothing here.
-pub record KeepsMeaning (weight : CoreState → ℕ) (setting : CoreSetting) (input : List ℕ) : Type 0 where
-  pub agrees : Agree (core_machine weight setting) (counted_machine (λ s. 0) (inserted_setting setting))
+-- some that cost no more, and what the counted machine does in m steps the core machine does within `m * pace + pace + 1`. The
+-- counted machine is never stuck, its heap is sound in each state, and where it has ended by itself no cell is left. The costs are
+-- those of the tables: so the dups and drops are paid, however many drops there are and cells they free.
+pub record KeepsMeaning (setting : CoreSetting) (input : List ℕ) : Type 0 where
+  pub agrees : Agree (core_machine core_cost setting) (counted_machine counted_cost (inserted_setting setting))
       0 (λ m. m * pace + pace + 1) (core_first_state setting input) (counted_first_state (inserted_setting setting) input)
   pub never_stuck : (weights : CountedState → ℕ) (n : ℕ) → NotStuck (inserted_after weights setting input n).control
   pub sound : (weights : CountedState → ℕ) (n : ℕ)

@@ -1,11 +1,12 @@
 -- Drop specialisation keeps what is kept by code that spends what it owns.
-use Rattle.std.proofs.Common.{◌≡◌, ℕ, List, sym, subst}
+use Rattle.std.proofs.Common.{◌≡◌, ℕ, ◌*◌, ◌≤◌, List, arith, sym, subst}
 use Rattle.kk_base.specs.Agreements.{Agree}
-use Rattle.kk_base.specs.Machines.{Machine, trace, ending_after}
+use Rattle.kk_base.specs.Machines.{trace, ending_after}
 use Rattle.kk_syntax.specs.PositionsOf.{PositionTable}
-use Rattle.kk_source.specs.Notes.{Note}
-use Rattle.kk_source.specs.State.{Setting, End}
-use Rattle.kk_source.specs.SourceAfter.{store_machine, first_state}
+use Rattle.kk_source.specs.State.{Setting}
+use Rattle.kk_source.specs.SourceAfter.{step, ending_of, store_machine, first_state}
+use Rattle.kk_norm.specs.Meaning.{heavy_store_machine}
+use Rattle.kk_counted.specs.CountedCosts.{counted_cost}
 use Rattle.kk_counted.specs.CountedCodes.{CountedProgram}
 use Rattle.kk_counted.specs.CountedStates.{CountedSetting, CountedConfiguration, CountedState, counted_first_state}
 use Rattle.kk_counted.specs.CountedMachine.{counted_machine, NotStuck}
@@ -15,7 +16,7 @@ use Rattle.kk_insert.specs.Meaning.{EndsClean}
 use Rattle.kk_dropspec.specs.SameRuns.{AreSameAfter}
 use Rattle.kk_dropspec.specs.Specialised.{special_program, special_setting}
 use Rattle.kk_middle.specs.Meaning.{KeepsMeaning}
-use Rattle.kk_middle.proofs.Agreeing.{agree_alike, told_above, told_below, counted_weightless}
+use Rattle.kk_middle.proofs.Agreeing.{even_weights, agree_alike, told_above, told_below}
 use Rattle.kk_middle.proofs.Marked.{special_fits, special_goes, special_clean}
 
 -- the laws on drop specialisation and on code that spends what it owns
@@ -43,31 +44,39 @@ module _ (keeps_spent : KeepsSpent) (runs_the_same : RunsTheSame) (keeps_sound :
       subst (λ (c : CountedConfiguration). FitsAt c.control) (sym (same weights n).states)
       (special_fits (counted_after weights counted input n).control (fits weights n))
 
-  -- a machine whose trace and end are those of another, which agrees with the code that is specialised
-  module _ {S : Type 0} (upper : Machine S Note End) (s : S) (setting : Setting) (up : ℕ → ℕ)
-      (traces : (n : ℕ) → trace upper n s ≡ trace (store_machine setting) n (first_state setting input))
-      (endings : (n : ℕ) → ending_after upper n s ≡ ending_after (store_machine setting) n (first_state setting input))
-      (credit : ℕ) (agree : Agree upper (counted_machine (λ s. 0) counted) credit up s (counted_first_state counted input))
+  -- a setting on which the store machine tells and ends as on another, on which it agrees with the code that is specialised
+  module _ (setting made : Setting) (greatest : ℕ) (up : ℕ → ℕ)
+      (traces : (n : ℕ) → trace (store_machine made) n (first_state made input) ≡ trace (store_machine setting) n (first_state setting input))
+      (endings : (n : ℕ) → ending_after (store_machine made) n (first_state made input)
+      ≡ ending_after (store_machine setting) n (first_state setting input))
+      (agree : (nodes : ℕ) → greatest ≤ nodes
+      → Agree (heavy_store_machine (256 * (nodes * nodes)) made) (counted_machine counted_cost counted) 0 up (first_state made input)
+      (counted_first_state counted input))
       (goes : (weights : CountedState → ℕ) (n : ℕ) → NotStuck (counted_after weights counted input n).control)
       (clean : (weights : CountedState → ℕ) (n : ℕ)
       → EndsClean (counted_after weights counted input n).control (counted_after weights counted input n).heap) where
-    whole : Agree (store_machine setting) (counted_machine (λ s. 0) (special_setting counted)) 0 up (first_state setting input)
-        (counted_first_state (special_setting counted) input)
-    whole =
-        agree_alike upper (store_machine setting) (counted_machine (λ s. 0) counted)
-        (counted_machine (λ s. 0) (special_setting counted)) up s (first_state setting input) (counted_first_state counted input)
-        (counted_first_state (special_setting counted) input) traces endings
-        (λ n. sym (same (λ s. 0) n).notes) (λ n. sym (same (λ s. 0) n).ends)
-        (λ n. counted_weightless (special_setting counted) n (counted_first_state (special_setting counted) input)) credit agree
+    whole : (nodes : ℕ) → greatest ≤ nodes
+        → Agree (heavy_store_machine (256 * (nodes * nodes)) setting) (counted_machine counted_cost (special_setting counted)) 0 up
+        (first_state setting input) (counted_first_state (special_setting counted) input)
+    whole nodes large =
+        agree_alike (heavy_store_machine (256 * (nodes * nodes)) made) (heavy_store_machine (256 * (nodes * nodes)) setting)
+        (counted_machine counted_cost counted) (counted_machine counted_cost (special_setting counted)) up (first_state made input)
+        (first_state setting input) (counted_first_state counted input) (counted_first_state (special_setting counted) input)
+        traces endings (λ n. sym (same counted_cost n).notes) (λ n. sym (same counted_cost n).ends)
+        (λ n. even_weights (256 * (nodes * nodes)) ending_of (step made) ending_of (step setting) n (first_state made input)
+        (first_state setting input) endings)
+        (λ n. (same counted_cost n).costs) 0 (agree nodes large)
 
-    pub special_keeps : KeepsMeaning setting positions (special_setting counted) up input
+    pub special_keeps : KeepsMeaning setting positions (special_setting counted) greatest up input
     special_keeps =
         record {
           agrees = whole;
-          counted_are_live = told_above (store_machine setting) (counted_machine (λ s. 0) (special_setting counted)) 0 up
-              (first_state setting input) (counted_first_state (special_setting counted) input) whole;
-          live_are_counted = told_below (store_machine setting) (counted_machine (λ s. 0) (special_setting counted)) 0 up
-              (first_state setting input) (counted_first_state (special_setting counted) input) whole;
+          counted_are_live = told_above (heavy_store_machine (256 * (greatest * greatest)) setting)
+              (counted_machine counted_cost (special_setting counted)) 0 up (first_state setting input)
+              (counted_first_state (special_setting counted) input) (whole greatest (omega arith));
+          live_are_counted = told_below (heavy_store_machine (256 * (greatest * greatest)) setting)
+              (counted_machine counted_cost (special_setting counted)) 0 up (first_state setting input)
+              (counted_first_state (special_setting counted) input) (whole greatest (omega arith));
           spent = keeps_spent positions counted.program spent;
           fits = fits_too;
           never_stuck = λ weights n.

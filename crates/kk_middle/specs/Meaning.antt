@@ -1,5 +1,5 @@
 -- What it is that the counted form of a program keeps the program's meaning.
-use Rattle.std.specs.Prelude.{◌≡◌, ℕ, ◌+◌, ◌*◌, List, Some, slice_get}
+use Rattle.std.specs.Prelude.{◌≡◌, ℕ, ◌+◌, ◌*◌, ◌≤◌, List, Some, slice_get}
 use Rattle.kk_base.specs.Agreements.{Agree}
 use Rattle.kk_base.specs.Machines.{trace}
 use Rattle.kk_syntax.specs.declared.ground.Ground.{Ground}
@@ -9,7 +9,9 @@ use Rattle.kk_syntax.specs.Shapes.{greatest_nodes}
 use Rattle.kk_source.specs.Notes.{Note}
 use Rattle.kk_source.specs.State.{Setting}
 use Rattle.kk_source.specs.SourceAfter.{store_machine, first_state}
+use Rattle.kk_norm.specs.Meaning.{heavy_store_machine}
 use Rattle.kk_counted.specs.declared.counted.Counted.{Counted}
+use Rattle.kk_counted.specs.CountedCosts.{counted_cost}
 use Rattle.kk_counted.specs.CountedStates.{CountedSetting, CountedState, counted_first_state}
 use Rattle.kk_counted.specs.CountedMachine.{counted_machine, NotStuck}
 use Rattle.kk_counted.specs.Keeping.{FitsAlways, IsKept, counted_after}
@@ -34,14 +36,16 @@ abbrev pub store_steps : ProgramTree → ℕ → ℕ
 store_steps instances m = (m * pace + pace + 1) * (greatest_nodes instances + 1) + greatest_nodes instances + 1
 
 -- On an input both machines tell the same notes and end alike: what the store machine does in n steps the counted machine does in
--- some, and what the counted machine does in m steps the store machine does within `up m`. The k-th note of one is the k-th of the
--- other: so where a cell is made, as many cells are counted as places are live. The counted machine is never stuck, its heap is
--- sound in each state, operators and prints take values without cells, and where it has ended by itself no cell is left. So what
--- is known of code that spends what it owns is known of this code. Counted steps weigh nothing here.
-pub record KeepsMeaning (setting : Setting) (positions : PositionTable) (counted : CountedSetting) (up : ℕ → ℕ)
+-- some, and what the counted machine does in m steps the store machine does within `up m`. The counted steps that do n steps of the
+-- store machine cost n times 256 times the square of the nodes of the greatest body at most, or of a greater number. The k-th note of
+-- one is the k-th of the other: so where a cell is made, as many cells are counted as places are live. The counted machine is never
+-- stuck, its heap is sound in each state, operators and prints take values without cells, and where it has ended by itself no cell is
+-- left. So what is known of code that spends what it owns is known of this code.
+pub record KeepsMeaning (setting : Setting) (positions : PositionTable) (counted : CountedSetting) (greatest : ℕ) (up : ℕ → ℕ)
     (input : List ℕ) : Type 0 where
-  pub agrees : Agree (store_machine setting) (counted_machine (λ s. 0) counted) 0 up (first_state setting input)
-      (counted_first_state counted input)
+  pub agrees : (nodes : ℕ) → greatest ≤ nodes
+      → Agree (heavy_store_machine (256 * (nodes * nodes)) setting) (counted_machine counted_cost counted) 0 up
+      (first_state setting input) (counted_first_state counted input)
   pub counted_are_live : (n k : ℕ) (note : Note) → slice_get (counted_notes counted input n) k ≡ Some note
       → (m : ℕ) × (slice_get (store_notes setting input m) k ≡ Some note)
   pub live_are_counted : (n k : ℕ) (note : Note) → slice_get (store_notes setting input n) k ≡ Some note

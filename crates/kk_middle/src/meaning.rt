@@ -5,6 +5,7 @@ ghost use Rattle.kk_syntax.specs.declared.typed.Typed.{Typed};
 ghost use Rattle.kk_syntax.specs.GroundPrograms.{ground_program};
 ghost use Rattle.kk_syntax.specs.GroundTyping.{table_of};
 ghost use Rattle.kk_syntax.specs.Programs.{program_tree};
+ghost use Rattle.kk_syntax.specs.Shapes.{greatest_nodes};
 ghost use Rattle.kk_syntax.specs.TypedPrograms.{typings_of};
 ghost use Rattle.kk_source.specs.Settings.{setting_of};
 ghost use Rattle.kk_mono.specs.Grounds.{AreGiven};
@@ -31,7 +32,7 @@ use kk_insert::{
 use kk_instances::instances_mean_the_program;
 use kk_norm::{
     core_forms_are_small, core_forms_ask_what_types_tell, core_forms_of_typed_programs_are_typed,
-    core_forms_of_typed_programs_keep_meaning,
+    core_forms_of_typed_programs_cost_little,
 };
 
 /// The core form of an accepted program is typed, and may be inserted. It is a law, and does nothing.
@@ -53,18 +54,20 @@ pub(crate) fn compiled_core_forms_are_insertable()
 }
 
 /// The counted form of an accepted program keeps the program's meaning: on every input, with any cells and depth, its machine
-/// tells the same notes as the store machine and ends alike. It is never stuck, its heap is sound in each state, and no cell is
-/// left where it ends by itself. It is a law, and does nothing.
+/// tells the same notes as the store machine and ends alike, and the steps that do one step of the store machine cost at most 256
+/// times the square of the nodes of the greatest body of the instances, on the whole. It is never stuck, its heap is sound in each
+/// state, and no cell is left where it ends by itself. It is a law, and does nothing.
 pub fn compiled_programs_keep_meaning()
     ensures { (typed : Typed) (given : Ground) (made : Counted) → IsChecked (program_tree typed.program) (typings_of typed)
         → AreGiven typed given
         → (compiled : IsCompiled typed given made) → AllKeepLent (program_tree typed.program) compiled.table
         → (cells depth : ℕ) (input : List ℕ)
         → KeepsMeaning (setting_of (program_tree typed.program) compiled.table cells depth)
-        (instance_positions given compiled.table) (counted_setting made given cells depth) (store_steps (ground_program given)) input }
+        (instance_positions given compiled.table) (counted_setting made given cells depth)
+        (greatest_nodes (ground_program given)) (store_steps (ground_program given)) input }
 {
     compiled_core_forms_are_insertable();
-    core_forms_of_typed_programs_keep_meaning();
+    core_forms_of_typed_programs_cost_little();
     typed_code_is_never_stuck();
     inserted_code_is_spent();
     inserted_code_keeps_meaning();

@@ -1,7 +1,6 @@
-use Rattle.std.proofs.Common.{◌≡◌, ℕ, ◌+◌, ◌*◌, Bool, List, sym, ap, subst, ◌∙◌, arith}
+use Rattle.std.proofs.Common.{◌≡◌, ℕ, ◌+◌, ◌*◌, ◌≤◌, Bool, List, sym, ap, subst, arith}
 use Rattle.kk_base.specs.Agreements.{Agree}
 use Rattle.kk_base.proofs.Agreements.{agree_through}
-use Rattle.kk_base.proofs.Machines.{trace-weighing, state-weighing}
 use Rattle.kk_syntax.specs.GroundPrograms.{ground_program}
 use Rattle.kk_syntax.specs.GroundTyping.{table_of, IsGroundTyped}
 use Rattle.kk_syntax.specs.OwnedPositions.{Told, owned_in, ClosedUnderTailCalls}
@@ -12,15 +11,17 @@ use Rattle.kk_syntax.specs.Typing.{Choice}
 use Rattle.kk_syntax.specs.TypedPrograms.{typings_of}
 use Rattle.kk_source.specs.Settings.{setting_of}
 use Rattle.kk_source.specs.State.{Setting}
-use Rattle.kk_source.specs.SourceAfter.{step, ending_of, first_state, State}
+use Rattle.kk_source.specs.SourceAfter.{first_state}
 use Rattle.kk_mono.specs.Grounds.{instances_of}
 use Rattle.kk_mono.specs.Instances.{InstanceTree, IsInstanceProgram}
 use Rattle.kk_core.specs.Codes.{ProgramCode, core_code}
 use Rattle.kk_core.specs.CoreMachine.{core_machine}
+use Rattle.kk_core.specs.Costs.{core_cost}
 use Rattle.kk_core.specs.CoreStates.{CoreSetting, core_first_state}
 use Rattle.kk_core.specs.CoreTyping.{IsCoreTyped}
 use Rattle.kk_norm.specs.Meaning as Norm
 use Rattle.kk_counted.specs.CountedCodes.{CountedProgram}
+use Rattle.kk_counted.specs.CountedCosts.{counted_cost}
 use Rattle.kk_counted.specs.CountedMachine.{counted_machine}
 use Rattle.kk_counted.specs.CountedStates.{CountedSetting, CountedState, counted_first_state}
 use Rattle.kk_counted.specs.Keeping.{FitsAlways, counted_after}
@@ -61,7 +62,7 @@ returns c typed given made checked are compiled keeps cells depth input =
     let core : CoreSetting = Norm.core_setting_of code own cells depth in
     let counted : CountedSetting = Insert.inserted_setting core in
     let never = c.typed_code_is_never_stuck.ensures (table_of ground) core (λ s. 0) input core_typed in
-    let means : Insert.KeepsMeaning (λ s. 0) core input
+    let means : Insert.KeepsMeaning core input
     = c.inserted_code_keeps_meaning.ensures core (table_of ground).constructors (λ s. 0) input insertable never in
     let spent : IsSpent own (inserted own code) = c.inserted_code_is_spent.ensures own code insertable in
     let marked : (holds : ℕ → ℕ → Bool) × AreMarked (marks_of_types (table_of ground)) holds (inserted own code)
@@ -73,28 +74,28 @@ returns c typed given made checked are compiled keeps cells depth input =
     (numbers_in weights counted input n) (counted_after weights counted input n).frames
     (always_fit (marks_of_types (table_of ground)) marked.0 counted marked.1 weights input n).1 in
     let store : Setting = setting_of ground own cells depth in
-    let weight : State → ℕ = λ s. Norm.core_steps s * 0 in
     let agree
-    : Agree (Norm.weighed_store_machine weight store) (counted_machine (λ s. 0) counted) (0 + 0) (store_steps ground)
+    : (nodes : ℕ) → greatest_nodes ground ≤ nodes
+    → Agree (Norm.heavy_store_machine (256 * (nodes * nodes)) store) (counted_machine counted_cost counted) 0 (store_steps ground)
     (first_state store input) (counted_first_state counted input)
-    = agree_through (Norm.weighed_store_machine weight store) (core_machine (λ s. 0) core) (counted_machine (λ s. 0) counted) 0 0
+    = λ nodes large.
+    agree_through (Norm.heavy_store_machine (256 * (nodes * nodes)) store) (core_machine core_cost core)
+    (counted_machine counted_cost counted) 0 0
     (λ m. m * (greatest_nodes ground + 1) + greatest_nodes ground + 1) (λ m. m * Insert.pace + Insert.pace + 1)
     (first_state store input) (core_first_state core input)
     (counted_first_state counted input)
-    ((c.core_forms_of_typed_programs_keep_meaning.ensures ground code is_typed compiled.form).agrees own cells depth input 0
-    (λ s. 0) (λ s. omega arith))
+    ((c.core_forms_of_typed_programs_cost_little.ensures ground code is_typed compiled.form).agrees own cells depth input nodes
+    core_cost large (λ n. omega arith))
     means.agrees in
     let same : counted_setting made given cells depth ≡ special_setting counted
     = ap (λ (all : CountedProgram). record { program = all; cells = cells; depth = depth })
     (compiled_program typed given made compiled) in
-    subst (λ (setting : CountedSetting). KeepsMeaning (setting_of program table cells depth) own setting (store_steps ground) input)
+    subst (λ (setting : CountedSetting). KeepsMeaning (setting_of program table cells depth) own setting (greatest_nodes ground)
+    (store_steps ground) input)
     (sym same)
     (special_keeps c.specialised_code_is_spent.ensures c.specialised_code_runs_the_same.ensures
     c.judged_code_keeps_its_heap_sound.ensures own counted input spent fits
-    (Norm.weighed_store_machine weight store) (first_state store input) (setting_of program table cells depth)
-    (store_steps ground)
-    (λ n. trace-weighing weight ending_of (step store) n (first_state store input)
-    ∙ same_trace program ground typings instances is checked table cells depth input n)
-    (λ n. ap ending_of (state-weighing weight ending_of (step store) n (first_state store input))
-    ∙ same_end program ground typings instances is checked table cells depth input n)
-    (0 + 0) agree means.never_stuck means.clean)
+    (setting_of program table cells depth) store (greatest_nodes ground) (store_steps ground)
+    (same_trace program ground typings instances is checked table cells depth input)
+    (same_end program ground typings instances is checked table cells depth input)
+    agree means.never_stuck means.clean)
