@@ -6,7 +6,6 @@ use Rattle.kk_base.proofs.Machines.{state-weighing}
 use Rattle.kk_base.proofs.Agreements.{agree_through, agree_mapped}
 use Rattle.kk_syntax.specs.PositionsOf.{PositionTable}
 use Rattle.kk_syntax.specs.Programs.{ProgramTree}
-use Rattle.kk_syntax.specs.Shapes.{greatest_nodes}
 use Rattle.kk_source.specs.Ends.{exit_of}
 use Rattle.kk_source.specs.Notes.{Note, events_of}
 use Rattle.kk_source.specs.SourceAfter.{step, ending_of, store_machine, first_state, State}
@@ -45,9 +44,9 @@ no_cell : (by : End) (c : CountedConfiguration) → by ≡ ended → c.control �
 no_cell by c is stops clean =
     subst (λ (control : CountedControl). EndsClean control c.heap) (stops ∙ ap stopped is) clean
 
-module _ (program made : ProgramTree) (table positions : PositionTable) (code : CountedProgram) (up : ℕ → ℕ) (cells depth entry : ℕ)
+module _ (program : ProgramTree) (table positions : PositionTable) (code : CountedProgram) (greatest : ℕ) (up : ℕ → ℕ) (cells depth entry : ℕ)
     (parts : List Part) (image : IsCountedImageOf code cells depth entry parts)
-    (keeps : (input : List ℕ) → KeepsMeaning made (setting_of program table cells depth) positions (counted_setting code cells depth) up input)
+    (keeps : (input : List ℕ) → KeepsMeaning (setting_of program table cells depth) positions (counted_setting code cells depth) greatest up input)
     (input : List ℕ) (bytes : All (λ byte. byte < 256) input) where
   abbrev setting : Setting
   setting = setting_of program table cells depth
@@ -74,7 +73,7 @@ module _ (program made : ProgramTree) (table positions : PositionTable) (code : 
   abbrev most : ℕ → ℕ
   most nodes = instructions_each * (256 * (nodes * nodes))
 
-  module _ (nodes : ℕ) (few : greatest_nodes made ≤ nodes) where
+  module _ (nodes : ℕ) (few : greatest ≤ nodes) where
     whole : Agree (mapped events_of (λ end. exited (exit_of end)) (heavy_store_machine (most nodes) setting)) (processor_machine rv32im) outside_lines
         (λ m. up ((image.does input bytes).0 m)) (first_state setting input) (goes loaded)
     whole =
@@ -114,9 +113,9 @@ module _ (program made : ProgramTree) (table positions : PositionTable) (code : 
         (leaves.0, exited_is (run_over rv32im leaves.0 loaded).ending (exit_of ended) leaves.1.0, leaves.1.1)
 
 -- the file that loads the image agrees with the program, leaves no cell, and is bounded
-module _ (program made : ProgramTree) (table positions : PositionTable) (code : CountedProgram) (up : ℕ → ℕ) (cells depth entry : ℕ)
+module _ (program : ProgramTree) (table positions : PositionTable) (code : CountedProgram) (greatest : ℕ) (up : ℕ → ℕ) (cells depth entry : ℕ)
     (file : List ℕ) (parts : List Part) (image : IsCountedImageOf code cells depth entry parts)
-    (keeps : (input : List ℕ) → KeepsMeaning made (setting_of program table cells depth) positions (counted_setting code cells depth) up input)
+    (keeps : (input : List ℕ) → KeepsMeaning (setting_of program table cells depth) positions (counted_setting code cells depth) greatest up input)
     (loaded : IsLoaded file entry parts) where
   of_file : (Holds : List Part → ℕ → Type 0) → Holds parts entry → Holds (parts_of file) (entry_of file)
   of_file Holds holds = subst (λ (p : List Part). Holds p (entry_of file)) loaded.parts_are (subst (λ (e : ℕ). Holds parts e) loaded.entry_is holds)
@@ -126,17 +125,17 @@ module _ (program made : ProgramTree) (table positions : PositionTable) (code : 
     loads = loaded.sound;
     agrees = λ input bytes.
         of_file (λ p e. ImageAgrees (store_machine (setting_of program table cells depth)) events_of exit_of (first_state (setting_of program table cells depth) input) (λ m. run_over rv32im m (start (memory_of p) e input)))
-        (image_does program made table positions code up cells depth entry parts image keeps input bytes (greatest_nodes made) (omega arith));
+        (image_does program table positions code greatest up cells depth entry parts image keeps input bytes greatest (omega arith));
   }
 
   pub file_leaves : LeavesNoCell file (setting_of program table cells depth)
   file_leaves input bytes n is =
       of_file (λ p e. (count : ℕ) × ((run_over rv32im count (start (memory_of p) e input)).ending ≡ exited (exit_of ended))
       × (free_cells cells (run_over rv32im count (start (memory_of p) e input)).processor ≡ cells))
-      (image_leaves program made table positions code up cells depth entry parts image keeps input bytes (greatest_nodes made) (omega arith) n is)
+      (image_leaves program table positions code greatest up cells depth entry parts image keeps input bytes greatest (omega arith) n is)
 
-  pub file_is_bounded : (nodes : ℕ) → greatest_nodes made ≤ nodes → 1 ≤ nodes → IsBounded nodes file (setting_of program table cells depth)
+  pub file_is_bounded : (nodes : ℕ) → greatest ≤ nodes → 1 ≤ nodes → IsBounded nodes file (setting_of program table cells depth)
   file_is_bounded nodes few some input bytes =
       of_file (λ p e. ImageKeepsUp (store_machine (setting_of program table cells depth)) events_of exit_of (instructions_within nodes)
       (first_state (setting_of program table cells depth) input) (λ m. run_over rv32im m (start (memory_of p) e input)))
-      (image_is_bounded program made table positions code up cells depth entry parts image keeps input bytes nodes few some)
+      (image_is_bounded program table positions code greatest up cells depth entry parts image keeps input bytes nodes few some)
