@@ -1,8 +1,8 @@
 -- The greatest body of a program's instances is no greater than that of the program, and has a node.
-use Rattle.std.proofs.Common.{◌≡◌, ◌≤◌, ◌<◌, ℕ, zero, suc, List, [], ◌∷◌, length, max, Some, refl, sym, ap, ◌∙◌, arith}
+use Rattle.std.proofs.Common.{◌≡◌, ◌≤◌, ℕ, zero, suc, List, [], ◌∷◌, length, Some, refl, ap, arith}
 use Rattle.std.proofs.Math.Nat.{le-max_left, le-max_right, max-le}
 use Rattle.std.proofs.lemmas.Option.{slice_get_within, slice_get-get_or}
-use Rattle.std.specs.List.{slice_get}
+use Rattle.std.specs.Prelude.{slice_get, get_or}
 use Rattle.kk_syntax.specs.Programs.{FunctionTree, ProgramTree, no_function}
 use Rattle.kk_syntax.specs.Shapes.{nodes_of, greatest_of, greatest_nodes}
 use Rattle.kk_syntax.specs.Typing.{Choice}
@@ -49,12 +49,14 @@ module _ {program made : ProgramTree} {typings : List (List Choice)} {instances 
   pub instances_have_no_more : greatest_nodes made ≤ greatest_nodes program
   instances_have_no_more = greatest_within made.functions (greatest_nodes program) each_within
 
-  -- `main` is a function of the program
+  -- `main` is an instance, whose body has a node
   pub program_has_some : 1 ≤ greatest_nodes program
   program_has_some =
       let begins = ap length are.are.begins in
       let many = are.as_many in
-      let there = slice_get-get_or made.functions 0 no_function (omega (arith, begins, many)) in
-      let some = tree_some _ in
-      let most = each_within 0 _ there in
+      let main = get_or made.functions 0 no_function in
+      let there : slice_get made.functions 0 ≡ Some main
+      = slice_get-get_or made.functions 0 no_function (omega (arith, begins, many)) in
+      let some = tree_some main.body in
+      let most = each_within 0 main there in
       omega (arith, some, most)

@@ -6,7 +6,8 @@ use Rattle.kk_base.specs.Agreements.{Agree}
 use Rattle.kk_base.specs.Machines.{weight_of, weight_unless, weighing}
 
 -- a step that has not ended weighs so many times as much
-unless_scaled : {W : Type 0} (how : Option W) (times weight : ℕ) → weight_unless how (times * weight) ≡ times * weight_unless how weight
+unless_scaled : {W : Type 0} (how : Option W) (times weight : ℕ)
+    → weight_unless how (times * weight) ≡ times * weight_unless how weight
 unless_scaled None times weight = refl
 unless_scaled (Some end) times weight = sym (mul-zero times)
 

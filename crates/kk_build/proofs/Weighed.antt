@@ -1,5 +1,5 @@
--- An image that does what a machine does, each step of which weighs so much, agrees with that machine whatever its steps weigh; and it does n
--- steps within n times that weight and what is done outside of them.
+-- An image that does what a machine does, each step of which weighs so much, agrees with that machine whatever its steps weigh;
+-- and it does n steps within n times that weight and what is done outside of them.
 use Rattle.std.proofs.Common.{◌≡◌, ℕ, ◌+◌, ◌*◌, ◌≤◌, List, [], Option, Some, None, ap, arith}
 use Rattle.kk_base.specs.Agreements.{Agree}
 use Rattle.kk_base.specs.Machines.{Machine, trace, weight_of, weight_unless, ending_after, weighing, until, mapped}
@@ -24,14 +24,15 @@ module _ {S E W : Type 0} (weight : S → ℕ) (ending : S → Option W) (step :
   pub same_endings : ending_after (weighing weight ending step) n s ≡ ending_after (until ending step) n s
   same_endings = ap ending (state-weighing weight ending step n s)
 
-module _ {I S E W : Type 0} (set : InstructionSet I) (weight : ℕ) (ending : S → Option W) (step : S → List E × S) (told : E → List Event)
-    (exit_of : W → ℕ) (outside : ℕ) (up : ℕ → ℕ) (s : S) (loaded : Processor)
-    (agree : Agree (mapped told (λ end. exited (exit_of end)) (weighing (λ t. weight) ending step)) (processor_machine set) outside up s
-    (goes loaded))
+module _ {I S E W : Type 0} (set : InstructionSet I) (weight : ℕ) (ending : S → Option W) (step : S → List E × S)
+    (told : E → List Event) (exit_of : W → ℕ) (outside : ℕ) (up : ℕ → ℕ) (s : S) (loaded : Processor)
+    (agree : Agree (mapped told (λ end. exited (exit_of end)) (weighing (λ t. weight) ending step)) (processor_machine set)
+    outside up s (goes loaded))
     (silent : loaded.trace ≡ []) where
   abbrev heavy : Machine S E W
   heavy = weighing (λ t. weight) ending step
 
+  -- the image agrees with the machine, of which no two endings have the same exit number
   pub agrees_weighed : ((a b : W) → exit_of a ≡ exit_of b → a ≡ b)
       → ImageAgrees (until ending step) told exit_of s (λ m. run_over set m loaded)
   agrees_weighed differ =
@@ -39,12 +40,15 @@ module _ {I S E W : Type 0} (set : InstructionSet I) (weight : ℕ) (ending : S 
       (λ n. same_traces (λ t. weight) ending step n s) (λ n. same_endings (λ t. weight) ending step n s)
       (image_agrees set heavy told exit_of outside up s loaded agree silent differ)
 
+  -- and keeps up with it
   pub keeps_up_weighed : (within : ℕ → ℕ) → ((n : ℕ) → weight * n + outside ≤ within n)
       → ImageKeepsUp (until ending step) told exit_of within s (λ m. run_over set m loaded)
   keeps_up_weighed within enough =
       keeps_up_alike heavy (until ending step) told exit_of s s (λ m. run_over set m loaded)
-      (λ n. same_traces (λ t. weight) ending step n s) (λ n. same_endings (λ t. weight) ending step n s)
-      within
+      (λ n. same_traces (λ t. weight) ending step n s) (λ n. same_endings (λ t. weight) ending step n s) within
       (image_keeps_up set heavy told exit_of outside up s loaded agree silent within
-      (λ n. let most : weight_of heavy n s ≤ weight * n = weight_of-at_most heavy weight (λ t. unless_at_most (ending t) weight) n s in
-      let more = enough n in omega (arith, most, more)))
+      (λ n.
+      let most : weight_of heavy n s ≤ weight * n
+      = weight_of-at_most heavy weight (λ t. unless_at_most (ending t) weight) n s in
+      let more = enough n in
+      omega (arith, most, more)))

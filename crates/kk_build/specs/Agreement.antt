@@ -10,18 +10,19 @@ use Rattle.elf_image.specs.Loaded.{reason_of}
 use Rattle.rv_isa.specs.Processor.{exited}
 use Rattle.kk_build.specs.ImageAfter.{file_after, free_cells}
 
--- The image in a file agrees with a program on an input: it never traps, and exits with these numbers alone; each trace of one is a prefix of one
--- of the other; and the program ends if and only if the image exits, alike, and then their whole traces are equal.
+-- The image in a file agrees with a program on an input: it never traps, and exits with these numbers alone; each trace of one is a
+-- prefix of one of the other; and the program ends if and only if the image exits, alike, and then their whole traces are equal.
 abbrev pub AgreesOn : List ℕ → Setting → List ℕ → Type 0
-AgreesOn file setting input = ImageAgrees (store_machine setting) events_of exit_of (first_state setting input) (file_after file input)
+AgreesOn file setting input =
+    ImageAgrees (store_machine setting) events_of exit_of (first_state setting input) (file_after file input)
 
 -- the file can be loaded, and its image agrees with the program on every input of bytes
 pub record Agrees (file : List ℕ) (setting : Setting) : Type 0 where
   pub loads : reason_of file ≡ None
   pub agrees : (input : List ℕ) → All (λ byte. byte < 256) input → AgreesOn file setting input
 
--- Within how many instructions the image does what the program does in n steps, by a number of nodes that no body of the program passes: so many
--- for each step, and as many for those before and behind the code of `main`.
+-- Within how many instructions the image does what the program does in n steps, by a number of nodes that no body passes: so many
+-- for each step, and once more as many for the code before and behind that of `main`.
 abbrev pub instructions_within : ℕ → ℕ → ℕ
 instructions_within nodes n = 2304 * (nodes * nodes) * (n + 1)
 

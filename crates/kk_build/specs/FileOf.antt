@@ -13,7 +13,8 @@ pub record IsFileOf (program : ProgramTree) (cells depth : ℕ) (file : List ℕ
   pub image : IsImageFile file
   pub agrees : (positions : PositionTable) → Agrees file (setting_of program positions cells depth)
   pub leaves : (positions : PositionTable) → LeavesNoCell file (setting_of program positions cells depth)
-  pub bounded : (positions : PositionTable) (nodes : ℕ) → 1 ≤ nodes → IsBounded nodes file (setting_of program positions cells depth)
+  pub bounded : (positions : PositionTable) (nodes : ℕ) → 1 ≤ nodes
+      → IsBounded nodes file (setting_of program positions cells depth)
   pub bounded_plain : (positions : PositionTable) → IsPlainlyBounded file (setting_of program positions cells depth)
 
 abbrev pub AnswersFile : ProgramTree → ℕ → ℕ → Option (List ℕ) → Type 0

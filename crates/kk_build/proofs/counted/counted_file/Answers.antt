@@ -24,7 +24,8 @@ counted_image-requires-clause-runnable c =
     let depth = c.args.depth in
     subst (λ (texts : List (List ℕ)). IsRunnable made.shape (program_of made.functions.items texts) cells depth) (sym c.deref.ensures.value)
     (runnable c.judged_programs_are_fit.ensures made given cells depth (setting_of (program_tree typed.program) compiled.table cells depth)
-    (instance_positions given compiled.table) (greatest_nodes (ground_program given)) (store_steps (ground_program given)) c.requires.sizes
+    (instance_positions given compiled.table) (greatest_nodes (ground_program given)) (store_steps (ground_program given))
+    c.requires.sizes
     (c.compiled_programs_can_be_lowered.ensures typed given made checked c.requires.given compiled lent)
     (c.compiled_programs_are_marked.ensures typed given made checked c.requires.given compiled) compiled.numbers
     (c.compiled_programs_keep_meaning.ensures typed given made checked c.requires.given compiled lent cells depth)
@@ -56,12 +57,12 @@ returns-in-Some c =
       table = compiled.table;
       least = compiled.least;
       image = record { entry = entry; parts = parts; program = image.program; written = c.in_ok-file-in-Some.ensures.written; loads = loaded };
-      agrees = file_agrees program compiled.table positions code greatest up cells depth entry file parts image keeps loaded;
-      leaves = file_leaves program compiled.table positions code greatest up cells depth entry file parts image keeps loaded;
+      agrees = file_agrees program compiled.table positions code greatest up cells depth entry parts image keeps loaded;
+      leaves = file_leaves program compiled.table positions code greatest up cells depth entry parts image keeps loaded;
       bounded = λ nodes few.
           let most = instances_have_no_more c.requires.given.instances in
           let some = program_has_some c.requires.given.instances in
-          file_is_bounded program compiled.table positions code greatest up cells depth entry file parts image keeps loaded nodes
+          file_is_bounded program compiled.table positions code greatest up cells depth entry parts image keeps loaded nodes
           (omega (arith, most, few)) (omega (arith, some, few));
     }
 
