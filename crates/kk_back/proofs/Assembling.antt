@@ -39,7 +39,6 @@ use Rattle.rv_place.proofs.BootFits.{FitsImage, fits-image}
 use Rattle.rv_place.proofs.BootSizes.{bytes_most, page_multiple}
 use Rattle.rv_place.specs.declared.words.Words.{Words}
 use Rattle.kk_back.specs.Assembled.{IsPlaceable, IsAsmImage}
-use Rattle.kk_back.specs.Sizes.{FitsText}
 use Rattle.kk_back.proofs.Placeable.{frame_most, as_many}
 use Rattle.kk_back.proofs.Plain.{placed_is_plain}
 

@@ -1,13 +1,13 @@
 -- The image of a program in counted form does what the program does: its assembler code does, and the image does what that does.
-use Rattle.std.proofs.Common.{◌≡◌, ◌≢◌, ◌%◌, ◌<◌, ◌≤◌, ℕ, zero, List, [], All, Some, length, slice_get, refl, sym, ap, subst, ◌∙◌, arith}
+use Rattle.std.proofs.Common.{◌≡◌, ◌≢◌, ◌%◌, ◌<◌, ◌≤◌, ℕ, List, [], All, Some, slice_get, sym, ap, subst, ◌∙◌, arith}
 use Rattle.kk_base.specs.Agreements.{Agree}
 use Rattle.kk_base.specs.Machines.{state}
-use Rattle.kk_base.specs.Sizes.{AreSizes}
 use Rattle.kk_base.proofs.Agreements.{agree_through}
 use Rattle.kk_counted.specs.CountedCodes.{CountedFunction, CountedProgram}
 use Rattle.kk_counted.specs.CountedStates.{CountedSetting, stopped, counted_first_state}
 use Rattle.kk_counted.specs.Heaps.{busy}
 use Rattle.kk_counted.specs.Keeping.{counted_after}
+use Rattle.kk_counted.specs.Lowerable.{AreLowerable}
 use Rattle.kk_counted.specs.Marks.{CellMarks}
 use Rattle.kk_counted.specs.declared.shape.Shape.{Shape}
 use Rattle.cell_heap.specs.Pool.{Pool}
@@ -21,9 +21,9 @@ use Rattle.rv_isa.specs.Primitives.{stuck}
 use Rattle.rv_isa.specs.Processor.{start, goes}
 use Rattle.rv_isa.specs.ProcessorMachine.{processor_machine}
 use Rattle.rv_lower.specs.Lowered.{from_to}
-use Rattle.rv_cells.specs.Costs.{counted_cost}
+use Rattle.rv_cells.specs.Costs.{counted_instructions}
 use Rattle.rv_cells.specs.Fitting.{IsFit}
-use Rattle.rv_cells.specs.Layout.{Layout}
+use Rattle.rv_cells.specs.Layout.{Layout, IsNarrow}
 use Rattle.rv_cells.specs.Lowered.{IsLoweredForm}
 use Rattle.rv_cells.specs.Meaning.{counted_outside, setting_on, IsProgramLowered, RunsTheSame}
 use Rattle.rv_cells.specs.Tables.{table_of, layout_in}
@@ -31,7 +31,7 @@ use Rattle.rv_place.specs.Images.{outside_lines}
 use Rattle.rv_regs.specs.Shape.{most_moves}
 use Rattle.rv_world.specs.Operations.{Constants}
 use Rattle.rv_world.specs.World.{first_world, primitives}
-use Rattle.kk_back.specs.Assembled.{IsPlaceable, IsAsmImage}
+use Rattle.kk_back.specs.Assembled.{IsPlaceable, IsAsmImage, IsImageOfAsm}
 use Rattle.kk_back.specs.CountedImages.{counted_setting, IsRunnable, IsCountedImageOf}
 use Rattle.kk_back.specs.Sizes.{FitsText}
 use Rattle.kk_back.proofs.Assembling.{same_some}
@@ -42,18 +42,36 @@ abbrev pub RunTheSame : Type 0
 RunTheSame =
     (layout : Layout) (marks : CellMarks) (code : CountedProgram) (constants : List (List ℕ)) (functions : List Lines)
     → (lowered : IsProgramLowered layout marks code constants functions)
-    → (pool : Pool) (depth first moves : ℕ) (input : List ℕ) → pool.first % 32 ≡ 0 → 0 < pool.first
+    → (pool : Pool) (depth first moves : ℕ) (input : List ℕ) → moves ≤ 16 → pool.first % 32 ≡ 0 → 0 < pool.first
     → All (λ byte. byte < 256) input
-    → ((n : ℕ) → IsFit layout (counted_after (counted_cost moves) (setting_on code pool depth) input n))
+    → ((n : ℕ) → IsFit layout (counted_after counted_instructions (setting_on code pool depth) input n))
     → RunsTheSame code constants functions lowered.main_lines pool depth first moves input
+
+-- the law that a program that can be lowered, and is so, is one whose assembler code is well formed
+abbrev pub AreWellLowered : Type 0
+AreWellLowered =
+    (shape : Shape) (code : CountedProgram) (texts : List (List ℕ)) (each : List Lines)
+    → AreLowerable (table_of shape) code.functions → IsLoweredForm shape code.texts code.functions each texts
+    → IsNarrow (layout_in shape) → (layout_in shape).tag 0 ≡ 0 → (layout_in shape).tag 1 ≡ 1
+    → (main : CountedFunction) → slice_get code.functions code.main ≡ Some main → main.parameters ≡ 0
+    → IsProgramLowered (layout_in shape) (table_of shape) code texts each
 
 no_params : (names : List ℕ) (n : ℕ) → names ≡ from_to 0 n → n ≡ 0 → names ≡ []
 no_params names n are none = are ∙ ap (from_to 0) none
 
 module _ (shape : Shape) (code : CountedProgram) (functions : List Lines) (texts : List (List ℕ)) (cells depth : ℕ)
     (runnable : IsRunnable shape code cells depth)
-    (form : IsLoweredForm shape code.texts code.functions functions texts)
-    (lowered : IsProgramLowered (layout_in shape) (table_of shape) code texts functions) where
+    (form : IsLoweredForm shape code.texts code.functions functions texts) (are_well_lowered : AreWellLowered) where
+  -- its assembler code is well formed, and its first function is that of `main`
+  lowered : IsProgramLowered (layout_in shape) (table_of shape) code texts functions
+  lowered =
+      are_well_lowered shape code texts functions runnable.lowerable form runnable.narrow runnable.falsity runnable.truth_is
+      runnable.main runnable.main_is runnable.main_alone
+
+  main_there : slice_get functions 0 ≡ Some lowered.main_lines
+  main_there = sym (ap (slice_get functions) runnable.main_first) ∙ lowered.lines_are
+
+  -- its assembler code can be placed where it fits
   pub placeable_of : FitsText functions texts → IsPlaceable functions texts
   placeable_of fits =
       let there = lowered.each code.main lowered.main lowered.main_is in
@@ -66,12 +84,15 @@ module _ (shape : Shape) (code : CountedProgram) (functions : List Lines) (texts
         fits = fits;
         few = omega (arith, many, few);
         main = lowered.main_lines;
-        main_is = sym (ap (slice_get functions) runnable.main_first) ∙ lowered.lines_are;
+        main_is = main_there;
         main_params = sym (ap (λ (lines : Lines). lines.params) same) ∙ params;
       }
 
   module _ (run_the_same : RunTheSame) (entry : ℕ) (parts : List Part)
-      (image : IsAsmImage functions texts lowered.main_lines cells depth entry parts) where
+      (of_asm : IsImageOfAsm functions texts cells depth entry parts) where
+    image : IsAsmImage functions texts lowered.main_lines cells depth entry parts
+    image = of_asm lowered.main_lines main_there
+
     abbrev constants : Constants
     constants = record { first = image.first; texts = texts }
 
@@ -81,43 +102,49 @@ module _ (shape : Shape) (code : CountedProgram) (functions : List Lines) (texts
     same_setting : setting_on code image.pool depth ≡ setting
     same_setting = ap (λ n. counted_setting code n depth) image.cells_are
 
-    runs : (moves : ℕ) (input : List ℕ) → All (λ byte. byte < 256) input
+    runs : (moves : ℕ) (input : List ℕ) → moves ≤ 16 → All (λ byte. byte < 256) input
         → RunsTheSame code texts functions lowered.main_lines image.pool depth image.first moves input
-    runs moves input bytes =
-        run_the_same (layout_in shape) (table_of shape) code texts functions lowered image.pool depth image.first moves input image.aligned
-        image.behind bytes
-        (λ n. subst (λ (s : CountedSetting). IsFit (layout_in shape) (counted_after (counted_cost moves) s input n)) (sym same_setting)
-        (runnable.fit (counted_cost moves) input bytes n))
+    runs moves input few bytes =
+        run_the_same (layout_in shape) (table_of shape) code texts functions lowered image.pool depth image.first moves input few
+        image.aligned image.behind bytes
+        (λ n. subst (λ (s : CountedSetting). IsFit (layout_in shape) (counted_after counted_instructions s input n))
+        (sym same_setting) (runnable.fit counted_instructions input bytes n))
 
     never : (input : List ℕ) → All (λ byte. byte < 256) input → (n : ℕ)
         → state (asm_machine (primitives constants image.pool) 0 depth functions) n (asm_start lowered.main_lines (first_world image.pool input))
         ≢ stuck
-    never input bytes n = (runs 0 input bytes).never_stuck n
+    never input bytes n = (runs 0 input (omega arith) bytes).never_stuck n
 
+    -- the image does what the program does
     pub image_is : IsCountedImageOf code cells depth entry parts
     image_is = record {
       program = image.program;
       does = λ input bytes.
-          let upper = (runs most_moves input bytes).agrees in
+          let upper = (runs most_moves input (omega arith) bytes).agrees in
           let low = image.does input bytes (never input bytes) in (
             (λ m. upper.0 (low.0 m)),
-            subst (λ (s : CountedSetting). Agree (counted_outside most_moves s) (processor_machine rv32im) outside_lines (λ m. upper.0 (low.0 m))
-                (counted_first_state s input) (goes (start (memory_of parts) entry input))) same_setting
-                (agree_through (counted_outside most_moves (setting_on code image.pool depth))
-                (asm_machine (primitives constants image.pool) most_moves depth functions) (processor_machine rv32im) 0 outside_lines upper.0 low.0
-                (counted_first_state (setting_on code image.pool depth) input) (asm_start lowered.main_lines (first_world image.pool input))
+            subst (λ (s : CountedSetting). Agree (counted_outside s) (processor_machine rv32im) outside_lines
+                (λ m. upper.0 (low.0 m)) (counted_first_state s input) (goes (start (memory_of parts) entry input))) same_setting
+                (agree_through (counted_outside (setting_on code image.pool depth))
+                (asm_machine (primitives constants image.pool) most_moves depth functions) (processor_machine rv32im) 0
+                outside_lines upper.0 low.0
+                (counted_first_state (setting_on code image.pool depth) input)
+                (asm_start lowered.main_lines (first_world image.pool input))
                 (goes (start (memory_of parts) entry input)) upper.1 low.1),
           );
       leaves_cells = λ input bytes n by stops empty.
-          let ends = (runs most_moves input bytes).ends n by
-          (subst (λ (s : CountedSetting). (counted_after (counted_cost most_moves) s input n).control ≡ stopped by) (sym same_setting) stops) in
+          let ends = (runs most_moves input (omega arith) bytes).ends n by
+          (subst (λ (s : CountedSetting). (counted_after counted_instructions s input n).control ≡ stopped by) (sym same_setting)
+          stops) in
           let last = image.ends input bytes (never input bytes) ends.0 _ ends.1 ends.2 in
-          let all = ends.3 (subst (λ (s : CountedSetting). busy (counted_after (counted_cost most_moves) s input n).heap ≡ 0) (sym same_setting) empty) in (
+          let all = ends.3 (subst (λ (s : CountedSetting). busy (counted_after counted_instructions s input n).heap ≡ 0)
+          (sym same_setting) empty) in (
             last.0,
             (
               last.1.ending,
               subst (λ n. free_cells n (run last.0 (start (memory_of parts) entry input)).processor ≡ n) image.cells_are
-                  (all_are_free image.pool ends.1.cells (run last.0 (start (memory_of parts) entry input)).processor all last.1.memory),
+                  (all_are_free image.pool ends.1.cells (run last.0 (start (memory_of parts) entry input)).processor all
+                  last.1.memory),
             ),
           );
     }

@@ -1,5 +1,5 @@
 -- Where all cells of the world are free, so are all cells of the image.
-use Rattle.std.proofs.Common.{◌≡◌, ◌≢◌, ◌+◌, ◌*◌, ◌<◌, ◌≤◌, ◌%◌, ◌/◌, ◌^◌, ℕ, Bool, true, false, List, [], ◌∷◌, length, Option, Some, None, nat_lt, refl, sym, ap, ◌∙◌, arith}
+use Rattle.std.proofs.Common.{◌≡◌, ◌≢◌, ◌%◌, ◌/◌, ◌^◌, ℕ, Bool, true, false, List, [], ◌∷◌, length, Option, Some, None, nat_lt, refl, sym, ap, ◌∙◌, arith}
 use Rattle.std.specs.Prelude.{if◌then◌else◌}
 use Rattle.cell_heap.specs.Blocks.{Block, no_block, unused, own, kept, Cells, seen, seen_with, seen_cells, fields_of, view_of}
 use Rattle.cell_heap.specs.Cells.{Cell, no_cell, free, token, counted, occurs}
@@ -9,7 +9,7 @@ use Rattle.cell_heap.specs.Pool.{Pool, IsCell, places}
 use Rattle.cell_heap.proofs.Counted.{cells_from-member, length-cells_from, length-total}
 use Rattle.cell_heap.proofs.FreeCells.{free_list-lists}
 use Rattle.cell_heap.proofs.Frames.{shown-cell, free-some}
-use Rattle.cell_heap.proofs.Sums.{occurs-cells, occurs-same, occurs-other, occurs-first, occurs-later}
+use Rattle.cell_heap.proofs.Sums.{occurs-cells, occurs-first, occurs-later}
 use Rattle.rv_isa.specs.FreeCells.{free_list, free_cells}
 use Rattle.rv_isa.specs.Processor.{Processor}
 use Rattle.rv_cells.specs.Meaning.{AreFree}

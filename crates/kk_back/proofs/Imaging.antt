@@ -1,6 +1,5 @@
 -- The image of a program in core form does what the program does: its assembler code does, and the image does what that does.
-use Rattle.std.proofs.Common.{◌≡◌, ◌≢◌, ◌+◌, ◌*◌, ◌<◌, ◌≤◌, ℕ, List, [], All, length, sym, ap, subst, ◌∙◌, arith}
-use Rattle.kk_base.specs.Agreements.{Agree}
+use Rattle.std.proofs.Common.{◌≡◌, ◌≢◌, ◌*◌, ◌<◌, ◌≤◌, ℕ, List, All, length, ap, subst, ◌∙◌, arith}
 use Rattle.kk_base.specs.Machines.{state}
 use Rattle.kk_base.specs.Sizes.{AreSizes}
 use Rattle.kk_base.proofs.Agreements.{agree_through}
@@ -13,7 +12,7 @@ use Rattle.rv_isa.specs.AsmMachine.{asm_machine, asm_start}
 use Rattle.rv_isa.specs.Execution.{rv32im, run}
 use Rattle.rv_isa.specs.FreeCells.{free_cells}
 use Rattle.rv_isa.specs.Primitives.{stuck}
-use Rattle.rv_isa.specs.Processor.{Processor, Progress, start, goes}
+use Rattle.rv_isa.specs.Processor.{Processor, start, goes}
 use Rattle.rv_isa.specs.ProcessorMachine.{processor_machine}
 use Rattle.rv_isa.specs.WellFormed.{all_lines}
 use Rattle.elf_image.specs.Parts.{memory_of}

@@ -15,7 +15,7 @@ use Rattle.rv_isa.specs.ProcessorMachine.{processor_machine}
 use Rattle.rv_isa.specs.WellFormed.{AreWellFormed}
 use Rattle.rv_place.specs.Images.{EndsWithCells, outside_lines}
 use Rattle.rv_regs.specs.Shape.{most_moves}
-use Rattle.rv_world.specs.Operations.{Constants, all_bytes}
+use Rattle.rv_world.specs.Operations.{all_bytes}
 use Rattle.rv_world.specs.World.{World, first_world, primitives}
 use Rattle.kk_back.specs.Sizes.{FitsText}
 

@@ -48,9 +48,9 @@ pub record IsRunnable (shape : Shape) (code : CountedProgram) (cells depth : ℕ
       → IsFit (layout_in shape) (counted_after weights (counted_setting code cells depth) input n)
 
 -- An image of a program in counted form, with so many cells and such a depth. On each input of bytes the processor's machine agrees
--- with the counted one: the image tells the same events and exits with the number of the end. It executes no more instructions than the
--- steps of the counted machine weigh, `instructions_each` times what they cost, and `outside_lines` more. Where no cell is counted at
--- its end, all cells are free at its exit.
+-- with the counted one: the image tells the same events and exits with the number of the end. It executes no more instructions than
+-- the steps of the counted machine weigh, which is `instructions_each` times their costs, and `outside_lines` more. Where no cell
+-- is counted at its end, all cells are free at its exit.
 pub record IsCountedImageOf (code : CountedProgram) (cells depth entry : ℕ) (parts : List Part) : Type 0 where
   pub program : IsProgramImage entry parts
   pub does : (input : List ℕ) → All (λ byte. byte < 256) input

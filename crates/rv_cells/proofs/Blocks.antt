@@ -26,7 +26,7 @@ use Rattle.rv_lower.proofs.Performing.{put_same, put_other}
 use Rattle.rv_lower.proofs.Orders.{split_at}
 use Rattle.rv_cells.specs.Layout.{word_in, FitsField}
 use Rattle.rv_cells.specs.Follows.{NoneInHand}
-use Rattle.rv_cells.specs.Costs.{forms}
+use Rattle.rv_cells.proofs.LineCosts.{forms}
 use Rattle.rv_cells.proofs.Values.{HasValues, has_bound, has_temporary}
 use Rattle.rv_cells.proofs.Runs.{turn_of, Runs, runs_none, runs_then}
 use Rattle.rv_cells.proofs.Acting.{put_in, copy_runs, sets_runs, label_runs, jump_runs, falls_runs, branch_runs}

@@ -25,7 +25,7 @@ use Rattle.rv_cells.proofs.Held.{some-is}
 use Rattle.rv_cells.proofs.Values.{HasValues, among_by, value_same, value_other}
 use Rattle.rv_cells.proofs.Runs.{Target, left_at, turn_of, Runs, runs_none, runs_then, world_primitives, line_runs, silent}
 use Rattle.rv_cells.proofs.Acting.{put_in, copy_runs}
-use Rattle.rv_cells.specs.Costs.{row_cost}
+use Rattle.rv_cells.proofs.LineCosts.{row_cost}
 
 -- ---- arguments, which are copied to temporaries
 

@@ -27,7 +27,7 @@ use Rattle.rv_isa.specs.WellFormed.{AreLinesFormed}
 use Rattle.rv_lower.specs.Lines.{acts}
 use Rattle.rv_lower.proofs.Orders.{split_at}
 use Rattle.rv_cells.specs.Layout.{FitsField, FitFields}
-use Rattle.rv_cells.specs.Costs.{row_cost, forms, code_cost}
+use Rattle.rv_cells.proofs.LineCosts.{row_cost, forms, code_cost}
 use Rattle.rv_cells.proofs.Values.{among_by}
 use Rattle.rv_cells.proofs.Runs.{turn_of, Runs}
 use Rattle.rv_cells.proofs.Spots.{Spot, Here, saved}
@@ -354,7 +354,7 @@ module _ (program : Lowering) where
       named.0 rest inner m p.own p.after fs s at.here reads used p.lines p.numbered.0.1.1
       (λ name. let small = counts name in omega arith) next.0 next.1 in
       goes_on (open_cell x c fields used rest) rest idle inner frames input s fs left at fit
-      (code_cost program.moves (open_cell x c fields used rest)) goes
+      (code_cost program.moves (open_cell x c fields used rest) s.environment s.heap) goes
       (bound_list fields s.bound) (fields ++ s.bound) steps quiet_goes
       (omega arith) (ap (λ action. seen_action action input) steps.steps) (omega (arith, idle_is)) (omega arith)
       (within_fields fields s.bound) (within_front fields s.bound) p.marked.1 p.numbered.1
@@ -407,7 +407,7 @@ module _ (program : Lowering) where
       (finds program p.low s.frame.whole (p.before ++ first) (shared_rest ++ behind) at.formed shared_at)
       (finds program (p.low + 1) s.frame.whole ((p.before ++ first) ++ shared) after at.formed behind_at) in
       goes_on (if_unique x c fields used rest) rest idle inner frames input s fs left at fit
-      (code_cost program.moves (if_unique x c fields used rest)) goes
+      (code_cost program.moves (if_unique x c fields used rest) s.environment s.heap) goes
       (bound_list fields s.bound) (fields ++ s.bound) steps quiet_goes
       (omega arith) (ap (λ action. seen_action action input) steps.steps) (omega (arith, idle_is)) (omega arith)
       (within_fields fields s.bound) (within_front fields s.bound) p.marked.1 p.numbered.1

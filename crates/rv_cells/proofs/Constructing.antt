@@ -34,7 +34,7 @@ use Rattle.rv_cells.proofs.Values.{HasValues, among_none, has_bound, has_tempora
 use Rattle.rv_cells.proofs.Runs.{Target, left_at, turn_of, Runs, runs_none, runs_then}
 use Rattle.rv_cells.proofs.Acting.{put_in, take_runs, full_runs, sets_runs, store_runs}
 use Rattle.rv_cells.proofs.Spots.{Spot, Known, Here, Did}
-use Rattle.rv_cells.specs.Costs.{row_cost}
+use Rattle.rv_cells.proofs.LineCosts.{row_cost}
 
 -- ---- words one behind the other
 

@@ -5,6 +5,9 @@ use Rattle.kk_source.specs.State.{Value, Environment}
 use Rattle.kk_source.specs.Live.{value_of}
 use Rattle.kk_source.specs.Matching.{and_then}
 use Rattle.kk_source.specs.Actions.{performed}
+use Rattle.kk_core.specs.declared.decisions.Answer.{Answer}
+use Rattle.kk_core.specs.declared.decisions.Edge.{Edge}
+use Rattle.kk_core.specs.Looks.{looks_behind, looks_at, looks_from}
 use Rattle.kk_core.specs.Decisions.{NodeTree, chooses, tests, value_at, answer_of, found_at, next_by, row_at, chosen_from, chosen}
 use Rattle.kk_counted.specs.CountedCodes.{Counted, case, CountedArms, no_arm, arm}
 use Rattle.kk_counted.specs.CountedStates.{CountedJoin, CountedFrame, CountedConfiguration, CountedState}
@@ -20,7 +23,7 @@ use Rattle.rv_lower.specs.Lowered.{Goal}
 use Rattle.rv_lower.proofs.Labels.{found_label}
 use Rattle.rv_cells.specs.Layout.{Layout, word_in}
 use Rattle.rv_cells.specs.CountedLines.{Setting, CodeLines, ArmsLines, NodeLines, NodesLines}
-use Rattle.rv_cells.specs.Costs.{row_cost, forms, arms_forms, edges_cost, node_cost, nodes_cost, decisions_cost}
+use Rattle.rv_cells.proofs.LineCosts.{row_cost, forms, arms_forms, edges_cost, look_cost, test_within}
 use Rattle.rv_cells.specs.Fitting.{FitsNode, FitsFrom}
 use Rattle.rv_cells.proofs.Held.{some-is}
 use Rattle.rv_cells.proofs.Runs.{turn_of, Runs, runs_then}
@@ -70,15 +73,6 @@ node_at layout base nodes arms x k (suc j) (one ∷ more) lines node are is =
           ∙ sym (append_assoc head later.before (acts (Label (nodes + (k + suc j))) [] ∷ (later.first ++ later.rest)));
       node_lines = later.node_lines;
     }
-
-cost_within : (moves j : ℕ) (decisions : List NodeTree) (node : NodeTree) → slice_get decisions j ≡ Some node
-    → node_cost moves node ≤ nodes_cost moves decisions
-cost_within moves j [] node is = cc
-cost_within moves zero (one ∷ more) node is =
-    let same : one ≡ node = cc is in
-    let cost = ap (node_cost moves) same in
-    omega arith
-cost_within moves (suc j) (one ∷ more) node is = let later = cost_within moves j more node is in omega arith
 
 -- an arm of a row stands behind its label
 record ArmAt (setting : Setting) (goal : Goal) (l : ℕ) (body : Counted) (lines : List Line) : Type 0 where
@@ -219,8 +213,23 @@ module _ (program : Lowering) (x idle : ℕ) (decisions : List NodeTree) (arms :
       by None is = cc
       by (Some node) is = (node, refl)
 
-  abbrev each : ℕ
-  each = nodes_cost program.moves decisions
+  -- what the nodes look at that the value goes through from a node on
+  abbrev looks : ℕ → ℕ → ℕ
+  looks = looks_from (cell_at s.heap) (value_of s.environment x) decisions
+
+  -- what the lines of these nodes weigh: the last one jumps to its arm
+  abbrev walk_cost : ℕ → ℕ → ℕ
+  walk_cost steps k = look_cost program.moves * looks_from (cell_at s.heap) (value_of s.environment x) decisions steps k
+      + (2 * program.moves + 2)
+
+  -- a test looks at its own, and then come the looks of the node to which it leads
+  test_looks : (steps k next : ℕ) (way : List ℕ) (edges : List Edge) (otherwise : Option ℕ) (found : Answer)
+      → slice_get decisions k ≡ Some (tests way edges otherwise) → found_at (cell_at s.heap) way v ≡ Some found
+      → next_by edges otherwise found ≡ Some next → looks (suc steps) k ≡ suc (length way + length edges) + looks steps next
+  test_looks steps k next way edges otherwise found is finds leads =
+      ap (looks_at (cell_at s.heap) v (looks steps)) is
+      ∙ ap (λ o. suc (length way + length edges) + looks_behind (looks steps) (and_then o (next_by edges otherwise))) finds
+      ∙ ap (λ o. suc (length way + length edges) + looks_behind (looks steps) o) leads
 
   -- from a node to the arm that is chosen
   node_leads : (steps k row : ℕ) (node : NodeTree) (stands : StandsAt k node) (there : List Line) (values : ℕ → Option ℕ)
@@ -228,7 +237,7 @@ module _ (program : Lowering) (x idle : ℕ) (decisions : List NodeTree) (arms :
       → FitsFrom program.layout (cell_at s.heap) v decisions steps k
       → found_label (low + row) s.frame.whole ≡ Some there
       → values x ≡ Some (word_in program.layout s.address v)
-      → Goes (decisions_cost program.moves steps each) (node_from k node stands) there values
+      → Goes (walk_cost steps k) (node_from k node stands) there values
   node_leads zero k row node stands there values is row_is fits found_arm has = cc
   node_leads (suc steps) k row (chooses chosen_row) stands there values is row_is fits found_arm has =
       let m = program.moves in
@@ -240,12 +249,11 @@ module _ (program : Lowering) (x idle : ℕ) (decisions : List NodeTree) (arms :
       let f = record s.frame { cells = values } in
       let jump = jump_runs (target program) rest f fs s.world (low + chosen_row) there
       (ap (λ r. found_label (low + r) s.frame.whole) same ∙ found_arm) in
-      let cheap = cost_within m k decisions (chooses chosen_row) is in
       let lines_are : node_from k (chooses chosen_row) stands ≡ from
       = ap (λ ls. acts (Label (nodes + k)) [] ∷ (ls ++ rest)) stands.node_lines in
-      subst (λ ls. Goes (decisions_cost m (suc steps) each) ls there values) (sym lines_are)
-      (leads_more known s fs at.here at.base at.base ((m + 0) + (m + 2)) (decisions_cost m (suc steps) each) from there values
-      (omega (arith, cheap)) (omega arith)
+      subst (λ ls. Goes (walk_cost (suc steps) k) ls there values) (sym lines_are)
+      (leads_more known s fs at.here at.base at.base ((m + 0) + (m + 2)) (walk_cost (suc steps) k) from there values
+      (omega arith) (omega arith)
       (record {
         steps = 1 + 1;
         later = values;
@@ -286,23 +294,22 @@ module _ (program : Lowering) (x idle : ℕ) (decisions : List NodeTree) (arms :
       let below = at.here.values.below x at.placed.marked.0 in
       let onward = node_leads steps next.0 row later.0 stands_later there test.later later.1 next.2 (it.1.1 next.0 next.1) found_arm
       (test.kept x below ∙ has) in
-      let cheap = cost_within m k decisions (tests way edges otherwise) is in
-      let rest_cost = decisions_cost m steps each in
-      leads_more known s fs at.here at.base at.base ((m + 0) + (cost + rest_cost))
-      (decisions_cost m (suc steps) each) from there values
-      (omega (arith, cheap)) (omega arith)
+      let seen = test_looks steps k next.0 way edges otherwise found is first.1 next.1 in
+      let rest_cost = walk_cost steps next.0 in
+      leads_more known s fs at.here at.base at.base ((m + 0) + (cost + rest_cost)) (walk_cost (suc steps) k) from there values
+      (test_within m (looks steps next.0) (looks (suc steps) k) way edges seen) (omega arith)
       (leads_then known s fs at.here at.base (m + 0) (cost + rest_cost) from (stands.first ++ rest) there values label
       (leads_then known s fs at.here at.base cost rest_cost (stands.first ++ rest) goal there values test onward))
 
   -- from the first line of a case
   first_leads : (row : ℕ) (there : List Line) → chosen (cell_at s.heap) v decisions ≡ Some row
       → found_label (low + row) s.frame.whole ≡ Some there
-      → Goes (decisions_cost program.moves (length decisions) each) (choice ++ tail) there s.frame.cells
+      → Goes (walk_cost (length decisions) 0) (choice ++ tail) there s.frame.cells
   first_leads row there is found_arm =
       let first = node_there (length decisions) 0 row is in
       let begins = starts decisions at.placed.lines.4 first.0 first.1 in
       let here_at : choice ++ tail ≡ node_from 0 first.0 begins.0 = begins.1 in
-      subst (λ ls. Goes (decisions_cost program.moves (length decisions) each) ls there s.frame.cells) (sym here_at)
+      subst (λ ls. Goes (walk_cost (length decisions) 0) ls there s.frame.cells) (sym here_at)
       (node_leads (length decisions) 0 row first.0 begins.0 there s.frame.cells first.1 is (fit 0).fits found_arm
       (at.here.values.words x at.placed.marked.0))
     where
@@ -354,7 +361,7 @@ module _ (program : Lowering) (x idle : ℕ) (decisions : List NodeTree) (arms :
       let leads = first_leads row (label ∷ behind) choose.1
       (finds program (low + row) s.frame.whole ((p.before ++ choice) ++ stands.before) behind at.formed place) in
       let f = record s.frame { cells = leads.later } in
-      let cost = decisions_cost m (length decisions) each in
+      let cost = walk_cost (length decisions) 0 in
       let t0 = turn_of left s.frame fs s.world in
       let t2 = turn_of behind f fs s.world in
       let runs : Runs (target program) (cost + (m + 0)) (leads.steps + 1) t0 t2

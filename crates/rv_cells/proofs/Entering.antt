@@ -29,7 +29,7 @@ use Rattle.rv_lower.proofs.Calls.{HaveWords, AreLess, words_read}
 use Rattle.rv_lower.proofs.Orders.{split_at}
 use Rattle.rv_cells.specs.Layout.{Layout, word_in, words_in, FitsField, FitFields}
 use Rattle.rv_cells.specs.Follows.{NoneInHand}
-use Rattle.rv_cells.specs.Costs.{row_cost, forms}
+use Rattle.rv_cells.proofs.LineCosts.{row_cost, forms}
 use Rattle.rv_cells.specs.Marked.{IsFunctionOf}
 use Rattle.rv_cells.proofs.Values.{HasValues}
 use Rattle.rv_cells.proofs.Runs.{left_at, turn_of, Runs, runs_then}

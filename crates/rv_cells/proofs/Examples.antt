@@ -487,7 +487,7 @@ last cells depth = state (lower cells depth) 200 (asm_start main_lines (first_wo
 
 -- the counted machine
 abbrev upper : ℕ → ℕ → Machine CountedState Event Ending
-upper cells depth = counted_outside 0 (setting_on (record {
+upper cells depth = counted_outside (setting_on (record {
   functions = inc by_count ∷ two_cells unique ∷ [];
   texts = [];
   main = 1;

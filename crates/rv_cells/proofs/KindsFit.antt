@@ -8,7 +8,7 @@ use Rattle.kk_source.specs.Arithmetic.{wrapped}
 use Rattle.kk_source.specs.Live.{value_of}
 use Rattle.kk_source.specs.Matching.{and_then}
 use Rattle.kk_source.specs.State.{Value, integer, unit, constant, place, Cell}
-use Rattle.kk_core.specs.Decisions.{NodeTree, chooses, tests, value_at, answer_of, next_by}
+use Rattle.kk_core.specs.Decisions.{NodeTree, chooses, tests, value_at, answer_of}
 use Rattle.kk_core.specs.Kinds.{IsNumber, TakesKinds, TestsNode, TestsFrom}
 use Rattle.kk_core.specs.Kinds as Kinds
 use Rattle.kk_core.specs.declared.decisions.Answer.{Answer}

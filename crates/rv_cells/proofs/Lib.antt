@@ -1,3 +1,4 @@
+pub mod LineCosts
 pub mod Held
 pub mod Owners
 pub mod Rooms
@@ -24,6 +25,7 @@ pub mod Grown
 pub mod Standing
 pub mod Blocks
 pub mod Celled
+pub mod Straight
 pub mod Computing
 pub mod Entering
 pub mod Telling

@@ -18,7 +18,7 @@ use Rattle.rv_cells.specs.Follows.{Owner}
 use Rattle.rv_cells.specs.CellLines.{OpenLines, drop_lines, dups_lines}
 use Rattle.rv_cells.proofs.Values.{value_same, named_made}
 use Rattle.rv_cells.proofs.Spots.{AreSmall, Spot, Known, Here, Did, did_then, with_heap, drop_did}
-use Rattle.rv_cells.specs.Costs.{row_cost}
+use Rattle.rv_cells.proofs.LineCosts.{row_cost}
 use Rattle.rv_cells.proofs.Rows.{then_some, with_fields, IsReading, read_did, dups_did}
 
 -- ---- which values the variables of fields have

@@ -1,18 +1,21 @@
 -- The assembler's machine does each step of the counted machine, from the start of a run to its end.
-use Rattle.std.proofs.Common.{◌≡◌, ℕ, zero, suc, ◌+◌, ◌*◌, ◌%◌, ◌<◌, ◌≤◌, Bool, true, false, List, [], ◌∷◌, length, Some, None, All, refl, sym, ◌∙◌, ap, subst, arith}
+use Rattle.std.proofs.Common.{◌≡◌, ℕ, zero, suc, ◌+◌, ◌*◌, ◌%◌, ◌<◌, ◌≤◌, Bool, true, false, List, [], ◌∷◌, length, Option, Some, None, All, refl, sym, ◌∙◌, ap, subst, arith}
 use Rattle.std.specs.Prelude.{◌==◌, slice_get, slice_index_or, if◌then◌else◌}
 use Rattle.std.proofs.lemmas.List.{append-nil}
 use Rattle.std.proofs.lemmas.Option.{get_or_from_slice_get}
-use Rattle.kk_base.specs.Machines.{state}
+use Rattle.kk_base.specs.Agreements.{Agree}
+use Rattle.kk_base.specs.Machines.{Machine, mapped, state, weight_of, weight_unless}
+use Rattle.kk_base.specs.Trace.{Event}
 use Rattle.kk_base.specs.Simulations.{Reaches, Simulates}
 use Rattle.kk_base.proofs.Simulations.{simulates_until_ended, simulates_many, simulates_agree, simulates_passing}
 use Rattle.kk_syntax.specs.declared.program.Form.{Form}
 use Rattle.kk_syntax.specs.declared.program.Form.TheVariants.{Number, Unit as Nothing, ReadByte, PrintText, Unary, Binary, Print, Construct, Call}
 use Rattle.kk_source.specs.State.{Environment, End}
 use Rattle.kk_source.specs.Ends.{exit_of}
+use Rattle.kk_source.specs.Notes.{events_of}
 use Rattle.kk_counted.specs.CountedCodes.{Counted, give, tail_call, branch, case, compute, inside, read, open_cell, if_unique, dup, drop, CountedFunction, CountedProgram}
 use Rattle.kk_counted.specs.CountedStates.{CountedSetting, CountedJoin, CountedFrame, CountedControl, running, stopped, stuck, CountedState, no_function, counted_first_state}
-use Rattle.kk_counted.specs.CountedMachine.{counted_machine}
+use Rattle.kk_counted.specs.CountedMachine.{counted_ending_of, counted_machine}
 use Rattle.kk_counted.specs.Heaps.{Held, Heap, held_at, one_if_counted, busy}
 use Rattle.kk_counted.specs.Keeping.{counted_after}
 use Rattle.kk_counted.specs.Marks.{CellMarks, result_mark}
@@ -30,7 +33,8 @@ use Rattle.rv_lower.specs.Lowered.{returns}
 use Rattle.rv_cells.specs.Layout.{Layout}
 use Rattle.rv_cells.specs.Follows.{Owner, nobody, cell_of, in_hand, BlockOf, Follows, NoneInHand}
 use Rattle.rv_cells.specs.Marked.{IsFunctionOf}
-use Rattle.rv_cells.specs.Costs.{forms, counted_cost}
+use Rattle.rv_cells.proofs.LineCosts.{forms, lines_cost, lines_within}
+use Rattle.rv_cells.specs.Costs.{counted_instructions}
 use Rattle.rv_cells.specs.Fitting.{IsFit}
 use Rattle.rv_cells.specs.Meaning.{setting_on, counted_outside, IsProgramLowered, AreFree, RunsTheSame}
 use Rattle.rv_cells.proofs.Starts.{starts as begins}
@@ -279,12 +283,51 @@ all_free pool layout address owners heap cells follows none empty_heap = λ at c
 
 -- ---- programs
 
-state_mapped : (moves : ℕ) (s : CountedSetting) (n : ℕ) (at : CountedState)
-    → state (counted_outside moves s) n at
-    ≡ state (counted_machine (counted_cost moves) s) n at
-state_mapped moves s zero at = refl
-state_mapped moves s (suc n) at =
-    state_mapped moves s n ((counted_machine (counted_cost moves) s).step at).1
+-- what steps weigh, and how they are seen, makes no difference to the states of the counted machine
+state_mapped : (weights : CountedState → ℕ) (s : CountedSetting) (n : ℕ) (at : CountedState)
+    → state (mapped events_of (λ end. exited (exit_of end)) (counted_machine weights s)) n at
+    ≡ state (counted_machine counted_instructions s) n at
+state_mapped weights s zero at = refl
+state_mapped weights s (suc n) at = state_mapped weights s n ((counted_machine weights s).step at).1
+
+-- The counted machine whose steps weigh what their lines do: where few moves stand before a line, what agrees with it agrees with
+-- the one whose steps weigh the instructions that they may execute.
+module _ (s : CountedSetting) (moves : ℕ) (few : moves ≤ 16) where
+  abbrev by_lines_cost : Machine CountedState Event Ending
+  by_lines_cost = mapped events_of (λ end. exited (exit_of end)) (counted_machine (lines_cost moves) s)
+
+  -- so is each step
+  step_within : (at : CountedState) → by_lines_cost.weight at ≤ (counted_outside s).weight at
+  step_within at = by (counted_ending_of at)
+    where
+      by : (how : Option End) → weight_unless how (lines_cost moves at) ≤ weight_unless how (counted_instructions at)
+      by None = lines_within moves few at
+      by (Some end) = omega arith
+
+  -- and so are many
+  weighs_within : (n : ℕ) (at : CountedState) → weight_of by_lines_cost n at ≤ weight_of (counted_outside s) n at
+  weighs_within zero at = omega arith
+  weighs_within (suc n) at =
+      let one = step_within at in
+      let later = weighs_within n (by_lines_cost.step at).1 in
+      omega (arith, one, later)
+
+  -- what agrees within the one weight agrees within the other
+  agrees_within : {T : Type 0} (lower : Machine T Event Ending) (credit : ℕ) (up : ℕ → ℕ) (at : CountedState) (t : T)
+      → Agree by_lines_cost lower credit up at t → Agree (counted_outside s) lower credit up at t
+  agrees_within lower credit up at t agrees = record {
+    downwards = λ n.
+        let does = agrees.downwards n in
+        let within = weighs_within n at in
+        let light = does.weighs in
+        record {
+          steps = does.steps;
+          weighs = omega (arith, within, light);
+          events_are = does.events_are;
+          ending_is = does.ending_is;
+        };
+    upwards = record { prefix = agrees.upwards.prefix; ending = agrees.upwards.ending; whole = agrees.upwards.whole };
+  }
 
 -- the forms of all functions
 abbrev all_forms : List CountedFunction → ℕ
@@ -309,8 +352,8 @@ lines_formed (one ∷ functions) formed (suc f) lines is = lines_formed function
 
 module _ (layout : Layout) (marks : CellMarks) (code : CountedProgram) (constants : List (List ℕ)) (functions : List Lines)
     (lowered : IsProgramLowered layout marks code constants functions) (pool : Pool) (depth first moves : ℕ) (input : List ℕ)
-    (aligned : pool.first % 32 ≡ 0) (some : 0 < pool.first) (bytes : All (λ byte. byte < 256) input)
-    (fits : (n : ℕ) → IsFit layout (counted_after (counted_cost moves) (setting_on code pool depth) input n)) where
+    (few : moves ≤ 16) (aligned : pool.first % 32 ≡ 0) (some : 0 < pool.first) (bytes : All (λ byte. byte < 256) input)
+    (fits : (n : ℕ) → IsFit layout (counted_after counted_instructions (setting_on code pool depth) input n)) where
   abbrev lowering : Lowering
   lowering = record {
     code = code;
@@ -342,8 +385,8 @@ module _ (layout : Layout) (marks : CellMarks) (code : CountedProgram) (constant
 
   related : Related lowering 0 (forms lowered.main.body) start turn
   related = starts lowering lowered.main lowered.main_is lowered.main_alone lowered.main_lines lowered.lines_are input bytes
-      (λ n. subst (λ (s : CountedState). IsFit layout s.machine) (sym (state_mapped moves (setting_on code pool depth) n start))
-      (fits n))
+      (λ n. subst (λ (s : CountedState). IsFit layout s.machine)
+      (sym (state_mapped (lines_cost moves) (setting_on code pool depth) n start)) (fits n))
 
   last_free : (n : ℕ) (by : End) (s : CountedState) (t : AsmTurn World Ending) → s.machine.control ≡ stopped by
       → StandsFor lowering s.machine.control s.machine.frames s.machine.heap s.input t
@@ -363,14 +406,15 @@ module _ (layout : Layout) (marks : CellMarks) (code : CountedProgram) (constant
       record {
         agrees = (
           (λ m. m * pace lowering + forms lowered.main.body + 1),
-          simulates_agree (upper lowering) (lower lowering) (Related lowering) (Passing lowering) (pace lowering)
-              (simulates lowering) 0
-              (forms lowered.main.body) start turn related,
+          agrees_within (setting_on code pool depth) moves few (lower lowering) 0
+              (λ m. m * pace lowering + forms lowered.main.body + 1) start turn
+              (simulates_agree (upper lowering) (lower lowering) (Related lowering) (Passing lowering) (pace lowering)
+              (simulates lowering) 0 (forms lowered.main.body) start turn related),
         );
         ends = λ n by stops.
             let reaches = simulates_many (upper lowering) (lower lowering) (Related lowering) (Passing lowering) (pace lowering)
             (simulates lowering) n 0 (forms lowered.main.body) start turn related in
-            let same = state_mapped moves (setting_on code pool depth) n start in
+            let same = state_mapped (lines_cost moves) (setting_on code pool depth) n start in
             let s : CountedState = state (upper lowering) n start in
             let end = last_free n by s (state (lower lowering) reaches.steps turn)
             (ap (λ (u : CountedState). u.machine.control) same ∙ stops) reaches.related.stands in (

@@ -30,7 +30,7 @@ use Rattle.rv_cells.specs.Layout.{Layout, IsNarrow}
 use Rattle.rv_cells.specs.Follows.{Owner, Follows, NoneInHand}
 use Rattle.rv_cells.specs.CountedLines.{Setting, CodeLines}
 use Rattle.rv_cells.specs.Marked.{AreFunctionsOf}
-use Rattle.rv_cells.specs.Costs.{forms, counted_cost}
+use Rattle.rv_cells.proofs.LineCosts.{forms, lines_cost}
 use Rattle.rv_cells.specs.Fitting.{IsFit}
 use Rattle.rv_cells.proofs.Values.{HasValues, Carries}
 use Rattle.rv_cells.proofs.Runs.{Target, turn_of, Runs, machine}
@@ -76,12 +76,12 @@ module _ (program : Lowering) where
   abbrev pub texts : Texts
   texts = record { literals = program.code.texts; constants = program.constants }
 
-  -- the counted machine as an image tells it
   abbrev pub setting : CountedSetting
   setting = record { program = program.code; cells = program.pool.cells; depth = program.depth }
 
+  -- the counted machine as an image tells it, whose steps weigh what their lines do
   abbrev pub upper : Machine CountedState Event Ending
-  upper = mapped events_of (λ end. exited (exit_of end)) (counted_machine (counted_cost program.moves) setting)
+  upper = mapped events_of (λ end. exited (exit_of end)) (counted_machine (lines_cost program.moves) setting)
 
   abbrev pub lower : Machine (AsmTurn World Ending) Event Ending
   lower = machine target

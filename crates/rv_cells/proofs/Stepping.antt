@@ -30,7 +30,7 @@ use Rattle.rv_lower.specs.Lowered.{Goal}
 use Rattle.rv_cells.specs.CellLines.{dup_lines, drop_lines}
 use Rattle.rv_cells.specs.CountedLines.{Setting, CodeLines}
 use Rattle.rv_cells.proofs.Spots.{with_heap as spot_with_heap, AreSmall, Spot, Known, Here, Did, dup_length, drop_length, dup_did, drop_did}
-use Rattle.rv_cells.specs.Costs.{row_cost}
+use Rattle.rv_cells.proofs.LineCosts.{row_cost}
 use Rattle.rv_cells.proofs.Rows.{then_some, with_fields, IsReading, read_did}
 use Rattle.rv_cells.proofs.Openings.{opened_spot, open_cost, open_did}
 

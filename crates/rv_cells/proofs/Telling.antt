@@ -10,7 +10,7 @@ use Rattle.kk_core.specs.declared.decisions.Edge.{Edge}
 use Rattle.rv_isa.specs.Arithmetic.{signed, word_of}
 use Rattle.rv_cells.specs.Layout.{Layout, word_in}
 use Rattle.rv_cells.specs.CountedLines.{is_plain, answer_word, answer_tag}
-use Rattle.rv_cells.specs.Costs.{edges_cost}
+use Rattle.rv_cells.proofs.LineCosts.{edges_cost}
 use Rattle.rv_cells.specs.Fitting.{IsInt32, AreAlike, AllAlike, ShowsIts}
 use Rattle.rv_cells.proofs.Computing.{word_signed}
 

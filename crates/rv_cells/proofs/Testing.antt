@@ -23,7 +23,7 @@ use Rattle.rv_lower.proofs.Labels.{found_label}
 use Rattle.rv_lower.proofs.Performing.{put_same, put_other}
 use Rattle.rv_cells.specs.Layout.{word_in, header_of}
 use Rattle.rv_cells.specs.CountedLines.{is_plain, answer_word, answer_tag, number_tests, otherwise_lines, OddLines, TagLines, NodeLines}
-use Rattle.rv_cells.specs.Costs.{row_cost, edges_cost}
+use Rattle.rv_cells.proofs.LineCosts.{row_cost, edges_cost}
 use Rattle.rv_cells.specs.Fitting.{AreAlike, AllAlike, ShowsIts}
 use Rattle.rv_cells.proofs.Held.{some-is, held_count}
 use Rattle.rv_cells.proofs.Words.{load_own, cell_named}

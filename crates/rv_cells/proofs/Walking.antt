@@ -22,7 +22,7 @@ use Rattle.rv_cells.proofs.Drops.{fits_length}
 use Rattle.rv_cells.proofs.Runs.{Target, turn_of, Runs, runs_none, runs_then}
 use Rattle.rv_cells.proofs.Acting.{put_in, load_runs, copy_runs, sets_runs, falls_runs, branch_runs}
 use Rattle.rv_cells.proofs.Spots.{Known}
-use Rattle.rv_cells.specs.Costs.{row_cost}
+use Rattle.rv_cells.proofs.LineCosts.{row_cost}
 use Rattle.rv_cells.proofs.Rows.{then_some}
 
 -- ---- the field of a counted cell

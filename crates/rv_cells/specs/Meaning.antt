@@ -52,8 +52,9 @@ pub record IsProgramLowered (layout : Layout) (marks : CellMarks) (code : Counte
 abbrev pub AreFree : Pool → Cells → Type 0
 AreFree pool cells = (at : ℕ) → IsCell pool at → cells.blocks at ≡ unused
 
--- On an input the assembler's machine, with so many moves before a line, agrees with the counted one: it tells the same events, ends
--- alike, and weighs no more. It comes to no state in which it can do nothing. Where the run ends with an empty heap, all cells are free.
+-- On an input the assembler's machine, with so many moves before a line, agrees with the counted one: it tells the same events,
+-- ends alike, and weighs no more. It comes to no state in which it can do nothing. Where the run ends with an empty heap, all cells
+-- are free.
 pub record RunsTheSame (code : CountedProgram) (constants : List (List ℕ)) (functions : List Lines) (main : Lines) (pool : Pool)
     (depth first moves : ℕ) (input : List ℕ) : Type 0 where
   pub agrees : (up : ℕ → ℕ) × Agree (counted_outside (setting_on code pool depth))

@@ -114,8 +114,8 @@ pub fn lowered_programs_are_well_formed()
 
 /// A program in counted form whose functions are all lowered runs the same as its assembler code, where each state of its run is not
 /// stuck, has a sound heap with counts that are words, and takes values of the types of its code: the same events, the same end, no
-/// more instructions than its steps weigh, where at most 16 moves stand before a line, and all cells free where the heap is empty at the
-/// end. It is a law, and does nothing.
+/// more instructions than its steps weigh, where at most 16 moves stand before a line, and all cells free where the heap is empty
+/// at the end. It is a law, and does nothing.
 pub fn lowered_counted_programs_run_the_same()
     ensures { (layout : Layout) (marks : CellMarks) (code : CountedProgram) (constants : List (List ℕ)) (functions : List Lines)
         → (lowered : IsProgramLowered layout marks code constants functions)

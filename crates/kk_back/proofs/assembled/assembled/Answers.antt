@@ -1,4 +1,4 @@
-use Rattle.std.proofs.Common.{◌≡◌, ◌+◌, ◌*◌, ◌%◌, ◌≤◌, ℕ, List, Some, length, slice_get, sym, subst, ◌∙◌, ap, arith}
+use Rattle.std.proofs.Common.{◌≡◌, ◌+◌, ◌≤◌, ℕ, List, length, sym, subst, ◌∙◌, ap, arith}
 use Rattle.rv_isa.specs.AsmCode.{Lines, asm_functions, asm_constants}
 use Rattle.rv_isa.specs.PlacedCode.{placed_functions}
 use Rattle.elf_image.specs.Parts.{greatest_end}
@@ -6,7 +6,7 @@ use Rattle.elf_image.specs.Program.{greatest_text, memory_start, program_parts}
 use Rattle.cell_runtime.specs.Texts.{IsText}
 use Rattle.rv_place.specs.Addresses.{frame_size}
 use Rattle.kk_back.specs.Assembled.{IsAsmImage}
-use Rattle.kk_back.proofs.Assembling.{Makes, makes_of, placeable, fits, image_made, same_some}
+use Rattle.kk_back.proofs.Assembling.{makes_of, placeable, fits, image_made, same_some}
 use Rattle.kk_back.proofs.Placeable.{slots_most, frame_most}
 use Rattle.kk_back.proofs.assembled.assembled.Goals as goal
 
