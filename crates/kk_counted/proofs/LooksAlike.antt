@@ -4,7 +4,6 @@ use Rattle.std.specs.Prelude.{slice_get}
 use Rattle.kk_source.specs.State.{Value}
 use Rattle.kk_source.specs.Matching.{and_then}
 use Rattle.kk_core.specs.declared.decisions.Answer.{Answer}
-use Rattle.kk_core.specs.declared.decisions.Edge.{Edge}
 use Rattle.kk_core.specs.Decisions.{NodeTree, chooses, tests, found_at, next_by}
 use Rattle.kk_core.specs.Looks.{looks_behind, looks_at, looks_from, looks_taken}
 use Rattle.kk_counted.specs.Heaps.{Heap, forwards, cell_at}
