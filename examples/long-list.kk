@@ -8,6 +8,6 @@ fun len(xs: list<a>): int32
 fun upto(n: int32, acc: list<int32>): list<int32>
   if n == 0 then acc else upto(n - 1, Cons(n, acc))
 fun main()
-  match upto(300, Nil)
+  match upto(60000, Nil)
     Cons(x, _) -> println(x)
     Nil -> println(0)

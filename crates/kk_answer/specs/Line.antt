@@ -100,7 +100,7 @@ refusal_line (OfText.NotCovered function example) = not_covered_line function ex
 refusal_line (OfText.Over limit) = limit_line limit
 refusal_line OfText.NoMemory = no_memory_line
 
--- the text is accepted, and no image of its program can be built yet
+-- the text is accepted, and the code of its program is too large for an image
 abbrev pub not_built_line : List ℕ
 not_built_line = codes "refused: the code of this program is too large for an image" ++ line_feed
 

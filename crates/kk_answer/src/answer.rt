@@ -14,7 +14,7 @@ pub enum Answer<'a> {
     Usage,
     /// The text is not accepted.
     Refused(Refusal),
-    /// The text is accepted, and no image of its program can be built yet.
+    /// The text is accepted, and the code of its program is too large for an image.
     NotBuilt,
     /// Memory was refused.
     NoMemory,

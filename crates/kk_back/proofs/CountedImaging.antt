@@ -16,7 +16,6 @@ use Rattle.elf_image.specs.declared.part.Part.{Part}
 use Rattle.rv_isa.specs.AsmCode.{Lines}
 use Rattle.rv_isa.specs.AsmMachine.{asm_machine, asm_start}
 use Rattle.rv_isa.specs.Execution.{rv32im, run}
-use Rattle.rv_isa.specs.FreeCells.{free_cells}
 use Rattle.rv_isa.specs.Primitives.{stuck}
 use Rattle.rv_isa.specs.Processor.{start, goes}
 use Rattle.rv_isa.specs.ProcessorMachine.{processor_machine}
@@ -33,6 +32,7 @@ use Rattle.rv_world.specs.Operations.{Constants}
 use Rattle.rv_world.specs.World.{first_world, primitives}
 use Rattle.kk_back.specs.Assembled.{IsPlaceable, IsAsmImage, IsImageOfAsm}
 use Rattle.kk_back.specs.CountedImages.{counted_setting, IsRunnable, IsCountedImageOf}
+use Rattle.kk_back.specs.FreeCells.{AreAllFree}
 use Rattle.kk_back.specs.Sizes.{FitsText}
 use Rattle.kk_back.proofs.Assembling.{same_some}
 use Rattle.kk_back.proofs.FreeCells.{all_are_free}
@@ -142,7 +142,7 @@ module _ (shape : Shape) (code : CountedProgram) (functions : List Lines) (texts
             last.0,
             (
               last.1.ending,
-              subst (λ n. free_cells n (run last.0 (start (memory_of parts) entry input)).processor ≡ n) image.cells_are
+              subst (λ n. AreAllFree n (run last.0 (start (memory_of parts) entry input)).processor) image.cells_are
                   (all_are_free image.pool ends.1.cells (run last.0 (start (memory_of parts) entry input)).processor all
                   last.1.memory),
             ),

@@ -1,5 +1,5 @@
 -- Where all cells of the world are free, so are all cells of the image.
-use Rattle.std.proofs.Common.{◌≡◌, ◌≢◌, ◌%◌, ◌/◌, ◌^◌, ℕ, Bool, true, false, List, [], ◌∷◌, length, Option, Some, None, nat_lt, refl, sym, ap, ◌∙◌, arith}
+use Rattle.std.proofs.Common.{◌≡◌, ◌≢◌, ◌%◌, ◌/◌, ◌^◌, ℕ, Bool, true, false, List, [], ◌∷◌, length, zero, suc, Option, Some, None, nat_lt, refl, sym, ap, ◌∙◌, arith}
 use Rattle.std.specs.Prelude.{if◌then◌else◌}
 use Rattle.cell_heap.specs.Blocks.{Block, no_block, unused, own, kept, Cells, seen, seen_with, seen_cells, fields_of, view_of}
 use Rattle.cell_heap.specs.Cells.{Cell, no_cell, free, token, counted, occurs}
@@ -14,6 +14,7 @@ use Rattle.rv_isa.specs.FreeCells.{free_list, free_cells}
 use Rattle.rv_isa.specs.Processor.{Processor}
 use Rattle.rv_cells.specs.Meaning.{AreFree}
 use Rattle.rv_place.specs.Running.{HasCells}
+use Rattle.kk_back.specs.FreeCells.{AreAllFree}
 
 -- a sum of ones
 total-ones : (f : ℕ → ℕ) (xs : List ℕ) → ((x : ℕ) → occurs x xs ≢ 0 → f x ≡ 1) → total f xs ≡ length xs
@@ -36,14 +37,14 @@ seen_words (Some count) (Some header) fields =
     (λ is. cc) (λ is. cc)
 
 pub all_are_free : (pool : Pool) (cells : Cells) (s : Processor) → AreFree pool cells → HasCells pool cells s
-    → free_cells pool.cells s ≡ pool.cells
-all_are_free pool cells s free_are has =
-    let list = free_list pool.cells s in
-    let lists : ListsFree (seen_cells cells) list = free_list-lists pool (view_of cells has.0) s has.1.memory in
-    let counted_there = length-total list (places pool) (λ x some. listed x some lists) in
-    let ones = total-ones (λ p. occurs p list) (places pool) (λ x some. once x some lists) in
-    let many = length-cells_from pool.first pool.cells in
-    sym counted_there ∙ ones ∙ many
+    → AreAllFree pool.cells s
+all_are_free pool cells s free_are has = record {
+  first = pool.first;
+  aligned = has.1.memory.usable.aligned;
+  stores = has.1.memory.usable.stores;
+  each_once = same;
+  number = number;
+}
   where
     aligned : pool.first % 32 ≡ 0
     aligned = has.1.memory.usable.aligned
@@ -72,3 +73,30 @@ all_are_free pool cells s free_are has =
         let low = cell.behind in
         let high = cell.before in
         occurs-cells x pool.first pool.cells low high (aligned ∙ sym cell.aligned)
+
+    lists : ListsFree (seen_cells cells) (free_list pool.cells s)
+    lists = free_list-lists pool (view_of cells has.0) s has.1.memory
+
+    same : (x : ℕ) → occurs x (free_list pool.cells s) ≡ occurs x (places pool)
+    same x = by_count (occurs x (places pool)) refl
+      where
+        none : (n : ℕ) → occurs x (free_list pool.cells s) ≡ n → occurs x (places pool) ≡ 0 → n ≡ 0
+        none zero is no_place = refl
+        none (suc n) is no_place =
+            let there = listed x (λ no. let never : suc n ≡ 0 = sym is ∙ no in cc) lists in
+            absurd (let never : 1 ≡ 0 = sym there ∙ no_place in cc)
+
+        by_count : (n : ℕ) → occurs x (places pool) ≡ n → occurs x (free_list pool.cells s) ≡ occurs x (places pool)
+        by_count zero is = none (occurs x (free_list pool.cells s)) refl is ∙ sym is
+        by_count (suc n) is =
+            let some : occurs x (places pool) ≢ 0 = λ no. let never : suc n ≡ 0 = sym is ∙ no in cc in
+            let found = once x some lists in
+            found ∙ sym (listed x (λ no. let never : 1 ≡ 0 = sym found ∙ no in cc) lists)
+
+    number : free_cells pool.cells s ≡ pool.cells
+    number =
+        let list = free_list pool.cells s in
+        let counted_there = length-total list (places pool) (λ x some. listed x some lists) in
+        let ones = total-ones (λ p. occurs p list) (places pool) (λ x some. once x some lists) in
+        let many = length-cells_from pool.first pool.cells in
+        sym counted_there ∙ ones ∙ many

@@ -10,7 +10,7 @@ use Rattle.kk_core.specs.CoreStates.{core_first_state}
 use Rattle.rv_isa.specs.AsmCode.{Lines}
 use Rattle.rv_isa.specs.AsmMachine.{asm_machine, asm_start}
 use Rattle.rv_isa.specs.Execution.{rv32im, run}
-use Rattle.rv_isa.specs.FreeCells.{free_cells}
+use Rattle.rv_isa.specs.FreeCells.{cells_from, free_list}
 use Rattle.rv_isa.specs.Primitives.{stuck}
 use Rattle.rv_isa.specs.Processor.{Processor, start, goes}
 use Rattle.rv_isa.specs.ProcessorMachine.{processor_machine}
@@ -18,6 +18,7 @@ use Rattle.rv_isa.specs.WellFormed.{all_lines}
 use Rattle.elf_image.specs.Parts.{memory_of}
 use Rattle.elf_image.specs.declared.part.Part.{Part}
 use Rattle.cell_heap.specs.Blocks.{Cells, unused_cells}
+use Rattle.cell_heap.specs.Cells.{occurs}
 use Rattle.cell_heap.specs.Pool.{Pool}
 use Rattle.cell_heap.proofs.Counted.{length-cells_from}
 use Rattle.cell_heap.proofs.FreeCells.{free_list-is}
@@ -28,6 +29,7 @@ use Rattle.rv_regs.specs.Shape.{most_moves}
 use Rattle.rv_world.specs.Operations.{Constants, all_bytes}
 use Rattle.rv_world.specs.World.{first_world, primitives}
 use Rattle.kk_back.specs.Assembled.{IsPlaceable, IsAsmImage}
+use Rattle.kk_back.specs.FreeCells.{AreAllFree}
 use Rattle.kk_back.specs.Images.{IsImageOf, step_instructions}
 
 sizes_of : (forms lines functions bytes : ℕ) → forms ≤ 17408 → functions ≤ 1024 → lines ≤ 12 * forms → bytes ≤ 256 * forms
@@ -53,10 +55,18 @@ placeable_of code functions texts small made =
 
 -- where no cell was used all are free
 all_free_cells : (pool : Pool) (cells : Cells) (s : Processor) → cells ≡ unused_cells pool → HasCells pool cells s
-    → free_cells pool.cells s ≡ pool.cells
+    → AreAllFree pool.cells s
 all_free_cells pool cells s none has =
     let fresh = subst (λ c. HasCells pool c s) none has in
-    ap length (free_list-is fresh.1.memory) ∙ length-cells_from pool.first _ ∙ omega arith
+    let is : free_list pool.cells s ≡ cells_from pool.first pool.cells =
+    free_list-is fresh.1.memory ∙ ap (cells_from pool.first) (omega arith) in
+    record {
+      first = pool.first;
+      aligned = has.1.memory.usable.aligned;
+      stores = has.1.memory.usable.stores;
+      each_once = λ x. ap (occurs x) is;
+      number = ap length is ∙ length-cells_from pool.first pool.cells;
+    }
 
 module _ (code : ProgramCode) (functions : List Lines) (texts : List (List ℕ)) (small : IsSmall code) (made : IsAsmOf code functions texts)
     (cells depth entry : ℕ) (parts : List Part) (sizes : AreSizes cells depth)
@@ -88,7 +98,7 @@ module _ (code : ProgramCode) (functions : List Lines) (texts : List (List ℕ))
           last.0,
           (
             last.1.ending,
-            subst (λ n. free_cells n (run last.0 (start (memory_of parts) entry input)).processor ≡ n) image.cells_are
+            subst (λ n. AreAllFree n (run last.0 (start (memory_of parts) entry input)).processor) image.cells_are
                 (all_free_cells image.pool ends.1.cells (run last.0 (start (memory_of parts) entry input)).processor ends.3 last.1.memory),
           ),
         );

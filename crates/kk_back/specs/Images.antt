@@ -10,13 +10,13 @@ use Rattle.kk_core.specs.CoreStates.{stopped, core_first_state}
 use Rattle.rv_isa.specs.Processor.{Ending, exited, Progress, start, goes}
 use Rattle.rv_isa.specs.Execution.{rv32im, run}
 use Rattle.rv_isa.specs.ProcessorMachine.{ended, processor_machine}
-use Rattle.rv_isa.specs.FreeCells.{free_cells}
 use Rattle.rv_place.specs.Images.{outside_lines}
 use Rattle.rv_regs.specs.Shape.{most_moves}
 use Rattle.rv_lower.specs.Meaning.{core_cost, core_outside, setting_of_core}
 use Rattle.elf_image.specs.Parts.{memory_of}
 use Rattle.elf_image.specs.Program.{IsProgramImage}
 use Rattle.elf_image.specs.declared.part.Part.{Part}
+use Rattle.kk_back.specs.FreeCells.{AreAllFree}
 
 -- the most instructions of a step of the core, with the moves that its lines have in a row
 abbrev pub step_instructions : ℕ
@@ -24,7 +24,7 @@ step_instructions = core_cost most_moves
 
 -- a run has ended so, and all cells are free
 abbrev pub LeavesAll : ℕ → Ending → Progress → Type 0
-LeavesAll cells how last = (ended last.ending ≡ Some how) × (free_cells cells last.processor ≡ cells)
+LeavesAll cells how last = (ended last.ending ≡ Some how) × AreAllFree cells last.processor
 
 -- An image of a program in core form, with so many cells and such a depth. On each input of bytes, for all lent positions, the processor's machine agrees
 -- with the core's: the image tells the same events and exits with the number of the end. At its exit all cells are free.

@@ -12,4 +12,3 @@ pub mod Runnable
 pub mod Runs
 pub mod Scaled
 pub mod Weighed
-pub mod Within

@@ -5,6 +5,6 @@ use kk_base::Refusal;
 pub enum BuildError {
     /// The text is not accepted, or was not judged for want of memory.
     Refused(Refusal),
-    /// The text is accepted, and its program has a form of which no image can be built yet.
+    /// The text is accepted, and the code of its program is too large for an image.
     NotBuilt,
 }

@@ -94,8 +94,8 @@ MakeOneType constructors c d =
 abbrev pub field_count : List ConstructorTree → ℕ → ℕ
 field_count constructors c = slice_index_or (map (λ (one : ConstructorTree). length one.fields) constructors) c 0
 
--- Decisions ask what types tell: for each value of a type that all the patterns of a match are of, each test finds an answer of the
--- type of its edges.
+-- Decisions ask what types tell: for each value of a type that all the patterns of a match are of, each answer that a test finds is
+-- of the type of its edges.
 abbrev pub AsksTyped : List ConstructorTree → List Pattern → List NodeTree → Type 0
 AsksTyped constructors patterns decisions =
     (t : TypeTree) (store : Store) (v : Value) → Each (IsPatternOf (values_of constructors) t) (map outline_of patterns)

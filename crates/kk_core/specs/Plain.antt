@@ -1,5 +1,5 @@
 -- Which programs in core form have neither matches nor cells: they have no case and no opening, and construct `False` and `True`
--- alone. The crates that do not know cells yet take these.
+-- alone. rv_lower and `image` of kk_back take these.
 use Rattle.std.specs.Prelude.{Bool, true, false, ◌&&◌, nat_le, List, [], ◌∷◌}
 use Rattle.kk_syntax.specs.declared.program.Form.{Form}
 use Rattle.kk_syntax.specs.declared.program.Form.TheVariants.{Construct}

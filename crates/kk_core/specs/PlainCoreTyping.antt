@@ -1,5 +1,5 @@
--- The types of programs in core form that have neither type variables nor cells: `int32`, `bool` and `()`. The crates that do not
--- know cells yet ask for these in place of CoreTyping's.
+-- The types of programs in core form that have neither type variables nor cells: `int32`, `bool` and `()`. rv_lower and
+-- `image` of kk_back ask for these in place of CoreTyping's.
 use Rattle.std.specs.Prelude.{◌≡◌, ℕ, List, [], ◌∷◌, length, Bool, true, false, Some, slice_get}
 use Rattle.kk_syntax.specs.Types.{TypeTree, unit_type}
 use Rattle.kk_syntax.specs.PlainTyping.{Signature, Scope, type_in, with_parameters, bool, IsFormTyped}

@@ -29,8 +29,7 @@ abbrev tells : ℕ → TokenSetting → List Note
 tells steps setting = trace (token_machine (λ s. 1) setting) steps (token_first_state setting [])
 
 -- fun inc(xs) { match xs { Nil -> Nil; Cons(x, xx) -> Cons(x + 1, inc(xx)) } }: the token of the cell is held over the call, and
--- the
--- new cell fills it
+-- the new cell fills it
 abbrev inc : TokenedFunction
 inc =
     function 1

@@ -1,4 +1,4 @@
--- That a case has an arm for each row of its decisions.
+-- That a case has an arm for each row that its decisions choose.
 use Rattle.std.specs.Prelude.{ℕ, zero, suc, List, [], ◌∷◌}
 use Rattle.kk_core.specs.Decisions.{AreOrderly}
 use Rattle.kk_counted.specs.CountedCodes.{Counted, give, tail_call, branch, case, compute, inside, read, open_cell, if_unique}
@@ -9,7 +9,7 @@ abbrev pub arm_count : CountedArms → ℕ
 arm_count no_arm = zero
 arm_count (arm body rest) = suc (arm_count rest)
 
--- each case of a code has as many arms as its decisions have rows
+-- each row that the decisions of a case choose has an arm
 abbrev mutual
   pub HasArms : Counted → Type 0
   HasArms (give x) = Unit {0}

@@ -10,9 +10,8 @@ abbrev pub HasAnArm : CountedArms → Type 0
 HasAnArm no_arm = ⊥
 HasAnArm (arm body rest) = Unit {0}
 
--- On each path a code spends at most so many references: those of the arguments of its forms, one for each opening and each drop,
--- and
--- the one that it gives. Each case has an arm.
+-- On each path a code spends at most so many references: those of the arguments of its forms, one for each opening and each
+-- drop, and the one that it gives. Each case has an arm.
 abbrev mutual
   pub SpendsAtMost : Counted → ℕ → Type 0
   SpendsAtMost (give x) n = 1 ≤ n

@@ -61,10 +61,9 @@ pub record IsPool (cells : ℕ) (assigned : ℕ → ℕ) (heap : Heap) (marks : 
 abbrev pub assigned_with : ℕ → ℕ → (ℕ → ℕ) → ℕ → ℕ
 assigned_with n c assigned p = if p == n then c else assigned p
 
--- What a step does to the names. stays: none is new, all cells have the constructors and the fields that they had, and the names in
--- use were so before. grows: the next name is that of a new cell; of the others those in use were so before, and without it a cell
--- of
--- the pool is free.
+-- What a step does to the names. stays: none is new, all cells have the constructors and the fields that they had, and the names
+-- in use were so before. grows: the next name is that of a new cell; of the others those in use were so before, and without it a
+-- cell of the pool is free.
 pub data Growth (cells : ℕ) (from to : TokenConfiguration) : Type 0 where
   stays : cells_of to.heap ≡ cells_of from.heap → ((p : ℕ) → is_alive to.heap to.tokens.marks p ≡ true
       → is_alive from.heap from.tokens.marks p ≡ true)

@@ -12,7 +12,7 @@ ghost use Rattle.kk_front.specs.Judgement.{IsProgramOf};
 
 use kk_names::{resolved_programs_have_main, resolved_programs_have_truths_and_texts};
 
-/// An accepted program is the meaning of a tree of the text, it is typed, its matches are covered, it is checked with its principal
+/// An accepted program is the meaning of a tree, it is typed, its matches are covered, it is checked with its principal
 /// typings, and it keeps each limit: on the parameters and on the nodes of a function, on the fields of a constructor, on the
 /// constructors of a type, on the number of its instances, and on their nodes in all. It is a law, and does nothing.
 pub fn accepted_programs_are_typed()

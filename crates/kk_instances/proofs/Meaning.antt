@@ -1,4 +1,4 @@
--- The instances of a checked program are typed, and do what it does, step by step.
+-- The instances of a checked program are typed, and do what it does, step by step, at the positions of the functions that they are.
 use Rattle.std.proofs.Common.{◌≡◌, ℕ, List, [], ◌∷◌, Some, refl, sym, ap, ◌∙◌}
 use Rattle.std.specs.Prelude.{option_map, slice_get, slice_index_or}
 use Rattle.std.proofs.lemmas.Option.{slice_get-map, get_or_from_slice_get}
@@ -58,20 +58,20 @@ module _ (program made : ProgramTree) (typings : List (List Choice)) (instances 
       ∙ sym (get_or_from_slice_get (positions_in instances table) n (slice_index_or table instance.0.function []) [] at)
 
   module _ (checked : IsChecked program typings) where
-    typed : IsGroundTyped made
+    pub typed : IsGroundTyped made
     typed = instances_typed program made typings instances checked is
 
     module _ (table : PositionTable) (cells depth : ℕ) (input : List ℕ) where
-      abbrev made_setting : Setting
+      abbrev pub made_setting : Setting
       made_setting = setting_of made (positions_in instances table) cells depth
 
-      abbrev setting : Setting
+      abbrev pub setting : Setting
       setting = setting_of program table cells depth
 
-      abbrev begins : State
+      abbrev pub begins : State
       begins = first_state setting input
 
-      abbrev instances_begin : State
+      abbrev pub instances_begin : State
       instances_begin = first_state made_setting input
 
       same_start : begins ≡ state_image new instances_begin
@@ -91,10 +91,10 @@ module _ (program made : ProgramTree) (typings : List (List Choice)) (instances 
           (apart program made typings instances checked.truths is) there (lent table) n instances_begin
           (start_typed made_setting typed)
 
-      same_trace : (n : ℕ) → trace (store_machine made_setting) n instances_begin ≡ trace (store_machine setting) n begins
+      pub same_trace : (n : ℕ) → trace (store_machine made_setting) n instances_begin ≡ trace (store_machine setting) n begins
       same_trace n = sym (ap (trace (store_machine setting) n) same_start ∙ (both n).trace_is)
 
-      same_end : (n : ℕ) → ending_after (store_machine made_setting) n instances_begin
+      pub same_end : (n : ℕ) → ending_after (store_machine made_setting) n instances_begin
           ≡ ending_after (store_machine setting) n begins
       same_end n =
           sym (ap (ending_after (store_machine setting) n) same_start

@@ -5,12 +5,10 @@ mod Consistent
 mod LentTails
 mod LentPrograms
 mod LentInstances
-mod Within
 mod Compiling
 mod Agreeing
 mod Marked
 mod Special
-mod Instances
 mod SpecialMarks
 mod Programs
 mod Apart

@@ -4,36 +4,13 @@ use Rattle.std.specs.Prelude.{slice_get}
 use Rattle.kk_core.specs.declared.form.Core.{Core}
 use Rattle.kk_core.specs.declared.form.CoreFunction.{CoreFunction}
 use Rattle.kk_core.specs.declared.shape.ConstructorShape.{ConstructorShape}
-use Rattle.kk_counted.specs.CountedCodes.{Counted, give, tail_call, branch, case, compute, inside, read, open_cell, if_unique, dup, drop, CountedArms, no_arm, arm, CountedFunction, CountedProgram}
+use Rattle.kk_counted.specs.CountedCodes.{CountedFunction, CountedProgram}
 use Rattle.kk_counted.specs.declared.shape.InstanceShape.{InstanceShape}
-use Rattle.kk_counted.specs.Marks.{CellMarks, result_mark, marks_of, HasMark, HaveMark, IsMarked, AreMarked}
+use Rattle.kk_counted.specs.Marks.{CellMarks, marks_of, IsMarked, AreMarked}
 use Rattle.kk_insert.specs.MarkTables.{marks_of_core}
 use Rattle.kk_insert.specs.Shapes.{cells_told, cells_in, ConstructorFacts, facts_of}
-use Rattle.kk_dropspec.specs.Specialised.{special, special_arms, special_function, special_program}
-
-module _ (marks : CellMarks) (holds : ℕ → Bool) (result : Bool) where
-  mutual
-    special_has : (bound : List ℕ) (given : Bool) (code : Counted) → HasMark marks holds result bound given code
-        → HasMark marks holds result bound given (special code)
-    special_has bound given (give x) has = has
-    special_has bound given (tail_call f arguments) has = has
-    special_has bound given (branch x positive negative) has =
-        (has.0, (has.1.0, (special_has bound given positive has.1.1.0, special_has bound given negative has.1.1.1)))
-    special_has bound given (case x decisions arms) has = (has.0, special_have bound given arms has.1)
-    special_has bound given (compute x form arguments rest) has =
-        (has.0, (has.1.0, special_has (x ∷ bound) given rest has.1.1))
-    special_has bound given (inside x block rest) has =
-        (special_has bound (holds x) block has.0, special_has (x ∷ bound) given rest has.1)
-    special_has bound given (read x c fields rest) has = (has.0, special_has _ given rest has.1)
-    special_has bound given (open_cell x c fields used rest) has = (has.0, special_has _ given rest has.1)
-    special_has bound given (if_unique x c fields used rest) has = (has.0, special_has _ given rest has.1)
-    special_has bound given (dup x rest) has = (has.0, special_has bound given rest has.1)
-    special_has bound given (drop x rest) has = (has.0, special_has bound given rest has.1)
-
-    special_have : (bound : List ℕ) (given : Bool) (arms : CountedArms) → HaveMark marks holds result bound given arms
-        → HaveMark marks holds result bound given (special_arms arms)
-    special_have bound given no_arm have = tt
-    special_have bound given (arm body rest) have = (special_has bound given body have.0, special_have bound given rest have.1)
+use Rattle.kk_dropspec.specs.Specialised.{special_function, special_program}
+use Rattle.kk_dropspec.proofs.Lowered.{special_marked}
 
 -- a specialised function is that of one that is there
 special_from : (functions : List CountedFunction) (f : ℕ) (made : CountedFunction)
@@ -61,11 +38,8 @@ special_is_marked marks holds program marked =
     record {
       each = λ f made there.
           let from = special_from program.functions f made there in
-          let own : IsMarked marks (holds f) f from.0 = marked.each f from.0 from.1.0 in
-          subst (IsMarked marks (holds f) f) from.1.1 (record {
-            parameters_marked = own.parameters_marked;
-            body_marked = special_has marks (holds f) (result_mark marks f) _ (result_mark marks f) from.0.body own.body_marked;
-          });
+          subst (IsMarked marks (holds f) f) from.1.1
+          (special_marked marks (holds f) f from.0 (marked.each f from.0 from.1.0));
       main_there = (
         special_function marked.main_there.0,
         (special_there program.functions program.main marked.main_there.0 marked.main_there.1.0, marked.main_there.1.1),

@@ -1,6 +1,6 @@
 -- A core form of a match with a nested pattern, whose variables, openings and order can be read here.
 use Rattle.std.proofs.Common.{◌≡◌, ℕ, zero, suc, ◌<◌, Bool, true, false, ◌||◌, List, [], ◌∷◌, Option, Some, None, refl, sym, subst, arith}
-use Rattle.std.specs.Prelude.{if◌then◌else◌, slice_get, ◌==◌}
+use Rattle.std.specs.Prelude.{if◌then◌else◌, slice_get, ◌==◌, ◌≢◌, AllPairs, Contains}
 use Rattle.std.proofs.lemmas.Bool.{eqb-true}
 use Rattle.kk_syntax.specs.declared.operator.BinaryOperator.TheVariants.{Subtract}
 use Rattle.kk_syntax.specs.declared.program.Form.TheVariants.{Binary}
@@ -13,6 +13,12 @@ use Rattle.kk_core.specs.Choosing.{Decides, matches}
 use Rattle.kk_core.specs.Codes.{Code, give, case, compute, use_of, unpack, Arms, no_arm, arm}
 use Rattle.kk_core.specs.Decisions.{NodeTree, chooses, tests, targets, row_chosen, AreOrderly}
 use Rattle.kk_core.specs.Edges.{edges_from}
+use Rattle.kk_core.specs.Looks.{looks_from}
+use Rattle.kk_match.specs.Built.{no_state, one_more}
+use Rattle.kk_match.specs.Decided.{TestsAt, IsFormed}
+use Rattle.kk_match.specs.Graphs.{StateTree, test_of, lines_from, IsReached, at_start, by_answer, by_another}
+use Rattle.kk_core.specs.declared.decisions.Answer.TheVariants.{Number}
+use Rattle.kk_match.specs.Parts.{Part}
 use Rattle.kk_norm.specs.Deciding.{AreDecisions}
 use Rattle.kk_norm.specs.Normalized.{final, IsCode}
 use Rattle.kk_norm.specs.OpenedCells.{openings}
@@ -47,6 +53,11 @@ no_edges cells v zero k = refl
 no_edges cells v (suc steps) zero = refl
 no_edges cells v (suc steps) (suc k) = refl
 
+no_looks : (cells : ℕ → Option Cell) (v : Value) (steps k : ℕ) → looks_from cells v (chooses 0 ∷ []) steps k ≡ 0
+no_looks cells v zero k = refl
+no_looks cells v (suc steps) zero = refl
+no_looks cells v (suc steps) (suc k) = refl
+
 none_later : (k j : ℕ) (node : NodeTree) → slice_get (chooses 0 ∷ []) k ≡ Some node → is_among (targets node) j ≡ true → ⊥
 none_later zero j (chooses r) is among = absurd (cc)
 none_later zero j (tests at edges otherwise) is among = absurd (cc)
@@ -73,13 +84,70 @@ only_row = record {
   below = λ k r node is among. first_alone k r node is among;
 }
 
+tests_nothing : (k : ℕ) (at : List ℕ) → TestsAt (chooses 0 ∷ []) k at → ⊥
+tests_nothing zero at (edges, otherwise, is) = absurd (cc)
+tests_nothing (suc k) at (edges, otherwise, is) = absurd (cc)
+
+-- ---- the states of the match: without parts that need a test, the start is the only one
+
+abbrev alone : StateTree
+alone = lines_from [] 0 (nested ∷ [])
+
+alone_apart : AllPairs (λ one other. one ≢ other) (alone ∷ [])
+alone_apart i j d less short = absurd (omega (arith, less, short))
+
+alone_reached : (state : StateTree) → Contains (alone ∷ []) state → IsReached [] alone state
+alone_reached state (zero, short, same) = subst (IsReached [] alone) same (at_start)
+alone_reached state (suc k, short, same) = absurd (omega (arith, short))
+
+no_test : (q : Part) → test_of alone ≡ Some q → ⊥
+no_test q is = absurd (cc)
+
+nothing_else : (state : StateTree) → IsReached [] alone state → state ≡ alone
+nothing_else state (at_start) = refl
+nothing_else state (by_answer {state = earlier} {q = q} found before test kind) =
+    absurd (no_test q (subst (λ (one : StateTree). test_of one ≡ Some q) (nothing_else earlier before) test))
+nothing_else state (by_another {state = earlier} {at = at} n before test) =
+    let q : Part = record { at = at; asked = Number n } in
+    absurd (no_test q (subst (λ (one : StateTree). test_of one ≡ Some q) (nothing_else earlier before) test))
+
+formed : IsFormed [] (nested ∷ []) (chooses 0 ∷ []) 0 false
+formed = (
+  record {
+    states = alone ∷ [];
+    apart = alone_apart;
+    reached = alone_reached;
+    all = λ state reached. (0, omega arith, sym (nothing_else state reached));
+    tests = refl;
+  },
+  omega arith,
+  λ k j at leads first second. tests_nothing k at first,
+  (
+    chooses 0 ∷ [],
+    record {
+      states = alone ∷ [];
+      right = one_more alone (chooses 0) no_state (refl, refl);
+      apart = alone_apart;
+      reached = (at_start, tt);
+      number = 0;
+      starts = refl;
+      within = omega arith;
+    },
+    refl,
+  ),
+)
+
 are_decisions : (constructors : List ConstructorTree) → AreDecisions constructors (nested ∷ []) (chooses 0 ∷ [])
 are_decisions constructors = record {
   decides = decides constructors;
   asks = λ t store v typed of. tt;
   orderly = only_row;
+  formed = ([], 0, false, formed);
   few_tests = omega arith;
-  few_edges = λ cells v steps k. omega (arith, no_edges cells v steps k);
+  lean = record {
+    edges = λ cells v steps k. omega (arith, no_edges cells v steps k);
+    looks = λ cells v steps k. omega (arith, no_looks cells v steps k);
+  };
 }
 
 pub is_its_code : (constructors : List ConstructorTree)

@@ -24,6 +24,7 @@ pub mod Picking
 pub mod PlainCodes
 pub mod ProgramTrees
 pub mod Programs
+mod RunExamples
 pub mod Scopes
 pub mod Simulation
 pub mod Steps
@@ -31,6 +32,7 @@ pub mod TypeNumbers
 pub mod Variables
 pub mod Waits
 pub mod Weights
+pub mod Within
 pub mod Writing
 pub mod WritingAll
 pub mod WritingMatches

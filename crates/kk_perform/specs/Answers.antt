@@ -78,7 +78,7 @@ pub data Answers (before after : Outside) : Option Request → Answer → Type 0
   -- the text is refused, for its first failure
   refused : (request : Request) (text : List ℕ) (refusal : Refusal) → HasText (file_of request) text before.files → IsRefusalOf text refusal
       → KeepsAll before after → Answers before after (Some request) (Refused refusal)
-  -- build, run: the text is accepted, and no image of its program can be built yet
+  -- build, run: the text is accepted, and the code of its program is too large for an image
   not_built : (request : Request) (text : List ℕ) → builds request ≡ true → HasText (file_of request) text before.files → IsNotBuilt text
       → KeepsAll before after → Answers before after (Some request) NotBuilt
   -- check: the text is accepted

@@ -1,4 +1,4 @@
-//! Runs of programs with cells, which no text spells yet, and one that reads.
+//! Runs of programs with cells, and one that reads.
 //!
 //! Each step is proved to be the definition's. So a run tries the definition, where neither its own examples (in proofs/ of
 //! kk_source) nor a text in examples/ does.

@@ -56,7 +56,6 @@ use Rattle.rv_cells.proofs.Constructing.{IsMaking, full_did}
 use Rattle.rv_cells.proofs.Stepping.{construct_steps}
 use Rattle.rv_cells.proofs.Standing.{Lowering, target, texts, setting, upper, known_of, continues_more, At, IsFitFrom, arrives, by_lines}
 use Rattle.rv_cells.proofs.Blocks.{within_itself, within_one, counted_at, Does, does_by}
-use Rattle.rv_cells.proofs.Straight.{AreFew, few_same, print_few, binary_few, steps_within}
 use Rattle.rv_cells.proofs.Celled.{below_among, all_among, apart_above, arguments_fit, none_top, seen_action, goes_on, quiet_builds}
 
 -- ---- words of numbers
@@ -330,18 +329,15 @@ module _ (program : Lowering) where
 
     -- by what a form performs
     performed_value : (t : TypeTree) (v : Value) (events : List Event) (world : World) (input_left : List ℕ)
-        → AreFew form_own
         → Performing.Performs numbers_target form_own x t v s.frame.cells s.world world events
         → at.holds x ≡ false
         → (upper program).step form_state
         ≡ (events, counted_at program rest (record { variable = x; value = v } ∷ s.environment) inner frames s.heap input_left)
         → world.left ≡ input_left → world.cells ≡ s.world.cells → All (λ byte. byte < 256) input_left
         → Does program idle form_state (turn_of left s.frame fs s.world)
-    performed_value t v events world input_left few performs plain is left_is cells_are bytes =
-        let steps = steps_within numbers_target form_own performs.steps events s.frame.cells performs.cells' s.frame.into fs s.world
-        world few (λ whole rest. performs.runs whole rest s.frame.into fs) in
+    performed_value t v events world input_left performs plain is left_is cells_are bytes =
         let shown = word_follows s.address (length s.heap) t v performs.word performs.is in
-        at_value v performs.steps events performs.cells' world input_left steps
+        at_value v performs.steps events performs.cells' world input_left performs.few
         (performs.runs s.frame.whole form_rest s.frame.into fs) performs.kept (performs.there ∙ ap (λ w. Some w) (sym shown.0))
         (subst (λ b. FitsField b v) (sym plain) shown.1) shown.2 is left_is cells_are bytes
 
@@ -395,20 +391,18 @@ module _ (program : Lowering) where
       let own = at.placed.lines.0 in
       let lines = at.placed.lines.2 in
       performed_value x idle (Number n) arguments rest inner frames input s fs left idle_is at fit int32
-      (integer n) [] s.world input (few_same lines.3 (tt, tt) (omega arith))
+      (integer n) [] s.world input
       (Performing.sets_performs numbers_target x lines.0 int32 (integer n) own s.frame.cells s.world
       (ap integer (sym lines.1), lines.2)
       lines.3) at.placed.marked.1.0.1 refl at.input_is refl at.bytes
   at_plain x Nothing arguments plain idle rest inner frames input s fs left idle_is at fit =
       performed_value x idle Nothing arguments rest inner frames input s fs left idle_is at fit unit_type unit [] s.world input
-      (few_same at.placed.lines.2 (tt, tt) (omega arith))
       (Performing.sets_performs numbers_target x unit_word unit_type unit at.placed.lines.0 s.frame.cells s.world (refl, refl)
       at.placed.lines.2) at.placed.marked.1.0.1 refl at.input_is refl at.bytes
   at_plain x ReadByte arguments plain idle rest inner frames input s fs left idle_is at fit =
       performed_value x idle ReadByte arguments rest inner frames input s fs left idle_is at fit int32
       (byte_value (Performing.got numbers_target input)) (Performing.read_events numbers_target input)
       (Performing.world_behind numbers_target input s.world) (Performing.left_behind numbers_target input)
-      (few_same at.placed.lines.2 (tt, tt) (omega arith))
       (Performing.read_performs numbers_target x input at.placed.lines.0 s.frame.cells s.world at.input_is at.bytes
       at.placed.lines.2)
       at.placed.marked.1.0.1 (reads x arguments rest s.environment inner frames s.heap input) refl refl
@@ -421,7 +415,6 @@ module _ (program : Lowering) where
       performed_value x idle (PrintText how text) arguments rest inner frames input s fs left idle_is at fit unit_type unit
       (put_of piece)
       (told_more (put_of piece) s.world) input
-      (print_few at.base x program.constants piece lines.0 at.placed.lines.0 lines.1 lines.2)
       (Performing.print_text_performs numbers_target at.base x piece lines.0 at.placed.lines.0 s.frame.cells s.world
       at.placed.numbered.0 lines.1 lines.2) at.placed.marked.1.0.1 (print_is piece to input) at.input_is refl at.bytes
   at_plain x (Unary Negate) [] plain idle rest inner frames input s fs left idle_is at fit = absurd (fit 0).fits
@@ -431,7 +424,7 @@ module _ (program : Lowering) where
       let number = (fit 0).fits in
       let bound = p.marked.0.0 in
       performed_value x idle (Unary Negate) (a ∷ []) rest inner frames input s fs left idle_is at fit int32
-      (unary_result Negate (value_of s.environment a)) [] s.world input (few_same p.lines.2 (tt, (tt, tt)) (omega arith))
+      (unary_result Negate (value_of s.environment a)) [] s.world input
       (subst (λ v. Performing.Performs numbers_target p.lines.0 x int32 (unary_result Negate v) s.frame.cells s.world s.world [])
       (sym number.1)
       (Performing.unary_performs_negate numbers_target at.base x a number.0 p.lines.0 s.frame.cells s.world p.numbered.0
@@ -448,7 +441,7 @@ module _ (program : Lowering) where
       let turned : truth (not b) ≡ unary_result Not (value_of s.environment a)
       = ap (λ c. truth (not c)) (sym (is_true_of b)) ∙ ap (λ v. unary_result Not v) (sym truth_at.1) in
       performed_value x idle (Unary Not) (a ∷ []) rest inner frames input s fs left idle_is at fit bool
-      (unary_result Not (value_of s.environment a)) [] s.world input (few_same p.lines.2.2 (tt, tt) (omega arith))
+      (unary_result Not (value_of s.environment a)) [] s.world input
       (subst (λ v. Performing.Performs numbers_target p.lines.0 x bool v s.frame.cells s.world s.world []) turned
       (Performing.unary_performs_not numbers_target x a b p.lines.2.0 p.lines.0 s.frame.cells s.world
       (at.here.values.words a bound ∙ ap (λ v. Some (word_in program.layout s.address v)) truth_at.1 ∙ ap (λ w. Some w) shown.0)
@@ -470,7 +463,6 @@ module _ (program : Lowering) where
       ∙ ap (λ n. number_result operator (integer_of (value_of s.environment a)) n) (sym (ap integer_of second.1)) in
       performed_value x idle (Binary operator) (a ∷ b ∷ []) rest inner frames input s fs left idle_is at fit (binary_type operator)
       (binary_result operator (value_of s.environment a) (value_of s.environment b)) [] s.world input
-      (binary_few at.base x a b p.lines.0 operator p.lines.2)
       (subst (λ v. Performing.Performs numbers_target p.lines.0 x (binary_type operator) v s.frame.cells s.world s.world []) same
       (Performing.binary_performs numbers_target at.base x operator a b first.0 second.0 p.lines.0 s.frame.cells s.world
       p.numbered.0
@@ -492,7 +484,7 @@ module _ (program : Lowering) where
       let some : put_of piece ≡ events
       = put_some piece (some_piece how (signed_decimal (signed number.0)) (some_digits number.0 number.2)) in
       performed_value x idle (Print how) (a ∷ []) rest inner frames input s fs left idle_is at fit unit_type unit events
-      (told_more events s.world) input (few_same p.lines.2 (tt, (tt, (tt, (tt, tt)))) (omega arith))
+      (told_more events s.world) input
       (Performing.print_int_performs numbers_target at.base x a number.0 how p.lines.0 s.frame.cells s.world p.numbered.0
       (below_among x s.bound a p.numbered.1.0 bound) (number_word s at.holds at.base a at.here bound number) number.2 p.lines.2)
       p.marked.1.0.1

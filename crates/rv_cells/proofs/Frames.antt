@@ -9,8 +9,7 @@ use Rattle.rv_cells.specs.Follows.{assign}
 use Rattle.rv_cells.proofs.Values.{HasValues, has_bound, has_cell}
 
 -- what is known of a frame but for its words: which of its variables are of types with cells, where its temporaries begin, which
--- variables are
--- bound, and their values
+-- variables are bound, and their values
 pub record Shape : Type 0 where
   pub holds : ℕ → Bool
   pub base : ℕ

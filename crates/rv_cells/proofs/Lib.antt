@@ -25,7 +25,6 @@ pub mod Grown
 pub mod Standing
 pub mod Blocks
 pub mod Celled
-pub mod Straight
 pub mod Computing
 pub mod Entering
 pub mod Telling

@@ -17,9 +17,8 @@ use Rattle.rv_cells.specs.Layout.{Layout, word_in, words_in, FitsField, FitField
 use Rattle.rv_cells.specs.Follows.{assign}
 use Rattle.rv_cells.proofs.Words.{value_older, within_more}
 
--- Each bound variable is below the temporaries, and has the word of its value; it is of a type with cells or not as its value is;
--- and it names an
--- older cell than the next one.
+-- Each bound variable is below the temporaries, and has the word of its value; it is of a type with cells or not as its value
+-- is; and it names an older cell than the next one.
 pub record HasValues (layout : Layout) (address : ℕ → ℕ) (holds : ℕ → Bool) (base next : ℕ) (bound : List ℕ)
     (environment : Environment) (values : ℕ → Option ℕ) : Type 0 where
   pub below : (x : ℕ) → is_among bound x ≡ true → x < base

@@ -1,6 +1,5 @@
--- The assembler lines of the counted forms that touch cells. Value x of a function's assembler code is variable x; the values from
--- `base` on are
--- temporaries.
+-- The assembler lines of the counted forms that touch cells. Value x of a function's assembler code is variable x; the values
+-- from `base` on are temporaries.
 use Rattle.std.specs.Prelude.{◌≡◌, ℕ, suc, ◌+◌, ◌*◌, ◌-◌, ◌^◌, Bool, List, [], ◌∷◌, ◌++◌, filter, Some, not, if◌then◌else◌}
 use Rattle.kk_syntax.specs.Shapes.{is_among}
 use Rattle.rv_isa.specs.declared.asm.Action.TheVariants.{Compute, Label, Jump, Branch, Routine as Calls}
@@ -70,9 +69,8 @@ OpenLines base holds x fields used lines =
     × (lines ≡ loads ++ (dups_lines holds (filter (is_among used) fields) ++ drop_lines base holds x))
 
 -- An opening by the count of the cell. Behind the test of the count the fields are loaded on each way. Where the count is 1 the
--- fields that are
--- not in use are dropped, and the cell is freed; else, from label `shared` on, the count is lowered, and the fields in use get a
--- reference more.
+-- fields that are not in use are dropped, and the cell is freed; else, from label `shared` on, the count is lowered, and the
+-- fields in use get a reference more.
 abbrev pub UniqueLines : ℕ → (ℕ → Bool) → ℕ → ℕ → ℕ → List ℕ → List ℕ → List Line → Type 0
 UniqueLines base holds shared behind x fields used lines =
     (test : Line) × (loads : List Line) × (count : Line) × (less : Immediate) × (store : Line)

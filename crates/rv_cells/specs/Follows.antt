@@ -18,9 +18,8 @@ pub record IsBlockOf (layout : Layout) (address : ℕ → ℕ) (held : Held) (wo
   pub fields : AreFrom words 2 (words_in layout address held.cell.fields)
   pub fits : FitFields (layout.fields held.cell.made_by) held.cell.fields
 
--- What stands at an address: nothing that is used; the counted cell of a name; or a cell that was taken, of which words are known,
--- and that is
--- not counted yet.
+-- What stands at an address: nothing that is used; the counted cell of a name; or a cell that was taken, of which words are
+-- known, and that is not counted yet.
 pub data Owner : Type 0 where
   nobody : Owner
   cell_of : (name : ℕ) → Owner
@@ -56,9 +55,8 @@ pub record HasChain (pool : Pool) (cells : Cells) : Type 0 where
   pub chained : (at : ℕ) → cells.blocks at ≡ unused → at < cells.border → occurs at cells.frees ≡ 1
   pub members : (at : ℕ) → occurs at cells.frees ≢ 0 → (cells.blocks at ≡ unused) × (at < cells.border)
 
--- By the address of each name and by what stands at each address, the cells are those of the heap: each counted name has a cell of
--- its own, whose
--- block is that of the cell.
+-- By the address of each name and by what stands at each address, the cells are those of the heap: each counted name has a cell
+-- of its own, whose block is that of the cell.
 pub record Follows (pool : Pool) (layout : Layout) (address : ℕ → ℕ) (owners : ℕ → Owner) (heap : Heap)
     (cells : Cells) : Type 0 where
   pub named : (name : ℕ) → 1 ≤ count_at heap name → owners (address name) ≡ cell_of name

@@ -25,9 +25,8 @@ pub record Dupped (pool : Pool) (layout : Layout) (address : ℕ → ℕ) (owner
   pub is : dup (word_in layout address v) cells ≡ Some now
   pub holds : Follows pool layout address owners next now
 
--- A reference of a value was given up in the turns of the runtime's routine. It gives up no more references than the heap does, and
--- frees as many
--- cells.
+-- A reference of a value was given up in the turns of the runtime's routine. It gives up no more references than the heap does,
+-- and frees as many cells.
 pub record Dropped (pool : Pool) (layout : Layout) (address : ℕ → ℕ) (owners : ℕ → Owner) (heap next : Heap) (cells : Cells)
     (v : Value) : Type 0 where
   pub work : Work

@@ -113,7 +113,7 @@ module _ (target : Target) where
   pub record Performs (own : List Line) (x : ℕ) (t : TypeTree) (v : Value) (cells : ℕ → Option ℕ) (world world' : World) (events : List Event) : Type 0 where
     pub steps : ℕ
     pub some : 1 ≤ steps
-    pub few : steps ≤ 10
+    pub few : steps ≤ 8
     pub cells' : ℕ → Option ℕ
     pub word : ℕ
     pub kept : (z : ℕ) → z < x → cells' z ≡ cells z
@@ -121,7 +121,7 @@ module _ (target : Target) where
     pub is : IsWordOf t v word
     pub runs : (whole rest : List Line) (into : Option ℕ) (fs : List (Frame Line)) → Run steps events (turn_at whole (own ++ rest) cells into fs world) (turn_at whole rest cells' into fs world')
 
-  pub performs : (n : ℕ) (own : List Line) (x : ℕ) (t : TypeTree) (v : Value) (cells : ℕ → Option ℕ) (world : World) (word : ℕ) → 1 ≤ n → n ≤ 10 → Gives n own x word cells → IsWordOf t v word
+  pub performs : (n : ℕ) (own : List Line) (x : ℕ) (t : TypeTree) (v : Value) (cells : ℕ → Option ℕ) (world : World) (word : ℕ) → 1 ≤ n → n ≤ 8 → Gives n own x word cells → IsWordOf t v word
       → Performs own x t v cells world world []
   performs n own x t v cells world word some few gives is =
       record {
@@ -151,7 +151,7 @@ module _ (target : Target) where
       = gives_on (n + 1) (own ++ shift ∷ []) (Op.Immediate Immediate.Addi one) x (shift_left (bit_of b) 1) (truth_word b) cells shifted (ap (λ k. Some (sum_word (shift_left (bit_of b) 1) k)) makes.2 ∙ ap (λ (w : ℕ). Some w) (truth_follows b)) in
       subst (λ lines. Gives (n + 1 + 1) lines x (truth_word b) cells) (append_assoc own (shift ∷ []) (add ∷ []) ∙ ap (λ lines. own ++ lines) (sym makes.4)) added
 
-  compared : (n : ℕ) (first own : List Line) (x : ℕ) (b : Bool) (cells : ℕ → Option ℕ) (world : World) → n ≤ 8 → Gives n first x (bit_of b) cells → Compares x first own → Performs own x bool (truth b) cells world world []
+  compared : (n : ℕ) (first own : List Line) (x : ℕ) (b : Bool) (cells : ℕ → Option ℕ) (world : World) → n ≤ 6 → Gives n first x (bit_of b) cells → Compares x first own → Performs own x bool (truth b) cells world world []
   compared n first own x b cells world few gives compares =
       subst (λ lines. Performs lines x bool (truth b) cells world world []) (sym compares.2)
       (performs (n + 1 + 1) (first ++ compares.0) x bool (truth b) cells world (truth_word b) (omega arith) (omega arith) (truth_given n first compares.0 x b cells gives compares.1) (b, refl, refl))
@@ -314,7 +314,7 @@ module _ (target : Target) where
       (λ held. omega (arith, light held)) (drop-append_seam world.trace events)
 
   -- two arguments are made, a routine is called, and the value is `()`
-  routine_performs : (routine : Routine) (n : ℕ) (first_lines : List Line) (a b x first second : ℕ) (events : List Event) (cells middle : ℕ → Option ℕ) (world : World) → n ≤ 8 → Changes n first_lines cells middle → ((z : ℕ) → z < x → middle z ≡ cells z)
+  routine_performs : (routine : Routine) (n : ℕ) (first_lines : List Line) (a b x first second : ℕ) (events : List Event) (cells middle : ℕ → Option ℕ) (world : World) → n ≤ 6 → Changes n first_lines cells middle → ((z : ℕ) → z < x → middle z ≡ cells z)
       → middle a ≡ Some first → middle b ≡ Some second
       → ((held : Option ℕ) → (Runs.world_primitives target).serve routine (first ∷ second ∷ []) held world ≡ answers 0 (told_more events world) false)
       → ((held : Option ℕ) → (Runs.world_primitives target).lasts routine (first ∷ second ∷ []) held world ≤ 80)

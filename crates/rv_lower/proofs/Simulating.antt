@@ -96,7 +96,7 @@ module _ (program : LoweredProgram) where
       subst (λ (next : List Event × CoreState). Follow program credit idle next (turn_at whole left cells into fs world)) (sym done.step_is)
       (subst (λ lines. Follow program credit idle (done.events, core_at rest environment' inner frames store done.left) (turn_at whole lines cells into fs world)) (sym (own_left x form arguments rest environment inner base low result whole left cells here))
       (arrives program done.performs.steps done.events credit idle rest environment' inner frames store done.left base (x + 1) result whole behind done.performs.cells' into fs done.after (turn_at whole (own ++ behind) cells into fs world)
-      done.performs.some done.performs.few (done.performs.runs whole behind into fs) formed
+      done.performs.some (let few = done.performs.few in omega (arith, few)) (done.performs.runs whole behind into fs) formed
       (receives (texts program) program.signatures base whole environment cells done.performs.cells' low result inner x here.placed.typed.0 rest behind done.value done.performs.word here.placed.ordered.1 done.performs.kept done.performs.there done.performs.is waiting)
       waits (done.left_is, done.cells_are ∙ input_is.1) done.bytes))
 

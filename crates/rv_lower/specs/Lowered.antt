@@ -24,7 +24,8 @@ abbrev pub test_lines : ℕ → ℕ → ℕ → List Line
 test_lines base x label =
     copies_to x base ∷ sets (constant_word 1) (base + 1) ∷ acts (Branch NotEqual label) (base ∷ (base + 1) ∷ []) ∷ []
 
--- The lines of a code whose value goes to a goal. Its labels are numbers from `low` on, below `high`. A case and an unpacking have none yet.
+-- The lines of a code whose value goes to a goal. Its labels are numbers from `low` on, below `high`. A case and an unpacking have none here: rv_cells lowers
+-- programs that have those.
 abbrev pub CodeLines : ℕ → Texts → Goal → ℕ → Code → List Line → ℕ → Type 0
 CodeLines base texts goal low (give x) lines high = (lines ≡ goal_lines goal x) × (low ≡ high)
 CodeLines base texts goal low (tail_call f arguments) lines high =

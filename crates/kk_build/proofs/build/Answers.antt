@@ -4,7 +4,7 @@ use Rattle.kk_syntax.specs.Programs.{ProgramTree, program_tree}
 use Rattle.kk_build.specs.Built.{IsReadAs}
 use Rattle.kk_build.proofs.Instances.{built_by_instances, built_by_counts}
 use Rattle.kk_build.proofs.LentNames.{keeps_lent}
-use Rattle.kk_build.proofs.Within.{instances_are_within}
+use Rattle.kk_norm.proofs.Within.{instances_are_within}
 use Rattle.kk_build.proofs.build.Goals as goal
 
 pub file_of-requires-clause-typed : goal.file_of-requires-clause-typed

@@ -20,7 +20,7 @@ use Rattle.kk_middle.proofs.FewFields.{ground_has_few, few_marked, functions_few
 use Rattle.kk_middle.proofs.Programs.{compiled_program}
 use Rattle.kk_middle.proofs.SpecialMarks.{shape_tells}
 use Rattle.kk_middle.proofs.Tags.{small_tags, first_tag, second_tag}
-use Rattle.kk_middle.proofs.Within.{instances_are_within}
+use Rattle.kk_norm.proofs.Within.{instances_are_within}
 use Rattle.kk_middle.proofs.lowering.compiled_programs_can_be_lowered.Goals as goal
 
 pub returns : goal.returns

@@ -15,8 +15,8 @@ use Rattle.kk_core.specs.Codes.{ProgramCode, core_code}
 use Rattle.kk_core.specs.CoreTyping.{IsCoreTyped}
 use Rattle.kk_insert.specs.Promise.{TailsLendOn}
 use Rattle.kk_middle.specs.Compiled.{instance_positions}
-use Rattle.kk_middle.proofs.Instances.{typed as ground_typed}
-use Rattle.kk_middle.proofs.Within.{instances_are_within}
+use Rattle.kk_instances.proofs.Meaning.{typed as ground_typed}
+use Rattle.kk_norm.proofs.Within.{instances_are_within}
 use Rattle.kk_middle.proofs.meaning.compiled_core_forms_are_insertable.Goals as goal
 
 ground_is_typed : (typed : Typed) (given : Ground) → IsChecked (program_tree typed.program) (typings_of typed)

@@ -37,11 +37,11 @@ use Rattle.kk_insert.proofs.MarkedPrograms.{typed_is_marked, grounds_are}
 use Rattle.kk_dropspec.specs.Specialised.{special_setting}
 use Rattle.kk_middle.specs.Compiled.{instance_positions}
 use Rattle.kk_middle.specs.Meaning.{counted_setting, store_steps, KeepsMeaning}
-use Rattle.kk_middle.proofs.Instances.{typed as ground_typed, same_trace, same_end}
+use Rattle.kk_instances.proofs.Meaning.{typed as ground_typed, same_trace, same_end}
 use Rattle.kk_middle.proofs.Programs.{compiled_program}
 use Rattle.kk_middle.proofs.Special.{special_keeps}
 use Rattle.kk_middle.proofs.Marked.{control_fits}
-use Rattle.kk_middle.proofs.Within.{instances_are_within}
+use Rattle.kk_norm.proofs.Within.{instances_are_within}
 use Rattle.kk_middle.proofs.meaning.compiled_programs_keep_meaning.Goals as goal
 
 pub returns : goal.returns

@@ -16,7 +16,7 @@ use Rattle.kk_insert.specs.Promise.{TailsLendOn}
 use Rattle.kk_insert.specs.Shapes.{cells_in, facts_of}
 use Rattle.kk_dropspec.specs.Specialised.{special_function}
 use Rattle.kk_middle.proofs.Compiling.{tells_parameters, tells_as_many, all_have_rows}
-use Rattle.kk_middle.proofs.Within.{instances_are_within}
+use Rattle.kk_norm.proofs.Within.{instances_are_within}
 use Rattle.kk_middle.proofs.program.compile.Goals as goal
 
 pub normal-requires-clause-typed : goal.normal-requires-clause-typed
