@@ -11,10 +11,10 @@ use Rattle.elf_image.specs.Loaded.{IsLoaded, parts_of}
 use Rattle.elf_image.specs.Parts.{memory_of}
 use Rattle.elf_image.specs.declared.part.Part.{Part}
 use Rattle.rv_isa.specs.Execution.{rv32im}
-use Rattle.rv_isa.specs.FreeCells.{free_cells}
 use Rattle.rv_isa.specs.InstructionSet.{run_over}
 use Rattle.rv_isa.specs.Processor.{Ending, Progress, exited, start}
 use Rattle.rv_isa.specs.ProcessorMachine.{ImageAgrees, ImageKeepsUp}
+use Rattle.kk_back.specs.FreeCells.{AreAllFree}
 use Rattle.kk_build.specs.Agreement.{Agrees, KeepsWithin, LeavesNoCell}
 
 -- a machine of a program as the world sees it: the events, and the number of the exit
@@ -38,7 +38,7 @@ abbrev pub RunLeavesNone : Setting → List Part → ℕ → List ℕ → Type 0
 RunLeavesNone setting parts entry input =
     (n : ℕ) → ending_after (store_machine setting) n (first_state setting input) ≡ Some ended
     → (count : ℕ) × ((run_of parts entry input count).ending ≡ exited (exit_of ended))
-    × (free_cells setting.cells (run_of parts entry input count).processor ≡ setting.cells)
+    × AreAllFree setting.cells (run_of parts entry input count).processor
 
 module _ {file : List ℕ} {entry : ℕ} {parts : List Part} (loaded : IsLoaded file entry parts) (setting : Setting) where
   -- what holds of the image's entry and parts holds of the file's

@@ -8,7 +8,8 @@ use Rattle.kk_source.specs.SourceAfter.{store_machine, first_state}
 use Rattle.rv_isa.specs.ProcessorMachine.{ImageAgrees, ImageKeepsUp}
 use Rattle.elf_image.specs.Loaded.{reason_of}
 use Rattle.rv_isa.specs.Processor.{exited}
-use Rattle.kk_build.specs.ImageAfter.{file_after, free_cells}
+use Rattle.kk_back.specs.FreeCells.{AreAllFree}
+use Rattle.kk_build.specs.ImageAfter.{file_after}
 
 -- The image in a file agrees with a program on an input: it never traps, and exits with these numbers alone; each trace of one is a
 -- prefix of one of the other; and the program ends if and only if the image exits, alike, and then their whole traces are equal.
@@ -42,10 +43,10 @@ IsBounded nodes file setting = KeepsWithin (instructions_within nodes) file sett
 abbrev pub IsPlainlyBounded : List ℕ → Setting → Type 0
 IsPlainlyBounded file setting = KeepsWithin plain_instructions_within file setting
 
--- Where the program ends by itself on an input of bytes, the image in a file exits with 0, and each of its cells is free then.
+-- Where the program ends by itself on an input of bytes, the image in a file exits with 0, and each of its cells is free then, once.
 abbrev pub LeavesNoCell : List ℕ → Setting → Type 0
 LeavesNoCell file setting =
     (input : List ℕ) → All (λ byte. byte < 256) input
     → (n : ℕ) → ending_after (store_machine setting) n (first_state setting input) ≡ Some ended
     → (count : ℕ) × ((file_after file input count).ending ≡ exited (exit_of ended))
-    × (free_cells setting.cells (file_after file input count).processor ≡ setting.cells)
+    × AreAllFree setting.cells (file_after file input count).processor
