@@ -5,6 +5,10 @@ pub mod Endings
 pub mod FileSteps
 pub mod Instances
 pub mod LentNames
+pub mod Loading
+pub mod Nodes
+pub mod Numbers
 pub mod Runnable
 pub mod Runs
-pub mod Through
+pub mod Scaled
+pub mod Weighed

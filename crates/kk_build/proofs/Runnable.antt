@@ -35,12 +35,14 @@ AreFit =
     → HasKindsAlways (AreTagged layout) (count_of_fields layout) weight setting input → AllHaveInt32 setting.program.functions
     → All (λ byte. byte < 256) input → (n : ℕ) → IsFit layout (counted_after weight setting input n)
 
-pub runnable : AreFit → (made : Counted) (given : Ground) (cells depth : ℕ) (setting : Setting) (positions : PositionTable) (up : ℕ → ℕ)
-    → AreSizes cells depth → CanBeLowered made given → IsMarkedByShape made given → AllHaveInt32 (map function_of made.functions.items)
-    → ((input : List ℕ) → KeepsMeaning setting positions (counted_setting made given cells depth) up input)
+pub runnable : AreFit → (made : Counted) (given : Ground) (cells depth : ℕ) (setting : Setting) (positions : PositionTable)
+    (greatest : ℕ) (up : ℕ → ℕ)
+    → AreSizes cells depth → CanBeLowered made given → IsMarkedByShape made given
+    → AllHaveInt32 (map function_of made.functions.items)
+    → ((input : List ℕ) → KeepsMeaning setting positions (counted_setting made given cells depth) greatest up input)
     → ((input : List ℕ) → HasKindsByShape made.shape.constructors.items (counted_setting made given cells depth) input)
     → IsRunnable made.shape (program_of made.functions.items given.texts.items) cells depth
-runnable are_fit made given cells depth setting positions up sizes can marked numbers keeps kinds =
+runnable are_fit made given cells depth setting positions greatest up sizes can marked numbers keeps kinds =
     let spent = (keeps []).spent in
     let some = sizes.some_depth in
     record {

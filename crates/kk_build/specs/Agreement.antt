@@ -8,33 +8,45 @@ use Rattle.kk_source.specs.SourceAfter.{store_machine, first_state}
 use Rattle.rv_isa.specs.ProcessorMachine.{ImageAgrees, ImageKeepsUp}
 use Rattle.elf_image.specs.Loaded.{reason_of}
 use Rattle.rv_isa.specs.Processor.{exited}
-use Rattle.kk_build.specs.ImageAfter.{file_after, free_cells}
+use Rattle.kk_back.specs.FreeCells.{AreAllFree}
+use Rattle.kk_build.specs.ImageAfter.{file_after}
 
--- The image in a file agrees with a program on an input: it never traps, and exits with these numbers alone; each trace of one is a prefix of one
--- of the other; and the program ends if and only if the image exits, alike, and then their whole traces are equal.
+-- The image in a file agrees with a program on an input: it never traps, and exits with these numbers alone; each trace of one is a
+-- prefix of one of the other; and the program ends if and only if the image exits, alike, and then their whole traces are equal.
 abbrev pub AgreesOn : List ℕ → Setting → List ℕ → Type 0
-AgreesOn file setting input = ImageAgrees (store_machine setting) events_of exit_of (first_state setting input) (file_after file input)
+AgreesOn file setting input =
+    ImageAgrees (store_machine setting) events_of exit_of (first_state setting input) (file_after file input)
 
 -- the file can be loaded, and its image agrees with the program on every input of bytes
 pub record Agrees (file : List ℕ) (setting : Setting) : Type 0 where
   pub loads : reason_of file ≡ None
   pub agrees : (input : List ℕ) → All (λ byte. byte < 256) input → AgreesOn file setting input
 
--- within how many instructions the image does what the program does in n steps: so many for each step, and those before and behind the code of
--- `main`
-abbrev pub instructions_within : ℕ → ℕ
-instructions_within n = 2120 * n + 17
+-- Within how many instructions the image does what the program does in n steps, by a number of nodes that no body passes: so many
+-- for each step, and once more as many for the code before and behind that of `main`.
+abbrev pub instructions_within : ℕ → ℕ → ℕ
+instructions_within nodes n = 2304 * (nodes * nodes) * (n + 1)
 
--- the image in a file keeps that bound on every input of bytes
-abbrev pub IsBounded : List ℕ → Setting → Type 0
-IsBounded file setting =
+-- the same, whatever the nodes, where the program has no matches and no cells
+abbrev pub plain_instructions_within : ℕ → ℕ
+plain_instructions_within n = 2120 * n + 17
+
+-- the image in a file does so on every input of bytes
+abbrev pub KeepsWithin : (ℕ → ℕ) → List ℕ → Setting → Type 0
+KeepsWithin within file setting =
     (input : List ℕ) → All (λ byte. byte < 256) input
-    → ImageKeepsUp (store_machine setting) events_of exit_of instructions_within (first_state setting input) (file_after file input)
+    → ImageKeepsUp (store_machine setting) events_of exit_of within (first_state setting input) (file_after file input)
 
--- Where the program ends by itself on an input of bytes, the image in a file exits with 0, and each of its cells is free then.
+abbrev pub IsBounded : ℕ → List ℕ → Setting → Type 0
+IsBounded nodes file setting = KeepsWithin (instructions_within nodes) file setting
+
+abbrev pub IsPlainlyBounded : List ℕ → Setting → Type 0
+IsPlainlyBounded file setting = KeepsWithin plain_instructions_within file setting
+
+-- Where the program ends by itself on an input of bytes, the image in a file exits with 0, and each of its cells is free then, once.
 abbrev pub LeavesNoCell : List ℕ → Setting → Type 0
 LeavesNoCell file setting =
     (input : List ℕ) → All (λ byte. byte < 256) input
     → (n : ℕ) → ending_after (store_machine setting) n (first_state setting input) ≡ Some ended
     → (count : ℕ) × ((file_after file input count).ending ≡ exited (exit_of ended))
-    × (free_cells setting.cells (file_after file input count).processor ≡ setting.cells)
+    × AreAllFree setting.cells (file_after file input count).processor

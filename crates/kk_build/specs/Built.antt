@@ -1,17 +1,18 @@
 -- What is built of a text, and of which texts nothing is built.
-use Rattle.std.specs.Prelude.{◌≡◌, ℕ, List, true, false}
+use Rattle.std.specs.Prelude.{◌≡◌, ◌≤◌, ℕ, List, true, false}
 use Rattle.kk_syntax.specs.declared.ground.Ground.{Ground}
 use Rattle.kk_syntax.specs.declared.typed.Typed.{Typed}
 use Rattle.kk_syntax.specs.Checked.{IsChecked}
 use Rattle.kk_syntax.specs.GroundPrograms.{ground_program}
 pub use Rattle.kk_syntax.specs.Programs.{ProgramTree, program_tree}
+use Rattle.kk_syntax.specs.Shapes.{greatest_nodes}
 use Rattle.kk_syntax.specs.Typing.{Choice, ArePrincipal}
 use Rattle.kk_mono.specs.Instances.{InstanceTree, IsInstanceProgram}
 pub use Rattle.kk_source.specs.Settings.{setting_of, IsRun}
 use Rattle.kk_source.specs.State.{Setting}
 use Rattle.kk_norm.specs.PlainTrees.{are_plain_functions}
 use Rattle.kk_front.specs.Judgement.{IsProgramOf, Refuses}
-use Rattle.kk_build.specs.Agreement.{Agrees, IsBounded, LeavesNoCell}
+use Rattle.kk_build.specs.Agreement.{Agrees, IsBounded, IsPlainlyBounded, LeavesNoCell}
 use Rattle.kk_build.specs.CountedFiles.{IsTooLargeForm}
 use Rattle.kk_build.specs.Images.{IsImageFile}
 use Rattle.kk_build.specs.declared.error.BuildError.{BuildError}
@@ -28,8 +29,9 @@ pub record IsReadAs (text : List ℕ) (program made : ProgramTree) : Type 0 wher
   pub are : IsInstanceProgram program typings instances made
 
 -- These bytes are built of a text, for a heap of so many cells and so many open calls: the text is accepted as a program, and they
--- are the file of an image that agrees with the program as it is run, with its owned positions, and leaves no cell. Where no instance
--- has a match or constructs anything but `False` and `True`, the image does what it does within a bound on instructions.
+-- are the file of an image that agrees with the program as it is run, with its owned positions, and leaves no cell. The image does
+-- what it does within a bound on instructions, by the nodes of the greatest body of the program, its functions called or not; and
+-- within a closer one, where no instance has a match or constructs anything but `False` and `True`.
 pub record IsBuilt (text : List ℕ) (cells depth : ℕ) (image : List ℕ) : Type 0 where
   pub program : ProgramTree
   pub made : ProgramTree
@@ -39,7 +41,8 @@ pub record IsBuilt (text : List ℕ) (cells depth : ℕ) (image : List ℕ) : Ty
   pub is_run : IsRun program cells depth setting
   pub agrees : Agrees image setting
   pub leaves_no_cell : LeavesNoCell image setting
-  pub bounded : are_plain_functions made.functions ≡ true → IsBounded image setting
+  pub bounded : (nodes : ℕ) → greatest_nodes program ≤ nodes → IsBounded nodes image setting
+  pub bounded_plain : are_plain_functions made.functions ≡ true → IsPlainlyBounded image setting
 
 -- Nothing is built of a text that is accepted as a program whose code is too large: the assembler code of its counted form is more
 -- than an image can have. Some of its instances has a match, or constructs something else than `False` and `True`.

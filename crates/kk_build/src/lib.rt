@@ -34,8 +34,8 @@ use std::alloc::Global;
 ///
 /// The image has a heap of `cells` cells, and at most `depth` of its calls are open at a time. It agrees with the program: on
 /// every input it does on the outside what the program means, never traps, and exits exactly when and as the program ends; where
-/// it ends by itself, all cells are free. The image of a program without matches and cells does so within a number of
-/// instructions that grows with the program's steps.
+/// it ends by itself, all cells are free. It does so within a number of instructions that is bounded by the program's steps and
+/// the nodes of its greatest body, and of a program without matches and cells within one that is bounded by the steps alone.
 pub fn build(alloc: Global, text: &[u8], cells: u32, depth: u32) -> Result<Bytes, BuildError>
     requires { AreSizes cells depth }
     ensures ok { IfOk result (IsBuilt text.now cells depth) }

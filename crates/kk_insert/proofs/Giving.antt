@@ -1,5 +1,5 @@
 -- Each block inside of inserted code gives a value, each case has an arm, and each form as many arguments as it takes.
-use Rattle.std.proofs.Common.{◌≡◌, ℕ, ◌<◌, ◌||◌, Bool, true, false, List, [], ◌∷◌, map, length, Option, Some, None, arith, refl, sym, ◌∙◌, ap}
+use Rattle.std.proofs.Common.{◌≡◌, ℕ, ◌||◌, Bool, true, false, List, [], ◌∷◌, map, length, Option, Some, None, arith, refl, sym, ◌∙◌, ap}
 use Rattle.kk_syntax.specs.Shapes.{is_among, without}
 use Rattle.kk_syntax.specs.Covered.{IsCovered}
 use Rattle.kk_syntax.specs.GroundTyping.{Table, IsFormTyped}
@@ -11,7 +11,6 @@ use Rattle.kk_syntax.specs.declared.program.Form.{Form}
 use Rattle.kk_syntax.specs.declared.program.Form.TheVariants.{Number, Unit as Nothing, ReadByte, PrintText, Unary, Binary, Print, Construct, Call}
 use Rattle.kk_core.specs.Codes.{Code, give, tail_call, branch, case, compute, use_of, unpack, inside, Arms, patterns_of, no_arm, arm, FunctionCode}
 use Rattle.kk_core.specs.CoreTyping.{Facts, HaveTypes, HasCodeType, AreArmsTyped}
-use Rattle.kk_counted.specs.Arms.{arm_count}
 use Rattle.kk_counted.specs.CountedCodes as Counted
 use Rattle.kk_counted.specs.CountBounds.{HasAnArm, EachHasAnArm, AllHaveAnArm}
 use Rattle.kk_counted.specs.Lowerable.{first_of, given_by, given_by_arms, BlocksGive, BlocksOfArmsGive, HasArity, HasArities, HaveArities}

@@ -1,5 +1,5 @@
 -- How many variables are owned, and how many dups are taken: for each owned variable the cost of its drop is saved.
-use Rattle.std.proofs.Common.{◌≡◌, ℕ, suc, ◌+◌, ◌≤◌, Bool, true, false, not, List, [], ◌∷◌, ◌++◌, length, map, arith, refl, sym, ap, ◌∙◌}
+use Rattle.std.proofs.Common.{◌≡◌, ℕ, suc, ◌+◌, ◌≤◌, Bool, true, false, not, List, [], ◌∷◌, ◌++◌, length, arith, refl}
 use Rattle.std.specs.Prelude.{if◌then◌else◌, filter}
 use Rattle.std.proofs.lemmas.List.{length-map}
 use Rattle.kk_syntax.specs.Shapes.{is_among, without}
@@ -7,7 +7,7 @@ use Rattle.kk_source.specs.State.{Value, Environment}
 use Rattle.kk_source.specs.Live.{value_of}
 use Rattle.kk_counted.specs.Spending.{total, AreEven, at_positions}
 use Rattle.kk_counted.specs.Keeping.{values_of}
-use Rattle.kk_insert.specs.Insertion.{before, extra, common, owns, wants}
+use Rattle.kk_insert.specs.Insertion.{before, extra, common, wants}
 use Rattle.kk_insert.proofs.Sets.{Part, among_first, total_append}
 
 total_ones : (xs : List ℕ) → total (λ x. 1) xs ≡ length xs

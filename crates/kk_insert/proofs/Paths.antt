@@ -1,5 +1,5 @@
 -- Steps of the counted machine, one after the other, to a state of some kind.
-use Rattle.std.proofs.Common.{◌≡◌, ℕ, zero, suc, ◌+◌, ◌≤◌, ◌<◌, List, [], ◌++◌, map, Option, Some, None, arith, refl, sym, ap, ◌∙◌, subst}
+use Rattle.std.proofs.Common.{◌≡◌, ℕ, zero, suc, ◌+◌, ◌≤◌, ◌<◌, List, [], ◌++◌, map, Option, Some, arith, refl, sym, ap, ◌∙◌, subst}
 use Rattle.kk_base.specs.Machines.{Machine, trace, state, weight_of}
 use Rattle.kk_source.specs.State.{Value, Store, Environment, End}
 use Rattle.kk_source.specs.Live.{value_of}

@@ -20,7 +20,7 @@ use Rattle.kk_counted.proofs.SoundSteps.{moved, became_sound, counted_if, counte
 use Rattle.kk_insert.specs.Insertion.{dups, drops, dropping, owns, back}
 use Rattle.kk_insert.proofs.Sets.{Part, among_first, among_next, in_either, apart_filter, total_append}
 use Rattle.kk_insert.proofs.Owned.{owns_apart, owns_after}
-use Rattle.kk_insert.proofs.Lengths.{even_length, even_append}
+use Rattle.kk_insert.proofs.Lengths.{even_length}
 use Rattle.kk_insert.proofs.Spent.{landing_even, dropping_even}
 use Rattle.kk_insert.proofs.Paths.{conf, with_input, Path, path_step, path_less, dup_step, drop_step}
 

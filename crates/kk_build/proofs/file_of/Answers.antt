@@ -2,7 +2,7 @@ use Rattle.std.proofs.Common.{sym, ◌∙◌}
 use Rattle.kk_syntax.specs.GroundPrograms.{ground_program}
 use Rattle.kk_syntax.specs.GroundTyping.{table_of}
 use Rattle.kk_core.specs.Codes.{core_code}
-use Rattle.kk_build.proofs.Agreeing.{file_agrees, file_leaves, file_is_bounded}
+use Rattle.kk_build.proofs.Agreeing.{file_agrees, file_leaves, file_is_bounded, file_is_plainly_bounded}
 use Rattle.kk_build.proofs.file_of.Goals as goal
 
 pub returns-then-not-is_plain : goal.returns-then-not-is_plain
@@ -33,4 +33,5 @@ returns c =
       agrees = λ positions. file_agrees keeps c.in_ok-image.ensures c.in_ok-file.ensures.read_again positions;
       leaves = λ positions. file_leaves keeps c.in_ok-image.ensures c.in_ok-file.ensures.read_again positions;
       bounded = λ positions. file_is_bounded keeps c.in_ok-image.ensures c.in_ok-file.ensures.read_again positions;
+      bounded_plain = λ positions. file_is_plainly_bounded keeps c.in_ok-image.ensures c.in_ok-file.ensures.read_again positions;
     }

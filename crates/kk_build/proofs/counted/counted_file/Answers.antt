@@ -1,12 +1,14 @@
-use Rattle.std.proofs.Common.{sym, subst, List, ℕ}
+use Rattle.std.proofs.Common.{sym, subst, List, ℕ, arith}
 use Rattle.kk_syntax.specs.GroundPrograms.{ground_program}
 use Rattle.kk_syntax.specs.Programs.{program_tree}
+use Rattle.kk_syntax.specs.Shapes.{greatest_nodes}
 use Rattle.kk_counted.specs.Programs.{program_of}
 use Rattle.kk_middle.specs.Compiled.{instance_positions}
 use Rattle.kk_middle.specs.Meaning.{store_steps}
 use Rattle.kk_source.specs.Settings.{setting_of}
 use Rattle.kk_back.specs.CountedImages.{IsRunnable, IsTooLarge, IsCountedImageOf}
-use Rattle.kk_build.proofs.CountedBuilding.{file_agrees, file_leaves}
+use Rattle.kk_build.proofs.CountedBuilding.{file_agrees, file_leaves, file_is_bounded}
+use Rattle.kk_build.proofs.Nodes.{instances_have_no_more, program_has_some}
 use Rattle.kk_build.proofs.Runnable.{runnable}
 use Rattle.kk_build.proofs.counted.counted_file.Goals as goal
 
@@ -22,7 +24,8 @@ counted_image-requires-clause-runnable c =
     let depth = c.args.depth in
     subst (λ (texts : List (List ℕ)). IsRunnable made.shape (program_of made.functions.items texts) cells depth) (sym c.deref.ensures.value)
     (runnable c.judged_programs_are_fit.ensures made given cells depth (setting_of (program_tree typed.program) compiled.table cells depth)
-    (instance_positions given compiled.table) (store_steps (ground_program given)) c.requires.sizes
+    (instance_positions given compiled.table) (greatest_nodes (ground_program given)) (store_steps (ground_program given))
+    c.requires.sizes
     (c.compiled_programs_can_be_lowered.ensures typed given made checked c.requires.given compiled lent)
     (c.compiled_programs_are_marked.ensures typed given made checked c.requires.given compiled) compiled.numbers
     (c.compiled_programs_keep_meaning.ensures typed given made checked c.requires.given compiled lent cells depth)
@@ -37,6 +40,8 @@ returns-in-Some c =
     let cells = c.args.cells in
     let depth = c.args.depth in
     let code = program_of made.functions.items given.texts.items in
+    let program = program_tree typed.program in
+    let greatest = greatest_nodes (ground_program given) in
     let entry = c.in-Some.image.entry in
     let parts = c.in-Some.image.parts in
     let image : IsCountedImageOf code cells depth entry parts =
@@ -52,8 +57,13 @@ returns-in-Some c =
       table = compiled.table;
       least = compiled.least;
       image = record { entry = entry; parts = parts; program = image.program; written = c.in_ok-file-in-Some.ensures.written; loads = loaded };
-      agrees = file_agrees (program_tree typed.program) compiled.table positions code up cells depth entry file parts image keeps loaded;
-      leaves = file_leaves (program_tree typed.program) compiled.table positions code up cells depth entry file parts image keeps loaded;
+      agrees = file_agrees program compiled.table positions code greatest up cells depth entry parts image keeps loaded;
+      leaves = file_leaves program compiled.table positions code greatest up cells depth entry parts image keeps loaded;
+      bounded = λ nodes few.
+          let most = instances_have_no_more c.requires.given.instances in
+          let some = program_has_some c.requires.given.instances in
+          file_is_bounded program compiled.table positions code greatest up cells depth entry parts image keeps loaded nodes
+          (omega (arith, most, few)) (omega (arith, some, few));
     }
 
 pub returns : goal.returns

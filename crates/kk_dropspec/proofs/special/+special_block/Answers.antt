@@ -1,4 +1,4 @@
-use Rattle.std.proofs.Common.{map, refl, ap, ◌∙◌, rules}
+use Rattle.std.proofs.Common.{map, refl, ap, ◌∙◌}
 use Rattle.kk_counted.specs.CountedForms.{block_code, step_move}
 use Rattle.kk_dropspec.specs.Specialised.{special}
 use Rattle.kk_dropspec.specs.SpecialForms.{special_move}
