@@ -7,6 +7,7 @@ use Rattle.kk_syntax.specs.GroundPrograms.{ground_program}
 pub use Rattle.kk_syntax.specs.Programs.{ProgramTree, program_tree}
 use Rattle.kk_syntax.specs.Shapes.{greatest_nodes}
 use Rattle.kk_syntax.specs.Typing.{Choice, ArePrincipal}
+use Rattle.kk_mono.specs.Grounds.{AreGiven}
 use Rattle.kk_mono.specs.Instances.{InstanceTree, IsInstanceProgram}
 pub use Rattle.kk_source.specs.Settings.{setting_of, IsRun}
 use Rattle.kk_source.specs.State.{Setting}
@@ -55,6 +56,7 @@ pub record IsNotBuilt (text : List ℕ) : Type 0 where
   pub given : Ground
   pub is_typed : program_tree typed.program ≡ program
   pub is_given : ground_program given ≡ made
+  pub are_given : AreGiven typed given
   pub too_large : IsTooLargeForm typed given
 
 -- why nothing is built: the text is refused, unless memory is wanted; or its code is too large

@@ -84,5 +84,6 @@ returns-in-Ok-None-counted_file-clause-err c =
       given = given;
       is_typed = refl;
       is_given = refl;
+      are_given = c.in-Ok.ensures.instances;
       too_large = rw c.in-Ok-None-counted_file.field-0-is at c.in-Ok-None-counted_file.ensures;
     }
