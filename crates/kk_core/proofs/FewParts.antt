@@ -17,85 +17,100 @@ use Rattle.kk_core.specs.Costs.{parts_seen, step_cost, part_cost, control_cost, 
 use Rattle.kk_core.specs.Decisions.{chosen}
 use Rattle.kk_core.specs.Looks.{HasFewLooks}
 
--- no form of a code has more arguments or fields than so many, and no case looks at more
+-- the most that is seen: arguments or fields of a form, and what a case looks at
+pub record MostSeen : Type 0 where
+  pub parts : ℕ
+  pub looks : ℕ
+
+-- no form of a code has more arguments or fields, and no case looks at more
 abbrev mutual
-  pub HasFewParts : ℕ → Code → Type 0
+  pub HasFewParts : MostSeen → Code → Type 0
   HasFewParts most (give x) = Unit {0}
-  HasFewParts most (tail_call f arguments) = length arguments ≤ most
+  HasFewParts most (tail_call f arguments) = length arguments ≤ most.parts
   HasFewParts most (branch x positive negative) = HasFewParts most positive × HasFewParts most negative
-  HasFewParts most (case x decisions arms) = HasFewLooks decisions most × HaveFewParts most arms
-  HasFewParts most (compute x form arguments rest) = (length arguments ≤ most) × HasFewParts most rest
+  HasFewParts most (case x decisions arms) = HasFewLooks decisions most.looks × HaveFewParts most arms
+  HasFewParts most (compute x form arguments rest) = (length arguments ≤ most.parts) × HasFewParts most rest
   HasFewParts most (use_of x rest) = HasFewParts most rest
-  HasFewParts most (unpack x c fields rest) = (length fields ≤ most) × HasFewParts most rest
+  HasFewParts most (unpack x c fields rest) = (length fields ≤ most.parts) × HasFewParts most rest
   HasFewParts most (inside x block rest) = HasFewParts most block × HasFewParts most rest
 
-  pub HaveFewParts : ℕ → Arms → Type 0
+  pub HaveFewParts : MostSeen → Arms → Type 0
   HaveFewParts most no_arm = Unit {0}
   HaveFewParts most (arm pattern body rest) = HasFewParts most body × HaveFewParts most rest
 
+-- what the step at a code sees at most
+abbrev pub most_seen : MostSeen → Code → ℕ
+most_seen most (case x decisions arms) = most.looks
+most_seen most _ = most.parts
+
+-- and so costs at most
+abbrev pub most_cost : MostSeen → CoreControl → ℕ
+most_cost most (running code environment joins) = step_cost + part_cost * most_seen most code
+most_cost most (stopped by) = 0
+
 -- ---- states
 
-abbrev JoinsFew : ℕ → List Join → Type 0
+abbrev JoinsFew : MostSeen → List Join → Type 0
 JoinsFew most [] = Unit {0}
 JoinsFew most (join ∷ joins) = HasFewParts most join.rest × JoinsFew most joins
 
-abbrev FramesFew : ℕ → List CallFrame → Type 0
+abbrev FramesFew : MostSeen → List CallFrame → Type 0
 FramesFew most [] = Unit {0}
 FramesFew most (frame ∷ older) = (HasFewParts most frame.rest × JoinsFew most frame.joins) × FramesFew most older
 
-abbrev ControlFew : ℕ → CoreControl → Type 0
+abbrev ControlFew : MostSeen → CoreControl → Type 0
 ControlFew most (running code environment joins) = HasFewParts most code × JoinsFew most joins
 ControlFew most (stopped by) = Unit {0}
 
-abbrev StateFew : ℕ → CoreConfiguration → Type 0
+abbrev StateFew : MostSeen → CoreConfiguration → Type 0
 StateFew most c = ControlFew most c.control × FramesFew most c.frames
 
-abbrev OptionFew : ℕ → Option Code → Type 0
+abbrev OptionFew : MostSeen → Option Code → Type 0
 OptionFew most None = Unit {0}
 OptionFew most (Some code) = HasFewParts most code
 
 -- ---- steps
 
-arm_few : (most : ℕ) (arms : Arms) (row : ℕ) → HaveFewParts most arms → OptionFew most (arm_at arms row)
+arm_few : (most : MostSeen) (arms : Arms) (row : ℕ) → HaveFewParts most arms → OptionFew most (arm_at arms row)
 arm_few most no_arm row few = tt
 arm_few most (arm pattern body rest) zero few = few.0
 arm_few most (arm pattern body rest) (suc row) few = arm_few most rest row few.1
 
-chosen_few : (most : ℕ) (arms : Arms) (row : Option ℕ) → HaveFewParts most arms → OptionFew most (and_then row (arm_at arms))
+chosen_few : (most : MostSeen) (arms : Arms) (row : Option ℕ) → HaveFewParts most arms → OptionFew most (and_then row (arm_at arms))
 chosen_few most arms None few = tt
 chosen_few most arms (Some row) few = arm_few most arms row few
 
-give_few : (most : ℕ) (v : Value) (joins : List Join) (frames : List CallFrame) (environment : Environment) (from : CoreConfiguration)
+give_few : (most : MostSeen) (v : Value) (joins : List Join) (frames : List CallFrame) (environment : Environment) (from : CoreConfiguration)
     → JoinsFew most joins → FramesFew most frames → FramesFew most from.frames
     → LeadsTo (StateFew most) (give_step v joins frames environment from)
 give_few most v (join ∷ joins) frames environment from few older waits = (few, waits)
 give_few most v [] (frame ∷ frames) environment from few older waits = older
 give_few most v [] [] environment from few older waits = (tt, waits)
 
-case_few : (most : ℕ) (body : Option Code) (environment : Environment) (joins : List Join) (from : CoreConfiguration)
+case_few : (most : MostSeen) (body : Option Code) (environment : Environment) (joins : List Join) (from : CoreConfiguration)
     → OptionFew most body → JoinsFew most joins → StateFew most from
     → LeadsTo (StateFew most) (case_step body environment joins from)
 case_few most None environment joins from few later stays = stays
 case_few most (Some body) environment joins from few later stays = ((few, later), stays.1)
 
-unpack_few : (most : ℕ) (values : Option (List Value)) (fields : List ℕ) (rest : Code) (environment : Environment) (joins : List Join)
+unpack_few : (most : MostSeen) (values : Option (List Value)) (fields : List ℕ) (rest : Code) (environment : Environment) (joins : List Join)
     (from : CoreConfiguration)
     → HasFewParts most rest → JoinsFew most joins → StateFew most from
     → LeadsTo (StateFew most) (unpack_step values fields rest environment joins from)
 unpack_few most None fields rest environment joins from few later stays = stays
 unpack_few most (Some vs) fields rest environment joins from few later stays = ((few, later), stays.1)
 
-branch_few : (most : ℕ) (test : Bool) (positive negative : Code) → HasFewParts most positive → HasFewParts most negative
+branch_few : (most : MostSeen) (test : Bool) (positive negative : Code) → HasFewParts most positive → HasFewParts most negative
     → HasFewParts most (if test then positive else negative)
 branch_few most true positive negative first second = first
 branch_few most false positive negative first second = second
 
-either_few : (most : ℕ) (full : Bool) (one other : CoreConfiguration) → StateFew most one → StateFew most other
+either_few : (most : MostSeen) (full : Bool) (one other : CoreConfiguration) → StateFew most one → StateFew most other
     → StateFew most (if full then one else other)
 either_few most true one other first second = first
 either_few most false one other first second = second
 
-module _ (setting : CoreSetting) (most : ℕ)
+module _ (setting : CoreSetting) (most : MostSeen)
     (all : (f : ℕ) (function : FunctionCode) → slice_get setting.code.functions f ≡ Some function → HasFewParts most function.body)
   where
     tail_few : (f : ℕ) (function : Option FunctionCode) (values : List Value) (from : CoreConfiguration)
@@ -175,7 +190,8 @@ module _ (setting : CoreSetting) (most : ℕ)
 
     -- ---- runs
 
-    seen_few : (code : Code) (environment : Environment) (store : Store) → HasFewParts most code → parts_seen code environment store ≤ most
+    seen_few : (code : Code) (environment : Environment) (store : Store) → HasFewParts most code
+        → parts_seen code environment store ≤ most_seen most code
     seen_few (give x) environment store few = omega arith
     seen_few (tail_call f arguments) environment store few = few
     seen_few (branch x positive negative) environment store few = omega arith
@@ -185,14 +201,15 @@ module _ (setting : CoreSetting) (most : ℕ)
     seen_few (unpack x c fields rest) environment store few = few.0
     seen_few (inside x block rest) environment store few = omega arith
 
-    control_cheap : (control : CoreControl) (store : Store) → ControlFew most control → control_cost control store ≤ step_cost + part_cost * most
+    control_cheap : (control : CoreControl) (store : Store) → ControlFew most control → control_cost control store ≤ most_cost most control
     control_cheap (running code environment joins) store few = omega (arith, seen_few code environment store few.0)
     control_cheap (stopped by) store few = omega arith
 
     -- no step of a run costs more, if `main` is there
     pub run_cheap : (function : FunctionCode) → slice_get setting.code.functions setting.code.main ≡ Some function
         → (weight : CoreState → ℕ) (input : List ℕ) (n : ℕ)
-        → core_cost (state (core_machine weight setting) n (core_first_state setting input)) ≤ step_cost + part_cost * most
+        → core_cost (state (core_machine weight setting) n (core_first_state setting input))
+        ≤ most_cost most (state (core_machine weight setting) n (core_first_state setting input)).machine.control
     run_cheap function there weight input n =
         let start : StateFew most (core_start setting) = (
           (

@@ -1,10 +1,11 @@
 -- What holds of each case of a code, by its decisions and the patterns of its arms.
-use Rattle.std.specs.Prelude.{◌≡◌, ℕ, List, length, sum_by, Some, slice_get}
+use Rattle.std.specs.Prelude.{◌≡◌, ◌+◌, ◌*◌, ℕ, List, length, sum_by, Some, slice_get}
 use Rattle.kk_syntax.specs.Patterns.{Pattern}
 use Rattle.kk_syntax.specs.Shapes.{nodes_of_pattern}
 use Rattle.kk_core.specs.Codes.{Code, give, tail_call, branch, case, compute, use_of, unpack, inside, Arms, patterns_of, no_arm, arm, FunctionCode, ProgramCode}
 use Rattle.kk_core.specs.Decisions.{NodeTree, AreOrderly}
 use Rattle.kk_core.specs.Edges.{HasFewEdges}
+use Rattle.kk_core.specs.Looks.{HasFewLooks}
 
 module _ (P : List NodeTree → List Pattern → Type 0) where
   -- it holds of each case of a code
@@ -35,9 +36,11 @@ IsWhole decisions patterns = AreOrderly decisions (length patterns)
 abbrev pub CasesAreWhole : ProgramCode → Type 0
 CasesAreWhole = EachCaseOfAll IsWhole
 
--- no value goes through tests with more edges than the patterns have nodes
-abbrev pub IsLean : List NodeTree → List Pattern → Type 0
-IsLean decisions patterns = HasFewEdges decisions (sum_by nodes_of_pattern patterns)
+-- No value goes through tests with more edges than the patterns have nodes. And of nodes of tests, fields on the way to positions and
+-- edges it goes through no more than the square of these nodes and one.
+pub record IsLean (decisions : List NodeTree) (patterns : List Pattern) : Type 0 where
+  pub edges : HasFewEdges decisions (sum_by nodes_of_pattern patterns)
+  pub looks : HasFewLooks decisions (sum_by nodes_of_pattern patterns * (sum_by nodes_of_pattern patterns + 1))
 
 abbrev pub CasesAreLean : ProgramCode → Type 0
 CasesAreLean = EachCaseOfAll IsLean

@@ -1,6 +1,6 @@
 -- Each test of turned nodes finds an answer of the type of its edges, where numbers tell the types of constructors.
 use Rattle.std.proofs.Common.{◌≡◌, ℕ, zero, suc, ◌+◌, ◌-◌, ◌<◌, Bool, true, false, Option, None, Some, option_map, List, [], ◌∷◌, length, map, refl, sym, ap, ◌∙◌, subst, arith}
-use Rattle.std.specs.Prelude.{slice_get, ◌==◌}
+use Rattle.std.specs.Prelude.{slice_get}
 use Rattle.std.proofs.lemmas.Bool.{both_ways, eqb-true}
 use Rattle.std.proofs.lemmas.Option.{same_Some, slice_get_within}
 use Rattle.kk_syntax.specs.Patterns.{Pattern}
@@ -12,7 +12,7 @@ use Rattle.kk_source.specs.ValueTypes.{IsOf}
 use Rattle.kk_core.specs.declared.decisions.Answer.{Answer}
 use Rattle.kk_core.specs.declared.decisions.Answer.TheVariants.{Number, Constructor}
 use Rattle.kk_core.specs.declared.decisions.Edge.{Edge}
-use Rattle.kk_core.specs.Decisions.{NodeTree, chooses, tests, value_at, answer_of, found_at, next_by}
+use Rattle.kk_core.specs.Decisions.{NodeTree, chooses, tests, answer_of, found_at}
 use Rattle.kk_core.specs.Kinds.{AreAlike, AllAlike, TestsNode, TestsFrom, MakeOneType, field_count, AsksTyped}
 use Rattle.kk_match.specs.Parts.{both_same, IsKind, AreOfOne, AreTypeNumbers, TellTypes}
 use Rattle.kk_match.specs.Graphs.{StateTree, lines_from}

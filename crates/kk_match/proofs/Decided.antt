@@ -1,5 +1,5 @@
 -- What turned nodes decide: those of a graph, and those of rows that are tried one after the other.
-use Rattle.std.proofs.Common.{◌≡◌, ℕ, suc, ◌+◌, ◌-◌, ◌<◌, ◌≤◌, Bool, false, Result, Ok, Err, List, [], ◌∷◌, ◌++◌, length, map, refl, sym, ap, ◌∙◌, subst, arith, append_assoc, true}
+use Rattle.std.proofs.Common.{◌≡◌, ℕ, suc, ◌+◌, ◌*◌, ◌-◌, ◌<◌, ◌≤◌, Bool, false, Result, Ok, Err, List, [], ◌∷◌, ◌++◌, length, map, refl, sym, ap, ◌∙◌, subst, arith, append_assoc, true}
 use Rattle.std.specs.Prelude.{count_by, sum_by, IfOk}
 use Rattle.kk_syntax.specs.Patterns.{Pattern}
 use Rattle.kk_syntax.specs.Programs.{ConstructorTree}
@@ -7,6 +7,7 @@ use Rattle.kk_syntax.specs.Shapes.{nodes_of_pattern}
 use Rattle.kk_core.specs.Choosing.{Decides}
 use Rattle.kk_core.specs.Decisions.{NodeTree, AreOrderly}
 use Rattle.kk_core.specs.Edges.{HasFewEdges}
+use Rattle.kk_core.specs.Looks.{HasFewLooks}
 use Rattle.kk_match.specs.Parts.{parts_of, AreTypeNumbers}
 use Rattle.kk_match.specs.Graphs.{StateTree, lines_of, lines_from, HasTests, HasMoreTests, testing}
 use Rattle.kk_match.specs.Built.{InRow, no_state}
@@ -18,7 +19,8 @@ use Rattle.kk_match.proofs.After.{AreBelow}
 use Rattle.kk_match.proofs.Edges.{has_few, reached_light, lines_small}
 use Rattle.kk_match.proofs.Exact.{starts_last, has_tests, tests_right, tests_turned, rows_test, reached_below}
 use Rattle.kk_match.proofs.Growth.{reached_at}
-use Rattle.kk_match.proofs.InTurn.{RowsDone, rows_done, states_of_rows, rows_below, rows_light}
+use Rattle.kk_match.proofs.InTurn.{RowsDone, rows_done, states_of_rows, rows_below, rows_light, rows_short}
+use Rattle.kk_match.proofs.Looks.{reached_short, lines_short, has_few_looks}
 use Rattle.kk_match.proofs.Matching.{rows_hold}
 use Rattle.kk_match.proofs.Places.{place_of}
 use Rattle.kk_match.proofs.Running.{IsSound, as_long, are_sound, Stands, length_turned, first_chosen, are_orderly}
@@ -81,6 +83,19 @@ module _ (types : List ℕ) (most : ℕ) (ps : List Pattern) (nodes : List NodeT
       let few = lines_small types 0 ps in
       omega (arith, light, few))
 
+  pub graph_looks : HasFewLooks (turned last nodes) (sum_by nodes_of_pattern ps * (sum_by nodes_of_pattern ps + 1))
+  graph_looks =
+      has_few_looks types graph.states nodes last (sum_by nodes_of_pattern ps) (sum_by nodes_of_pattern ps)
+      (are_sound types graph.states nodes graph.right) count
+      (λ k state named.
+      let light = reached_light types (lines_from types 0 ps) state (reached_at types (lines_from types 0 ps) graph.states k state graph.reached named) in
+      let few = lines_small types 0 ps in
+      omega (arith, light, few))
+      (λ k state named.
+      reached_short types (sum_by nodes_of_pattern ps) (lines_from types 0 ps) state
+      (lines_short types (sum_by nodes_of_pattern ps) 0 ps (omega arith))
+      (reached_at types (lines_from types 0 ps) graph.states k state graph.reached named))
+
   tests_are : count_by is_test (turned last nodes) ≡ testing graph.states
   tests_are = tests_turned last nodes ∙ tests_right types graph.states nodes graph.right
 
@@ -127,6 +142,13 @@ module _ (types : List ℕ) (p : Pattern) (ps : List Pattern) where
         has_few types (states_of_rows (lines_from types 0 (p ∷ ps))) (with_rows (lines_from types 0 (p ∷ ps)) []) last (sum_by nodes_of_pattern (p ∷ ps)) in_turn.sound count
         (rows_light (sum_by nodes_of_pattern (p ∷ ps)) (lines_from types 0 (p ∷ ps)) (lines_small types 0 (p ∷ ps)))
 
+    pub in_turn_looks : HasFewLooks (turned last (with_rows (lines_from types 0 (p ∷ ps)) [])) (sum_by nodes_of_pattern (p ∷ ps) * (sum_by nodes_of_pattern (p ∷ ps) + 1))
+    in_turn_looks =
+        let most : ℕ = sum_by nodes_of_pattern (p ∷ ps) in
+        has_few_looks types (states_of_rows (lines_from types 0 (p ∷ ps))) (with_rows (lines_from types 0 (p ∷ ps)) []) last most most in_turn.sound count
+        (rows_light most (lines_from types 0 (p ∷ ps)) (lines_small types 0 (p ∷ ps)))
+        (rows_short most (lines_from types 0 (p ∷ ps)) (lines_short types most 0 (p ∷ ps) (omega arith)))
+
 -- the same of any rows, if there are some
 module _ (types : List ℕ) (nodes : List NodeTree) where
   pub turn_some : (ps : List Pattern) → 0 < length ps → nodes ≡ with_rows (lines_from types 0 ps) [] → suc (length nodes - 1) ≡ length nodes
@@ -148,6 +170,13 @@ module _ (types : List ℕ) (nodes : List NodeTree) where
     turn_few [] some is = absurd (omega (arith, some))
     turn_few (p ∷ ps) some is =
         subst (λ ns. HasFewEdges (turned last ns) (sum_by nodes_of_pattern (p ∷ ps))) (sym is) (in_turn_few types p ps last (count ∙ ap length is))
+
+    pub turn_looks : (ps : List Pattern) → 0 < length ps → nodes ≡ with_rows (lines_from types 0 ps) []
+        → HasFewLooks (turned last nodes) (sum_by nodes_of_pattern ps * (sum_by nodes_of_pattern ps + 1))
+    turn_looks [] some is = absurd (omega (arith, some))
+    turn_looks (p ∷ ps) some is =
+        subst (λ ns. HasFewLooks (turned last ns) (sum_by nodes_of_pattern (p ∷ ps) * (sum_by nodes_of_pattern (p ∷ ps) + 1))) (sym is)
+        (in_turn_looks types p ps last (count ∙ ap length is))
 
 pub turn_formed : (types : List ℕ) (ps : List Pattern) (nodes : List NodeTree) (last : ℕ) → last ≡ length nodes - 1 → nodes ≡ with_rows (lines_from types 0 ps) [] → HasMoreTests types (lines_from types 0 ps) (most_tests ps)
     → IsFormed types ps (turned last nodes) (count_by is_test (turned last nodes)) true

@@ -49,7 +49,7 @@ edge_among (edge ∷ edges) otherwise found j is = by (is_answer edge.found foun
       | inr behind ↦ inr (or_else (edge.next == j) (is_among (map (λ (edge : Edge). edge.next) edges) j) behind)
     ]
 
-next_among : (at : List ℕ) (edges : List Edge) (otherwise : Option ℕ) (found : Answer) (j : ℕ) → next_by edges otherwise found ≡ Some j
+pub next_among : (at : List ℕ) (edges : List Edge) (otherwise : Option ℕ) (found : Answer) (j : ℕ) → next_by edges otherwise found ≡ Some j
     → is_among (targets (tests at edges otherwise)) j ≡ true
 next_among at edges None found j is = elim (edge_among edges None found j is) [
   | inl other ↦ absurd (none-some j other)

@@ -62,10 +62,11 @@ part_sound types row lines other behind q qs states nodes falls light done = rec
   of_kind = λ found kind. (kind_between types q.asked found q.asked kind (kind_itself types q.asked found kind), tt);
   few = omega arith;
   leads = λ j among. elim (either (other == j) ((length nodes - 1) == j || false) among) [
-    | inl here ↦ (behind, subst (λ n. Names states n behind) (eqb-true other j here) done.falls, omega (arith, light))
+    | inl here ↦ (behind, subst (λ n. Names states n behind) (eqb-true other j here) done.falls, omega (arith, light), omega (arith, light))
     | inr last ↦ (
       row_with row qs lines,
       subst (λ n. Names states n (row_with row qs lines)) (eqb-true (length nodes - 1) j (only ((length nodes - 1) == j) last)) done.ends,
+      omega arith,
       omega arith,
     )
   ];
@@ -189,3 +190,30 @@ rows_light most [] few = λ k state named. absurd (none-some state named)
 rows_light most (line ∷ lines) few =
     parts_light most line.row lines line.left (states_of_rows lines ++ row_with line.row [] lines ∷ []) few
     (each_push (IsLight most) (states_of_rows lines) (row_with line.row [] lines) (rows_light most lines (omega (arith, few))) (omega (arith, few)))
+
+-- ---- the positions of the parts in the states
+
+-- positions are shorter than so much
+abbrev pub PartsShort : ℕ → List Part → Type 0
+PartsShort most [] = Unit {0}
+PartsShort most (q ∷ qs) = (length q.at < most) × PartsShort most qs
+
+abbrev pub AreShort : ℕ → StateTree → Type 0
+AreShort most [] = Unit {0}
+AreShort most (line ∷ lines) = PartsShort most line.left × AreShort most lines
+
+abbrev pub AllShort : ℕ → List StateTree → Type 0
+AllShort most states = (k : ℕ) (state : StateTree) → Names states k state → AreShort most state
+
+parts_all_short : (most row : ℕ) (lines : StateTree) (qs : List Part) (states : List StateTree) → PartsShort most qs → AreShort most lines
+    → AllShort most states → AllShort most (states_of_parts row lines qs states)
+parts_all_short most row lines [] states here behind short = short
+parts_all_short most row lines (q ∷ qs) states here behind short =
+    each_push (AreShort most) (states_of_parts row lines qs states) (row_with row (q ∷ qs) lines)
+    (parts_all_short most row lines qs states here.1 behind short) (here, behind)
+
+pub rows_short : (most : ℕ) (lines : StateTree) → AreShort most lines → AllShort most (states_of_rows lines)
+rows_short most [] short = λ k state named. absurd (none-some state named)
+rows_short most (line ∷ lines) short =
+    parts_all_short most line.row lines line.left (states_of_rows lines ++ row_with line.row [] lines ∷ []) short.0 short.1
+    (each_push (AreShort most) (states_of_rows lines) (row_with line.row [] lines) (rows_short most lines short.1) (tt, short.1))

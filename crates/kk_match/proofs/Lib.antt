@@ -10,6 +10,7 @@ pub mod Fitting
 pub mod Growth
 pub mod InTurn
 pub mod Keyed
+pub mod Looks
 pub mod Made
 pub mod Matching
 pub mod Places

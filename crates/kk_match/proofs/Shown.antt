@@ -14,7 +14,7 @@ use Rattle.kk_source.specs.ValueTypes.{Content, amount, nothing, built, HasConte
 use Rattle.kk_core.specs.declared.decisions.Answer.{Answer}
 use Rattle.kk_core.specs.declared.decisions.Answer.TheVariants.{Number, Constructor}
 use Rattle.kk_core.specs.Decisions.{fields_shown, value_at, answer_of}
-use Rattle.kk_core.specs.Kinds.{is_plain, ShowsIts, MakeOneType, field_count}
+use Rattle.kk_core.specs.Kinds.{ShowsIts, MakeOneType, field_count}
 use Rattle.kk_match.proofs.Made.{are_of, made_shows, made_answers}
 
 -- ---- positions

@@ -1,8 +1,9 @@
-ghost use Rattle.std.specs.Prelude.{◌≡◌, ◌<◌, ◌-◌, List, [], length, map, option_map, count_by, sum_by, IfOk};
+ghost use Rattle.std.specs.Prelude.{◌≡◌, ◌<◌, ◌+◌, ◌*◌, ◌-◌, List, [], length, map, option_map, count_by, sum_by, IfOk};
 ghost use Rattle.kk_core.specs.Choosing.{Decides};
 ghost use Rattle.kk_core.specs.Decisions.{node_tree, AreOrderly};
 ghost use Rattle.kk_core.specs.Edges.{HasFewEdges};
 ghost use Rattle.kk_core.specs.Kinds.{AsksTyped};
+ghost use Rattle.kk_core.specs.Looks.{HasFewLooks};
 ghost use Rattle.kk_match.specs.Decided.{IsFormed, is_test};
 ghost use Rattle.kk_match.specs.Graphs.{lines_of};
 ghost use Rattle.kk_match.specs.Growing.{IsGraph};
@@ -36,7 +37,8 @@ pub struct Rows<'a> {
 /// Which tests decide a match: the graph of its states, or, where more states test than eight for each node of the patterns,
 /// the tests of one row after the other. Of each value of a type of the patterns the first row that matches is chosen, if
 /// there is one, and each test finds an answer of the type of its edges. On its way it looks at no more edges than the patterns
-/// have nodes.
+/// have nodes; and with the nodes of tests and the fields on the way to their positions at no more than p * (p + 1) in all, for p
+/// such nodes.
 pub fn decide(alloc: Global, rows: &Rows<'_>) -> Result<Decisions, NoMemory>
     requires { 0 < length rows.now.patterns.items }
     ensures decides { (constructors : List ConstructorTree) → AreTypeNumbers constructors (types_in rows.now)
@@ -47,6 +49,7 @@ pub fn decide(alloc: Global, rows: &Rows<'_>) -> Result<Decisions, NoMemory>
     ensures formed { IfOk result (λ found.
         IsFormed (types_in rows.now) (patterns_in rows.now) (nodes_in found) found.tests found.by_rows) }
     ensures edges { IfOk result (λ found. HasFewEdges (nodes_in found) (sum_by nodes_of_pattern (patterns_in rows.now))) }
+    ensures looks { let most = sum_by nodes_of_pattern (patterns_in rows.now) in IfOk result (λ found. HasFewLooks (nodes_in found) (most * (most + 1))) }
     ensures tests { IfOk result (λ found. found.tests ≡ count_by is_test (nodes_in found)) }
     ensures rows { IfOk result (λ found. found.rows ≡ length rows.now.patterns.items) }
 {

@@ -8,7 +8,7 @@ use Rattle.kk_syntax.specs.Patterns.{Pattern, anything, variable as pattern_vari
 use Rattle.kk_syntax.specs.Programs.{ConstructorTree, FunctionTree, ProgramTree}
 use Rattle.kk_syntax.specs.Trees.{Tree, variable, apply, branch, match, sequence, Trees, no_tree, tree, Rows, no_row, row}
 use Rattle.kk_core.specs.Kinds.{AskTyped, ArmsAskTyped, AllAskTyped}
-use Rattle.kk_core.specs.Codes.{Code, Arms, arm, FunctionCode, ProgramCode}
+use Rattle.kk_core.specs.Codes.{Code, Arms, FunctionCode, ProgramCode}
 use Rattle.kk_core.specs.Kinds.{AsksTyped}
 use Rattle.kk_norm.specs.Names.{Names}
 use Rattle.kk_norm.specs.Normalized.{Then, final, next, after_use, within, joined, finish, opened, opened_all, IsCode, AreCodes, AreArms, AreCoresOf, IsCoreForm}

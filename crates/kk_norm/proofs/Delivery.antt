@@ -2,7 +2,7 @@
 use Rattle.std.proofs.Common.{◌≡◌, ℕ, suc, ◌+◌, ◌*◌, ◌<◌, ◌≤◌, true, false, List, [], ◌∷◌, ◌++◌, Some, None, refl, sym, ap, subst, ◌∙◌, arith, add-mul}
 use Rattle.std.proofs.Math.Nat.{mul-le-mul_left}
 use Rattle.std.proofs.lemmas.List.{append-nil}
-use Rattle.kk_base.specs.Machines.{Machine, weight_unless, trace, state}
+use Rattle.kk_base.specs.Machines.{Machine, weight_unless, trace, state, weight_of}
 use Rattle.kk_base.specs.Simulations.{Reaches}
 use Rattle.kk_base.proofs.Machines.{weight_of-at_most}
 use Rattle.kk_syntax.specs.Trees.{Tree}
@@ -142,14 +142,14 @@ module _ (setting : CoreSetting) (given : Bounds) (cost : ℕ) (weight : CoreSta
   Follows w idle events s t = Reaches lower (Related given) Passing (given.most + 1) w 1 idle events s t
 
   pub follows_in : (w idle idle_after steps : ℕ) (events : List Note) (s : State) (t : CoreState)
-      → cost * steps ≤ w → 1 + idle_after ≤ steps * (given.most + 1) + idle → trace lower steps t ≡ events
+      → weight_of lower steps t ≤ w → 1 + idle_after ≤ steps * (given.most + 1) + idle → trace lower steps t ≡ events
       → Related given 0 idle_after s (state lower steps t) → Follows w idle events s t
   follows_in w idle idle_after steps events s t few moves are related =
       record {
         steps = steps;
         credit_after = 0;
         idle_after = idle_after;
-        paid = omega (arith, weight_of-at_most lower cost weighs_little steps t, few);
+        paid = omega (arith, few);
         moves = moves;
         events_are = are;
         passes = λ k less. tt;
@@ -160,7 +160,10 @@ module _ (setting : CoreSetting) (given : Bounds) (cost : ℕ) (weight : CoreSta
       → steps ≤ 2 → 1 + idle_after ≤ steps * (given.most + 1) + idle → trace lower steps t ≡ events
       → Related given 0 idle_after s (state lower steps t) → Follows w idle events s t
   follows w room idle idle_after steps events s t few moves are related =
-      follows_in w idle idle_after steps events s t (let least : cost * steps ≤ cost * 2 = mul-le-mul_left cost few in omega arith) moves are related
+      follows_in w idle idle_after steps events s t
+      (let least : cost * steps ≤ cost * 2 = mul-le-mul_left cost few in
+      let weighs : weight_of lower steps t ≤ cost * steps = weight_of-at_most lower cost weighs_little steps t in omega arith)
+      moves are related
 
   -- one step that tells all of it, and maybe one more that tells nothing
   pub follows_step : (w : ℕ) (room : 2 * cost ≤ w) (idle idle_after later : ℕ) (events : List Note) (s : State) (t between : CoreState)

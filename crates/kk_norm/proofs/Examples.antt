@@ -13,6 +13,7 @@ use Rattle.kk_core.specs.Choosing.{Decides, matches}
 use Rattle.kk_core.specs.Codes.{Code, give, case, compute, use_of, unpack, Arms, no_arm, arm}
 use Rattle.kk_core.specs.Decisions.{NodeTree, chooses, tests, targets, row_chosen, AreOrderly}
 use Rattle.kk_core.specs.Edges.{edges_from}
+use Rattle.kk_core.specs.Looks.{looks_from}
 use Rattle.kk_norm.specs.Deciding.{AreDecisions}
 use Rattle.kk_norm.specs.Normalized.{final, IsCode}
 use Rattle.kk_norm.specs.OpenedCells.{openings}
@@ -47,6 +48,11 @@ no_edges cells v zero k = refl
 no_edges cells v (suc steps) zero = refl
 no_edges cells v (suc steps) (suc k) = refl
 
+no_looks : (cells : ℕ → Option Cell) (v : Value) (steps k : ℕ) → looks_from cells v (chooses 0 ∷ []) steps k ≡ 0
+no_looks cells v zero k = refl
+no_looks cells v (suc steps) zero = refl
+no_looks cells v (suc steps) (suc k) = refl
+
 none_later : (k j : ℕ) (node : NodeTree) → slice_get (chooses 0 ∷ []) k ≡ Some node → is_among (targets node) j ≡ true → ⊥
 none_later zero j (chooses r) is among = absurd (cc)
 none_later zero j (tests at edges otherwise) is among = absurd (cc)
@@ -80,6 +86,7 @@ are_decisions constructors = record {
   orderly = only_row;
   few_tests = omega arith;
   few_edges = λ cells v steps k. omega (arith, no_edges cells v steps k);
+  few_looks = λ cells v steps k. omega (arith, no_looks cells v steps k);
 }
 
 pub is_its_code : (constructors : List ConstructorTree)

@@ -1,7 +1,8 @@
 -- What holds of a core form, if it holds of each form whose parts it holds of.
-use Rattle.std.proofs.Common.{◌≡◌, ℕ, zero, suc, ◌+◌, ◌<◌, ◌≤◌, true, false, List, [], ◌∷◌, length, Some, sym, subst, arith}
+use Rattle.std.proofs.Common.{◌≡◌, ℕ, zero, suc, ◌+◌, ◌*◌, ◌<◌, ◌≤◌, true, false, List, [], ◌∷◌, length, Some, sym, subst, arith}
 use Rattle.std.specs.Prelude.{sum_by, slice_get}
 use Rattle.std.proofs.lemmas.List.Sums.{sum_by-cons}
+use Rattle.std.proofs.Math.Nat.{mul-le-mul}
 use Rattle.kk_syntax.specs.declared.program.Form.{Form}
 use Rattle.kk_syntax.specs.declared.program.Form.TheVariants.{Call}
 use Rattle.kk_syntax.specs.Patterns.{Pattern, anything, variable as pattern_variable, exactly, constructor, Patterns, no_part, part}
@@ -12,7 +13,7 @@ use Rattle.kk_core.specs.Cases.{EachCase, EachCaseOfArms, EachCaseOfAll, IsWhole
 use Rattle.kk_core.specs.Codes as Core
 use Rattle.kk_core.specs.Codes.{Code, give, tail_call, case, compute, use_of, unpack, inside, Arms, patterns_of, no_arm, arm, FunctionCode, ProgramCode}
 use Rattle.kk_core.specs.Decisions.{NodeTree}
-use Rattle.kk_core.proofs.FewParts.{HasFewParts, HaveFewParts}
+use Rattle.kk_core.proofs.FewParts.{MostSeen, HasFewParts, HaveFewParts}
 use Rattle.kk_norm.specs.Deciding.{AreDecisions}
 use Rattle.kk_norm.specs.Names.{Names, name_of, named}
 use Rattle.kk_norm.specs.Normalized.{part_count, pattern_size, Then, final, next, size, size_all, size_rows, atom, atoms, after, after_use, within, joined, finish, finish_call, numbers, opened, opened_all, pattern_names, patterns_in, IsCode, AreCodes, AreArms, AreCoresOf, IsCoreForm}
@@ -215,21 +216,33 @@ each_case program code P form each =
 pub are_whole : (program : ProgramTree) (code : ProgramCode) → IsCoreForm program code → CasesAreWhole code
 are_whole program code form = each_case program code IsWhole form (λ decisions patterns are. are.orderly)
 
--- and looks at no more edges than its patterns have nodes
+-- and looks at little
 pub are_lean : (program : ProgramTree) (code : ProgramCode) → IsCoreForm program code → CasesAreLean code
-are_lean program code form = each_case program code IsLean form (λ decisions patterns are. are.few_edges)
+are_lean program code form =
+    each_case program code IsLean form (λ decisions patterns are. record { edges = are.few_edges; looks = are.few_looks })
 
 -- ---- parts
 
+-- fewer parts than the greatest body has nodes, and fewer looks than their square
+abbrev pub most_by : ℕ → MostSeen
+most_by most = record { parts = most; looks = most * (most + 1) }
+
+one_more : (few most : ℕ) → few ≤ most → few + 1 ≤ most + 1
+one_more few most le = omega (arith, le)
+
 parts_hold : (constructors : List ConstructorTree) (most : ℕ)
-    → HoldsByForms constructors (suc most) (HasFewParts most) (HaveFewParts most)
+    → HoldsByForms constructors (suc most) (HasFewParts (most_by most)) (HaveFewParts (most_by most))
 parts_hold constructors most =
     record {
       gives = λ x. tt;
       tails = λ f xs few. omega (arith, few);
       branches = λ x positive negative first second. (first, second);
       cases = λ x decisions arms are few inner. (
-        (λ cells v steps k. omega (arith, are.few_edges cells v steps k, few)),
+        (λ cells v steps k. let small : sum_by nodes_of_pattern (patterns_of arms) ≤ most = omega (arith, few) in omega (
+          arith,
+          are.few_looks cells v steps k,
+          mul-le-mul small (one_more (sum_by nodes_of_pattern (patterns_of arms)) most small),
+        )),
         inner,
       );
       computes = λ x form xs rest few later. (omega (arith, few), later);
@@ -243,7 +256,8 @@ parts_hold constructors most =
 -- each form of a core form has fewer parts than the greatest body has nodes
 pub have_few_parts : (program : ProgramTree) (code : ProgramCode) (most : ℕ) → IsCoreForm program code
     → greatest_nodes program ≤ suc most
-    → (f : ℕ) (core : FunctionCode) → slice_get code.functions f ≡ Some core → HasFewParts most core.body
+    → (f : ℕ) (core : FunctionCode) → slice_get code.functions f ≡ Some core → HasFewParts (most_by most) core.body
 have_few_parts program code most form few =
-    cores_hold program.constructors (suc most) (HasFewParts most) (HaveFewParts most) (parts_hold program.constructors most)
+    cores_hold program.constructors (suc most) (HasFewParts (most_by most)) (HaveFewParts (most_by most))
+    (parts_hold program.constructors most)
     program.functions code.functions form.functions few

@@ -14,13 +14,13 @@ use Rattle.kk_source.specs.SourceAfter.{first_state, step, State}
 use Rattle.kk_core.specs.Codes.{FunctionCode, ProgramCode}
 use Rattle.kk_core.specs.CoreStates.{CoreState, no_code, core_first_state}
 use Rattle.kk_core.specs.CoreMachine.{core_machine}
-use Rattle.kk_norm.specs.Meaning.{weighed_store_machine, core_steps, openings_at, core_setting_of, setting_of}
+use Rattle.kk_norm.specs.Meaning.{weighed_store_machine, openings_at, core_setting_of, setting_of}
 use Rattle.kk_norm.specs.Normalized.{final, size}
 use Rattle.kk_norm.proofs.Bounds.{Bounds}
 use Rattle.kk_norm.proofs.Delivery.{source_at, Related, Passing}
 use Rattle.kk_norm.proofs.Functions.{IsGood, AreGood}
 use Rattle.kk_norm.proofs.Matches.{RowFound}
-use Rattle.kk_norm.proofs.Openings.{core_at}
+use Rattle.kk_norm.proofs.Openings.{core_at, OpensFor}
 use Rattle.kk_norm.proofs.Steps as Steps
 
 -- a body has at most as many nodes as the greatest
@@ -68,25 +68,26 @@ module _ (program : ProgramTree) (code : ProgramCode) (given : Bounds) (good : A
       }
 
   -- The machines agree, where something holds of each state of the source by which a row of each match matches, and the steps
-  -- of the source weigh enough.
+  -- of the source weigh enough: as much as any two steps of the core, and those that open its cells.
   pub agrees : (positions : PositionTable) (cells depth : ℕ) (input : List ℕ) (cost : ℕ) (weight : CoreState → ℕ)
-      → ((t : CoreState) → weight t ≤ cost)
+      → ((t : CoreState) → weight t ≤ cost) → (opening : ℕ) → OpensFor opening weight
       → (Sane : State → Type 0) (heavy : State → ℕ)
       → ((s : State) → Sane s → Sane (step (setting_of program positions cells depth) s).1)
       → ((of : Rows) (environment : Environment) (fs : List Frame) (v : Value) (store : Store) (input : List ℕ)
       → given.matches ≡ true → Sane (source_at (value v) (rows of environment ∷ fs) store input)
       → RowFound given.constructors of store v)
-      → ((s : State) → openings_at s.machine.control s.machine.frames s.machine.store ≤ given.cells → core_steps s * cost ≤ heavy s)
+      → ((s : State) → openings_at s.machine.control s.machine.frames s.machine.store ≤ given.cells
+      → 2 * cost + openings_at s.machine.control s.machine.frames s.machine.store * opening ≤ heavy s)
       → Sane (first_state (setting_of program positions cells depth) input)
       → Agree (weighed_store_machine heavy (setting_of program positions cells depth))
       (core_machine weight (core_setting_of code positions cells depth)) 0 (λ m. m * (given.most + 1) + given.most + 1)
       (first_state (setting_of program positions cells depth) input)
       (core_first_state (core_setting_of code positions cells depth) input)
-  agrees positions cells depth input cost weight light Sane heavy stays_sane row_there enough sane =
+  agrees positions cells depth input cost weight light opening opens_for Sane heavy stays_sane row_there enough sane =
       let setting : Setting = setting_of program positions cells depth in
       simulates_agree (weighed_store_machine heavy setting) (core_machine weight (core_setting_of code positions cells depth))
-      (Steps.SaneRelated setting code given cost weight light good texts Sane heavy stays_sane row_there enough) Passing
+      (Steps.SaneRelated setting code given cost weight light opening opens_for good texts Sane heavy stays_sane row_there enough) Passing
       (given.most + 1)
-      (Steps.simulates setting code given cost weight light good texts Sane heavy stays_sane row_there enough)
+      (Steps.simulates setting code given cost weight light opening opens_for good texts Sane heavy stays_sane row_there enough)
       0 given.most (first_state setting input) (core_first_state (core_setting_of code positions cells depth) input)
       (starts positions cells depth input, sane)

@@ -10,7 +10,7 @@ use Rattle.kk_syntax.specs.Shapes.{greatest_nodes}
 use Rattle.kk_syntax.specs.Programs.{FunctionTree, ProgramTree}
 use Rattle.kk_syntax.specs.Trees.{Tree, variable, apply, branch, match, sequence, Trees, no_tree, tree}
 use Rattle.kk_norm.specs.Meaning.{KeepsMeaning, openings_at}
-use Rattle.kk_core.specs.Codes.{ProgramCode}
+use Rattle.kk_core.specs.Codes.{unpack, ProgramCode}
 use Rattle.kk_core.specs.Plain.{is_plain_form, are_plain_codes}
 use Rattle.kk_norm.specs.Normalized.{IsCoreForm}
 use Rattle.kk_norm.specs.PlainTrees.{is_plain_tree, are_plain_trees, are_plain_functions}
@@ -18,6 +18,7 @@ use Rattle.kk_norm.proofs.Bounds.{Bounds, OpensAtMost, AllOpenAtMost}
 use Rattle.kk_norm.proofs.Closed.{is_closed}
 use Rattle.kk_norm.proofs.Functions.{AreGood, core_at_number, no_core_at_number}
 use Rattle.kk_norm.proofs.Keeping.{at_most_greatest, agrees}
+use Rattle.kk_norm.proofs.Openings.{core_at}
 use Rattle.kk_norm.proofs.PlainCodes.{forms_plain}
 
 mutual
@@ -69,10 +70,10 @@ are_good program code typed plain form =
       none = λ f is. no_core_at_number program.constructors program.functions code.functions form.functions f is;
     }
 
-two_are_enough : (opened cost : ℕ) → opened ≤ 0 → (2 + opened) * cost ≤ 2 * cost
+two_are_enough : (opened cost : ℕ) → opened ≤ 0 → 2 * cost + opened * cost ≤ 2 * cost
 two_are_enough opened cost none =
     let zero_is : 0 ≡ opened = omega arith in
-    subst (λ (o : ℕ). (2 + o) * cost ≤ 2 * cost) zero_is (omega arith)
+    subst (λ (o : ℕ). 2 * cost + o * cost ≤ 2 * cost) zero_is (omega arith)
 
 pub keeps_meaning : (program : ProgramTree) (code : ProgramCode) → IsGroundTyped program → IsCoreForm program code
     → are_plain_codes code.functions ≡ true → KeepsMeaning program code
@@ -82,7 +83,8 @@ keeps_meaning program code typed form plain =
     record {
       agrees = λ positions cells depth input cost weight light.
           agrees program code (plain_bounds program) (are_good program code typed (sym (forms_plain program code form) ∙ plain) form)
-          form.texts form.main in_range positions cells depth input cost weight light
+          form.texts form.main in_range positions cells depth input cost weight light cost
+          (λ x c fields rest core joins frames store input. light (core_at (unpack x c fields rest) core joins frames store input))
           (λ s. Unit {0}) (λ s. 2 * cost) (λ s sane. tt)
           (λ of environment fs v store rest some sane. absurd (let wrong : false ≡ true = some in cc))
           (λ s few. two_are_enough (openings_at s.machine.control s.machine.frames s.machine.store) cost few) tt;

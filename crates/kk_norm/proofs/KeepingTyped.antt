@@ -1,5 +1,5 @@
 -- The core form of a typed program does what the program does.
-use Rattle.std.proofs.Common.{◌≡◌, ℕ, suc, ◌+◌, ◌-◌, ◌*◌, ◌<◌, ◌≤◌, true, List, ◌∷◌, length, map, Some, refl, ap, subst, ◌∙◌, arith}
+use Rattle.std.proofs.Common.{◌≡◌, ℕ, suc, ◌+◌, ◌-◌, ◌*◌, ◌<◌, ◌≤◌, true, List, ◌∷◌, length, map, Some, refl, ap, subst, ◌∙◌, arith, add-mul}
 use Rattle.std.specs.Prelude.{min, slice_get, slice_index_or}
 use Rattle.std.proofs.lemmas.List.{length-map}
 use Rattle.std.proofs.lemmas.Option.{slice_get_within, slice_get-get_or}
@@ -22,21 +22,22 @@ use Rattle.kk_source.proofs.Kept.{performed_keeps}
 use Rattle.kk_source.proofs.Matching.{takes_one}
 use Rattle.kk_source.proofs.Safe.{IsStateTyped, step_safe}
 use Rattle.kk_source.proofs.SafeRuns.{start_typed}
-use Rattle.kk_core.specs.Codes.{ProgramCode}
+use Rattle.kk_core.specs.Codes.{Code, give, tail_call, branch as core_branch, case, compute, use_of, unpack, inside, ProgramCode}
 use Rattle.kk_core.specs.CoreMachine.{core_step, core_ending_of, core_machine}
-use Rattle.kk_core.specs.CoreStates.{CoreSetting, CoreState, core_first_state}
+use Rattle.kk_core.specs.CoreStates.{CoreSetting, CoreControl, running, stopped, CoreState, core_first_state}
 use Rattle.kk_core.specs.Costs.{step_cost, part_cost}
-use Rattle.kk_core.proofs.FewParts.{run_cheap}
+use Rattle.kk_core.proofs.FewParts.{most_seen, most_cost, run_cheap}
 use Rattle.kk_norm.specs.Meaning.{KeepsMeaningByCells, CostsLittle, weighed_store_machine, core_steps, openings_at, core_setting_of, core_after, setting_of}
 use Rattle.kk_norm.specs.Normalized.{IsCoreForm}
 use Rattle.kk_norm.specs.OpenedCells.{openings, openings_all}
 use Rattle.kk_norm.proofs.Bounds.{Bounds, OpensAtMost, AllOpenAtMost, RowsOpenAtMost}
 use Rattle.kk_norm.proofs.Closed.{is_closed}
 use Rattle.kk_norm.proofs.Delivery.{source_at}
-use Rattle.kk_norm.proofs.FormByForm.{tree_some, have_few_parts}
+use Rattle.kk_norm.proofs.FormByForm.{tree_some, most_by, have_few_parts}
 use Rattle.kk_norm.proofs.Functions.{AreGood, core_at_number, no_core_at_number}
 use Rattle.kk_norm.proofs.Keeping.{at_most_greatest, agrees}
 use Rattle.kk_norm.proofs.Matches.{RowFound}
+use Rattle.kk_norm.proofs.Openings.{OpensFor}
 use Rattle.kk_norm.proofs.PatternNames.{asked_are}
 use Rattle.kk_norm.proofs.Picking.{row_found}
 use Rattle.kk_norm.proofs.Weights.{reweighed}
@@ -137,25 +138,29 @@ main_there program typed =
           signature_of,
     )
 
--- The machines agree, where no step of the run weighs more than so much, and a step of the source weighs as much as those of
--- the core that do it.
+-- The machines agree, where no step of the run weighs more than `most` says: at no state more than `cost`, and `opening` where a cell
+-- is opened; and a step of the source weighs as much as those of the core that do it.
 typed_agrees : (program : ProgramTree) (code : ProgramCode) → IsGroundTyped program → IsCoreForm program code
-    → (positions : PositionTable) (cells depth : ℕ) (input : List ℕ) (cost : ℕ) (weight : CoreState → ℕ) (heavy : State → ℕ)
-    → ((n : ℕ) → weight (core_after (core_setting_of code positions cells depth) input n) ≤ cost)
-    → ((s : State) → openings_at s.machine.control s.machine.frames s.machine.store ≤ greatest_nodes program - 1 → core_steps s * cost ≤ heavy s)
+    → (positions : PositionTable) (cells depth : ℕ) (input : List ℕ) (cost opening : ℕ) (most weight : CoreState → ℕ) (heavy : State → ℕ)
+    → ((t : CoreState) → most t ≤ cost) → OpensFor opening most
+    → ((n : ℕ) → weight (core_after (core_setting_of code positions cells depth) input n)
+    ≤ most (core_after (core_setting_of code positions cells depth) input n))
+    → ((s : State) → openings_at s.machine.control s.machine.frames s.machine.store ≤ greatest_nodes program - 1
+    → 2 * cost + openings_at s.machine.control s.machine.frames s.machine.store * opening ≤ heavy s)
     → Agree (weighed_store_machine heavy (setting_of program positions cells depth))
     (core_machine weight (core_setting_of code positions cells depth)) 0
     (λ m. m * (greatest_nodes program + 1) + greatest_nodes program + 1)
     (first_state (setting_of program positions cells depth) input)
     (core_first_state (core_setting_of code positions cells depth) input)
-typed_agrees program code typed form positions cells depth input cost weight heavy light enough =
+typed_agrees program code typed form positions cells depth input cost opening most weight heavy dear opens_for light enough =
     let setting : Setting = setting_of program positions cells depth in
     let core : CoreSetting = core_setting_of code positions cells depth in
-    reweighed (λ t. min (weight t) cost) weight core_ending_of (core_step core) (weighed_store_machine heavy setting) 0
+    reweighed (λ t. min (weight t) (most t)) weight core_ending_of (core_step core) (weighed_store_machine heavy setting) 0
     (λ m. m * (greatest_nodes program + 1) + greatest_nodes program + 1) (first_state setting input) (core_first_state core input)
     (λ n. omega (arith, light n))
     (agrees program code (typed_bounds program) (are_good program code typed form) form.texts form.main (main_there program typed)
-    positions cells depth input cost (λ t. min (weight t) cost) (λ t. omega arith)
+    positions cells depth input cost (λ t. min (weight t) (most t)) (λ t. omega (arith, dear t)) opening
+    (λ x c fields rest core joins frames store input. omega (arith, opens_for x c fields rest core joins frames store input))
     (λ s. IsStateTyped (table_of program) s.machine) heavy
     (λ s sane. performed_keeps (IsStateTyped (table_of program)) (step_of setting s.machine) s.input
     (step_safe setting typed s.machine sane))
@@ -167,22 +172,43 @@ pub typed_keeps_meaning : (program : ProgramTree) (code : ProgramCode) → IsGro
 typed_keeps_meaning program code typed form =
     record {
       agrees = λ positions cells depth input cost weight light.
-          typed_agrees program code typed form positions cells depth input cost weight (λ s. core_steps s * cost) light
-          (λ s few. omega arith);
+          typed_agrees program code typed form positions cells depth input cost cost (λ t. cost) weight (λ s. core_steps s * cost)
+          (λ t. omega arith) (λ x c fields rest core joins frames store input. omega arith) light
+          (λ s few. omega (
+            arith,
+            add-mul 2 (openings_at s.machine.control s.machine.frames s.machine.store) cost,
+          ));
     }
 
 -- ---- costs
 
+-- Where the greatest body has one node more than `most`, a step costs at most as much as a case.
+costs_of : (most : ℕ) (code : Code) → step_cost + part_cost * most_seen (most_by most) code ≤ step_cost + part_cost * (most * (most + 1))
+costs_of most (give x) = omega arith
+costs_of most (tail_call f arguments) = omega arith
+costs_of most (core_branch x positive negative) = omega arith
+costs_of most (case x decisions arms) = omega arith
+costs_of most (compute x form arguments rest) = omega arith
+costs_of most (use_of x rest) = omega arith
+costs_of most (unpack x c fields rest) = omega arith
+costs_of most (inside x block rest) = omega arith
+
+cost_at : (most : ℕ) (control : CoreControl) → most_cost (most_by most) control ≤ step_cost + part_cost * (most * (most + 1))
+cost_at most (running code environment joins) = costs_of most code
+cost_at most (stopped by) = omega arith
+
 -- by the cells that a step opens, and the nodes of the greatest body
-square : (o d e : ℕ) → (2 + o) * (128 + 40 * (o + d)) ≤ 256 * ((suc (o + d) + e) * (suc (o + d) + e))
+square : (o d e : ℕ) → 2 * (128 + 40 * ((o + d) * ((o + d) + 1))) + o * (128 + 40 * (o + d)) ≤ 256 * ((suc (o + d) + e) * (suc (o + d) + e))
 square o d e = omega arith
 
-step_costs : (o most nodes : ℕ) → o ≤ most → suc most ≤ nodes → (2 + o) * (step_cost + part_cost * most) ≤ 256 * (nodes * nodes)
+step_costs : (o most nodes : ℕ) → o ≤ most → suc most ≤ nodes
+    → 2 * (step_cost + part_cost * (most * (most + 1))) + o * (step_cost + part_cost * most) ≤ 256 * (nodes * nodes)
 step_costs o most nodes few large =
     let first : o + (most - o) ≡ most = omega (arith, few) in
     let second : suc most + (nodes - suc most) ≡ nodes = omega (arith, large) in
-    subst (λ (n : ℕ). (2 + o) * (128 + 40 * most) ≤ 256 * (n * n)) second
-    (subst (λ (m : ℕ). (2 + o) * (128 + 40 * m) ≤ 256 * ((suc m + (nodes - suc most)) * (suc m + (nodes - suc most)))) first
+    subst (λ (n : ℕ). 2 * (128 + 40 * (most * (most + 1))) + o * (128 + 40 * most) ≤ 256 * (n * n)) second
+    (subst (λ (m : ℕ). 2 * (128 + 40 * (m * (m + 1))) + o * (128 + 40 * m)
+    ≤ 256 * ((suc m + (nodes - suc most)) * (suc m + (nodes - suc most)))) first
     (square o (most - o) (nodes - suc most)))
 
 pub typed_costs_little : (program : ProgramTree) (code : ProgramCode) → IsGroundTyped program → IsCoreForm program code
@@ -199,12 +225,13 @@ typed_costs_little program code typed form =
     record {
       agrees = λ positions cells depth input nodes weight large light.
           let core : CoreSetting = core_setting_of code positions cells depth in
-          typed_agrees program code typed form positions cells depth input (step_cost + part_cost * most) weight
-          (λ s. 256 * (nodes * nodes))
+          typed_agrees program code typed form positions cells depth input (step_cost + part_cost * (most * (most + 1)))
+          (step_cost + part_cost * most) (λ t. most_cost (most_by most) t.machine.control) weight (λ s. 256 * (nodes * nodes))
+          (λ t. cost_at most t.machine.control) (λ x c fields rest core joins frames store input. omega arith)
           (λ n. omega (
             arith,
             light n,
-            run_cheap core most (have_few_parts program code most form (omega (arith, some))) main.0 there (λ s. 1) input n,
+            run_cheap core (most_by most) (have_few_parts program code most form (omega (arith, some))) main.0 there (λ s. 1) input n,
           ))
           (λ s few. step_costs (openings_at s.machine.control s.machine.frames s.machine.store) most nodes few
           (omega (arith, some, large)));

@@ -24,6 +24,7 @@ pub mod Picking
 pub mod PlainCodes
 pub mod ProgramTrees
 pub mod Programs
+mod RunExamples
 pub mod Scopes
 pub mod Simulation
 pub mod Steps

@@ -1,8 +1,7 @@
 -- The core machine at a match whose scrutinee has its value: it chooses the arm of the source's row, and opens what the row's
 -- pattern opens.
-use Rattle.std.proofs.Common.{◌≡◌, ℕ, suc, ◌+◌, ◌*◌, ◌<◌, ◌≤◌, true, false, List, [], ◌∷◌, map, Option, Some, None, refl, sym, ap, subst, ◌∙◌, arith, add-mul, mul_comm}
+use Rattle.std.proofs.Common.{◌≡◌, ℕ, suc, ◌+◌, ◌*◌, ◌<◌, ◌≤◌, true, false, List, [], ◌∷◌, map, Option, Some, None, refl, sym, ap, subst, ◌∙◌, arith, add-mul}
 use Rattle.std.specs.Prelude.{slice_get}
-use Rattle.std.proofs.Math.Nat.{mul-le-mul_left}
 use Rattle.kk_base.specs.Machines.{Machine}
 use Rattle.kk_syntax.specs.Covered.{Each}
 use Rattle.kk_syntax.specs.OfType.{IsPatternOf, values_of}
@@ -58,18 +57,21 @@ rows_open_few given (row pattern body rest) v store environment few =
     by_match (Some bound) later = few.0
 
 module _ (setting : Setting) (side : CoreSetting) (given : Bounds) (cost : ℕ) (weight : CoreState → ℕ)
-    (light : (t : CoreState) → weight t ≤ cost) where
+    (light : (t : CoreState) → weight t ≤ cost) (opening : ℕ) (opens_for : Openings.OpensFor opening weight) where
   abbrev lower : Machine CoreState Note End
   lower = Delivery.lower side given cost weight light
 
   abbrev Follows : ℕ → ℕ → List Note → State → CoreState → Type 0
   Follows = Delivery.Follows side given cost weight light
 
+  abbrev Comes : ℕ → ℕ → CoreState → CoreState → Type 0
+  Comes = Openings.Comes weight side opening opens_for
+
   -- so many steps that tell nothing come to where the source's step comes
-  comes_to : (w idle more : ℕ) (s : State) (t after : CoreState) → cost * suc more ≤ w
-      → Openings.Comes weight side (suc more) t after → Related given 0 given.most s after → Follows w idle [] s t
-  comes_to w idle more s t after few comes related =
-      Delivery.follows_in side given cost weight light w idle given.most (suc more) [] s t few
+  comes_to : (w idle more heavy : ℕ) (s : State) (t after : CoreState) → heavy ≤ w
+      → Comes (suc more) heavy t after → Related given 0 given.most s after → Follows w idle [] s t
+  comes_to w idle more heavy s t after few comes related =
+      Delivery.follows_in side given cost weight light w idle given.most (suc more) [] s t (omega (arith, comes.weighs, few))
       (omega (arith, add-mul 1 more (given.most + 1))) comes.quiet
       (subst (λ (u : CoreState). Related given 0 given.most s u) (sym comes.is) related)
 
@@ -89,31 +91,31 @@ module _ (setting : Setting) (side : CoreSetting) (given : Bounds) (cost : ℕ) 
   -- the arm is come to, and its openings are done
   arm_comes : (k : Then) (names : Names) (x n low top i : ℕ) (of : Rows) (decisions : List NodeTree) (arms : Arms) (v : Value)
       (environment core : Environment) (joins : List Join) (frames : List CallFrame) (fs : List Frame) (store : Store)
-      (input : List ℕ) (w idle more : ℕ) (t : CoreState)
+      (input : List ℕ) (w idle more heavy : ℕ) (t : CoreState)
       → (picked : Picked given k names x n of arms store v environment core low i)
       → value_of core x ≡ v → x < n → low ≤ n → chosen (slice_get store) v decisions ≡ Some i → nodes_of_rows of ≤ given.most
-      → ((after : CoreState) → Openings.Comes weight side (suc (openings picked.pattern))
-      (core_at (case x decisions arms) core joins frames store input) after → Openings.Comes weight side (suc more) t after)
-      → cost * suc more ≤ w
+      → ((after : CoreState) → Comes (suc (openings picked.pattern)) (cost + openings picked.pattern * opening)
+      (core_at (case x decisions arms) core joins frames store input) after → Comes (suc more) heavy t after)
+      → heavy ≤ w
       → Fresh k joins (n + size_rows of) top → ((y : ℕ) → Waits given fs (goal_of k y joins) core low top frames)
       → Follows w idle [] (source_at (expression picked.body picked.later) fs store input) t
-  arm_comes k names x n low top i of decisions arms v environment core joins frames fs store input w idle more t picked has less le
-      chosen_is small comes few fresh waits =
+  arm_comes k names x n low top i of decisions arms v environment core joins frames fs store input w idle more heavy t picked has
+      less le chosen_is small comes few fresh waits =
       let from : ℕ = picked.from + pattern_size picked.pattern in
       let names_here : Names = pattern_names x picked.from picked.pattern names in
-      let done = Openings.opens weight side store x picked.from picked.pattern v names environment picked.later core
+      let done = Openings.opens weight side opening opens_for store x picked.from picked.pattern v names environment picked.later core
       picked.match_is has (omega (arith, picked.starts)) in
       let at_body : CoreState = core_at picked.code done.after joins frames store input in
-      let all : Openings.Comes weight side (suc (openings picked.pattern))
-      (core_at (case x decisions arms) core joins frames store input) at_body
-      = Openings.comes_first weight side (openings picked.pattern) (core_at (case x decisions arms) core joins frames store input)
-      (core_at (opened x picked.from picked.pattern picked.code) core joins frames store input) at_body
+      let at_case : CoreState = core_at (case x decisions arms) core joins frames store input in
+      let all : Comes (suc (openings picked.pattern)) (cost + openings picked.pattern * opening) at_case at_body
+      = Openings.comes_first weight side opening opens_for (openings picked.pattern) cost (openings picked.pattern * opening) at_case
+      (core_at (opened x picked.from picked.pattern picked.code) core joins frames store input) at_body (light at_case)
       (case_goes x decisions arms i (opened x picked.from picked.pattern picked.code) v core joins frames store input has chosen_is
       picked.arm_is) (done.comes picked.code joins frames input) in
-      comes_to w idle more (source_at (expression picked.body picked.later) fs store input) t at_body few (comes at_body all)
+      comes_to w idle more heavy (source_at (expression picked.body picked.later) fs store input) t at_body few (comes at_body all)
       (Delivery.at_code given given.most k names_here picked.body picked.code picked.later from top done.after joins frames fs
       store input picked.coded
-      (Openings.opened_stands weight side store x picked.from picked.pattern names environment picked.later core low
+      (Openings.opened_stands weight side opening opens_for store x picked.from picked.pattern names environment picked.later core low
       (free picked.body) done (omega (arith, picked.starts)) picked.stands)
       picked.body_opens (omega (arith, picked.small)) (omega (arith, picked.small))
       (fresh_less k joins (from + size picked.body) (n + size_rows of) top (omega (arith, picked.ends)) fresh)
@@ -127,7 +129,7 @@ module _ (setting : Setting) (side : CoreSetting) (given : Bounds) (cost : ℕ) 
       (input : List ℕ) (w idle : ℕ)
       → (picked : Picked given (within k) names x n of arms store v environment core low i)
       → value_of core x ≡ v → x < n → low ≤ n → chosen (slice_get store) v decisions ≡ Some i → nodes_of_rows of ≤ given.most
-      → (2 + openings picked.pattern) * cost ≤ w
+      → 2 * cost + openings picked.pattern * opening ≤ w
       → Fresh k joins (n + size_rows of + 1) top → Waits given fs (goal_of k (n + size_rows of) joins) core low top frames
       → Follows w idle [] (source_at (expression picked.body picked.later) fs store input)
       (core_at (joined k (n + size_rows of) (case x decisions arms)) core joins frames store input)
@@ -136,9 +138,8 @@ module _ (setting : Setting) (side : CoreSetting) (given : Bounds) (cost : ℕ) 
       let k : Then = final tail in
       let o : ℕ = openings picked.pattern in
       arm_comes k names x n low top i of decisions arms v environment core joins frames fs store input w idle o
-      (core_at (case x decisions arms) core joins frames store input) picked has less le chosen_is small
-      (λ after comes. comes) (let least : cost * suc o ≤ cost * (2 + o) = mul-le-mul_left cost (omega arith) in omega
-      (arith, mul_comm cost (2 + o)))
+      (cost + o * opening) (core_at (case x decisions arms) core joins frames store input) picked has less le chosen_is small
+      (λ after comes. comes) (omega (arith, few))
       (fresh_less k joins (n + size_rows of) (n + size_rows of + 1) top (omega arith) fresh)
       (λ y. subst (λ (goal : Goal). Waits given fs goal core low top frames) (goal_final tail joins (n + size_rows of) y) waits)
   row_goes (next rest) names x n low top i of decisions arms v environment core joins frames fs store input w idle picked has less
@@ -149,9 +150,10 @@ module _ (setting : Setting) (side : CoreSetting) (given : Bounds) (cost : ℕ) 
       let t : CoreState = core_at (joined (next rest) m (case x decisions arms)) core joins frames store input in
       let between : CoreState = core_at (case x decisions arms) core (join ∷ joins) frames store input in
       arm_comes (final false) names x n low top i of decisions arms v environment core (join ∷ joins) frames fs store input w idle
-      (suc o) t picked has less le chosen_is small
-      (λ after comes. Openings.comes_first weight side (suc o) t between after refl comes)
-      (let least : cost * suc (suc o) ≤ cost * (2 + o) = mul-le-mul_left cost (omega arith) in omega (arith, mul_comm cost (2 + o)))
+      (suc o) (cost + (cost + o * opening)) t picked has less le chosen_is small
+      (λ after comes. Openings.comes_first weight side opening opens_for (suc o) cost (cost + o * opening) t between after (light t)
+      refl comes)
+      (omega (arith, few))
       (omega arith, omega (arith, fresh)) (λ y. waits)
 
   -- at the scrutinee's value
@@ -160,7 +162,7 @@ module _ (setting : Setting) (side : CoreSetting) (given : Bounds) (cost : ℕ) 
       → value_of core x ≡ v → x < high → low ≤ high → Waits given (rows of environment ∷ fs)
       (goes_on rest x joins) core low high frames
       → (given.matches ≡ true → RowFound given.constructors of store v)
-      → (openings_of_rows store of v environment ≤ given.cells → (2 + openings_of_rows store of v environment) * cost ≤ w)
+      → (openings_of_rows store of v environment ≤ given.cells → 2 * cost + openings_of_rows store of v environment * opening ≤ w)
       → Follows w idle (step setting (source_at (value v) (rows of environment ∷ fs) store input)).0
       (step setting (source_at (value v) (rows of environment ∷ fs) store input)).1 (core_at rest core joins frames store input)
   rows_step of environment fs rest x low high joins core frames v store input w idle has less le waits there paid =
@@ -169,8 +171,8 @@ module _ (setting : Setting) (side : CoreSetting) (given : Bounds) (cost : ℕ) 
       let picked : Picked given (within waits.at.k) waits.at.names x n of waits.arms store v environment core low found.number
       = picks given (within waits.at.k) waits.at.names x n of waits.arms store v environment core low found.number waits.arms_are
       waits.open_few waits.stands found.first in
-      let few : (2 + openings picked.pattern) * cost ≤ w
-      = subst (λ (o : ℕ). (2 + o) * cost ≤ w) picked.opens (paid (rows_open_few given of v store environment waits.open_few)) in
+      let few : 2 * cost + openings picked.pattern * opening ≤ w
+      = subst (λ (o : ℕ). 2 * cost + o * opening ≤ w) picked.opens (paid (rows_open_few given of v store environment waits.open_few)) in
       let before = (source_at (value v) (rows of environment ∷ fs) store input).machine in
       subst (λ (at : Code). Follows w idle (step setting (source_at (value v) (rows of environment ∷ fs) store input)).0
       (step setting (source_at (value v) (rows of environment ∷ fs) store input)).1 (core_at at core joins frames store input))

@@ -1,8 +1,8 @@
 -- Where a pattern matches, the openings at the head of its arm bind what the pattern binds.
-use Rattle.std.proofs.Common.{◌≡◌, ◌⊎◌, inl, inr, ℕ, suc, ◌+◌, ◌<◌, ◌≤◌, ◌==◌, Bool, true, false, List, [], ◌∷◌, ◌++◌, Option, Some, None, refl, ap, subst, ◌∙◌, arith}
+use Rattle.std.proofs.Common.{◌≡◌, ◌⊎◌, inl, inr, ℕ, suc, ◌+◌, ◌*◌, ◌<◌, ◌≤◌, ◌==◌, Bool, true, false, List, [], ◌∷◌, ◌++◌, Option, Some, None, refl, sym, ap, subst, ◌∙◌, arith}
 use Rattle.std.specs.Prelude.{if◌then◌else◌}
-use Rattle.kk_base.specs.Machines.{Machine, trace, state}
-use Rattle.kk_base.proofs.Machines.{state-add, trace-add}
+use Rattle.kk_base.specs.Machines.{Machine, trace, state, weight_of}
+use Rattle.kk_base.proofs.Machines.{state-add, trace-add, weight_of-add}
 use Rattle.kk_syntax.specs.Patterns.{Pattern, anything, variable, exactly, constructor, Patterns, no_part, part}
 use Rattle.kk_syntax.specs.Shapes.{is_among, without, bound, bound_all}
 use Rattle.kk_source.specs.Notes.{Note}
@@ -10,7 +10,7 @@ use Rattle.kk_source.specs.State.{Value, integer, unit, constant, place, Store, 
 use Rattle.kk_source.specs.Live.{value_of}
 use Rattle.kk_source.specs.Matching.{is_integer, fields_under, and_then, matched, matched_all}
 use Rattle.kk_source.specs.Actions.{performed}
-use Rattle.kk_core.specs.Codes.{Code}
+use Rattle.kk_core.specs.Codes.{Code, unpack}
 use Rattle.kk_core.specs.CoreStates.{CoreSetting, Join, CallFrame, running, CoreState}
 use Rattle.kk_core.specs.CoreMachine.{core_machine, bind_fields, fields_opened, unpack_step}
 use Rattle.kk_norm.specs.OpenedCells.{openings, openings_all}
@@ -102,31 +102,52 @@ still_stands : (names : Names) (environment core after : Environment) (bound mos
 still_stands names environment core after bound most x same le stands =
     (same (name_of names x) stands.1 ∙ stands.0, omega (arith, stands.1))
 
-module _ (weight : CoreState → ℕ) (setting : CoreSetting) where
+-- the step that opens a cell weighs at most so much
+abbrev pub OpensFor : ℕ → (CoreState → ℕ) → Type 0
+OpensFor opening weight =
+    (x c : ℕ) (fields : List ℕ) (rest : Code) (core : Environment) (joins : List Join) (frames : List CallFrame) (store : Store)
+    (input : List ℕ) → weight (core_at (unpack x c fields rest) core joins frames store input) ≤ opening
+
+module _ (weight : CoreState → ℕ) (setting : CoreSetting) (opening : ℕ) (opens_for : OpensFor opening weight) where
   abbrev pub machine : Machine CoreState Note End
   machine = core_machine weight setting
 
-  -- in so many steps, of which nothing is told, the machine comes from one state to another
-  pub record Comes (steps : ℕ) (t after : CoreState) : Type 0 where
+  -- in so many steps, which weigh so much at most, and of which nothing is told, the machine comes from one state to another
+  pub record Comes (steps heavy : ℕ) (t after : CoreState) : Type 0 where
     pub is : state machine steps t ≡ after
     pub quiet : trace machine steps t ≡ []
+    pub weighs : weight_of machine steps t ≤ heavy
 
-  comes_nowhere : (t : CoreState) → Comes 0 t t
-  comes_nowhere t = record { is = refl; quiet = refl }
+  comes_nowhere : (heavy : ℕ) (t : CoreState) → Comes 0 heavy t t
+  comes_nowhere heavy t = record { is = refl; quiet = refl; weighs = omega arith }
 
-  pub comes_on : (first second : ℕ) (s t u : CoreState) → Comes first s t → Comes second t u → Comes (first + second) s u
-  comes_on first second s t u one two = record {
+  comes_within : (steps heavy more : ℕ) (t after : CoreState) → heavy ≤ more → Comes steps heavy t after → Comes steps more t after
+  comes_within steps heavy more t after le comes =
+      record { is = comes.is; quiet = comes.quiet; weighs = omega (arith, le, comes.weighs) }
+
+  pub comes_on : (first second one_heavy two_heavy : ℕ) (s t u : CoreState) → Comes first one_heavy s t → Comes second two_heavy t u
+      → Comes (first + second) (one_heavy + two_heavy) s u
+  comes_on first second one_heavy two_heavy s t u one two = record {
     is = state-add machine first second s ∙ (ap (state machine second) one.is ∙ two.is);
     quiet =
         trace-add machine first second s
         ∙ (ap (λ (before : List Note). before ++ trace machine second (state machine first s)) one.quiet
         ∙ (ap (trace machine second) one.is ∙ two.quiet));
+    weighs =
+        let later : weight_of machine second (state machine first s) ≤ two_heavy
+        = subst (λ (between : CoreState). weight_of machine second between ≤ two_heavy) (sym one.is) two.weighs in
+        omega (arith, weight_of-add machine first second s, one.weighs, later);
   }
 
-  pub comes_first : (steps : ℕ) (s t u : CoreState) → machine.step s ≡ ([], t) → Comes steps t u → Comes (suc steps) s u
-  comes_first steps s t u step_is rest = record {
+  pub comes_first : (steps own heavy : ℕ) (s t u : CoreState) → machine.weight s ≤ own → machine.step s ≡ ([], t)
+      → Comes steps heavy t u → Comes (suc steps) (own + heavy) s u
+  comes_first steps own heavy s t u weighs step_is rest = record {
     is = ap (λ (next : List Note × CoreState). state machine steps next.1) step_is ∙ rest.is;
     quiet = ap (λ (next : List Note × CoreState). next.0 ++ trace machine steps next.1) step_is ∙ rest.quiet;
+    weighs =
+        let later : weight_of machine steps (machine.step s).1 ≤ heavy
+        = subst (λ (next : List Note × CoreState). weight_of machine steps next.1 ≤ heavy) (sym step_is) rest.weighs in
+        omega (arith, weighs, later);
   }
 
   module _ (store : Store) where
@@ -139,7 +160,7 @@ module _ (weight : CoreState → ℕ) (setting : CoreSetting) where
       pub stand : (x : ℕ) → (is_among bound_here x ≡ true) ⊎ StandsFor names environment core low x
           → StandsFor names_after later after high x
       pub comes : (rest : Code) (joins : List Join) (frames : List CallFrame) (input : List ℕ)
-          → Comes steps (core_at (at rest) core joins frames store input) (core_at rest after joins frames store input)
+          → Comes steps (steps * opening) (core_at (at rest) core joins frames store input) (core_at rest after joins frames store input)
 
     abbrev pub OpenedPattern : ℕ → ℕ → Pattern → Names → Environment → Environment → Environment → Type 0
     OpenedPattern a n p names environment later core =
@@ -159,7 +180,7 @@ module _ (weight : CoreState → ℕ) (setting : CoreSetting) where
       stand = λ x from. or_else from (λ among. absurd (let wrong : false ≡ true = among in cc))
           (λ stands. subst (λ (e : Environment). StandsFor names e core (n + 0) x) is
           (still_stands names environment core core n (n + 0) x (λ y less. refl) (omega arith) stands));
-      comes = λ rest joins frames input. comes_nowhere (core_at rest core joins frames store input);
+      comes = λ rest joins frames input. comes_nowhere (0 * opening) (core_at rest core joins frames store input);
     }
 
     opens_variable : (y a n : ℕ) (v : Value) (names : Names) (environment later core : Environment)
@@ -170,7 +191,7 @@ module _ (weight : CoreState → ℕ) (setting : CoreSetting) where
       same = λ x low. refl;
       stand = λ x from. subst (λ (e : Environment). StandsFor (pattern_names a n (variable y) names) e core (n + 0) x) is
           (by_test x (y == x) refl from);
-      comes = λ rest joins frames input. comes_nowhere (core_at rest core joins frames store input);
+      comes = λ rest joins frames input. comes_nowhere (0 * opening) (core_at rest core joins frames store input);
     }
       where
         by_test : (x : ℕ) (same : Bool) → (y == x) ≡ same → (is_among (y ∷ []) x ≡ true) ⊎ StandsFor names environment core n x
@@ -207,11 +228,15 @@ module _ (weight : CoreState → ℕ) (setting : CoreSetting) where
               (one.0, omega (arith, one.1));
           comes = λ rest joins frames input.
               let from = core_at (opened a n (constructor c ps) rest) core joins frames store input in
-              comes_first (openings_all ps) from (core_at (opened_all n (n + part_count ps) ps rest) fields joins frames store
-              input) (core_at rest behind.after joins frames store input)
+              let next = core_at (opened_all n (n + part_count ps) ps rest) fields joins frames store input in
+              let last = core_at rest behind.after joins frames store input in
+              let more : ℕ = openings_all ps in
+              comes_within (suc more) (opening + more * opening) (suc more * opening) from last (omega arith)
+              (comes_first more opening (more * opening) from next last
+              (opens_for a c (numbers n ps) (opened_all n (n + part_count ps) ps rest) core joins frames store input)
               (ap (λ (o : Option (List Value)). performed (unpack_step o (numbers n ps)
               (opened_all n (n + part_count ps) ps rest) core joins from.machine) input) cell)
-              (behind.comes rest joins frames input);
+              (behind.comes rest joins frames input));
         }
 
     mutual
@@ -256,12 +281,14 @@ module _ (weight : CoreState → ℕ) (setting : CoreSetting) where
                 (λ stands. inr (here.stand x (inr stands)))) in
                 (one.0, omega (arith, one.1));
             comes = λ last joins frames input.
-                comes_on (openings first) (openings_all rest) (core_at
-                (opened_all a n (part first rest) last) core joins frames store input)
-                (core_at (opened_all (a + 1) (n + pattern_size first) rest last) here.after joins frames store input)
-                (core_at last there.after joins frames store input)
+                let begin = core_at (opened_all a n (part first rest) last) core joins frames store input in
+                let end = core_at last there.after joins frames store input in
+                comes_within (openings first + openings_all rest) (openings first * opening + openings_all rest * opening)
+                ((openings first + openings_all rest) * opening) begin end (omega arith)
+                (comes_on (openings first) (openings_all rest) (openings first * opening) (openings_all rest * opening) begin
+                (core_at (opened_all (a + 1) (n + pattern_size first) rest last) here.after joins frames store input) end
                 (here.comes (opened_all (a + 1) (n + pattern_size first) rest last) joins frames input)
-                (there.comes last joins frames input);
+                (there.comes last joins frames input));
           }
 
     -- the free variables of the arm's body stand for their values

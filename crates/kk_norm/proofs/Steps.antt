@@ -1,5 +1,5 @@
 -- The core machine does the steps of the store machine at an expression and at a value.
-use Rattle.std.proofs.Common.{◌≡◌, ℕ, ◌+◌, ◌*◌, ◌<◌, ◌≤◌, true, List, [], ◌∷◌, ◌++◌, None, refl, sym, ap, subst, ◌∙◌, arith, append_assoc, add-mul}
+use Rattle.std.proofs.Common.{◌≡◌, ℕ, ◌+◌, ◌*◌, ◌<◌, ◌≤◌, true, List, [], ◌∷◌, ◌++◌, None, refl, sym, ap, subst, ◌∙◌, arith, append_assoc}
 use Rattle.kk_base.specs.Machines.{Machine}
 use Rattle.kk_base.specs.Simulations.{Reaches, Simulates}
 use Rattle.kk_base.proofs.Simulations.{simulates_until_ended}
@@ -17,14 +17,14 @@ use Rattle.kk_core.specs.Codes.{Code, give, case, ProgramCode}
 use Rattle.kk_core.specs.CoreStates.{CoreSetting, Join, CallFrame, CoreState, core_end_at}
 use Rattle.kk_norm.specs.Names.{Names, name_of, named}
 use Rattle.kk_norm.specs.Normalized.{Then, next, size, size_all, size_rows, atom, atoms, within, joined, finish, IsCode, AreCodes}
-use Rattle.kk_norm.specs.Meaning.{weighed_store_machine, core_steps, core_setting_of, openings_at, openings_by_frames, openings_of_rows}
+use Rattle.kk_norm.specs.Meaning.{weighed_store_machine, core_setting_of, openings_at, openings_by_frames, openings_of_rows}
 use Rattle.kk_norm.proofs.Variables.{alone_among, Stands, stands_left, stands_right, stands_later, stands_bound, all_below_more, all_below_one_more, values_one_more}
 use Rattle.kk_norm.proofs.Waits.{Goal, nowhere, returns, goes_on, goal_of, Fresh, fresh_less, Waits, waits_move, due}
 use Rattle.kk_norm.proofs.Bounds.{Bounds, OpensAtMost}
 use Rattle.kk_norm.proofs.Functions.{AreGood}
 use Rattle.kk_norm.proofs.Matches.{RowFound, rows_open_few}
 use Rattle.kk_norm.proofs.Matches as Matches
-use Rattle.kk_norm.proofs.Openings.{core_at}
+use Rattle.kk_norm.proofs.Openings.{core_at, OpensFor}
 use Rattle.kk_norm.proofs.Delivery.{source_at, AtTree, AtValue, At, Related, Passing, goal_code, goal_variable, goal_joins}
 use Rattle.kk_norm.proofs.Delivery as Delivery
 use Rattle.kk_norm.proofs.Simulation.{some_nodes}
@@ -33,7 +33,7 @@ use Rattle.kk_norm.proofs.Simulation as Forms
 one_list : (held : List ℕ) (a : ℕ) (xs : List ℕ) → held ++ (a ∷ xs) ≡ (held ++ a ∷ []) ++ xs
 one_list held a xs = sym (append_assoc held (a ∷ []) xs)
 
-module _ (setting : Setting) (code : ProgramCode) (given : Bounds) (cost : ℕ) (weight : CoreState → ℕ) (light : (t : CoreState) → weight t ≤ cost) (good : AreGood given setting.program.functions code.functions) (texts : code.texts ≡ setting.program.texts) where
+module _ (setting : Setting) (code : ProgramCode) (given : Bounds) (cost : ℕ) (weight : CoreState → ℕ) (light : (t : CoreState) → weight t ≤ cost) (opening : ℕ) (opens_for : OpensFor opening weight) (good : AreGood given setting.program.functions code.functions) (texts : code.texts ≡ setting.program.texts) where
   abbrev side : CoreSetting
   side = core_setting_of code setting.positions setting.cells setting.depth
 
@@ -162,11 +162,11 @@ module _ (setting : Setting) (code : ProgramCode) (given : Bounds) (cost : ℕ) 
   -- where a match has its scrutinee, a row matches, and there is weight for it
   abbrev pub IsReadyFor : List Frame → Store → Value → ℕ → Type 0
   IsReadyFor (rows of environment ∷ fs) store v w =
-      (given.matches ≡ true → RowFound given.constructors of store v) × (openings_of_rows store of v environment ≤ given.cells → (2 + openings_of_rows store of v environment) * cost ≤ w)
+      (given.matches ≡ true → RowFound given.constructors of store v) × (openings_of_rows store of v environment ≤ given.cells → 2 * cost + openings_of_rows store of v environment * opening ≤ w)
   IsReadyFor fs store v w = Unit {0}
 
   ready_more : (fs : List Frame) (store : Store) (v : Value) (w more : ℕ) → w ≤ more → IsReadyFor fs store v w → IsReadyFor fs store v more
-  ready_more (rows of environment ∷ fs) store v w more le ready = (ready.0, λ few. let least : (2 + openings_of_rows store of v environment) * cost ≤ w = ready.1 few in omega arith)
+  ready_more (rows of environment ∷ fs) store v w more le ready = (ready.0, λ few. let least : 2 * cost + openings_of_rows store of v environment * opening ≤ w = ready.1 few in omega arith)
   ready_more [] store v w more le ready = tt
   ready_more (arguments form vs es environment ∷ fs) store v w more le ready = tt
   ready_more (branches positive negative environment ∷ fs) store v w more le ready = tt
@@ -225,7 +225,7 @@ module _ (setting : Setting) (code : ProgramCode) (given : Bounds) (cost : ℕ) 
       waits.open_few (omega (arith, waits.small)) (omega arith) waits.fresh
       (waits_move given fs (goal_of waits.at.k (atom (named awaits x waits.at.names) waits.at.n e) joins) core core low waits.at.n waits.at.top waits.at.top frames (λ z below. refl) (omega (arith, waits.from)) (omega arith) waits.later))
   value_goes (rows of environment ∷ fs) (goes_on rest x joins) a low top core frames v store input w room idle has less within_top idles waits ready =
-      Matches.rows_step setting side given cost weight light of environment fs rest x low top joins core frames v store input w idle has less within_top waits ready.0 ready.1
+      Matches.rows_step setting side given cost weight light opening opens_for of environment fs rest x low top joins core frames v store input w idle has less within_top waits ready.0 ready.1
   value_goes (call lent ∷ []) returns a low top core [] v store input w room idle has less within_top idles waits ready =
       Delivery.follows side given cost weight light w room idle 0 1 [] (source_at (stopped ended) [] store input) (core_at (give a) core [] [] store input) (omega arith) (omega arith) refl refl
   value_goes (call lent ∷ []) returns a low top core (frame ∷ frames) v store input w room idle has less within_top idles waits ready = absurd waits.later
@@ -270,7 +270,7 @@ module _ (setting : Setting) (code : ProgramCode) (given : Bounds) (cost : ℕ) 
   module _ (Sane : State → Type 0) (heavy : State → ℕ)
       (stays_sane : (s : State) → Sane s → Sane (step setting s).1)
       (row_there : (of : Rows) (environment : Environment) (fs : List Frame) (v : Value) (store : Store) (input : List ℕ) → given.matches ≡ true → Sane (source_at (value v) (rows of environment ∷ fs) store input) → RowFound given.constructors of store v)
-      (enough : (s : State) → openings_at s.machine.control s.machine.frames s.machine.store ≤ given.cells → core_steps s * cost ≤ heavy s) where
+      (enough : (s : State) → openings_at s.machine.control s.machine.frames s.machine.store ≤ given.cells → 2 * cost + openings_at s.machine.control s.machine.frames s.machine.store * opening ≤ heavy s) where
     abbrev pub upper : Machine State Note End
     upper = weighed_store_machine heavy setting
 
@@ -304,8 +304,8 @@ module _ (setting : Setting) (code : ProgramCode) (given : Bounds) (cost : ℕ) 
 
     paid_for : (control : Control) (fs : List Frame) (store : Store) (input : List ℕ) (idle : ℕ) (t : CoreState) → At given idle control fs store input t → 2 * cost ≤ heavy (source_at control fs store input)
     paid_for control fs store input idle t at =
-        let least : (2 + openings_at control fs store) * cost ≤ heavy (source_at control fs store input) = enough (source_at control fs store input) (opened_at control fs store input idle t at) in
-        let more : (2 + openings_at control fs store) * cost ≡ 2 * cost + openings_at control fs store * cost = add-mul 2 (openings_at control fs store) cost in
+        let least : 2 * cost + openings_at control fs store * opening ≤ heavy (source_at control fs store input)
+        = enough (source_at control fs store input) (opened_at control fs store input idle t at) in
         omega arith
 
     -- what is reached is reached by a sane state
