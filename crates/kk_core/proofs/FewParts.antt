@@ -80,7 +80,8 @@ chosen_few : (most : MostSeen) (arms : Arms) (row : Option ℕ) → HaveFewParts
 chosen_few most arms None few = tt
 chosen_few most arms (Some row) few = arm_few most arms row few
 
-give_few : (most : MostSeen) (v : Value) (joins : List Join) (frames : List CallFrame) (environment : Environment) (from : CoreConfiguration)
+give_few : (most : MostSeen) (v : Value) (joins : List Join) (frames : List CallFrame) (environment : Environment)
+    (from : CoreConfiguration)
     → JoinsFew most joins → FramesFew most frames → FramesFew most from.frames
     → LeadsTo (StateFew most) (give_step v joins frames environment from)
 give_few most v (join ∷ joins) frames environment from few older waits = (few, waits)
@@ -93,8 +94,8 @@ case_few : (most : MostSeen) (body : Option Code) (environment : Environment) (j
 case_few most None environment joins from few later stays = stays
 case_few most (Some body) environment joins from few later stays = ((few, later), stays.1)
 
-unpack_few : (most : MostSeen) (values : Option (List Value)) (fields : List ℕ) (rest : Code) (environment : Environment) (joins : List Join)
-    (from : CoreConfiguration)
+unpack_few : (most : MostSeen) (values : Option (List Value)) (fields : List ℕ) (rest : Code) (environment : Environment)
+    (joins : List Join) (from : CoreConfiguration)
     → HasFewParts most rest → JoinsFew most joins → StateFew most from
     → LeadsTo (StateFew most) (unpack_step values fields rest environment joins from)
 unpack_few most None fields rest environment joins from few later stays = stays
@@ -201,7 +202,8 @@ module _ (setting : CoreSetting) (most : MostSeen)
     seen_few (unpack x c fields rest) environment store few = few.0
     seen_few (inside x block rest) environment store few = omega arith
 
-    control_cheap : (control : CoreControl) (store : Store) → ControlFew most control → control_cost control store ≤ most_cost most control
+    control_cheap : (control : CoreControl) (store : Store) → ControlFew most control
+        → control_cost control store ≤ most_cost most control
     control_cheap (running code environment joins) store few = omega (arith, seen_few code environment store few.0)
     control_cheap (stopped by) store few = omega arith
 

@@ -36,8 +36,8 @@ IsWhole decisions patterns = AreOrderly decisions (length patterns)
 abbrev pub CasesAreWhole : ProgramCode → Type 0
 CasesAreWhole = EachCaseOfAll IsWhole
 
--- No value goes through tests with more edges than the patterns have nodes. And of nodes of tests, fields on the way to positions and
--- edges it goes through no more than the square of these nodes and one.
+-- No value goes through tests with more edges than the patterns have nodes. Where these are p, the tests on its way look at no more
+-- than p * (p + 1) in all: their own nodes, the fields on the way to their positions, and their edges.
 pub record IsLean (decisions : List NodeTree) (patterns : List Pattern) : Type 0 where
   pub edges : HasFewEdges decisions (sum_by nodes_of_pattern patterns)
   pub looks : HasFewLooks decisions (sum_by nodes_of_pattern patterns * (sum_by nodes_of_pattern patterns + 1))

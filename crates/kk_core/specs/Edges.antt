@@ -22,9 +22,6 @@ module _ (cells : ℕ → Option Cell) (v : Value) where
   edges_from nodes zero k = 0
   edges_from nodes (suc steps) k = edges_at (edges_from nodes steps) (slice_get nodes k)
 
-  abbrev pub edges_seen : List NodeTree → ℕ
-  edges_seen nodes = edges_from nodes (length nodes) 0
-
 -- No value goes through nodes with more edges than so many, from whichever node on.
 abbrev pub HasFewEdges : List NodeTree → ℕ → Type 0
 HasFewEdges nodes most = (cells : ℕ → Option Cell) (v : Value) (steps k : ℕ) → edges_from cells v nodes steps k ≤ most

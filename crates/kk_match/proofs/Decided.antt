@@ -1,16 +1,15 @@
 -- What turned nodes decide: those of a graph, and those of rows that are tried one after the other.
-use Rattle.std.proofs.Common.{◌≡◌, ℕ, suc, ◌+◌, ◌*◌, ◌-◌, ◌<◌, ◌≤◌, Bool, false, Result, Ok, Err, List, [], ◌∷◌, ◌++◌, length, map, refl, sym, ap, ◌∙◌, subst, arith, append_assoc, true}
+use Rattle.std.proofs.Common.{◌≡◌, ℕ, suc, ◌+◌, ◌-◌, ◌<◌, ◌≤◌, Bool, false, Result, Ok, Err, List, [], ◌∷◌, ◌++◌, length, map, refl, sym, ap, ◌∙◌, subst, arith, append_assoc, true}
 use Rattle.std.specs.Prelude.{count_by, sum_by, IfOk}
 use Rattle.kk_syntax.specs.Patterns.{Pattern}
 use Rattle.kk_syntax.specs.Programs.{ConstructorTree}
 use Rattle.kk_syntax.specs.Shapes.{nodes_of_pattern}
+use Rattle.kk_core.specs.Cases.{IsLean}
 use Rattle.kk_core.specs.Choosing.{Decides}
 use Rattle.kk_core.specs.Decisions.{NodeTree, AreOrderly}
-use Rattle.kk_core.specs.Edges.{HasFewEdges}
-use Rattle.kk_core.specs.Looks.{HasFewLooks}
 use Rattle.kk_match.specs.Parts.{parts_of, AreTypeNumbers}
-use Rattle.kk_match.specs.Graphs.{StateTree, lines_of, lines_from, HasTests, HasMoreTests, testing}
-use Rattle.kk_match.specs.Built.{InRow, no_state}
+use Rattle.kk_match.specs.Graphs.{StateTree, IsReached, lines_of, lines_from, HasTests, HasMoreTests, testing}
+use Rattle.kk_match.specs.Built.{Names, InRow, no_state}
 use Rattle.kk_match.specs.Decided.{is_test, most_tests, IsFormed}
 use Rattle.kk_match.specs.Growing.{IsBuilt, IsOver, IsGraphOf}
 use Rattle.kk_match.specs.InTurn.{with_rows}
@@ -19,7 +18,7 @@ use Rattle.kk_match.proofs.After.{AreBelow}
 use Rattle.kk_match.proofs.Edges.{has_few, reached_light, lines_small}
 use Rattle.kk_match.proofs.Exact.{starts_last, has_tests, tests_right, tests_turned, rows_test, reached_below}
 use Rattle.kk_match.proofs.Growth.{reached_at}
-use Rattle.kk_match.proofs.InTurn.{RowsDone, rows_done, states_of_rows, rows_below, rows_light, rows_short}
+use Rattle.kk_match.proofs.InTurn.{RowsDone, rows_done, states_of_rows, rows_below, AllLight, rows_light, rows_short}
 use Rattle.kk_match.proofs.Looks.{reached_short, lines_short, has_few_looks}
 use Rattle.kk_match.proofs.Matching.{rows_hold}
 use Rattle.kk_match.proofs.Places.{place_of}
@@ -75,26 +74,24 @@ module _ (types : List ℕ) (most : ℕ) (ps : List Pattern) (nodes : List NodeT
       sound_decides constructors types ps graph.states nodes last same (are_sound types graph.states nodes graph.right) count
       (graph_stands types most ps nodes graph)
 
-  pub graph_few : HasFewEdges (turned last nodes) (sum_by nodes_of_pattern ps)
-  graph_few =
-      has_few types graph.states nodes last (sum_by nodes_of_pattern ps) (are_sound types graph.states nodes graph.right) count
-      (λ k state named.
-      let light = reached_light types (lines_from types 0 ps) state (reached_at types (lines_from types 0 ps) graph.states k state graph.reached named) in
-      let few = lines_small types 0 ps in
-      omega (arith, light, few))
-
-  pub graph_looks : HasFewLooks (turned last nodes) (sum_by nodes_of_pattern ps * (sum_by nodes_of_pattern ps + 1))
-  graph_looks =
-      has_few_looks types graph.states nodes last (sum_by nodes_of_pattern ps) (sum_by nodes_of_pattern ps)
-      (are_sound types graph.states nodes graph.right) count
-      (λ k state named.
-      let light = reached_light types (lines_from types 0 ps) state (reached_at types (lines_from types 0 ps) graph.states k state graph.reached named) in
-      let few = lines_small types 0 ps in
-      omega (arith, light, few))
-      (λ k state named.
-      reached_short types (sum_by nodes_of_pattern ps) (lines_from types 0 ps) state
-      (lines_short types (sum_by nodes_of_pattern ps) 0 ps (omega arith))
-      (reached_at types (lines_from types 0 ps) graph.states k state graph.reached named))
+  pub graph_lean : IsLean (turned last nodes) ps
+  graph_lean =
+      let most : ℕ = sum_by nodes_of_pattern ps in
+      let sound : InRow (IsSound types) graph.states nodes = are_sound types graph.states nodes graph.right in
+      let reached : (k : ℕ) (state : StateTree) → Names graph.states k state → IsReached types (lines_from types 0 ps) state
+      = λ k state named. reached_at types (lines_from types 0 ps) graph.states k state graph.reached named in
+      let light : AllLight most graph.states
+      = λ k state named. omega (
+        arith,
+        reached_light types (lines_from types 0 ps) state (reached k state named),
+        lines_small types 0 ps,
+      ) in
+      record {
+        edges = has_few types graph.states nodes last most sound count light;
+        looks = has_few_looks types graph.states nodes last most most sound count light
+            (λ k state named. reached_short types most (lines_from types 0 ps) state (lines_short types most 0 ps (omega arith))
+            (reached k state named));
+      }
 
   tests_are : count_by is_test (turned last nodes) ≡ testing graph.states
   tests_are = tests_turned last nodes ∙ tests_right types graph.states nodes graph.right
@@ -137,17 +134,16 @@ module _ (types : List ℕ) (p : Pattern) (ps : List Pattern) where
         sound_decides constructors types (p ∷ ps) (states_of_rows (lines_from types 0 (p ∷ ps))) (with_rows (lines_from types 0 (p ∷ ps)) []) last same in_turn.sound count
         in_turn_stands
 
-    pub in_turn_few : HasFewEdges (turned last (with_rows (lines_from types 0 (p ∷ ps)) [])) (sum_by nodes_of_pattern (p ∷ ps))
-    in_turn_few =
-        has_few types (states_of_rows (lines_from types 0 (p ∷ ps))) (with_rows (lines_from types 0 (p ∷ ps)) []) last (sum_by nodes_of_pattern (p ∷ ps)) in_turn.sound count
-        (rows_light (sum_by nodes_of_pattern (p ∷ ps)) (lines_from types 0 (p ∷ ps)) (lines_small types 0 (p ∷ ps)))
-
-    pub in_turn_looks : HasFewLooks (turned last (with_rows (lines_from types 0 (p ∷ ps)) [])) (sum_by nodes_of_pattern (p ∷ ps) * (sum_by nodes_of_pattern (p ∷ ps) + 1))
-    in_turn_looks =
+    pub in_turn_lean : IsLean (turned last (with_rows (lines_from types 0 (p ∷ ps)) [])) (p ∷ ps)
+    in_turn_lean =
         let most : ℕ = sum_by nodes_of_pattern (p ∷ ps) in
-        has_few_looks types (states_of_rows (lines_from types 0 (p ∷ ps))) (with_rows (lines_from types 0 (p ∷ ps)) []) last most most in_turn.sound count
-        (rows_light most (lines_from types 0 (p ∷ ps)) (lines_small types 0 (p ∷ ps)))
-        (rows_short most (lines_from types 0 (p ∷ ps)) (lines_short types most 0 (p ∷ ps) (omega arith)))
+        let start : StateTree = lines_from types 0 (p ∷ ps) in
+        let light : AllLight most (states_of_rows start) = rows_light most start (lines_small types 0 (p ∷ ps)) in
+        record {
+          edges = has_few types (states_of_rows start) (with_rows start []) last most in_turn.sound count light;
+          looks = has_few_looks types (states_of_rows start) (with_rows start []) last most most in_turn.sound count light
+              (rows_short most start (lines_short types most 0 (p ∷ ps) (omega arith)));
+        }
 
 -- the same of any rows, if there are some
 module _ (types : List ℕ) (nodes : List NodeTree) where
@@ -166,17 +162,10 @@ module _ (types : List ℕ) (nodes : List NodeTree) where
     turn_decides (p ∷ ps) some is constructors same =
         subst (λ ns. Decides constructors (p ∷ ps) (turned last ns)) (sym is) (in_turn_decides types p ps last (count ∙ ap length is) constructors same)
 
-    pub turn_few : (ps : List Pattern) → 0 < length ps → nodes ≡ with_rows (lines_from types 0 ps) [] → HasFewEdges (turned last nodes) (sum_by nodes_of_pattern ps)
-    turn_few [] some is = absurd (omega (arith, some))
-    turn_few (p ∷ ps) some is =
-        subst (λ ns. HasFewEdges (turned last ns) (sum_by nodes_of_pattern (p ∷ ps))) (sym is) (in_turn_few types p ps last (count ∙ ap length is))
-
-    pub turn_looks : (ps : List Pattern) → 0 < length ps → nodes ≡ with_rows (lines_from types 0 ps) []
-        → HasFewLooks (turned last nodes) (sum_by nodes_of_pattern ps * (sum_by nodes_of_pattern ps + 1))
-    turn_looks [] some is = absurd (omega (arith, some))
-    turn_looks (p ∷ ps) some is =
-        subst (λ ns. HasFewLooks (turned last ns) (sum_by nodes_of_pattern (p ∷ ps) * (sum_by nodes_of_pattern (p ∷ ps) + 1))) (sym is)
-        (in_turn_looks types p ps last (count ∙ ap length is))
+    pub turn_lean : (ps : List Pattern) → 0 < length ps → nodes ≡ with_rows (lines_from types 0 ps) [] → IsLean (turned last nodes) ps
+    turn_lean [] some is = absurd (omega (arith, some))
+    turn_lean (p ∷ ps) some is =
+        subst (λ ns. IsLean (turned last ns) (p ∷ ps)) (sym is) (in_turn_lean types p ps last (count ∙ ap length is))
 
 pub turn_formed : (types : List ℕ) (ps : List Pattern) (nodes : List NodeTree) (last : ℕ) → last ≡ length nodes - 1 → nodes ≡ with_rows (lines_from types 0 ps) [] → HasMoreTests types (lines_from types 0 ps) (most_tests ps)
     → IsFormed types ps (turned last nodes) (count_by is_test (turned last nodes)) true

@@ -62,7 +62,12 @@ part_sound types row lines other behind q qs states nodes falls light done = rec
   of_kind = λ found kind. (kind_between types q.asked found q.asked kind (kind_itself types q.asked found kind), tt);
   few = omega arith;
   leads = λ j among. elim (either (other == j) ((length nodes - 1) == j || false) among) [
-    | inl here ↦ (behind, subst (λ n. Names states n behind) (eqb-true other j here) done.falls, omega (arith, light), omega (arith, light))
+    | inl here ↦ (
+      behind,
+      subst (λ n. Names states n behind) (eqb-true other j here) done.falls,
+      omega (arith, light),
+      omega (arith, light),
+    )
     | inr last ↦ (
       row_with row qs lines,
       subst (λ n. Names states n (row_with row qs lines)) (eqb-true (length nodes - 1) j (only ((length nodes - 1) == j) last)) done.ends,
@@ -205,8 +210,8 @@ AreShort most (line ∷ lines) = PartsShort most line.left × AreShort most line
 abbrev pub AllShort : ℕ → List StateTree → Type 0
 AllShort most states = (k : ℕ) (state : StateTree) → Names states k state → AreShort most state
 
-parts_all_short : (most row : ℕ) (lines : StateTree) (qs : List Part) (states : List StateTree) → PartsShort most qs → AreShort most lines
-    → AllShort most states → AllShort most (states_of_parts row lines qs states)
+parts_all_short : (most row : ℕ) (lines : StateTree) (qs : List Part) (states : List StateTree) → PartsShort most qs
+    → AreShort most lines → AllShort most states → AllShort most (states_of_parts row lines qs states)
 parts_all_short most row lines [] states here behind short = short
 parts_all_short most row lines (q ∷ qs) states here behind short =
     each_push (AreShort most) (states_of_parts row lines qs states) (row_with row (q ∷ qs) lines)

@@ -1,4 +1,4 @@
--- Turned nodes look at little on the way to a row: at one position and its edges for each part that is left, and positions are short.
+-- Turned nodes look at little on the way to a row: at a position and its edges for each part that is left, and positions are short.
 use Rattle.std.proofs.Common.{◌≡◌, ℕ, zero, suc, ◌+◌, ◌*◌, ◌-◌, ◌<◌, ◌≤◌, nat_eq, Bool, true, false, Option, None, Some, option_map, List, [], ◌∷◌, ◌++◌, length, map, refl, sym, ◌∙◌, subst, arith, length-append}
 use Rattle.std.specs.Prelude.{slice_get, sum_by, if◌then◌else◌}
 use lib.Pointwise.{pointwise}
@@ -30,9 +30,11 @@ abbrev LeftShort : ℕ → Option (List Part) → Type 0
 LeftShort most None = Unit {0}
 LeftShort most (Some left) = PartsShort most left
 
-left_short : (most : ℕ) (at : List ℕ) (outcome : Option Answer) (qs : List Part) → PartsShort most qs → LeftShort most (left_after at outcome qs)
+left_short : (most : ℕ) (at : List ℕ) (outcome : Option Answer) (qs : List Part) → PartsShort most qs
+    → LeftShort most (left_after at outcome qs)
 left_short most at outcome [] short = tt
-left_short most at outcome (q ∷ qs) short = by (pointwise nat_eq q.at at) (agrees outcome q.asked) (left_after at outcome qs) (left_short most at outcome qs short.1)
+left_short most at outcome (q ∷ qs) short =
+    by (pointwise nat_eq q.at at) (agrees outcome q.asked) (left_after at outcome qs) (left_short most at outcome qs short.1)
   where
     put : (left : Option (List Part)) → LeftShort most left → LeftShort most (option_map (λ rest. q ∷ rest) left)
     put None rest = tt
@@ -44,17 +46,21 @@ left_short most at outcome (q ∷ qs) short = by (pointwise nat_eq q.at at) (agr
     by true false left rest = tt
     by false agreed left rest = put left rest
 
-kept_short : (most row : ℕ) (left : Option (List Part)) (rest : StateTree) → LeftShort most left → AreShort most rest → AreShort most (kept_line row left rest)
+kept_short : (most row : ℕ) (left : Option (List Part)) (rest : StateTree) → LeftShort most left → AreShort most rest
+    → AreShort most (kept_line row left rest)
 kept_short most row None rest here behind = behind
 kept_short most row (Some left) rest here behind = (here, behind)
 
-after_short : (most : ℕ) (at : List ℕ) (outcome : Option Answer) (state : StateTree) → AreShort most state → AreShort most (after at outcome state)
+after_short : (most : ℕ) (at : List ℕ) (outcome : Option Answer) (state : StateTree) → AreShort most state
+    → AreShort most (after at outcome state)
 after_short most at outcome [] short = tt
 after_short most at outcome (line ∷ lines) short =
-    kept_short most line.row (left_after at outcome line.left) (after at outcome lines) (left_short most at outcome line.left short.0)
-    (after_short most at outcome lines short.1)
+    kept_short most line.row (left_after at outcome line.left) (after at outcome lines)
+    (left_short most at outcome line.left short.0) (after_short most at outcome lines short.1)
 
-pub reached_short : (types : List ℕ) (most : ℕ) (start state : StateTree) → AreShort most start → IsReached types start state → AreShort most state
+-- in each state that is reached
+pub reached_short : (types : List ℕ) (most : ℕ) (start state : StateTree) → AreShort most start → IsReached types start state
+    → AreShort most state
 reached_short types most start _ short at_start = short
 reached_short types most start _ short (by_answer {state} {q} found reached is kind) =
     after_short most q.at (Some found) state (reached_short types most start state short reached)
@@ -78,13 +84,14 @@ both_short most (p ∷ ps) qs first second = (first.0, both_short most ps qs fir
 
 -- a position goes down into a pattern by its nodes
 mutual
-  parts_short : (types at : List ℕ) (most : ℕ) (p : Pattern) → length at + nodes_of_pattern p ≤ most → PartsShort most (parts_of types at p)
+  parts_short : (types at : List ℕ) (most : ℕ) (p : Pattern) → length at + nodes_of_pattern p ≤ most
+      → PartsShort most (parts_of types at p)
   parts_short types at most anything le = tt
   parts_short types at most (variable x) le = tt
   parts_short types at most (exactly n) le = (omega (arith, le), tt)
   parts_short types at most (constructor c ps) le =
-      both_short most (if has_several types c then record { at = at; asked = Constructor c } ∷ [] else []) (parts_of_all types at 0 ps)
-      (own (has_several types c)) (all_parts_short types at most 0 ps (omega (arith, le)))
+      both_short most (if has_several types c then record { at = at; asked = Constructor c } ∷ [] else [])
+      (parts_of_all types at 0 ps) (own (has_several types c)) (all_parts_short types at most 0 ps (omega (arith, le)))
     where
       own : (several : Bool) → PartsShort most (if several then record { at = at; asked = Constructor c } ∷ [] else [])
       own true = (omega (arith, le), tt)
@@ -99,7 +106,9 @@ mutual
       (parts_short types (at ++ field ∷ []) most first (omega (arith, le, long)))
       (all_parts_short types at most (field + 1) rest (omega (arith, le)))
 
-pub lines_short : (types : List ℕ) (most k : ℕ) (ps : List Pattern) → sum_by nodes_of_pattern ps ≤ most → AreShort most (lines_from types k ps)
+-- the positions of all rows are shorter than their patterns have nodes
+pub lines_short : (types : List ℕ) (most k : ℕ) (ps : List Pattern) → sum_by nodes_of_pattern ps ≤ most
+    → AreShort most (lines_from types k ps)
 lines_short types most k [] le = tt
 lines_short types most k (p ∷ ps) le =
     let all = sum_by-cons nodes_of_pattern p ps in
@@ -116,10 +125,11 @@ pays most at edges later here looks short few less behind =
     subst (λ (n : ℕ). suc (at + edges) + looks ≤ n * (most + 1)) whole
     (omega (arith, short, few, whole, behind))
 
-module _ (types : List ℕ) (states : List StateTree) (nodes : List NodeTree) (last most : ℕ) (sound : InRow (IsSound types) states nodes)
-    (count : suc last ≡ length nodes) (short : AllShort most states) (cells : ℕ → Option Cell) (v : Value) where
+module _ (types : List ℕ) (states : List StateTree) (nodes : List NodeTree) (last most : ℕ)
+    (sound : InRow (IsSound types) states nodes) (count : suc last ≡ length nodes) (short : AllShort most states) (cells : ℕ → Option Cell) (v : Value) where
   -- from the node of a state on no more is looked at than for so many parts
-  looks_left : (steps k : ℕ) (state : StateTree) → Stands states k state → looks_from cells v (turned last nodes) steps k ≤ weight state * (most + 1)
+  looks_left : (steps k : ℕ) (state : StateTree) → Stands states k state
+      → looks_from cells v (turned last nodes) steps k ≤ weight state * (most + 1)
   looks_left zero k state stands = omega arith
   looks_left (suc steps) k state stands =
       subst (λ (o : Option NodeTree). looks_at cells v (looks_from cells v (turned last nodes) steps) o ≤ weight state * (most + 1))
@@ -160,7 +170,8 @@ module _ (types : List ℕ) (states : List StateTree) (nodes : List NodeTree) (l
 
           on : (o : Option ℕ) → ((j : ℕ) → o ≡ Some j → is_among (targets (tests at edges otherwise)) j ≡ true)
               → suc (length at + length (map (turn_edge last) edges))
-              + looks_behind (looks_from cells v (turned last nodes) steps) (option_map (λ j. last - j) o) ≤ weight state * (most + 1)
+              + looks_behind (looks_from cells v (turned last nodes) steps) (option_map (λ j. last - j) o)
+              ≤ weight state * (most + 1)
           on None among = none
           on (Some j) among =
               let leads = right.leads j (among j refl) in
@@ -186,15 +197,17 @@ module _ (types : List ℕ) (states : List StateTree) (nodes : List NodeTree) (l
               (sym (next_turned last edges otherwise found))
               (on (next_by edges otherwise found) (λ j is. next_among at edges otherwise found j is))
 
-  looks_few : (parts : ℕ) → AllLight parts states → (steps k : ℕ) → looks_from cells v (turned last nodes) steps k ≤ parts * (most + 1)
+  -- and so from whichever node on
+  looks_few : (parts : ℕ) → AllLight parts states → (steps k : ℕ)
+      → looks_from cells v (turned last nodes) steps k ≤ parts * (most + 1)
   looks_few parts light zero k = omega arith
   looks_few parts light (suc steps) k = by (slice_get (turned last nodes) k) refl
     where
       by : (o : Option NodeTree) → slice_get (turned last nodes) k ≡ o
           → looks_at cells v (looks_from cells v (turned last nodes) steps) (slice_get (turned last nodes) k) ≤ parts * (most + 1)
       by None is =
-          subst (λ (o : Option NodeTree). looks_at cells v (looks_from cells v (turned last nodes) steps) o ≤ parts * (most + 1)) (sym is)
-          (omega arith)
+          subst (λ (o : Option NodeTree). looks_at cells v (looks_from cells v (turned last nodes) steps) o ≤ parts * (most + 1))
+          (sym is) (omega arith)
       by (Some node) is =
           let at = turned_at (IsSound types) states nodes last k node sound count is in
           let left = looks_left (suc steps) k at.state at.stands in
@@ -202,7 +215,8 @@ module _ (types : List ℕ) (states : List StateTree) (nodes : List NodeTree) (l
           let more = mul-le-mul_right (most + 1) here in
           omega (arith, left, more)
 
-pub has_few_looks : (types : List ℕ) (states : List StateTree) (nodes : List NodeTree) (last parts most : ℕ) → InRow (IsSound types) states nodes
-    → suc last ≡ length nodes → AllLight parts states → AllShort most states → HasFewLooks (turned last nodes) (parts * (most + 1))
+-- where states have so few parts left, and such short positions
+pub has_few_looks : (types : List ℕ) (states : List StateTree) (nodes : List NodeTree) (last parts most : ℕ)
+    → InRow (IsSound types) states nodes → suc last ≡ length nodes → AllLight parts states → AllShort most states → HasFewLooks (turned last nodes) (parts * (most + 1))
 has_few_looks types states nodes last parts most sound count light short =
     λ cells v steps k. looks_few types states nodes last most sound count short cells v parts light steps k

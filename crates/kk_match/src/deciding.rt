@@ -1,9 +1,8 @@
-ghost use Rattle.std.specs.Prelude.{◌≡◌, ◌<◌, ◌+◌, ◌*◌, ◌-◌, List, [], length, map, option_map, count_by, sum_by, IfOk};
+ghost use Rattle.std.specs.Prelude.{◌≡◌, ◌<◌, ◌-◌, List, [], length, map, option_map, count_by, IfOk};
+ghost use Rattle.kk_core.specs.Cases.{IsLean};
 ghost use Rattle.kk_core.specs.Choosing.{Decides};
 ghost use Rattle.kk_core.specs.Decisions.{node_tree, AreOrderly};
-ghost use Rattle.kk_core.specs.Edges.{HasFewEdges};
 ghost use Rattle.kk_core.specs.Kinds.{AsksTyped};
-ghost use Rattle.kk_core.specs.Looks.{HasFewLooks};
 ghost use Rattle.kk_match.specs.Decided.{IsFormed, is_test};
 ghost use Rattle.kk_match.specs.Graphs.{lines_of};
 ghost use Rattle.kk_match.specs.Growing.{IsGraph};
@@ -12,7 +11,6 @@ ghost use Rattle.kk_match.specs.Turned.{turned};
 ghost use Rattle.kk_match.specs.Views.{part_of, line_tree, state_tree, types_in, patterns_in, nodes_in};
 ghost use Rattle.kk_syntax.specs.Patterns.{pattern_tree};
 ghost use Rattle.kk_syntax.specs.Programs.{ConstructorTree};
-ghost use Rattle.kk_syntax.specs.Shapes.{nodes_of_pattern};
 
 use crate::graph::{Given, Graph, number_of, tests_in};
 use crate::in_turn::in_turn;
@@ -37,8 +35,7 @@ pub struct Rows<'a> {
 /// Which tests decide a match: the graph of its states, or, where more states test than eight for each node of the patterns,
 /// the tests of one row after the other. Of each value of a type of the patterns the first row that matches is chosen, if
 /// there is one, and each test finds an answer of the type of its edges. On its way it looks at no more edges than the patterns
-/// have nodes; and with the nodes of tests and the fields on the way to their positions at no more than p * (p + 1) in all, for p
-/// such nodes.
+/// have nodes; and where these are p, at no more than p * (p + 1) nodes of tests, fields on the way to positions and edges.
 pub fn decide(alloc: Global, rows: &Rows<'_>) -> Result<Decisions, NoMemory>
     requires { 0 < length rows.now.patterns.items }
     ensures decides { (constructors : List ConstructorTree) → AreTypeNumbers constructors (types_in rows.now)
@@ -48,8 +45,7 @@ pub fn decide(alloc: Global, rows: &Rows<'_>) -> Result<Decisions, NoMemory>
         → IfOk result (λ found. AsksTyped constructors (patterns_in rows.now) (nodes_in found)) }
     ensures formed { IfOk result (λ found.
         IsFormed (types_in rows.now) (patterns_in rows.now) (nodes_in found) found.tests found.by_rows) }
-    ensures edges { IfOk result (λ found. HasFewEdges (nodes_in found) (sum_by nodes_of_pattern (patterns_in rows.now))) }
-    ensures looks { let most = sum_by nodes_of_pattern (patterns_in rows.now) in IfOk result (λ found. HasFewLooks (nodes_in found) (most * (most + 1))) }
+    ensures lean { IfOk result (λ found. IsLean (nodes_in found) (patterns_in rows.now)) }
     ensures tests { IfOk result (λ found. found.tests ≡ count_by is_test (nodes_in found)) }
     ensures rows { IfOk result (λ found. found.rows ≡ length rows.now.patterns.items) }
 {

@@ -85,8 +85,10 @@ are_decisions constructors = record {
   asks = λ t store v typed of. tt;
   orderly = only_row;
   few_tests = omega arith;
-  few_edges = λ cells v steps k. omega (arith, no_edges cells v steps k);
-  few_looks = λ cells v steps k. omega (arith, no_looks cells v steps k);
+  lean = record {
+    edges = λ cells v steps k. omega (arith, no_edges cells v steps k);
+    looks = λ cells v steps k. omega (arith, no_looks cells v steps k);
+  };
 }
 
 pub is_its_code : (constructors : List ConstructorTree)

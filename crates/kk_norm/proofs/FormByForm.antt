@@ -218,8 +218,7 @@ are_whole program code form = each_case program code IsWhole form (λ decisions 
 
 -- and looks at little
 pub are_lean : (program : ProgramTree) (code : ProgramCode) → IsCoreForm program code → CasesAreLean code
-are_lean program code form =
-    each_case program code IsLean form (λ decisions patterns are. record { edges = are.few_edges; looks = are.few_looks })
+are_lean program code form = each_case program code IsLean form (λ decisions patterns are. are.lean)
 
 -- ---- parts
 
@@ -240,7 +239,7 @@ parts_hold constructors most =
       cases = λ x decisions arms are few inner. (
         (λ cells v steps k. let small : sum_by nodes_of_pattern (patterns_of arms) ≤ most = omega (arith, few) in omega (
           arith,
-          are.few_looks cells v steps k,
+          are.lean.looks cells v steps k,
           mul-le-mul small (one_more (sum_by nodes_of_pattern (patterns_of arms)) most small),
         )),
         inner,

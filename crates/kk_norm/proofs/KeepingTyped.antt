@@ -138,10 +138,11 @@ main_there program typed =
           signature_of,
     )
 
--- The machines agree, where no step of the run weighs more than `most` says: at no state more than `cost`, and `opening` where a cell
--- is opened; and a step of the source weighs as much as those of the core that do it.
+-- The machines agree, where no step of the run weighs more than `most` says: at no state more than `cost`, and `opening` where a
+-- cell is opened; and a step of the source weighs as much as those of the core that do it.
 typed_agrees : (program : ProgramTree) (code : ProgramCode) → IsGroundTyped program → IsCoreForm program code
-    → (positions : PositionTable) (cells depth : ℕ) (input : List ℕ) (cost opening : ℕ) (most weight : CoreState → ℕ) (heavy : State → ℕ)
+    → (positions : PositionTable) (cells depth : ℕ) (input : List ℕ) (cost opening : ℕ) (most weight : CoreState → ℕ)
+    → (heavy : State → ℕ)
     → ((t : CoreState) → most t ≤ cost) → OpensFor opening most
     → ((n : ℕ) → weight (core_after (core_setting_of code positions cells depth) input n)
     ≤ most (core_after (core_setting_of code positions cells depth) input n))
@@ -183,7 +184,8 @@ typed_keeps_meaning program code typed form =
 -- ---- costs
 
 -- Where the greatest body has one node more than `most`, a step costs at most as much as a case.
-costs_of : (most : ℕ) (code : Code) → step_cost + part_cost * most_seen (most_by most) code ≤ step_cost + part_cost * (most * (most + 1))
+costs_of : (most : ℕ) (code : Code)
+    → step_cost + part_cost * most_seen (most_by most) code ≤ step_cost + part_cost * (most * (most + 1))
 costs_of most (give x) = omega arith
 costs_of most (tail_call f arguments) = omega arith
 costs_of most (core_branch x positive negative) = omega arith
@@ -198,7 +200,8 @@ cost_at most (running code environment joins) = costs_of most code
 cost_at most (stopped by) = omega arith
 
 -- by the cells that a step opens, and the nodes of the greatest body
-square : (o d e : ℕ) → 2 * (128 + 40 * ((o + d) * ((o + d) + 1))) + o * (128 + 40 * (o + d)) ≤ 256 * ((suc (o + d) + e) * (suc (o + d) + e))
+square : (o d e : ℕ)
+    → 2 * (128 + 40 * ((o + d) * ((o + d) + 1))) + o * (128 + 40 * (o + d)) ≤ 256 * ((suc (o + d) + e) * (suc (o + d) + e))
 square o d e = omega arith
 
 step_costs : (o most nodes : ℕ) → o ≤ most → suc most ≤ nodes
@@ -231,7 +234,8 @@ typed_costs_little program code typed form =
           (λ n. omega (
             arith,
             light n,
-            run_cheap core (most_by most) (have_few_parts program code most form (omega (arith, some))) main.0 there (λ s. 1) input n,
+            run_cheap core (most_by most) (have_few_parts program code most form (omega (arith, some))) main.0 there (λ s. 1) input
+                n,
           ))
           (λ s few. step_costs (openings_at s.machine.control s.machine.frames s.machine.store) most nodes few
           (omega (arith, some, large)));

@@ -103,20 +103,20 @@ module _ (setting : Setting) (side : CoreSetting) (given : Bounds) (cost : ℕ) 
       less le chosen_is small comes few fresh waits =
       let from : ℕ = picked.from + pattern_size picked.pattern in
       let names_here : Names = pattern_names x picked.from picked.pattern names in
-      let done = Openings.opens weight side opening opens_for store x picked.from picked.pattern v names environment picked.later core
-      picked.match_is has (omega (arith, picked.starts)) in
+      let done = Openings.opens weight side opening opens_for store x picked.from picked.pattern v names environment picked.later
+      core picked.match_is has (omega (arith, picked.starts)) in
       let at_body : CoreState = core_at picked.code done.after joins frames store input in
       let at_case : CoreState = core_at (case x decisions arms) core joins frames store input in
       let all : Comes (suc (openings picked.pattern)) (cost + openings picked.pattern * opening) at_case at_body
-      = Openings.comes_first weight side opening opens_for (openings picked.pattern) cost (openings picked.pattern * opening) at_case
-      (core_at (opened x picked.from picked.pattern picked.code) core joins frames store input) at_body (light at_case)
+      = Openings.comes_first weight side opening opens_for (openings picked.pattern) cost (openings picked.pattern * opening)
+      at_case (core_at (opened x picked.from picked.pattern picked.code) core joins frames store input) at_body (light at_case)
       (case_goes x decisions arms i (opened x picked.from picked.pattern picked.code) v core joins frames store input has chosen_is
       picked.arm_is) (done.comes picked.code joins frames input) in
       comes_to w idle more heavy (source_at (expression picked.body picked.later) fs store input) t at_body few (comes at_body all)
       (Delivery.at_code given given.most k names_here picked.body picked.code picked.later from top done.after joins frames fs
       store input picked.coded
-      (Openings.opened_stands weight side opening opens_for store x picked.from picked.pattern names environment picked.later core low
-      (free picked.body) done (omega (arith, picked.starts)) picked.stands)
+      (Openings.opened_stands weight side opening opens_for store x picked.from picked.pattern names environment picked.later core
+      low (free picked.body) done (omega (arith, picked.starts)) picked.stands)
       picked.body_opens (omega (arith, picked.small)) (omega (arith, picked.small))
       (fresh_less k joins (from + size picked.body) (n + size_rows of) top (omega (arith, picked.ends)) fresh)
       (waits_move given fs (goal_of k (atom names_here from picked.body) joins) core done.after low from top top frames
@@ -172,7 +172,8 @@ module _ (setting : Setting) (side : CoreSetting) (given : Bounds) (cost : ℕ) 
       = picks given (within waits.at.k) waits.at.names x n of waits.arms store v environment core low found.number waits.arms_are
       waits.open_few waits.stands found.first in
       let few : 2 * cost + openings picked.pattern * opening ≤ w
-      = subst (λ (o : ℕ). 2 * cost + o * opening ≤ w) picked.opens (paid (rows_open_few given of v store environment waits.open_few)) in
+      = subst (λ (o : ℕ). 2 * cost + o * opening ≤ w) picked.opens
+      (paid (rows_open_few given of v store environment waits.open_few)) in
       let before = (source_at (value v) (rows of environment ∷ fs) store input).machine in
       subst (λ (at : Code). Follows w idle (step setting (source_at (value v) (rows of environment ∷ fs) store input)).0
       (step setting (source_at (value v) (rows of environment ∷ fs) store input)).1 (core_at at core joins frames store input))

@@ -160,7 +160,8 @@ module _ (weight : CoreState → ℕ) (setting : CoreSetting) (opening : ℕ) (o
       pub stand : (x : ℕ) → (is_among bound_here x ≡ true) ⊎ StandsFor names environment core low x
           → StandsFor names_after later after high x
       pub comes : (rest : Code) (joins : List Join) (frames : List CallFrame) (input : List ℕ)
-          → Comes steps (steps * opening) (core_at (at rest) core joins frames store input) (core_at rest after joins frames store input)
+          → Comes steps (steps * opening) (core_at (at rest) core joins frames store input)
+          (core_at rest after joins frames store input)
 
     abbrev pub OpenedPattern : ℕ → ℕ → Pattern → Names → Environment → Environment → Environment → Type 0
     OpenedPattern a n p names environment later core =

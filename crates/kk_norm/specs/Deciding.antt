@@ -1,22 +1,18 @@
 -- What the decisions of a match are, by the patterns of its rows.
-use Rattle.std.specs.Prelude.{◌+◌, ◌*◌, ◌≤◌, List, length, count_by, sum_by}
+use Rattle.std.specs.Prelude.{◌≤◌, List, length, count_by}
 use Rattle.kk_syntax.specs.Patterns.{Pattern}
 use Rattle.kk_syntax.specs.Programs.{ConstructorTree}
-use Rattle.kk_syntax.specs.Shapes.{nodes_of_pattern}
+use Rattle.kk_core.specs.Cases.{IsLean}
 use Rattle.kk_core.specs.Choosing.{Decides}
 use Rattle.kk_core.specs.Decisions.{NodeTree, AreOrderly}
-use Rattle.kk_core.specs.Edges.{HasFewEdges}
 use Rattle.kk_core.specs.Kinds.{AsksTyped}
-use Rattle.kk_core.specs.Looks.{HasFewLooks}
 use Rattle.kk_match.specs.Decided.{is_test, most_tests}
 
--- They choose the first row that matches, ask what types tell, and name rows and nodes that are there. There are at most eight tests
--- for each node of the patterns. No value goes through tests with more edges than the patterns have nodes; and for p nodes it looks at
--- no more than p * (p + 1) nodes of tests, fields on the way to positions and edges.
+-- They choose the first row that matches, ask what types tell, and name rows and nodes that are there. There are at most eight
+-- tests for each node of the patterns, and they look at little on the way to a row.
 pub record AreDecisions (constructors : List ConstructorTree) (patterns : List Pattern) (decisions : List NodeTree) : Type 0 where
   pub decides : Decides constructors patterns decisions
   pub asks : AsksTyped constructors patterns decisions
   pub orderly : AreOrderly decisions (length patterns)
   pub few_tests : count_by is_test decisions ≤ most_tests patterns
-  pub few_edges : HasFewEdges decisions (sum_by nodes_of_pattern patterns)
-  pub few_looks : HasFewLooks decisions (sum_by nodes_of_pattern patterns * (sum_by nodes_of_pattern patterns + 1))
+  pub lean : IsLean decisions patterns

@@ -32,7 +32,8 @@ pub record IsWithin (program : ProgramTree) : Type 0 where
   pub all : all_nodes program.functions ≤ most_program_nodes
 
 -- A code is a core form of a program: it keeps the program's meaning, it is typed, its variables in order, and it is small. Each
--- of its cases has an arm for each row of its decisions, and looks at little for the nodes of its patterns; so its steps cost little.
+-- of its cases has an arm for each row of its decisions, and looks at little for the nodes of its patterns; so its steps cost
+-- little.
 pub record IsNormalForm (program : ProgramTree) (code : ProgramCode) : Type 0 where
   pub keeps_meaning : KeepsMeaningByCells program code
   pub typed : IsCoreTyped (table_of program) code

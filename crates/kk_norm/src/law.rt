@@ -41,7 +41,8 @@ pub fn core_forms_ask_what_types_tell()
 
 /// A core form of a program that is typed, and whose matches are covered, costs little: the steps that do one step of the program
 /// cost at most 256 times the square of the nodes of the greatest body. A step costs so much, and so much more for each argument or
-/// field, and for each node of a test, field on the way to its position and edge that a case looks at. It is a law, and does nothing.
+/// field, and for all that a case looks at: nodes of tests, fields on the way to their positions, and edges. It is a law, and does
+/// nothing.
 pub fn core_forms_of_typed_programs_cost_little()
     ensures { (program : ProgramTree) (code : ProgramCode) → IsGroundTyped program → IsCoreForm program code → CostsLittle program code }
 {}

@@ -1,12 +1,9 @@
-use Rattle.std.proofs.Common.{◌≡◌, ◌<◌, ◌+◌, ◌*◌, ◌-◌, suc, [], length, map, option_map, false, sym, ap, ◌∙◌, subst, arith, true}
+use Rattle.std.proofs.Common.{◌≡◌, ◌<◌, ◌-◌, suc, [], length, map, option_map, false, sym, ap, ◌∙◌, subst, arith, true}
 use Rattle.std.proofs.lemmas.List.{length-map}
-use Rattle.std.specs.Prelude.{sum_by}
 use Rattle.kk_syntax.specs.Patterns.{pattern_tree}
-use Rattle.kk_syntax.specs.Shapes.{nodes_of_pattern}
+use Rattle.kk_core.specs.Cases.{IsLean}
 use Rattle.kk_core.specs.Choosing.{Decides}
 use Rattle.kk_core.specs.Decisions.{node_tree, AreOrderly}
-use Rattle.kk_core.specs.Edges.{HasFewEdges}
-use Rattle.kk_core.specs.Looks.{HasFewLooks}
 use Rattle.kk_match.specs.Decided.{most_tests}
 use Rattle.kk_match.specs.Graphs.{lines_of, lines_from, HasMoreTests}
 use Rattle.kk_match.specs.Growing.{IsGraph, IsGraphOf}
@@ -15,7 +12,7 @@ use Rattle.kk_match.specs.Parts.{types_of}
 use Rattle.kk_match.specs.Turned.{turned}
 use Rattle.kk_match.specs.Views.{part_of, state_tree}
 use Rattle.kk_match.proofs.Asking.{formed_asks}
-use Rattle.kk_match.proofs.Decided.{also, also_all, lines_same, graph_some, graph_orderly, graph_decides, graph_formed, turn_some, turn_orderly, turn_decides, turn_formed, formed_as, graph_few, turn_few, graph_looks, turn_looks}
+use Rattle.kk_match.proofs.Decided.{also, also_all, lines_same, graph_some, graph_orderly, graph_decides, graph_formed, turn_some, turn_orderly, turn_decides, turn_formed, formed_as, graph_lean, turn_lean}
 use Rattle.kk_match.proofs.deciding.decide.Goals as goal
 
 pub finished-requires : goal.finished-requires
@@ -56,8 +53,8 @@ returns-in-Some-clause-decides c = λ constructors numbers.
     (λ found is. subst (Decides constructors ps) (sym is)
     (graph_decides types c.in_ok-most.most ps nodes (length c.in-Some.nodes.items - 1) graph count constructors numbers))
 
-pub returns-in-Some-clause-edges : goal.returns-in-Some-clause-edges
-returns-in-Some-clause-edges c =
+pub returns-in-Some-clause-lean : goal.returns-in-Some-clause-lean
+returns-in-Some-clause-lean c =
     let rows = c.args.rows.now in
     let types = types_of rows.constructors.now in
     let ps = map (λ p. pattern_tree p.now) rows.patterns.items in
@@ -70,25 +67,8 @@ returns-in-Some-clause-edges c =
     let some = graph_some types c.in_ok-most.most (lines_from types 0 ps) nodes graph in
     let count : suc (length c.in-Some.nodes.items - 1) ≡ length nodes = omega (arith, long, some) in
     also c.finished.result c.finished.ensures.nodes
-    (λ found is. subst (λ ns. HasFewEdges ns (sum_by nodes_of_pattern ps)) (sym is)
-    (graph_few types c.in_ok-most.most ps nodes (length c.in-Some.nodes.items - 1) graph count))
-
-pub returns-in-Some-clause-looks : goal.returns-in-Some-clause-looks
-returns-in-Some-clause-looks c =
-    let rows = c.args.rows.now in
-    let types = types_of rows.constructors.now in
-    let ps = map (λ p. pattern_tree p.now) rows.patterns.items in
-    let nodes = map node_tree c.in-Some.nodes.items in
-    let start = c.in_ok-state.ensures ∙ (ap (λ qs. lines_of 0 (map (λ q. map part_of q.items) qs)) c.deref-2.ensures.value ∙ (ap (lines_of 0) c.in_ok-questions.ensures ∙ lines_same types (λ p. pattern_tree p.now) 0 rows.patterns.items)) in
-    let graph : IsGraphOf types c.in_ok-most.most (lines_from types 0 ps) nodes =
-    subst (λ s. IsGraphOf types c.in_ok-most.most s nodes) start
-    (subst (λ o. IsGraph types c.in_ok-most.most (state_tree c.in_ok-state.state) (option_map (λ ns. ns.items) o)) c.in-Some.is c.in_ok-nodes.ensures) in
-    let long : length nodes ≡ length c.in-Some.nodes.items = length-map c.in-Some.nodes.items node_tree in
-    let some = graph_some types c.in_ok-most.most (lines_from types 0 ps) nodes graph in
-    let count : suc (length c.in-Some.nodes.items - 1) ≡ length nodes = omega (arith, long, some) in
-    also c.finished.result c.finished.ensures.nodes
-    (λ found is. subst (λ ns. HasFewLooks ns (sum_by nodes_of_pattern ps * (sum_by nodes_of_pattern ps + 1))) (sym is)
-    (graph_looks types c.in_ok-most.most ps nodes (length c.in-Some.nodes.items - 1) graph count))
+    (λ found is. subst (λ ns. IsLean ns ps) (sym is)
+    (graph_lean types c.in_ok-most.most ps nodes (length c.in-Some.nodes.items - 1) graph count))
 
 pub returns-in-Some-clause-formed : goal.returns-in-Some-clause-formed
 returns-in-Some-clause-formed c =
@@ -146,8 +126,8 @@ returns-clause-decides c = λ constructors numbers.
     (λ found same. subst (Decides constructors ps) (sym same)
     (turn_decides types nodes (length c.in_ok-nodes-in-None.nodes.items - 1) count ps there is constructors numbers))
 
-pub returns-clause-edges : goal.returns-clause-edges
-returns-clause-edges c =
+pub returns-clause-lean : goal.returns-clause-lean
+returns-clause-lean c =
     let rows = c.args.rows.now in
     let types = types_of rows.constructors.now in
     let ps = map (λ p. pattern_tree p.now) rows.patterns.items in
@@ -161,26 +141,8 @@ returns-clause-edges c =
     let some = turn_some types nodes ps there is in
     let count : suc (length c.in_ok-nodes-in-None.nodes.items - 1) ≡ length nodes = omega (arith, long, some) in
     also c.finished-in-None.result c.finished-in-None.ensures.nodes
-    (λ found same. subst (λ ns. HasFewEdges ns (sum_by nodes_of_pattern ps)) (sym same)
-    (turn_few types nodes (length c.in_ok-nodes-in-None.nodes.items - 1) count ps there is))
-
-pub returns-clause-looks : goal.returns-clause-looks
-returns-clause-looks c =
-    let rows = c.args.rows.now in
-    let types = types_of rows.constructors.now in
-    let ps = map (λ p. pattern_tree p.now) rows.patterns.items in
-    let nodes = map node_tree c.in_ok-nodes-in-None.nodes.items in
-    let start = c.in_ok-state-in-None.ensures ∙ (ap (λ qs. lines_of 0 (map (λ q. map part_of q.items) qs)) c.deref-in-None.ensures.value ∙ (ap (lines_of 0) c.in_ok-questions.ensures ∙ lines_same types (λ p. pattern_tree p.now) 0 rows.patterns.items)) in
-    let is : nodes ≡ with_rows (lines_from types 0 ps) [] = c.in_ok-nodes-in-None.ensures ∙ ap (λ s. with_rows s []) start in
-    let wide : length ps ≡ length rows.patterns.items = length-map rows.patterns.items (λ p. pattern_tree p.now) in
-    let given = c.requires in
-    let there : 0 < length ps = omega (arith, wide, given) in
-    let long : length nodes ≡ length c.in_ok-nodes-in-None.nodes.items = length-map c.in_ok-nodes-in-None.nodes.items node_tree in
-    let some = turn_some types nodes ps there is in
-    let count : suc (length c.in_ok-nodes-in-None.nodes.items - 1) ≡ length nodes = omega (arith, long, some) in
-    also c.finished-in-None.result c.finished-in-None.ensures.nodes
-    (λ found same. subst (λ ns. HasFewLooks ns (sum_by nodes_of_pattern ps * (sum_by nodes_of_pattern ps + 1))) (sym same)
-    (turn_looks types nodes (length c.in_ok-nodes-in-None.nodes.items - 1) count ps there is))
+    (λ found same. subst (λ ns. IsLean ns ps) (sym same)
+    (turn_lean types nodes (length c.in_ok-nodes-in-None.nodes.items - 1) count ps there is))
 
 pub returns-clause-formed : goal.returns-clause-formed
 returns-clause-formed c =

@@ -25,4 +25,4 @@ returns c =
     (are_type_numbers c.args.given.now))
     (subst (λ cs. TellTypes (ground_program c.args.given.now).constructors (types_of cs)) (sym c.deref.ensures.value)
     (numbers_tell c.args.given.now)))
-    c.decide.ensures.formed c.decide.ensures.edges c.decide.ensures.looks c.decide.ensures.tests c.decide.ensures.rows
+    c.decide.ensures.formed c.decide.ensures.lean c.decide.ensures.tests c.decide.ensures.rows
