@@ -114,7 +114,8 @@ module _ (positions : PositionTable) (setting : CountedSetting) (weight other : 
       ≡ weight_of (counted_machine counted_cost setting) n s
   costs_same zero s kept = refl
   costs_same (suc n) s kept =
-      let later : List Note × CountedState → ℕ = λ told. weight_of (counted_machine counted_cost (special_setting setting)) n told.1 in
+      let later : List Note × CountedState → ℕ
+      = λ told. weight_of (counted_machine counted_cost (special_setting setting)) n told.1 in
       let next = next_same s.machine.control s.machine.frames s.machine.heap s.input (kept zero) in
       ap (λ (told : List Note × CountedState).
       (counted_machine counted_cost (special_setting setting)).weight (special_state s) + later told) next

@@ -24,8 +24,8 @@ pub fn specialised_code_is_spent()
 {}
 
 /// After each number of steps specialised code is in the state of the code that it is made of, its heap and its environments the
-/// same, and has told the same notes, at the same cost; and it has ended where that has, and alike. The code must spend each reference
-/// that it owns, and operators and prints must take values without cells. It is a law, and does nothing.
+/// same, and has told the same notes, at the same cost; and it has ended where that has, and alike. The code must spend each
+/// reference that it owns, and operators and prints must take values without cells. It is a law, and does nothing.
 pub fn specialised_code_runs_the_same()
     ensures { (positions : PositionTable) (setting : CountedSetting) (weight other : CountedState → ℕ) (input : List ℕ)
         → IsSpent positions setting.program

@@ -89,7 +89,8 @@ module _ (setting : CoreSetting) (promise : IsInsertable setting.positions setti
       (tail_step (slice_get setting.code.functions f) (map (value_of environment) arguments) from) input
       (with_input (conf (insert setting.positions lent (left_by (left_of setting.positions setting.code.functions lent joins))
       (tail_call f arguments)) environment (image_joins setting.positions setting.code.functions lent joins) frames heap) input)
-  follows_tail f arguments environment (join ∷ joins) function ok reached sound there many most costs = absurd (not_tail ok.lends_on.0)
+  follows_tail f arguments environment (join ∷ joins) function ok reached sound there many most costs =
+      absurd (not_tail ok.lends_on.0)
     where
       not_tail : false ≡ true → ⊥
       not_tail is = absurd (cc)
@@ -290,7 +291,8 @@ module _ (setting : CoreSetting) (promise : IsInsertable setting.positions setti
             (with_input (counted_at_end stack_full before_call) input) (refl, (refl, tt)))
         by_test false is =
             path_step (inserted_setting setting) 0 most
-            (drop_cost * (length (used setting.positions (Call f) arguments) + (length held + length below))) (called (suc (length from.frames)) ∷ []) []
+            (drop_cost * (length (used setting.positions (Call f) arguments) + (length held + length below)))
+            (called (suc (length from.frames)) ∷ []) []
             (Stands setting.positions setting.code.functions
             (record { machine = in_code function values (record from { frames = waiting ∷ from.frames }); input = input }))
             (with_input before_call input)

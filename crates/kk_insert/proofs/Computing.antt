@@ -426,25 +426,29 @@ module _ (setting : CoreSetting) (constructors : List ConstructorTree) (promise 
         value_comes setting constructors promise from lent below frames heap store waits x arguments rest environment joins rest_ok
         joins_ok reached input (Number n) (integer n) refl
         (form_fits setting constructors (Number n) (map (value_of environment) arguments) fits tt) (λ q. refl)
-        (takes_none setting constructors (Number n) (map (value_of environment) arguments) fits) sound most (omega (arith, costs))
+        (takes_none setting constructors (Number n) (map (value_of environment) arguments) fits) sound
+        most (omega (arith, costs))
     form_at Nothing arguments most costs fits new sound =
         value_comes setting constructors promise from lent below frames heap store waits x arguments rest environment joins rest_ok
         joins_ok reached input Nothing unit refl
         (form_fits setting constructors Nothing (map (value_of environment) arguments) fits tt) (λ q. refl)
-        (takes_none setting constructors Nothing (map (value_of environment) arguments) fits) sound most (omega (arith, costs))
+        (takes_none setting constructors Nothing (map (value_of environment) arguments) fits) sound
+        most (omega (arith, costs))
     form_at ReadByte arguments most costs fits new sound = reads input arguments most costs
         (takes_none setting constructors ReadByte (map (value_of environment) arguments) fits) sound
     form_at (PrintText form text) arguments most costs fits new sound =
         print_comes setting constructors promise from lent below frames heap store waits x arguments rest environment joins rest_ok
         joins_ok reached input (PrintText form text) (piece_of form (text_at setting.code.texts text)) refl
         (form_fits setting constructors (PrintText form text) (map (value_of environment) arguments) fits tt)
-        (takes_none setting constructors (PrintText form text) (map (value_of environment) arguments) fits) sound most (omega (arith, costs))
+        (takes_none setting constructors (PrintText form text) (map (value_of environment) arguments) fits) sound
+        most (omega (arith, costs))
     form_at (Unary operator) arguments most costs fits new sound =
         value_comes setting constructors promise from lent below frames heap store waits x arguments rest environment joins rest_ok
         joins_ok reached input (Unary operator) (unary_result operator (argument 0 (map (value_of environment) arguments))) refl
         (form_fits setting constructors (Unary operator) (map (value_of environment) arguments) fits tt)
         (unary_free operator (argument 0 (map (value_of environment) arguments)))
-        (takes_none setting constructors (Unary operator) (map (value_of environment) arguments) fits) sound most (omega (arith, costs))
+        (takes_none setting constructors (Unary operator) (map (value_of environment) arguments) fits) sound
+        most (omega (arith, costs))
     form_at (Binary operator) arguments most costs fits new sound =
         value_comes setting constructors promise from lent below frames heap store waits x arguments rest environment joins rest_ok
         joins_ok reached input (Binary operator)
@@ -453,13 +457,15 @@ module _ (setting : CoreSetting) (constructors : List ConstructorTree) (promise 
         (form_fits setting constructors (Binary operator) (map (value_of environment) arguments) fits tt)
         (number_free operator (integer_of (argument 0 (map (value_of environment) arguments)))
         (integer_of (argument 1 (map (value_of environment) arguments))))
-        (takes_none setting constructors (Binary operator) (map (value_of environment) arguments) fits) sound most (omega (arith, costs))
+        (takes_none setting constructors (Binary operator) (map (value_of environment) arguments) fits) sound
+        most (omega (arith, costs))
     form_at (Print form) arguments most costs fits new sound =
         print_comes setting constructors promise from lent below frames heap store waits x arguments rest environment joins rest_ok
         joins_ok reached input (Print form)
         (piece_of form (signed_decimal (integer_of (argument 0 (map (value_of environment) arguments))))) refl
         (form_fits setting constructors (Print form) (map (value_of environment) arguments) fits tt)
-        (takes_none setting constructors (Print form) (map (value_of environment) arguments) fits) sound most (omega (arith, costs))
+        (takes_none setting constructors (Print form) (map (value_of environment) arguments) fits) sound
+        most (omega (arith, costs))
     form_at (Construct c) arguments most costs fits new sound = constructs c arguments most costs sound
     form_at (Call f) arguments most costs fits new sound =
         call_at setting promise from lent below frames heap store waits input x f arguments rest environment joins rest_ok joins_ok
@@ -483,7 +489,8 @@ module _ (setting : CoreSetting) (constructors : List ConstructorTree) (promise 
       → ArgumentsFit constructors setting.code.texts (CallFits constructors setting.code) form
       (map (value_of environment) arguments)
       → (most : ℕ) → step_cost + part_cost * length arguments + drop_cost * (length (own setting.positions lent
-      (left_by (left_of setting.positions setting.code.functions lent joins)) (compute x form arguments rest)) + length below) ≤ most
+      (left_by (left_of setting.positions setting.code.functions lent joins)) (compute x form arguments rest)) + length below)
+      ≤ most
       → Follows setting.positions setting.code.functions (inserted_setting setting) 1 most
       (form_step setting form (map (value_of environment) arguments) x rest environment joins from) input
       (with_input (conf (insert setting.positions lent (left_by (left_of setting.positions setting.code.functions lent joins))

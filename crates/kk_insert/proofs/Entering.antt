@@ -311,7 +311,8 @@ module _ (setting : CoreSetting) (constructors : List ConstructorTree) (from : C
       subst (λ (other : CountedFrame). Follows setting.positions setting.code.functions (inserted_setting setting) 1 most
       (give_step (value_of environment x) [] (frame ∷ older) environment from) input
       (with_input (conf (Counted.give x) environment [] (other ∷ cs) after) input)) (sym stand.1.0.is)
-      (path_step (inserted_setting setting) 0 most (drop_cost * (suc (length (waiting_owned stand.1.0.lent stand.1.0.given frame)) + length stand.0)) [] []
+      (path_step (inserted_setting setting) 0 most
+      (drop_cost * (suc (length (waiting_owned stand.1.0.lent stand.1.0.given frame)) + length stand.0)) [] []
       (Stands setting.positions setting.code.functions
       (record {
         machine = bound_then frame.variable (value_of environment x) frame.rest frame.environment frame.joins
@@ -324,7 +325,12 @@ module _ (setting : CoreSetting) (constructors : List ConstructorTree) (from : C
       (record { variable = frame.variable; value = value_of environment x } ∷ frame.environment)
       (image_joins setting.positions setting.code.functions stand.1.0.lent frame.joins) cs after) input)
       refl (tt, (tt, (tt, (tt, tt))))
-      (omega (arith, costs, ap length stand.1.0.owned, owned_length frame.environment (waiting_owned stand.1.0.lent stand.1.0.given frame) stand.0))
+      (omega (
+        arith,
+        costs,
+        ap length stand.1.0.owned,
+        owned_length frame.environment (waiting_owned stand.1.0.lent stand.1.0.given frame) stand.0,
+      ))
       (lands setting (record from { frames = older }) stand.1.0.lent stand.0 cs after
       (store ∙ same_store heap after (sym cells)) stand.1.1 input
       frame.variable (value_of environment x) frame.rest frame.environment frame.joins stand.1.0.given
@@ -355,7 +361,8 @@ module _ (setting : CoreSetting) (constructors : List ConstructorTree) (from : C
       (image_joins setting.positions setting.code.functions lent joins) frames below input 1
       (performed (give_step (value_of environment x) joins from.frames environment from) input).0
       setting.positions lent (x ∷ []) (left_by (left_of setting.positions setting.code.functions lent joins))
-      (Counted.give x) heap most (form_cost + drop_cost * length below) (omega (arith, costs)) sound (subst (λ (s : Store). AreReached s below environment lent) store reached)
+      (Counted.give x) heap most (form_cost + drop_cost * length below) (omega (arith, costs)) sound
+      (subst (λ (s : Store). AreReached s below environment lent) store reached)
       (λ after cells sound_then. gives x environment joins from.frames frames waits waits joins_ok reached after cells sound_then
       fits (drop_cost * (1 + length (left_by (left_of setting.positions setting.code.functions lent joins)))
       + (form_cost + drop_cost * length below)) (omega arith))

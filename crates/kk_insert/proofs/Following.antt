@@ -57,7 +57,8 @@ module _ (setting : CoreSetting) (from : CoreConfiguration) (lent : List ℕ) (b
       → (credit : ℕ) → drop_cost * (length (own setting.positions lent
       (left_by (left_of setting.positions setting.code.functions lent joins)) code) + length below) ≤ credit
       → Stands setting.positions setting.code.functions (record { machine = at_code code environment joins from; input = input })
-      credit (with_input (conf (insert setting.positions lent (left_by (left_of setting.positions setting.code.functions lent joins)) code)
+      credit (with_input (conf (insert setting.positions lent
+      (left_by (left_of setting.positions setting.code.functions lent joins)) code)
       environment (image_joins setting.positions setting.code.functions lent joins) frames after) input)
   arrives code environment joins after cells ok joins_ok reached sound credit saved = (
     refl,
@@ -99,7 +100,8 @@ module _ (setting : CoreSetting) (from : CoreConfiguration) (lent : List ℕ) (b
     credit_of owned = drop_cost * (length owned + length below)
 
     abbrev Does : (least most : ℕ) → Action CoreConfiguration → Counted.Counted → Type 0
-    Does least most action code = Follows setting.positions setting.code.functions (inserted_setting setting) least most action input
+    Does least most action code =
+        Follows setting.positions setting.code.functions (inserted_setting setting) least most action input
         (with_input (conf code environment (image_joins setting.positions setting.code.functions lent joins) frames heap) input)
 
     abbrev DoesBy : (CountedState → Type 0) → (least most : ℕ) → Action CoreConfiguration → Counted.Counted → Type 0
@@ -170,7 +172,8 @@ module _ (setting : CoreSetting) (from : CoreConfiguration) (lent : List ℕ) (b
             (image_joins setting.positions setting.code.functions lent joins) frames heap)) input) is)
             (tt, (tt, (tt, (tt, tested))))
             (omega (arith, costs))
-            (dropped_first (owning (branch x positive negative)) positive (credit_of (owning (branch x positive negative))) (omega arith)
+            (dropped_first (owning (branch x positive negative)) positive
+            (credit_of (owning (branch x positive negative))) (omega arith)
             (record {
               bound = ok.bound;
               fine = ok.fine.1.0;
@@ -196,7 +199,8 @@ module _ (setting : CoreSetting) (from : CoreConfiguration) (lent : List ℕ) (b
             (image_joins setting.positions setting.code.functions lent joins) frames heap)) input) is)
             (tt, (tt, (tt, (tt, tested))))
             (omega (arith, costs))
-            (dropped_first (owning (branch x positive negative)) negative (credit_of (owning (branch x positive negative))) (omega arith)
+            (dropped_first (owning (branch x positive negative)) negative
+            (credit_of (owning (branch x positive negative))) (omega arith)
             (record {
               bound = ok.bound;
               fine = ok.fine.1.1;

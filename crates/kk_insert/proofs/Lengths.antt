@@ -10,6 +10,7 @@ use Rattle.kk_counted.specs.Keeping.{values_of}
 use Rattle.kk_insert.specs.Insertion.{before, extra, common, wants}
 use Rattle.kk_insert.proofs.Sets.{Part, among_first, total_append}
 
+-- the sum where each variable weighs 1 is the length
 total_ones : (xs : List ℕ) → total (λ x. 1) xs ≡ length xs
 total_ones [] = refl
 total_ones (x ∷ xs) = omega (arith, total_ones xs)
@@ -19,6 +20,7 @@ pub even_length : (xs ys zs : List ℕ) → AreEven xs (ys ++ zs) → length xs 
 even_length xs ys zs even =
     omega (arith, even (λ x. 1), total_append (λ x. 1) ys zs, total_ones xs, total_ones ys, total_ones zs)
 
+-- the same with two lists on each side
 pub even_append : (xs ys zs ws : List ℕ) → AreEven (xs ++ ys) (zs ++ ws) → length xs + length ys ≡ length zs + length ws
 even_append xs ys zs ws even =
     omega (
@@ -44,6 +46,7 @@ filter_length takes (x ∷ xs) = by_test (takes x) (filter_length takes xs)
     by_test true later = omega (arith, later)
     by_test false later = omega (arith, later)
 
+-- the uses that are not the last ones are no more than the uses
 extra_few : (xs after : List ℕ) → length (extra xs after) ≤ length xs
 extra_few [] after = omega arith
 extra_few (x ∷ xs) after = by_test (is_among (before xs after) x) (extra_few xs after)
@@ -67,6 +70,7 @@ wants_few lent xs after =
     length_append [] zs = omega arith
     length_append (y ∷ ys) zs = omega (arith, length_append ys zs)
 
+-- the arguments at some positions are no more than the arguments
 pub positions_few : (takes : ℕ → Bool) (next : ℕ) (xs : List ℕ) → length (at_positions takes next xs) ≤ length xs
 positions_few takes next [] = omega arith
 positions_few takes next (x ∷ xs) = by_test (takes next) (positions_few takes (suc next) xs)
@@ -81,10 +85,11 @@ pub part_none : (xs : List ℕ) → Part xs [] → length xs ≡ 0
 part_none [] part = refl
 part_none (x ∷ xs) part = absurd (let never : false ≡ true = part x (among_first x xs) in cc)
 
--- the values that are owned, of the function that runs and of those that wait
+-- variables have as many values
 pub values_length : (environment : Environment) (xs : List ℕ) → length (values_of environment xs) ≡ length xs
 values_length environment xs = length-map xs (value_of environment)
 
+-- what is owned: the variables of the function that runs, and the values of those that wait
 pub owned_length : (environment : Environment) (xs : List ℕ) (below : List Value)
     → length (values_of environment xs ++ below) ≡ length xs + length below
 owned_length environment [] below = omega arith

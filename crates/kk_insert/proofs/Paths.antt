@@ -130,7 +130,8 @@ path_next Q setting least most later now events P t u is passing costs rest =
       saved = rest.saved;
       enough = omega (arith, rest.enough);
       paid =
-          let whole : weight_of (lower setting) (suc rest.steps) t ≡ (lower setting).weight t + weight_of (lower setting) rest.steps u
+          let whole : weight_of (lower setting) (suc rest.steps) t
+          ≡ (lower setting).weight t + weight_of (lower setting) rest.steps u
           = ap (λ (next : List Note × CountedState). (lower setting).weight t + weight_of (lower setting) rest.steps next.1) is in
           omega (arith, whole, costs, rest.paid);
       tells = ap (λ (next : List Note × CountedState). next.0 ++ trace (lower setting) rest.steps next.1) is

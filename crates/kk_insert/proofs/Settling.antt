@@ -95,7 +95,8 @@ module _ (setting : CountedSetting) (P : ℕ → CountedState → Type 0) (envir
       let d = dupped (refs (values_of environment now ++ below))
       (λ q. refs_of (value_of environment x) q + refs (values_of environment now ++ below) q)
       (value_of environment x) heap sound.counts (usable x (among_first x xs)) (λ q. refl) in
-      path_less setting (suc least) least most most events P (with_input (conf (dups (x ∷ xs) code) environment joins frames heap) input)
+      path_less setting (suc least) least most most events P
+      (with_input (conf (dups (x ∷ xs) code) environment joins frames heap) input)
       (omega arith) (omega arith)
       (path_step setting least most (dup_cost * length xs + later) [] events P
       (with_input (conf (dups (x ∷ xs) code) environment joins frames heap) input)
@@ -119,7 +120,8 @@ module _ (setting : CountedSetting) (P : ℕ → CountedState → Type 0) (envir
   drops_path (x ∷ xs) now code heap most later costs sound next =
       let d = dropped (refs (values_of environment (x ∷ (xs ++ now)) ++ below)) (refs (values_of environment (xs ++ now) ++ below))
       (value_of environment x) heap sound.counts (λ q. refl) in
-      path_less setting (suc least) least most most events P (with_input (conf (drops (x ∷ xs) code) environment joins frames heap) input)
+      path_less setting (suc least) least most most events P
+      (with_input (conf (drops (x ∷ xs) code) environment joins frames heap) input)
       (omega arith) (omega arith)
       (path_step setting least most (drop_cost * length xs + later) [] events P
       (with_input (conf (drops (x ∷ xs) code) environment joins frames heap) input)

@@ -99,24 +99,28 @@ module _ (setting : CoreSetting) (constructors : List ConstructorTree) (promise 
       → Active setting.positions setting.code.functions code environment joins from credit c
       → CodeFits constructors setting.code code environment joins from → IsTested Test (running code environment joins) from
       → FollowsBy setting.positions setting.code.functions (PassingBy Test (inserted_setting setting)) (inserted_setting setting)
-      (least code) (control_cost (running code environment joins) from.store + credit) (code_step setting code environment joins from)
-      input (with_input c input)
+      (least code) (control_cost (running code environment joins) from.store + credit)
+      (code_step setting code environment joins from) input (with_input c input)
   code_follows Test code environment joins from credit c input active fits tested =
       subst (λ (other : CountedConfiguration). FollowsBy setting.positions setting.code.functions
       (PassingBy Test (inserted_setting setting)) (inserted_setting setting)
-      (least code) (control_cost (running code environment joins) from.store + credit) (code_step setting code environment joins from)
-      input (with_input other input)) (sym active.is)
+      (least code) (control_cost (running code environment joins) from.store + credit)
+      (code_step setting code environment joins from) input (with_input other input)) (sym active.is)
       (by_code code active.code_ok active.sound active.saved fits tested)
     where
       widened : (code : Code)
           → Follows setting.positions setting.code.functions (inserted_setting setting) (least code)
-          (control_cost (running code environment joins) from.store + credit) (code_step setting code environment joins from) input (image active.lent code environment joins active.frames active.heap input)
+          (control_cost (running code environment joins) from.store + credit)
+          (code_step setting code environment joins from) input
+          (image active.lent code environment joins active.frames active.heap input)
           → FollowsBy setting.positions setting.code.functions (PassingBy Test (inserted_setting setting)) (inserted_setting setting)
           (least code) (control_cost (running code environment joins) from.store + credit)
-          (code_step setting code environment joins from) input (image active.lent code environment joins active.frames active.heap input)
+          (code_step setting code environment joins from) input
+          (image active.lent code environment joins active.frames active.heap input)
       widened code path =
           path_by (Passing (inserted_setting setting)) (PassingBy Test (inserted_setting setting)) (inserted_setting setting)
-          (least code) (control_cost (running code environment joins) from.store + credit) (performed (code_step setting code environment joins from) input).0
+          (least code) (control_cost (running code environment joins) from.store + credit)
+          (performed (code_step setting code environment joins from) input).0
           (Stands setting.positions setting.code.functions (performed (code_step setting code environment joins from) input).1)
           (image active.lent code environment joins active.frames active.heap input) (passing_by Test (inserted_setting setting)) path
 
@@ -131,7 +135,8 @@ module _ (setting : CoreSetting) (constructors : List ConstructorTree) (promise 
           → CodeFits constructors setting.code code environment joins from → IsTested Test (running code environment joins) from
           → FollowsBy setting.positions setting.code.functions (PassingBy Test (inserted_setting setting)) (inserted_setting setting)
           (least code) (control_cost (running code environment joins) from.store + credit)
-          (code_step setting code environment joins from) input (image active.lent code environment joins active.frames active.heap input)
+          (code_step setting code environment joins from) input
+          (image active.lent code environment joins active.frames active.heap input)
       by_code (give x) ok sound saved fits tested =
           widened (give x)
           (follows_give setting constructors from active.lent active.below active.heap active.store input x environment joins
@@ -235,21 +240,25 @@ module _ (setting : CoreSetting) (constructors : List ConstructorTree) (promise 
     uses_less (inside x block rest) environment joins from input none = absurd (omega (arith, none))
 
     ends_alike : (control : CoreControl) (s : CoreConfiguration) (credit : ℕ) (c : CountedConfiguration)
-        → StandsAt setting.positions setting.code.functions control s credit c → Counted.counted_end_at c.control ≡ core_end_at control
+        → StandsAt setting.positions setting.code.functions control s credit c
+        → Counted.counted_end_at c.control ≡ core_end_at control
     ends_alike (running code environment joins) s credit c active = ap
         (λ (other : CountedConfiguration). Counted.counted_end_at other.control) active.is
     ends_alike (stopped by) s credit c stands = ap Counted.counted_end_at stands.0
 
     reaches_at : (control : CoreControl) (credit idle : ℕ) (s : CoreState) (t : CountedState) → s.machine.control ≡ control
-        → waiting control ≤ idle → t.input ≡ s.input → StandsAt setting.positions setting.code.functions control s.machine credit t.machine
+        → waiting control ≤ idle → t.input ≡ s.input
+        → StandsAt setting.positions setting.code.functions control s.machine credit t.machine
         → StandsFor s credit t → Sane s
         → Reached credit idle s (upper.step s) t
     reaches_at (running code environment joins) credit idle s t at waits inputs active stands sane =
         subst (λ (next : List Note × CoreState). Reached credit idle s next t) (sym step_is)
-        (by_path credit idle (uses_first code) (least code) (control_cost (running code environment joins) s.machine.store + credit) s
+        (by_path credit idle (uses_first code) (least code)
+        (control_cost (running code environment joins) s.machine.store + credit) s
         (performed (code_step setting code environment joins s.machine) s.input) t
         (subst (λ (i : List ℕ). PathBy Passed (inserted_setting setting) (least code)
-        (control_cost (running code environment joins) s.machine.store + credit) (performed (code_step setting code environment joins s.machine) s.input).0
+        (control_cost (running code environment joins) s.machine.store + credit)
+        (performed (code_step setting code environment joins s.machine) s.input).0
         (StandsFor (performed (code_step setting code environment joins s.machine) s.input).1) (with_input t.machine i))
         (sym inputs)
         (code_follows Test code environment joins s.machine credit t.machine s.input active
@@ -333,7 +342,8 @@ module _ (setting : CoreSetting) (constructors : List ConstructorTree) (promise 
               sound = record { counts = λ q. none_owned q; older = λ at. tt };
               saved = omega (
                 arith,
-                part_none (own setting.positions (lent_of setting.positions setting.code.main promise.main.0) [] promise.main.0.body)
+                part_none
+                    (own setting.positions (lent_of setting.positions setting.code.main promise.main.0) [] promise.main.0.body)
                     (subst (λ (n : ℕ). Part
                     (own setting.positions (lent_of setting.positions setting.code.main promise.main.0) [] promise.main.0.body)
                     (numbers_below n)) promise.main.1.1

@@ -38,9 +38,9 @@ pub fn inserted_code_is_spent()
         → IsSpent positions (inserted positions code) }
 {}
 
-/// An inserted program keeps the meaning of a core program that is never stuck: both machines tell the same notes and end alike, and
-/// the counted steps cost no more than the core's. The counted machine is never stuck, its heap is sound in each state, and no cell
-/// is left where it ends by itself. It is a law, and does nothing.
+/// An inserted program keeps the meaning of a core program that is never stuck: both machines tell the same notes and end alike,
+/// and the counted steps cost no more than the core's. The counted machine is never stuck, its heap is sound in each state, and no
+/// cell is left where it ends by itself. It is a law, and does nothing.
 pub fn inserted_code_keeps_meaning()
     ensures { (setting : CoreSetting) (constructors : List ConstructorTree) (weight : CoreState → ℕ) (input : List ℕ)
         → IsInsertable setting.positions setting.code

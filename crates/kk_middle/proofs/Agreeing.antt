@@ -8,7 +8,8 @@ use Rattle.kk_base.specs.Trace.{IsPrefix}
 -- machines that end after the same steps, where each step weighs so much, weigh as much
 pub even_weights : {S R E W : Type 0} (weight : ℕ) (ending : S → Option W) (step : S → List E × S) (other_ending : R → Option W)
     (other_step : R → List E × R) (n : ℕ) (s : S) (r : R)
-    → ((k : ℕ) → ending_after (weighing (λ s. weight) ending step) k s ≡ ending_after (weighing (λ r. weight) other_ending other_step) k r)
+    → ((k : ℕ) → ending_after (weighing (λ s. weight) ending step) k s
+    ≡ ending_after (weighing (λ r. weight) other_ending other_step) k r)
     → weight_of (weighing (λ s. weight) ending step) n s ≡ weight_of (weighing (λ r. weight) other_ending other_step) n r
 even_weights weight ending step other_ending other_step zero s r endings = refl
 even_weights {S} {R} {E} {W} weight ending step other_ending other_step (suc n) s r endings =

@@ -16,7 +16,7 @@ use Rattle.kk_syntax.specs.Programs.{ConstructorTree, ProgramTree, program_tree,
 use Rattle.kk_syntax.specs.Types.{TypeTree, TypeTrees, unit_type, named, no_type, type, types_of, type_list, type_at}
 use Rattle.kk_syntax.proofs.SameTypes.{same_only, same_itself}
 use Rattle.kk_mono.specs.Grounds.{ground_view, grounds_of, HasTypes, AreGiven}
-use Rattle.kk_mono.specs.Instances.{GroundConstructorTree, ground_constructors, ground_constructor, makers}
+use Rattle.kk_mono.specs.Instances.{GroundConstructorTree, ground_constructors, ground_constructor}
 use Rattle.kk_core.specs.CellTypes.{has_any, makes_cells, has_cells, made_type, TellsCells}
 use Rattle.kk_core.specs.ConstructorShapes.{has_fields, AreConsistent}
 use Rattle.kk_core.specs.declared.form.Core.{Core}

@@ -1,6 +1,6 @@
 -- The ground constructors of an accepted program have few fields, and its instances are few.
-use Rattle.std.proofs.Common.{◌≡◌, ◌≤◌, ◌<◌, ℕ, zero, suc, Bool, List, [], ◌∷◌, length, map, Some, arith, refl, sym, ap, ◌∙◌}
-use Rattle.std.specs.Prelude.{All, slice_get, slice_index_or}
+use Rattle.std.proofs.Common.{◌≡◌, ◌≤◌, ℕ, zero, suc, Bool, List, [], ◌∷◌, length, map, arith, refl, sym, ap, ◌∙◌}
+use Rattle.std.specs.Prelude.{All, slice_index_or}
 use Rattle.std.proofs.lemmas.List.{length-map}
 use Rattle.kk_syntax.specs.declared.ground.Ground.{Ground}
 use Rattle.kk_syntax.specs.declared.ground.GroundConstructor.{GroundConstructor}

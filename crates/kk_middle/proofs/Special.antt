@@ -46,12 +46,13 @@ module _ (keeps_spent : KeepsSpent) (runs_the_same : RunsTheSame) (keeps_sound :
 
   -- a setting on which the store machine tells and ends as on another, on which it agrees with the code that is specialised
   module _ (setting made : Setting) (greatest : ℕ) (up : ℕ → ℕ)
-      (traces : (n : ℕ) → trace (store_machine made) n (first_state made input) ≡ trace (store_machine setting) n (first_state setting input))
+      (traces : (n : ℕ) → trace (store_machine made) n (first_state made input)
+      ≡ trace (store_machine setting) n (first_state setting input))
       (endings : (n : ℕ) → ending_after (store_machine made) n (first_state made input)
       ≡ ending_after (store_machine setting) n (first_state setting input))
       (agree : (nodes : ℕ) → greatest ≤ nodes
-      → Agree (heavy_store_machine (256 * (nodes * nodes)) made) (counted_machine counted_cost counted) 0 up (first_state made input)
-      (counted_first_state counted input))
+      → Agree (heavy_store_machine (256 * (nodes * nodes)) made) (counted_machine counted_cost counted) 0 up
+      (first_state made input) (counted_first_state counted input))
       (goes : (weights : CountedState → ℕ) (n : ℕ) → NotStuck (counted_after weights counted input n).control)
       (clean : (weights : CountedState → ℕ) (n : ℕ)
       → EndsClean (counted_after weights counted input n).control (counted_after weights counted input n).heap) where

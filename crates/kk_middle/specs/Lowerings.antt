@@ -1,5 +1,5 @@
 -- What is known of the counted form of an accepted program, so that it can be lowered.
-use Rattle.std.specs.Prelude.{◌≡◌, ◌≤◌, ◌<◌, ℕ, List, length, map}
+use Rattle.std.specs.Prelude.{◌≡◌, ◌≤◌, ◌<◌, ℕ, length, map}
 use Rattle.kk_syntax.specs.declared.ground.Ground.{Ground}
 use Rattle.kk_core.specs.Sizes.{most_instances}
 use Rattle.kk_counted.specs.CountBounds.{AllSpendAtMost}

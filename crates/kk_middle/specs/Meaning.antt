@@ -37,10 +37,10 @@ store_steps instances m = (m * pace + pace + 1) * (greatest_nodes instances + 1)
 
 -- On an input both machines tell the same notes and end alike: what the store machine does in n steps the counted machine does in
 -- some, and what the counted machine does in m steps the store machine does within `up m`. The counted steps that do n steps of the
--- store machine cost n times 256 times the square of the nodes of the greatest body at most, or of a greater number. The k-th note of
--- one is the k-th of the other: so where a cell is made, as many cells are counted as places are live. The counted machine is never
--- stuck, its heap is sound in each state, operators and prints take values without cells, and where it has ended by itself no cell is
--- left. So what is known of code that spends what it owns is known of this code.
+-- store machine cost at most n times 256 times the square of the nodes of the greatest body, or of a greater number. The k-th note
+-- of one is the k-th of the other: so where a cell is made, as many cells are counted as places are live. The counted machine is
+-- never stuck, its heap is sound in each state, operators and prints take values without cells, and where it has ended by itself no
+-- cell is left. So what is known of code that spends what it owns is known of this code.
 pub record KeepsMeaning (setting : Setting) (positions : PositionTable) (counted : CountedSetting) (greatest : ℕ) (up : ℕ → ℕ)
     (input : List ℕ) : Type 0 where
   pub agrees : (nodes : ℕ) → greatest ≤ nodes

@@ -1,4 +1,4 @@
-use Rattle.std.proofs.Common.{◌≡◌, ◌≤◌, ℕ, List, length, map, sym, ap, subst, ◌∙◌, arith}
+use Rattle.std.proofs.Common.{◌≡◌, ◌≤◌, List, length, map, sym, subst, ◌∙◌}
 use Rattle.kk_syntax.specs.GroundPrograms.{ground_program}
 use Rattle.kk_syntax.specs.GroundTyping.{table_of}
 use Rattle.kk_syntax.specs.PositionsOf.{PositionTable}
@@ -12,7 +12,7 @@ use Rattle.kk_counted.specs.Marks.{CellMarks, field_marks}
 use Rattle.kk_insert.specs.Insertion.{inserted}
 use Rattle.kk_insert.specs.Limits.{most_fields, most_spent}
 use Rattle.kk_insert.specs.MarkTables.{marks_of_types}
-use Rattle.kk_dropspec.specs.Specialised.{special_function, special_program}
+use Rattle.kk_dropspec.specs.Specialised.{special_function}
 use Rattle.kk_middle.specs.Compiled.{instance_positions}
 use Rattle.kk_middle.specs.Lowerings.{marks_in}
 use Rattle.kk_middle.proofs.Compiling.{all_have_rows}

@@ -3,7 +3,6 @@ use Rattle.kk_base.specs.Agreements.{Agree}
 use Rattle.kk_base.proofs.Agreements.{agree_through}
 use Rattle.kk_syntax.specs.GroundPrograms.{ground_program}
 use Rattle.kk_syntax.specs.GroundTyping.{table_of, IsGroundTyped}
-use Rattle.kk_syntax.specs.OwnedPositions.{Told, owned_in, ClosedUnderTailCalls}
 use Rattle.kk_syntax.specs.PositionsOf.{PositionTable}
 use Rattle.kk_syntax.specs.Programs.{ProgramTree, program_tree}
 use Rattle.kk_syntax.specs.Shapes.{greatest_nodes}
@@ -32,7 +31,7 @@ use Rattle.kk_counted.proofs.Marking.{always_fit, unmarked_fits}
 use Rattle.kk_insert.specs.Insertion.{inserted}
 use Rattle.kk_insert.specs.MarkTables.{marks_of_types}
 use Rattle.kk_insert.specs.Meaning as Insert
-use Rattle.kk_insert.specs.Promise.{IsInsertable, TailsLendOn}
+use Rattle.kk_insert.specs.Promise.{IsInsertable}
 use Rattle.kk_insert.proofs.MarkedPrograms.{typed_is_marked, grounds_are}
 use Rattle.kk_dropspec.specs.Specialised.{special_setting}
 use Rattle.kk_middle.specs.Compiled.{instance_positions}
@@ -41,7 +40,6 @@ use Rattle.kk_instances.proofs.Meaning.{typed as ground_typed, same_trace, same_
 use Rattle.kk_middle.proofs.Programs.{compiled_program}
 use Rattle.kk_middle.proofs.Special.{special_keeps}
 use Rattle.kk_middle.proofs.Marked.{control_fits}
-use Rattle.kk_norm.proofs.Within.{instances_are_within}
 use Rattle.kk_middle.proofs.meaning.compiled_programs_keep_meaning.Goals as goal
 
 pub returns : goal.returns
