@@ -1,5 +1,5 @@
 -- How `bench` comes to its answers.
-use Rattle.std.proofs.Common.{◌≡◌, ℕ, List, [], length, Bool, true, false, Some, refl, sym, subst, ◌∙◌, inr}
+use Rattle.std.proofs.Common.{◌≡◌, ℕ, List, [], length, Bool, true, false, Some, refl, sym, ap, subst, ◌∙◌, inr}
 use Rattle.kk_base.specs.Sink.{SinkState}
 use Rattle.kk_base.specs.Source.{SourceState}
 use Rattle.kk_base.specs.Store.{StoreState}
@@ -22,9 +22,35 @@ use Rattle.kk_perform.specs.Internal.{answer_of_cause, HasStopped, AnswersBench,
 use Rattle.kk_perform.specs.Outside.{KeepsFiles, outside}
 use Rattle.kk_perform.specs.SourceRuns.{halt_for}
 use Rattle.kk_perform.proofs.ImageRuns.{stops_alike}
-use Rattle.kk_perform.proofs.Rows.{text_unbuilt}
+use Rattle.kk_perform.proofs.Rows.{text_unbuilt, never}
 use Rattle.kk_perform.proofs.SourceRuns.{means_run}
 use Rattle.kk_perform.proofs.Stores.{same_files}
+
+-- the one end of which the statistics are told
+ends_by_itself : (end : RunEnd) → tells_statistics true end ≡ true → end ≡ OfRun.Ended
+ends_by_itself OfRun.Ended asked = refl
+ends_by_itself OfRun.HeapFull asked = absurd (never asked)
+ends_by_itself OfRun.StackFull asked = absurd (never asked)
+ends_by_itself OfRun.StepsSpent asked = absurd (never asked)
+ends_by_itself OfRun.InputFault asked = absurd (never asked)
+ends_by_itself OfRun.OutputFault asked = absurd (never asked)
+
+-- the answer to a run, with a line and without
+module _ (halt : Halt) (machine : Simulation) (cells depth steps source image : ℕ) (out out' : SinkState) where
+  pub answered_with_line : (end told : RunEnd) (whole : Bool) (instructions free : ℕ) → halt_for end ≡ halt → tells_statistics true end ≡ true
+      → instructions ≡ machine.executed → free ≡ free_cells cells (processor_of machine [] [])
+      → Puts whole (summary_line source image instructions free) out out' → told ≡ told_end whole
+      → AnswersBench halt machine cells depth steps source image out out' (Ran told cells depth steps)
+  answered_with_line end told whole instructions free is asked executed left puts told_is =
+      let P : RunEnd → Type 0 = λ e. AnswersBench halt machine cells depth steps source image out out' (Ran e cells depth steps) in
+      subst P (sym told_is) (with_line whole instructions free (sym (ap halt_for (ends_by_itself end asked)) ∙ is) executed left puts)
+
+-- what is built of the generated text
+pub generated_built : (seed size cells depth : ℕ) (text slice image : List ℕ) → text ≡ generated seed size → slice ≡ text → IsBuilt slice cells depth image
+    → IsBuilt (generated seed size) cells depth image
+generated_built seed size cells depth text slice image is same made =
+    let P : List ℕ → Type 0 = λ t. IsBuilt t cells depth image in
+    subst P (same ∙ is) made
 
 module _ (store : StoreState) (seed size cells depth steps : ℕ) where
   abbrev request : Request
@@ -38,13 +64,6 @@ module _ (store : StoreState) (seed size cells depth steps : ℕ) where
       → slice ≡ text → answer ≡ answer_of_cause cause → RefusesToBuild slice cause → Answers (outside store input out image) (outside store input out image) (Some request) answer
   generated_unbuilt input out image text slice cause answer is same told refuses =
       text_unbuilt store store input out image text slice cause answer request refl same told is untouched refuses
-
-  -- what is built of the generated text
-  pub generated_built : (text slice image : List ℕ) → text ≡ generated seed size → slice ≡ text → IsBuilt slice cells depth image
-      → IsBuilt (generated seed size) cells depth image
-  generated_built text slice image is same made =
-      let P : List ℕ → Type 0 = λ t. IsBuilt t cells depth image in
-      subst P (same ∙ is) made
 
   -- what becomes of its image
   module _ (image image' : List ℕ) (made : IsBuilt (generated seed size) cells depth image') (input input' : SourceState) (output middle output' : SinkState) where

@@ -38,7 +38,7 @@ use Rattle.kk_perform.proofs.Stores.{same_files, then_kept, then_written, then_u
 abbrev outside : StoreState → SourceState → SinkState → List ℕ → Outside
 outside files input out image = record { files = files; input = input; out = out; image = image }
 
-never : false ≡ true → ⊥
+pub never : false ≡ true → ⊥
 never is = cc
 
 module _ (store store' : StoreState) (input : SourceState) (out : SinkState) (image : List ℕ) where
