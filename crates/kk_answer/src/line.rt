@@ -173,7 +173,13 @@ fn stats_line<'a>(instructions: u64, free: u32, cells: u32) -> Line<'a>
 
 /// Puts the line that tells what the run of a generated program took: the bytes of its text and of its image, the executed
 /// instructions and the free cells. False where a put failed, and only the beginning of the line was put.
-pub fn put_summary<O: Sink>(out: &mut O, source: u64, image: u64, instructions: u64, free: u32) -> bool
+pub fn put_summary<O: Sink>(
+    out: &mut O,
+    source: u64,
+    image: u64,
+    instructions: u64,
+    free: u32,
+) -> bool
     ensures { Puts result (summary_line source image instructions free) (O.state out.old) (O.state out.new) }
 {
     summary_line(source, image, instructions, free).put(out)

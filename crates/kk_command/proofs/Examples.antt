@@ -11,7 +11,8 @@ no_help : request_of (codes "kokarv" ∷ codes "--help" ∷ []) ≡ None
 unfolding clap_on_literals
 no_help = refl
 
-benches : request_of (codes "kokarv" ∷ codes "bench" ∷ codes "4294967295" ∷ codes "--steps" ∷ codes "7" ∷ codes "100" ∷ []) ≡ Some (bench 4294967295 100 65536 4096 7)
+benches : request_of (codes "kokarv" ∷ codes "bench" ∷ codes "4294967295" ∷ codes "--steps" ∷ codes "7" ∷ codes "100" ∷ [])
+    ≡ Some (bench 4294967295 100 65536 4096 7)
 unfolding clap_on_literals
 benches = refl
 

@@ -33,7 +33,8 @@ pub line_told : (app : App) (words : List Text) (m : ArgMatches) → app ≡ lin
 line_told app words m is tells = told words m (subst (λ (a : App). Tells a words m) is tells)
 
 -- a kind that is not equal to want of memory, by the test, is another
-pub unlike : (kind of_error : ErrorKind) (same : Bool) → kind ≡ of_error → same ≡ sameb the_type kind OutOfMemory → same ≡ false → of_error ≡ OutOfMemory → ⊥
+pub unlike : (kind of_error : ErrorKind) (same : Bool) → kind ≡ of_error → same ≡ sameb the_type kind OutOfMemory → same ≡ false
+    → of_error ≡ OutOfMemory → ⊥
 unlike kind of_error same is tested fails wants =
     let S : ErrorKind → Type 0 = λ k. same ≡ sameb the_type k OutOfMemory in
     let equal : same ≡ true = subst S (is ∙ wants) tested in
@@ -46,12 +47,14 @@ among_some kind (first ∷ rest) among = grind (arith, nat_tests)
 refused : (words : List Text) → is_empty (fault_of line_app words) ≡ false → request_of words ≡ None
 refused words some = ap (λ (empty : Bool). cond empty (entered_request (subcommand_of line_app words)) None) some
 
-by_kind : (words : List Text) (error : Error) → HasKind (fault_of line_app words) error → (kind_of error ≡ OutOfMemory → ⊥) → request_of words ≡ None
+by_kind : (words : List Text) (error : Error) → HasKind (fault_of line_app words) error → (kind_of error ≡ OutOfMemory → ⊥)
+    → request_of words ≡ None
 by_kind words error (inl wants) other = absurd (other wants)
 by_kind words error (inr among) other = refused words (among_some (kind_of error) (fault_of line_app words) among)
 
 -- a line that clap refuses, and not for want of memory, has no command
-pub line_refused : (app : App) (words : List Text) (error : Error) → app ≡ line_app → (is_simple_and_free app ≡ true → HasKind (fault_of app words) error)
+pub line_refused : (app : App) (words : List Text) (error : Error) → app ≡ line_app
+    → (is_simple_and_free app ≡ true → HasKind (fault_of app words) error)
     → (kind_of error ≡ OutOfMemory → ⊥) → None ≡ request_of words
 line_refused app words error is kinds other =
     let K : App → Type 0 = λ a. is_simple_and_free a ≡ true → HasKind (fault_of a words) error in

@@ -10,8 +10,8 @@ use Rattle.kk_base.specs.Sizes.{greatest_cells, greatest_depth}
 use Rattle.kk_command.specs.ProgramSizes.{least_size, greatest_size}
 
 -- what the program is asked for: to judge the text in a file; to build its image into another; to build its image and run it, and
--- perhaps to tell what the run took; to run the image in a file; to run the text in a file by its definition; to build the image of a
--- program that is generated, run it and tell what that took
+-- perhaps to tell what the run took; to run the image in a file; to run the text in a file by its definition; to build the image of
+-- a program that is generated, to run it and to tell what that took
 pub data Request : Type 0 where
   check : (file : List ℕ) → Request
   build : (file out : List ℕ) (cells depth : ℕ) → Request
@@ -92,7 +92,8 @@ abbrev pub with_run_commands : App → App
 with_run_commands app = with_subcommand (with_subcommand (with_subcommand app run_app.top) sim_app.top) eval_app.top
 
 abbrev pub line_app : App
-line_app = with_subcommand (with_run_commands (with_subcommand (with_subcommand bare_app check_app.top) build_app.top)) bench_app.top
+line_app =
+    with_subcommand (with_run_commands (with_subcommand (with_subcommand bare_app check_app.top) build_app.top)) bench_app.top
 
 -- ---- the numbers
 

@@ -37,16 +37,19 @@ ends_by_itself OfRun.OutputFault asked = absurd (never asked)
 
 -- the answer to a run, with a line and without
 module _ (halt : Halt) (machine : Simulation) (cells depth steps source image : ℕ) (out out' : SinkState) where
-  pub answered_with_line : (end told : RunEnd) (whole : Bool) (instructions free : ℕ) → halt_for end ≡ halt → tells_statistics true end ≡ true
+  pub answered_with_line : (end told : RunEnd) (whole : Bool) (instructions free : ℕ) → halt_for end ≡ halt
+      → tells_statistics true end ≡ true
       → instructions ≡ machine.executed → free ≡ free_cells cells (processor_of machine [] [])
       → Puts whole (summary_line source image instructions free) out out' → told ≡ told_end whole
       → AnswersBench halt machine cells depth steps source image out out' (Ran told cells depth steps)
   answered_with_line end told whole instructions free is asked executed left puts told_is =
       let P : RunEnd → Type 0 = λ e. AnswersBench halt machine cells depth steps source image out out' (Ran e cells depth steps) in
-      subst P (sym told_is) (with_line whole instructions free (sym (ap halt_for (ends_by_itself end asked)) ∙ is) executed left puts)
+      let stops = sym (ap halt_for (ends_by_itself end asked)) ∙ is in
+      subst P (sym told_is) (with_line whole instructions free stops executed left puts)
 
 -- what is built of the generated text
-pub generated_built : (seed size cells depth : ℕ) (text slice image : List ℕ) → text ≡ generated seed size → slice ≡ text → IsBuilt slice cells depth image
+pub generated_built : (seed size cells depth : ℕ) (text slice image : List ℕ) → text ≡ generated seed size → slice ≡ text
+    → IsBuilt slice cells depth image
     → IsBuilt (generated seed size) cells depth image
 generated_built seed size cells depth text slice image is same made =
     let P : List ℕ → Type 0 = λ t. IsBuilt t cells depth image in
@@ -60,13 +63,15 @@ module _ (store : StoreState) (seed size cells depth steps : ℕ) where
   untouched = record { files = same_files store.files; last_failed = refl; faults = refl }
 
   -- a generated text of which nothing is built
-  pub generated_unbuilt : (input : SourceState) (out : SinkState) (image text slice : List ℕ) (cause : BuildError) (answer : Answer) → text ≡ generated seed size
-      → slice ≡ text → answer ≡ answer_of_cause cause → RefusesToBuild slice cause → Answers (outside store input out image) (outside store input out image) (Some request) answer
+  pub generated_unbuilt : (input : SourceState) (out : SinkState) (image text slice : List ℕ) (cause : BuildError) (answer : Answer)
+      → text ≡ generated seed size → slice ≡ text → answer ≡ answer_of_cause cause → RefusesToBuild slice cause
+      → Answers (outside store input out image) (outside store input out image) (Some request) answer
   generated_unbuilt input out image text slice cause answer is same told refuses =
       text_unbuilt store store input out image text slice cause answer request refl same told is untouched refuses
 
   -- what becomes of its image
-  module _ (image image' : List ℕ) (made : IsBuilt (generated seed size) cells depth image') (input input' : SourceState) (output middle output' : SinkState) where
+  module _ (image image' : List ℕ) (made : IsBuilt (generated seed size) cells depth image') (input input' : SourceState)
+      (output middle output' : SinkState) where
     -- what `bench` comes to, by its answer
     abbrev Comes : Answer → Type 0
     Comes answer = Answers (outside store input output image) (outside store input' output' image') (Some request) answer
@@ -77,35 +82,46 @@ module _ (store : StoreState) (seed size cells depth steps : ℕ) where
         let S : SinkState → Type 0 = λ out. HasStopped image' steps (halt_for end) machine input input' output out in
         let now = subst S (sym same) has in
         bench_stopped seed size cells depth steps end quiet made now.runs
-        (means_run made.program image' cells depth made.setting made.is_run made.agrees end now.runs.count now.runs.events now.runs.done) untouched
+        (means_run made.program image' cells depth made.setting made.is_run made.agrees end now.runs.count now.runs.events
+        now.runs.done) untouched
 
-    ended_so : (machine : Simulation) (whole : Bool) (instructions free : ℕ) → instructions ≡ machine.executed → free ≡ free_cells cells (processor_of machine [] [])
+    ended_so : (machine : Simulation) (whole : Bool) (instructions free : ℕ) → instructions ≡ machine.executed
+        → free ≡ free_cells cells (processor_of machine [] [])
         → HasStopped image' steps (halt_for OfRun.Ended) machine input input' output middle
-        → Puts whole (summary_line (length (generated seed size)) (length image') instructions free) middle output' → Comes (Ran (told_end whole) cells depth steps)
+        → Puts whole (summary_line (length (generated seed size)) (length image') instructions free) middle output'
+        → Comes (Ran (told_end whole) cells depth steps)
     ended_so machine whole instructions free executed left has puts =
         let is : IsMeasured image' has.runs.count has.runs.events cells instructions free =
         λ input rest takes. let both = has.measured cells input rest takes in (both.0 ∙ sym executed, both.1 ∙ sym left) in
         bench_ended seed size cells depth steps instructions free whole middle made has.runs
-        (means_run made.program image' cells depth made.setting made.is_run made.agrees OfRun.Ended has.runs.count has.runs.events has.runs.done) is puts untouched
+        (means_run made.program image' cells depth made.setting made.is_run made.agrees OfRun.Ended has.runs.count has.runs.events
+        has.runs.done) is puts untouched
 
-    by_answer : (halt : Halt) (machine : Simulation) (answer : Answer) → HasStopped image' steps halt machine input input' output middle
-        → AnswersBench halt machine cells depth steps (length (generated seed size)) (length image') middle output' answer → Comes answer
+    by_answer : (halt : Halt) (machine : Simulation) (answer : Answer)
+        → HasStopped image' steps halt machine input input' output middle
+        → AnswersBench halt machine cells depth steps (length (generated seed size)) (length image') middle output' answer
+        → Comes answer
     by_answer halt machine _ has (without_line end is quiet same) =
         stopped_so machine end quiet same (stops_alike image' steps halt (halt_for end) machine input input' output middle is has)
     by_answer halt machine _ has (with_line whole instructions free is executed left puts) =
-        ended_so machine whole instructions free executed left (stops_alike image' steps halt (halt_for OfRun.Ended) machine input input' output middle is has) puts
+        ended_so machine whole instructions free executed left
+        (stops_alike image' steps halt (halt_for OfRun.Ended) machine input input' output middle is has) puts
 
-    pub generated_ran : (slice : List ℕ) (halt : Halt) (machine : Simulation) (source bytes : ℕ) (answer : Answer) → slice ≡ image' → source ≡ length (generated seed size)
+    pub generated_ran : (slice : List ℕ) (halt : Halt) (machine : Simulation) (source bytes : ℕ) (answer : Answer) → slice ≡ image'
+        → source ≡ length (generated seed size)
         → bytes ≡ length image' → HasStopped slice steps halt machine input input' output middle
         → AnswersBench halt machine cells depth steps source bytes middle output' answer → Comes answer
     generated_ran slice halt machine source bytes answer same source_is bytes_are has answers =
         let P : List ℕ → Type 0 = λ held. HasStopped held steps halt machine input input' output middle in
         let Q : ℕ → Type 0 = λ n. AnswersBench halt machine cells depth steps n bytes middle output' answer in
-        let R : ℕ → Type 0 = λ n. AnswersBench halt machine cells depth steps (length (generated seed size)) n middle output' answer in
+        let text = length (generated seed size) in
+        let R : ℕ → Type 0 = λ n. AnswersBench halt machine cells depth steps text n middle output' answer in
         by_answer halt machine answer (subst P same has) (subst R bytes_are (subst Q source_is answers))
 
   -- the image could not be loaded for want of memory
-  pub generated_idle : (image image' : List ℕ) → IsBuilt (generated seed size) cells depth image' → (input input' : SourceState) (output output' : SinkState)
-      → input' ≡ input → output' ≡ output → Answers (outside store input output image) (outside store input' output' image') (Some request) NoMemory
+  pub generated_idle : (image image' : List ℕ) → IsBuilt (generated seed size) cells depth image'
+      → (input input' : SourceState) (output output' : SinkState)
+      → input' ≡ input → output' ≡ output
+      → Answers (outside store input output image) (outside store input' output' image') (Some request) NoMemory
   generated_idle image image' made input input' output output' same_input same_out =
       no_memory (Some request) untouched (record { input = same_input; out = same_out }) (inr made)

@@ -71,7 +71,8 @@ module _ (before after : Outside) (err err' : SinkState) (faultless : Faultless 
   no_source_fault setting steps OfRun.OutputFault runs = absurd (faultless.out runs.output_faults)
 
   -- a line of `bench` that was not put whole is a fault of the output
-  no_bench_fault : (image line : List ℕ) (steps : ℕ) (whole : Bool) (middle : SinkState) → RunsImage image steps (halt_for OfRun.Ended) before.input after.input before.out middle
+  no_bench_fault : (image line : List ℕ) (steps : ℕ) (whole : Bool) (middle : SinkState)
+      → RunsImage image steps (halt_for OfRun.Ended) before.input after.input before.out middle
       → Puts whole line middle after.out → is_fault_status (run_status (told_end whole)) ≡ false
   no_bench_fault image line steps true middle runs puts = refl
   no_bench_fault image line steps false middle runs puts =
@@ -93,7 +94,8 @@ module _ (before after : Outside) (err err' : SinkState) (faultless : Faultless 
   no_answer_fault _ _ (simulated file steps halt has loads runs kept) = no_halt_fault after.image steps halt runs
   no_answer_fault _ _ (evaluated file text cells depth steps end program setting has is run runs kept image) = no_source_fault setting steps end runs
   no_answer_fault _ _ (cut_short file text cells depth steps program setting has is run runs kept image) = refl
-  no_answer_fault _ _ (bench_stopped seed size cells depth steps end quiet made runs means kept) = no_run_fault after.image steps end runs
+  no_answer_fault _ _ (bench_stopped seed size cells depth steps end quiet made runs means kept) =
+      no_run_fault after.image steps end runs
   no_answer_fault _ _ (bench_ended seed size cells depth steps instructions free whole middle made runs means is puts kept) =
       no_bench_fault after.image _ steps whole middle runs puts
 

@@ -72,7 +72,8 @@ abbrev pub tells_statistics : Bool → RunEnd → Bool
 tells_statistics stats OfRun.Ended = stats
 tells_statistics stats _ = false
 
--- how `bench` ends where the program ended by itself: with an output fault, where the line behind the program's output could not be put whole
+-- how `bench` ends where the program ended by itself: with an output fault, where the line behind the program's output could not be put
+-- whole
 abbrev pub told_end : Bool → RunEnd
 told_end true = OfRun.Ended
 told_end false = OfRun.OutputFault
@@ -93,12 +94,15 @@ pub data Answers (before after : Outside) : Option Request → Answer → Type 0
       → (after.image ≡ before.image) ⊎ IsRequestedImage request before.files after.image → Answers before after request NoMemory
   -- FILE or IMAGE could not be read
   unread : (request : Request) (name : Bor (List ℕ)) → file_of request ≡ Some name.now
-      → FailsToRead name.now before.files after.files → KeepsStreams before after → after.image ≡ before.image → Answers before after (Some request) (FileFault name)
+      → FailsToRead name.now before.files after.files → KeepsStreams before after → after.image ≡ before.image
+      → Answers before after (Some request) (FileFault name)
   -- the text is refused, for its first failure
-  refused : (request : Request) (text : List ℕ) (refusal : Refusal) → HasRequestedText request text before.files → IsRefusalOf text refusal
+  refused : (request : Request) (text : List ℕ) (refusal : Refusal) → HasRequestedText request text before.files
+      → IsRefusalOf text refusal
       → KeepsAll before after → Answers before after (Some request) (Refused refusal)
   -- build, run, bench: the text is accepted, and no image of its program can be built yet
-  not_built : (request : Request) (text : List ℕ) → builds request ≡ true → HasRequestedText request text before.files → IsNotBuilt text
+  not_built : (request : Request) (text : List ℕ) → builds request ≡ true → HasRequestedText request text before.files
+      → IsNotBuilt text
       → KeepsAll before after → Answers before after (Some request) NotBuilt
   -- check: the text is accepted
   checked : (file text : List ℕ) (program : ProgramTree) → HasText file text before.files → IsProgramOf text program
@@ -136,18 +140,22 @@ pub data Answers (before after : Outside) : Option Request → Answer → Type 0
   cut_short : (file text : List ℕ) (cells depth steps : ℕ) (program : ProgramTree) (setting : Setting) → HasText file text before.files → IsProgramOf text program
       → IsRun program cells depth setting → RunsOutOfMemory setting steps before.input after.input before.out after.out → KeepsFiles before.files after.files
       → after.image ≡ before.image → Answers before after (Some (eval file cells depth steps)) NoMemory
-  -- bench: the image of the generated program ran, for at most `steps` instructions, and stopped so before the program ended by itself; what
-  -- it did is what the program means
-  bench_stopped : (seed size cells depth steps : ℕ) (end : RunEnd) → tells_statistics true end ≡ false → (made : IsBuilt (generated seed size) cells depth after.image)
+  -- bench: the image of the generated program ran, for at most `steps` instructions, and stopped so before the program ended by
+  -- itself; what it did is what the program means
+  bench_stopped : (seed size cells depth steps : ℕ) (end : RunEnd) → tells_statistics true end ≡ false
+      → (made : IsBuilt (generated seed size) cells depth after.image)
       (runs : RunsImage after.image steps (halt_for end) before.input after.input before.out after.out)
       → MeansRun made.program cells depth end runs.events → KeepsFiles before.files after.files
       → Answers before after (Some (bench seed size cells depth steps)) (Ran end cells depth steps)
-  -- bench: the same, where the program ended by itself; so many instructions were executed, and so many of the cells are free. Then the line
-  -- that tells this and the bytes of the text and of the image was put on the output, whole or in part
-  bench_ended : (seed size cells depth steps instructions free : ℕ) (whole : Bool) (middle : SinkState) (made : IsBuilt (generated seed size) cells depth after.image)
+  -- bench: the same, where the program ended by itself; so many instructions were executed, and so many of the cells are free. Then
+  -- the line that tells this and the bytes of the text and of the image was put on the output, whole or in part
+  bench_ended : (seed size cells depth steps instructions free : ℕ) (whole : Bool) (middle : SinkState)
+      (made : IsBuilt (generated seed size) cells depth after.image)
       (runs : RunsImage after.image steps (halt_for OfRun.Ended) before.input after.input before.out middle)
-      → MeansRun made.program cells depth OfRun.Ended runs.events → IsMeasured after.image runs.count runs.events cells instructions free
-      → Puts whole (summary_line (length (generated seed size)) (length after.image) instructions free) middle after.out → KeepsFiles before.files after.files
+      → MeansRun made.program cells depth OfRun.Ended runs.events
+      → IsMeasured after.image runs.count runs.events cells instructions free
+      → Puts whole (summary_line (length (generated seed size)) (length after.image) instructions free) middle after.out
+      → KeepsFiles before.files after.files
       → Answers before after (Some (bench seed size cells depth steps)) (Ran (told_end whole) cells depth steps)
 
 -- the words of a line end with a status, by one of their answers

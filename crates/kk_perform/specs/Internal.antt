@@ -46,9 +46,10 @@ pub data AnswersRun (halt : Halt) (machine : Simulation) (cells depth steps : �
       → instructions ≡ machine.executed → free ≡ free_cells cells (processor_of machine [] [])
       → AnswersRun halt machine cells depth steps stats (Measured instructions free cells)
 
--- the answer to a run of a generated program, by why its image stopped and what the machine is then: a text and an image of so many bytes,
--- and what was put on the output
-pub data AnswersBench (halt : Halt) (machine : Simulation) (cells depth steps source image : ℕ) (out out' : SinkState) : Answer → Type 0 where
+-- the answer to a run of a generated program, whose text and image have so many bytes, by why its image stopped and what the machine
+-- is then, with what was put on the output behind it
+pub data AnswersBench (halt : Halt) (machine : Simulation) (cells depth steps source image : ℕ) (out out' : SinkState)
+    : Answer → Type 0 where
   without_line : (end : RunEnd) → halt_for end ≡ halt → tells_statistics true end ≡ false → out' ≡ out
       → AnswersBench halt machine cells depth steps source image out out' (Ran end cells depth steps)
   with_line : (whole : Bool) (instructions free : ℕ) → halt_for OfRun.Ended ≡ halt → instructions ≡ machine.executed

@@ -19,8 +19,8 @@ use kk_command::{Generation, Sizes};
 use kk_gen::program;
 use std::alloc::Global;
 
-/// Builds the image of a generated program and runs it. Where the program ends by itself, the line that tells what its run took is put
-/// behind its output.
+/// Builds the image of a generated program and runs it. Where the program ends by itself, the line that tells what its run
+/// took is put behind its output.
 pub fn bench_program<'a, I: Source, O: Sink>(
     alloc: Global,
     generation: Generation,
@@ -30,7 +30,9 @@ pub fn bench_program<'a, I: Source, O: Sink>(
     out: &mut O,
     image: &mut Bytes,
 ) -> Answer<'a>
-    ensures { (files : StoreState) → Answers (outside files (I.state input.old) (O.state out.old) image.old) (outside files (I.state input.new) (O.state out.new) image.new) (Some (bench generation.seed generation.size sizes.cells sizes.depth steps)) result }
+    ensures { (files : StoreState) → Answers
+        (outside files (I.state input.old) (O.state out.old) image.old) (outside files (I.state input.new) (O.state out.new) image.new)
+        (Some (bench generation.seed generation.size sizes.cells sizes.depth steps)) result }
 {
     let text = match program(alloc, generation.seed, generation.size) {
         Ok(text) => text,
@@ -60,7 +62,8 @@ fn bench_answer<'a, O: Sink>(
     out: &mut O,
 ) -> Answer<'a>
     requires { ExitsWell exit_of (ending_at stopped.now.halt) }
-    ensures { AnswersBench stopped.now.halt stopped.now.machine sizes.cells sizes.depth steps source image (O.state out.old) (O.state out.new) result }
+    ensures { AnswersBench stopped.now.halt stopped.now.machine sizes.cells sizes.depth steps source image
+        (O.state out.old) (O.state out.new) result }
 {
     let end = run_end(stopped.halt);
     let cells = sizes.cells;

@@ -574,8 +574,8 @@ fn runs_images(rt: HostRuntime) -> Result<(), NoMemory> {
     Ok(())
 }
 
-/// Does `bench` for the program of seed 1 and size 1, which adds 65 to each of the numbers 1 to 1,000 and prints their sum, and compares
-/// its output up to the number of instructions, and behind it: the text has 537 bytes. Gives the whole output.
+/// Does `bench` for the program of seed 1 and size 1, which adds 65 to each of the numbers 1 to 1,000 and prints their sum.
+/// Compares its output up to the number of instructions, and behind it: the text has 537 bytes. Gives the whole output.
 fn check_bench(rt: &impl Abort, alloc: Global) -> Result<Vec<u8>, NoMemory> {
     let words = words_of(alloc, "kokarv bench 1 1 --cells 1000")?;
     let mut devices = Devices::new(alloc, "", NONE)?;

@@ -6,7 +6,8 @@ use Rattle.kk_perform.proofs.perform.evaluate_file.Goals as goal
 pub returns-in-Err-read : goal.returns-in-Err-read
 returns-in-Err-read g c = λ image.
     text_refused _ _ _ _ image c.in-Ok.text c.as_slice.result.now c.in-Err-read.refusal c.refusal_answer.result
-    (eval c.args.file.now c.args.sizes.cells c.args.sizes.depth c.args.steps) c.as_slice.ensures c.refusal_answer.ensures c.in-Ok.ensures.text c.in-Ok.ensures.kept c.in-Err-read.ensures.err
+    (eval c.args.file.now c.args.sizes.cells c.args.sizes.depth c.args.steps) c.as_slice.ensures c.refusal_answer.ensures
+    c.in-Ok.ensures.text c.in-Ok.ensures.kept c.in-Err-read.ensures.err
 
 pub returns-in-Ok-run_accepted : goal.returns-in-Ok-run_accepted
 returns-in-Ok-run_accepted g c = λ image.
