@@ -1,4 +1,5 @@
--- The line that tells an answer on the error sink. Numbers are decimal, and each line ends with a line feed.
+-- The line that tells an answer on the error sink, and the line of `bench` on the output. Numbers are decimal, and each line ends
+-- with a line feed.
 use Rattle.std.specs.Prelude.{ℕ, ◌==◌, List, [], ◌∷◌, ◌++◌, codes, decimal, Option, Some, None, if◌then◌else◌}
 use Rattle.kk_base.specs.Limits.{limit_word_of}
 use Rattle.kk_base.specs.Numbers.{lex_number_of, parse_number_of, name_number_of}
@@ -127,6 +128,13 @@ run_line OfRun.OutputFault cells depth steps = Some output_fault_line
 abbrev pub stats_line : ℕ → ℕ → ℕ → List ℕ
 stats_line instructions free cells =
     codes "stats: instructions " ++ (decimal instructions ++ (codes " free " ++ (decimal free ++ (codes " of " ++ (decimal cells ++ line_feed)))))
+
+-- bench: source S image M instructions N free F, on the output: the bytes of the text and of the image, the executed instructions
+-- and the free cells of the run of a generated program
+abbrev pub summary_line : ℕ → ℕ → ℕ → ℕ → List ℕ
+summary_line source image instructions free =
+    codes "source " ++ (decimal source ++ (codes " image " ++ (decimal image ++ (codes " instructions "
+    ++ (decimal instructions ++ (codes " free " ++ (decimal free ++ line_feed)))))))
 
 -- trap: cause K pc P word W
 abbrev pub trap_line : ℕ → ℕ → ℕ → List ℕ

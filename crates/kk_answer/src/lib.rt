@@ -1,4 +1,4 @@
-//! How a command came to its end: its status, and the line that tells it.
+//! How a command came to its end: its status, and the line that tells it; and the line that tells what a generated program took.
 #![tactic(auto)]
 
 mod answer;
@@ -7,3 +7,4 @@ mod line;
 
 pub use answer::{Answer, RunEnd, wants_memory};
 pub use ending::end_with;
+pub use line::put_summary;

@@ -1,6 +1,6 @@
-//! The line for the user that tells how a command ended.
+//! The lines for the user: how a command ended, and what the run of a generated program took.
 ghost use Rattle.std.specs.Prelude.{◌≡◌, ◌≤◌, length, option_map};
-ghost use Rattle.kk_answer.specs.Line.{line_of, run_line, halt_line, steps_spent_line, stats_line, trap_line, refusal_line, lex_line, lex_place_of, parse_line, parse_line_of, parse_column_of, name_line, name_spelled_of, name_place_of, limit_line, no_memory_line};
+ghost use Rattle.kk_answer.specs.Line.{line_of, run_line, halt_line, steps_spent_line, stats_line, summary_line, trap_line, refusal_line, lex_line, lex_place_of, parse_line, parse_line_of, parse_column_of, name_line, name_spelled_of, name_place_of, limit_line, no_memory_line};
 ghost use Rattle.kk_answer.specs.Pieces.{bytes_of, joined};
 ghost use Rattle.kk_answer.specs.Puts.{Puts};
 
@@ -33,13 +33,13 @@ impl Default for Piece<'_> {
 /// A line, as its parts.
 #[derive(Drop)]
 pub struct Line<'a> {
-    pieces: ArrayVec<Piece<'a>, 7>,
+    pieces: ArrayVec<Piece<'a>, 9>,
 }
 
 impl<'a> Line<'a> {
     /// The line of these parts.
     fn new(pieces: &[Piece<'a>]) -> Self
-        requires { length pieces.now ≤ 7 }
+        requires { length pieces.now ≤ 9 }
         ensures { result.pieces.items ≡ pieces.now }
     {
         let mut line = ArrayVec::new();
@@ -167,6 +167,36 @@ fn stats_line<'a>(instructions: u64, free: u32, cells: u32) -> Line<'a>
         Piece::Number(u64::from(free)),
         Piece::Text(" of "),
         Piece::Number(u64::from(cells)),
+        Piece::Text("\n"),
+    ])
+}
+
+/// Puts the line that tells what the run of a generated program took: the bytes of its text and of its image, the executed
+/// instructions and the free cells. False where a put failed, and only the beginning of the line was put.
+pub fn put_summary<O: Sink>(
+    out: &mut O,
+    source: u64,
+    image: u64,
+    instructions: u64,
+    free: u32,
+) -> bool
+    ensures { Puts result (summary_line source image instructions free) (O.state out.old) (O.state out.new) }
+{
+    summary_line(source, image, instructions, free).put(out)
+}
+
+fn summary_line<'a>(source: u64, image: u64, instructions: u64, free: u32) -> Line<'a>
+    ensures { joined result.pieces.items ≡ summary_line source image instructions free }
+{
+    Line::new(&[
+        Piece::Text("source "),
+        Piece::Number(source),
+        Piece::Text(" image "),
+        Piece::Number(image),
+        Piece::Text(" instructions "),
+        Piece::Number(instructions),
+        Piece::Text(" free "),
+        Piece::Number(u64::from(free)),
         Piece::Text("\n"),
     ])
 }

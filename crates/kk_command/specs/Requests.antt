@@ -7,23 +7,27 @@ use Rattle.clap.specs.Words.{App, Row, Rule, Text, fault_of, first_of, new_app, 
 use Rattle.clap.specs.Walk.{is_empty}
 use Rattle.clap.specs.declared.builder.action.ArgAction.TheVariants.{SetTrue}
 use Rattle.kk_base.specs.Sizes.{greatest_cells, greatest_depth}
+use Rattle.kk_command.specs.ProgramSizes.{least_size, greatest_size}
 
 -- what the program is asked for: to judge the text in a file; to build its image into another; to build its image and run it, and
--- perhaps to tell what the run took; to run the image in a file; to run the text in a file by its definition
+-- perhaps to tell what the run took; to run the image in a file; to run the text in a file by its definition; to build the image of
+-- a program that is generated, to run it and to tell what that took
 pub data Request : Type 0 where
   check : (file : List ℕ) → Request
   build : (file out : List ℕ) (cells depth : ℕ) → Request
   run : (file : List ℕ) (cells depth steps : ℕ) (stats : Bool) → Request
   sim : (image : List ℕ) (steps : ℕ) → Request
   eval : (file : List ℕ) (cells depth steps : ℕ) → Request
+  bench : (seed size cells depth steps : ℕ) → Request
 
--- the file that it reads
-abbrev pub file_of : Request → Text
-file_of (check file) = file
-file_of (build file out cells depth) = file
-file_of (run file cells depth steps stats) = file
-file_of (sim image steps) = image
-file_of (eval file cells depth steps) = file
+-- the file that it reads; none where the text is generated
+abbrev pub file_of : Request → Option Text
+file_of (check file) = Some file
+file_of (build file out cells depth) = Some file
+file_of (run file cells depth steps stats) = Some file
+file_of (sim image steps) = Some image
+file_of (eval file cells depth steps) = Some file
+file_of (bench seed size cells depth steps) = None
 
 -- ---- the line, for clap
 
@@ -37,12 +41,18 @@ optional name = record (new_rule name) { long = Some name }
 abbrev pub flag : Text → Rule
 flag name = record (new_rule name) { long = Some name; action = Some SetTrue }
 
--- FILE, IMAGE and `-o OUT`; then the commands, with `--cells N`, `--depth N`, `--steps N` and `--stats`
+-- FILE, IMAGE, SEED, SIZE and `-o OUT`; then the commands, with `--cells N`, `--depth N`, `--steps N` and `--stats`
 abbrev pub file_rule : Rule
 file_rule = required (codes "file")
 
 abbrev pub image_rule : Rule
 image_rule = required (codes "image")
+
+abbrev pub seed_rule : Rule
+seed_rule = required (codes "seed")
+
+abbrev pub size_rule : Rule
+size_rule = required (codes "size")
 
 abbrev pub steps_rule : Rule
 steps_rule = optional (codes "steps")
@@ -68,15 +78,22 @@ sim_app = with_rule (with_rule (new_app (codes "sim")) image_rule) steps_rule
 abbrev pub eval_app : App
 eval_app = with_rule (with_sizes (with_rule (new_app (codes "eval")) file_rule)) steps_rule
 
+abbrev pub bench_app : App
+bench_app = with_rule (with_sizes (with_rule (with_rule (new_app (codes "bench")) seed_rule) size_rule)) steps_rule
+
 -- the program, without help or version; one of its commands has to be there
 abbrev pub bare_app : App
 bare_app =
     let app = new_app (codes "kokarv") in
     record app { top = record app.top { disable_help_flag = true; disable_help_subcommand = true; subcommand_required = true } }
 
+-- with the commands that run a file
+abbrev pub with_run_commands : App → App
+with_run_commands app = with_subcommand (with_subcommand (with_subcommand app run_app.top) sim_app.top) eval_app.top
+
 abbrev pub line_app : App
 line_app =
-    with_subcommand (with_subcommand (with_subcommand (with_subcommand (with_subcommand bare_app check_app.top) build_app.top) run_app.top) sim_app.top) eval_app.top
+    with_subcommand (with_run_commands (with_subcommand (with_subcommand bare_app check_app.top) build_app.top)) bench_app.top
 
 -- ---- the numbers
 
@@ -156,6 +173,25 @@ eval_in rows = do
   steps ← steps_in rows
   Some (eval file cells depth steps)
 
+abbrev pub seed_in : List Row → Option ℕ
+seed_in rows = do
+  seed ← first_of (codes "seed") rows
+  number_in 0 (2 ^ 32 - 1) seed
+
+abbrev pub size_in : List Row → Option ℕ
+size_in rows = do
+  size ← first_of (codes "size") rows
+  number_in least_size greatest_size size
+
+abbrev pub bench_in : List Row → Option Request
+bench_in rows = do
+  seed ← seed_in rows
+  size ← size_in rows
+  cells ← cells_in rows
+  depth ← depth_in rows
+  steps ← steps_in rows
+  Some (bench seed size cells depth steps)
+
 -- what a command of this name asks for, by the matches of its arguments
 abbrev pub request_named : Text → List Row → Option Request
 request_named name rows =
@@ -164,6 +200,7 @@ request_named name rows =
     else if bytes_eq name (codes "run") then run_in rows
     else if bytes_eq name (codes "sim") then sim_in rows
     else if bytes_eq name (codes "eval") then eval_in rows
+    else if bytes_eq name (codes "bench") then bench_in rows
     else None
 
 abbrev pub entered_request : Option (Text × List Row) → Option Request

@@ -2,25 +2,17 @@
 ghost use Rattle.std.specs.Prelude.{◌≡◌, false, codes, IfOk};
 ghost use Rattle.clap.specs.Words.{app_of, rule_of, with_rule, with_subcommand};
 ghost use Rattle.clap.specs.declared.builder.command.Command.TheViews.{out-Command as fields_of};
-ghost use Rattle.kk_command.specs.Requests.{optional, flag, file_rule, image_rule, out_rule, check_app, with_sizes, build_app, run_app, sim_app, eval_app, bare_app, line_app};
+ghost use Rattle.kk_command.specs.Requests.{required, optional, flag, out_rule, check_app, with_sizes, build_app, run_app, sim_app, eval_app, bench_app, bare_app, with_run_commands, line_app};
 
 use clap::{Arg, ArgAction, Command as App};
 use std::alloc::{AllocError, Global};
 
-/// The argument FILE.
-fn file<'a>(alloc: Global) -> Arg<'a>
-    ensures rule { rule_of result ≡ file_rule }
+/// An argument that has to be there, such as FILE.
+fn argument<'a>(alloc: Global, name: &'a str) -> Arg<'a>
+    ensures rule { rule_of result ≡ required name.entry.now }
     ensures local { result.global ≡ false }
 {
-    Arg::new(alloc, "file").required(true)
-}
-
-/// The argument IMAGE.
-fn image<'a>(alloc: Global) -> Arg<'a>
-    ensures rule { rule_of result ≡ image_rule }
-    ensures local { result.global ≡ false }
-{
-    Arg::new(alloc, "image").required(true)
+    Arg::new(alloc, name).required(true)
 }
 
 /// The option `-o OUT`.
@@ -63,7 +55,7 @@ fn check_command<'a>(alloc: Global) -> Result<App<'a>, AllocError>
     ensures app { IfOk result (λ c. app_of c ≡ check_app) }
     ensures local { IfOk result (λ c. (fields_of c).has_globals ≡ false) }
 {
-    with(App::new(alloc, "check"), file(alloc))
+    with(App::new(alloc, "check"), argument(alloc, "file"))
 }
 
 /// Adds the sizes that an image is built with.
@@ -80,7 +72,7 @@ fn build_command<'a>(alloc: Global) -> Result<App<'a>, AllocError>
     ensures app { IfOk result (λ c. app_of c ≡ build_app) }
     ensures local { IfOk result (λ c. (fields_of c).has_globals ≡ false) }
 {
-    let command = with(App::new(alloc, "build"), file(alloc))?;
+    let command = with(App::new(alloc, "build"), argument(alloc, "file"))?;
     let command = with(command, out(alloc))?;
     with_size_options(alloc, command)
 }
@@ -89,7 +81,7 @@ fn run_command<'a>(alloc: Global) -> Result<App<'a>, AllocError>
     ensures app { IfOk result (λ c. app_of c ≡ run_app) }
     ensures local { IfOk result (λ c. (fields_of c).has_globals ≡ false) }
 {
-    let command = with(App::new(alloc, "run"), file(alloc))?;
+    let command = with(App::new(alloc, "run"), argument(alloc, "file"))?;
     let command = with_size_options(alloc, command)?;
     let command = with(command, number_option(alloc, "steps"))?;
     with(command, stats(alloc))
@@ -99,7 +91,7 @@ fn sim_command<'a>(alloc: Global) -> Result<App<'a>, AllocError>
     ensures app { IfOk result (λ c. app_of c ≡ sim_app) }
     ensures local { IfOk result (λ c. (fields_of c).has_globals ≡ false) }
 {
-    let command = with(App::new(alloc, "sim"), image(alloc))?;
+    let command = with(App::new(alloc, "sim"), argument(alloc, "image"))?;
     with(command, number_option(alloc, "steps"))
 }
 
@@ -107,7 +99,17 @@ fn eval_command<'a>(alloc: Global) -> Result<App<'a>, AllocError>
     ensures app { IfOk result (λ c. app_of c ≡ eval_app) }
     ensures local { IfOk result (λ c. (fields_of c).has_globals ≡ false) }
 {
-    let command = with(App::new(alloc, "eval"), file(alloc))?;
+    let command = with(App::new(alloc, "eval"), argument(alloc, "file"))?;
+    let command = with_size_options(alloc, command)?;
+    with(command, number_option(alloc, "steps"))
+}
+
+fn bench_command<'a>(alloc: Global) -> Result<App<'a>, AllocError>
+    ensures app { IfOk result (λ c. app_of c ≡ bench_app) }
+    ensures local { IfOk result (λ c. (fields_of c).has_globals ≡ false) }
+{
+    let command = with(App::new(alloc, "bench"), argument(alloc, "seed"))?;
+    let command = with(command, argument(alloc, "size"))?;
     let command = with_size_options(alloc, command)?;
     with(command, number_option(alloc, "steps"))
 }
@@ -122,9 +124,18 @@ fn bare_application<'a>(alloc: Global) -> App<'a>
         .subcommand_required(true)
 }
 
-/// Adds the commands that run something.
+/// Adds the commands that run nothing.
+fn with_text_commands<'a>(alloc: Global, command: App<'a>) -> Result<App<'a>, AllocError>
+    ensures { IfOk result (λ c. app_of c ≡ with_subcommand (with_subcommand (app_of command.entry) check_app.top) build_app.top) }
+{
+    command
+        .subcommand(check_command(alloc)?)?
+        .subcommand(build_command(alloc)?)
+}
+
+/// Adds the commands that run a file.
 fn with_run_commands<'a>(alloc: Global, command: App<'a>) -> Result<App<'a>, AllocError>
-    ensures { IfOk result (λ c. app_of c ≡ with_subcommand (with_subcommand (with_subcommand (app_of command.entry) run_app.top) sim_app.top) eval_app.top) }
+    ensures { IfOk result (λ c. app_of c ≡ with_run_commands (app_of command.entry)) }
 {
     command
         .subcommand(run_command(alloc)?)?
@@ -136,8 +147,6 @@ fn with_run_commands<'a>(alloc: Global, command: App<'a>) -> Result<App<'a>, All
 pub fn application<'a>(alloc: Global) -> Result<App<'a>, AllocError>
     ensures app { IfOk result (λ c. app_of c ≡ line_app) }
 {
-    let command = bare_application(alloc)
-        .subcommand(check_command(alloc)?)?
-        .subcommand(build_command(alloc)?)?;
-    with_run_commands(alloc, command)
+    let command = with_text_commands(alloc, bare_application(alloc))?;
+    with_run_commands(alloc, command)?.subcommand(bench_command(alloc)?)
 }

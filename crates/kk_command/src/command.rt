@@ -1,4 +1,5 @@
 ghost use Rattle.kk_base.specs.Sizes.{AreSizes};
+ghost use Rattle.kk_command.specs.ProgramSizes.{IsProgramSize};
 
 /// The sizes that a program is run with.
 #[derive(Clone, Copy)]
@@ -19,6 +20,16 @@ pub struct RunOptions {
     pub steps: u64,
     /// Whether it is told what the run took, where the program ends by itself.
     pub stats: bool,
+}
+
+/// Which program is generated.
+#[derive(Clone, Copy)]
+pub struct Generation {
+    /// What its functions depend on.
+    pub seed: u32,
+    /// How many functions it has.
+    pub size: u32,
+    pub ghost allowed: { IsProgramSize size },
 }
 
 /// What the words of the line ask for.
@@ -47,6 +58,12 @@ pub enum Command<'a> {
     /// `eval FILE`: run the text in the file by its definition, for at most so many steps.
     Eval {
         file: &'a str,
+        sizes: Sizes,
+        steps: u64,
+    },
+    /// `bench SEED SIZE`: run the image of a generated program, for at most so many instructions, and tell what it took.
+    Bench {
+        generation: Generation,
         sizes: Sizes,
         steps: u64,
     },

@@ -6,5 +6,5 @@ mod command;
 mod number;
 mod words;
 
-pub use command::{Command, RunOptions, Sizes};
+pub use command::{Command, Generation, RunOptions, Sizes};
 pub use words::command_in;

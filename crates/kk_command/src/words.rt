@@ -1,11 +1,12 @@
 ghost use Rattle.std.specs.Prelude.{◌≡◌, ◌≤◌, map, string_bytes, IfOk, IfSome, option_map};
 ghost use Rattle.clap.specs.Words.{found_of, rows_of, first_of, subcommand_rows_of};
 ghost use Rattle.kk_base.specs.Sizes.{greatest_cells, greatest_depth};
-ghost use Rattle.kk_command.specs.Requests.{request_of, request_named, entered_request, check_in, build_in, run_in, sim_in, eval_in, cells_in, depth_in, steps_in, stats_in};
+ghost use Rattle.kk_command.specs.Requests.{request_of, request_named, entered_request, check_in, build_in, run_in, sim_in, eval_in, bench_in, seed_in, size_in, cells_in, depth_in, steps_in, stats_in};
 ghost use Rattle.kk_command.specs.Commands.{request_read};
+ghost use Rattle.kk_command.specs.ProgramSizes.{least_size, greatest_size};
 
 use crate::application::application;
-use crate::command::{Command, RunOptions, Sizes};
+use crate::command::{Command, Generation, RunOptions, Sizes};
 use crate::number::number_in;
 use clap::ArgMatches;
 use clap::error::ErrorKind;
@@ -20,6 +21,9 @@ const DEFAULT_STEPS: u64 = 1_000_000_000;
 
 /// The greatest number of instructions that a run may be asked for.
 const GREATEST_STEPS: u64 = 9_223_372_036_854_775_807;
+
+/// The greatest number of functions of a generated program.
+const GREATEST_SIZE: u64 = 100;
 
 /// The command that the words of a line are; none where they are no command. The first word is the program's name.
 pub fn command_in<'a>(alloc: Global, words: &'a [String]) -> Result<Option<Command<'a>>, NoMemory>
@@ -49,6 +53,7 @@ fn command_named<'a>(name: &str, matches: &ArgMatches<'a>) -> Option<Command<'a>
         "run" => run_in(matches),
         "sim" => sim_in(matches),
         "eval" => eval_in(matches),
+        "bench" => bench_in(matches),
         _ => None,
     }
 }
@@ -111,6 +116,37 @@ fn eval_in<'a>(matches: &ArgMatches<'a>) -> Option<Command<'a>>
         sizes: Sizes { cells, depth },
         steps,
     })
+}
+
+fn bench_in<'a>(matches: &ArgMatches<'a>) -> Option<Command<'a>>
+    ensures { option_map request_read result ≡ bench_in (rows_of (found_of matches.now)) }
+{
+    let seed = seed_in(matches)?;
+    let size = size_in(matches)?;
+    let cells = cells_in(matches)?;
+    let depth = depth_in(matches)?;
+    let steps = steps_in(matches)?;
+    Some(Command::Bench {
+        generation: Generation { seed, size },
+        sizes: Sizes { cells, depth },
+        steps,
+    })
+}
+
+fn seed_in(matches: &ArgMatches<'_>) -> Option<u32>
+    ensures { result ≡ seed_in (rows_of (found_of matches.now)) }
+{
+    let text = value_of(matches, "seed")?;
+    Some(number_in(0, u64::from(u32::MAX), text)? as u32)
+}
+
+fn size_in(matches: &ArgMatches<'_>) -> Option<u32>
+    ensures value { result ≡ size_in (rows_of (found_of matches.now)) }
+    ensures some { IfSome result (λ size. least_size ≤ size) }
+    ensures few { IfSome result (λ size. size ≤ greatest_size) }
+{
+    let text = value_of(matches, "size")?;
+    Some(number_in(1, GREATEST_SIZE, text)? as u32)
 }
 
 fn cells_in(matches: &ArgMatches<'_>) -> Option<u32>

@@ -13,8 +13,9 @@ use Rattle.kk_answer.specs.declared.answer.RunEnd.TheVariants as OfRun
 use Rattle.rv_sim.specs.declared.halt.Halt.{Halt}
 use Rattle.rv_sim.specs.declared.halt.Halt.TheVariants as OfHalt
 use Rattle.kk_answer.specs.Ending.{EndsWith}
+use Rattle.kk_answer.specs.Puts.{Puts}
 use Rattle.kk_answer.specs.Answer.{fault_status, run_status, halt_status, status_of}
-use Rattle.kk_perform.specs.Answers.{Answers, usage, no_memory, unread, refused, not_built, checked, built, unwritten, ran, measured, bad_image, simulated, evaluated, cut_short, Faultless, is_fault_status}
+use Rattle.kk_perform.specs.Answers.{Answers, usage, no_memory, unread, refused, not_built, checked, built, unwritten, ran, measured, bad_image, simulated, evaluated, cut_short, bench_stopped, bench_ended, told_end, Faultless, is_fault_status}
 use Rattle.kk_source.specs.State.{Setting}
 use Rattle.kk_eval.specs.Evaluations.{RunsSource}
 use Rattle.kk_perform.specs.ImageRuns.{RunsImage}
@@ -69,6 +70,15 @@ module _ (before after : Outside) (err err' : SinkState) (faultless : Faultless 
   no_source_fault setting steps OfRun.InputFault runs = absurd (faultless.input runs.input_faults)
   no_source_fault setting steps OfRun.OutputFault runs = absurd (faultless.out runs.output_faults)
 
+  -- a line of `bench` that was not put whole is a fault of the output
+  no_bench_fault : (image line : List ℕ) (steps : ℕ) (whole : Bool) (middle : SinkState)
+      → RunsImage image steps (halt_for OfRun.Ended) before.input after.input before.out middle
+      → Puts whole line middle after.out → is_fault_status (run_status (told_end whole)) ≡ false
+  no_bench_fault image line steps true middle runs puts = refl
+  no_bench_fault image line steps false middle runs puts =
+      let P : ℕ → Type 0 = λ n. Rises true n after.out.faults in
+      absurd (faultless.out (subst P runs.output_faults puts.faults))
+
   no_answer_fault : (request : Option Request) (answer : Answer) → Answers before after request answer → is_fault_status (status_of answer) ≡ false
   no_answer_fault _ _ (usage kept) = refl
   no_answer_fault _ _ (no_memory request files streams image) = refl
@@ -84,6 +94,10 @@ module _ (before after : Outside) (err err' : SinkState) (faultless : Faultless 
   no_answer_fault _ _ (simulated file steps halt has loads runs kept) = no_halt_fault after.image steps halt runs
   no_answer_fault _ _ (evaluated file text cells depth steps end program setting has is run runs kept image) = no_source_fault setting steps end runs
   no_answer_fault _ _ (cut_short file text cells depth steps program setting has is run runs kept image) = refl
+  no_answer_fault _ _ (bench_stopped seed size cells depth steps end quiet made runs means kept) =
+      no_run_fault after.image steps end runs
+  no_answer_fault _ _ (bench_ended seed size cells depth steps instructions free whole middle made runs means is puts kept) =
+      no_bench_fault after.image _ steps whole middle runs puts
 
   by_line : (answer : Answer) (status : Status) → is_fault_status (status_of answer) ≡ false → EndsWith answer status err err' → is_fault_status status ≡ false
   by_line answer status none ends =

@@ -1,3 +1,4 @@
+mod Benches
 mod Complete
 mod ImageRuns
 mod Rows

@@ -1,5 +1,5 @@
 -- How each command comes to its answers.
-use Rattle.std.proofs.Common.{◌≡◌, ℕ, List, [], Bool, true, false, cond, Option, Some, None, Ok, Err, refl, sym, ap, subst, ◌∙◌, inl, inr}
+use Rattle.std.proofs.Common.{◌≡◌, ℕ, List, [], Bool, true, false, cond, Option, Some, None, Ok, Err, refl, sym, subst, ◌∙◌, inl, inr}
 use Rattle.std.specs.Borrow.{Bor}
 use Rattle.elf_image.specs.declared.bad_image.BadImage.{BadImage as Reason}
 use Rattle.elf_image.specs.declared.bad_image.BadImage.TheVariants as OfReason
@@ -23,12 +23,12 @@ use Rattle.kk_answer.specs.declared.answer.Answer.{Answer}
 use Rattle.kk_answer.specs.declared.answer.Answer.TheVariants.{Done, Usage, Refused, NoMemory, FileFault, Ran, Measured, Simulated}
 use Rattle.kk_answer.specs.declared.answer.RunEnd.{RunEnd}
 use Rattle.kk_answer.specs.declared.answer.RunEnd.TheVariants as OfRun
-use Rattle.kk_perform.specs.Answers.{HasText, HasImage, IsImageOfFile, Answers, usage, no_memory, unread, refused, not_built, builds, checked, built, unwritten, ran, measured, bad_image, simulated, evaluated, cut_short, tells_statistics}
+use Rattle.kk_perform.specs.Answers.{HasText, HasRequestedText, HasImage, IsImageOfFile, Answers, usage, no_memory, unread, refused, not_built, builds, checked, built, unwritten, ran, measured, bad_image, simulated, evaluated, cut_short, tells_statistics}
 use Rattle.kk_base.specs.declared.error.NoMemory.{NoMemory as OutOfMemory}
 use Rattle.kk_eval.specs.Evaluating.{HasRun}
 use Rattle.kk_perform.specs.Internal.{answer_of_refusal, answer_of_cause, answer_of_condition, HasStopped, AnswersRun, without_statistics, with_statistics}
 use Rattle.kk_perform.specs.ImageRuns.{IsMeasured}
-use Rattle.kk_command.specs.Requests.{Request, check, build, run, sim, eval, file_of}
+use Rattle.kk_command.specs.Requests.{Request, check, build, run, sim, eval, bench, file_of}
 use Rattle.kk_perform.specs.Outside.{Outside, KeepsFiles, KeepsStreams, KeepsAll}
 use Rattle.kk_perform.specs.SourceRuns.{halt_for}
 use Rattle.kk_perform.proofs.ImageRuns.{stops_alike}
@@ -38,6 +38,9 @@ use Rattle.kk_perform.proofs.Stores.{same_files, then_kept, then_written, then_u
 abbrev outside : StoreState → SourceState → SinkState → List ℕ → Outside
 outside files input out image = record { files = files; input = input; out = out; image = image }
 
+pub never : false ≡ true → ⊥
+never is = cc
+
 module _ (store store' : StoreState) (input : SourceState) (out : SinkState) (image : List ℕ) where
   same_streams : (image' : List ℕ) → KeepsStreams (outside store input out image) (outside store' input out image')
   same_streams image' = record { input = refl; out = refl }
@@ -45,11 +48,12 @@ module _ (store store' : StoreState) (input : SourceState) (out : SinkState) (im
   all_kept : KeepsFiles store store' → KeepsAll (outside store input out image) (outside store' input out image)
   all_kept kept = record { files = kept; streams = same_streams image; image = refl }
 
-  pub read_failed : (file : Bor (List ℕ)) (request : Request) → file_of request ≡ file.now → SameFiles store.files store'.files → Counts true store.faults store'.faults → Remembers true (Reading file.now) store.last_failed store'.last_failed
+  pub read_failed : (file : Bor (List ℕ)) (request : Request) → file_of request ≡ Some file.now → SameFiles store.files store'.files
+      → Counts true store.faults store'.faults
+      → Remembers true (Reading file.now) store.last_failed store'.last_failed
       → Answers (outside store input out image) (outside store' input out image) (Some request) (FileFault file)
   read_failed file request is same counts remembers =
-      unread request file (sym is)
-      (record { fails = record { last_failed = remembers.told refl ∙ ap (λ (n : List ℕ). Some (Reading n)) (sym is); faults = counts.rises }; files = same })
+      unread request file is (record { fails = record { last_failed = remembers.told refl; faults = counts.rises }; files = same })
       (same_streams image) refl
 
   pub no_room : (call : StoreCall) (request : Request) → SameFiles store.files store'.files → Counts false store.faults store'.faults → Remembers false call store.last_failed store'.last_failed
@@ -57,38 +61,60 @@ module _ (store store' : StoreState) (input : SourceState) (out : SinkState) (im
   no_room call request same counts remembers =
       no_memory (Some request) (record { files = same; last_failed = remembers.stays refl; faults = counts.rises }) (same_streams image) (inl refl)
 
-  by_want : (request : Request) (text : List ℕ) (refusal : Refusal) (wants : Bool) → wants_memory refusal ≡ wants → HasText (file_of request) text store → KeepsFiles store store' → Refuses text refusal
+  by_want : (request : Request) (text : List ℕ) (refusal : Refusal) (wants : Bool) → wants_memory refusal ≡ wants
+      → HasRequestedText request text store → KeepsFiles store store' → Refuses text refusal
       → Answers (outside store input out image) (outside store' input out image) (Some request) (cond wants NoMemory (Refused refusal))
   by_want request text refusal true is has kept refuses = no_memory (Some request) kept (same_streams image) (inl refl)
   by_want request text refusal false is has kept refuses = refused request text refusal has (refuses is) (all_kept kept)
 
-  pub text_refused : (file text slice : List ℕ) (refusal : Refusal) (answer : Answer) (request : Request) → file_of request ≡ file → slice ≡ text → answer ≡ answer_of_refusal refusal
-      → HasText file text store → KeepsFiles store store' → Refuses slice refusal → Answers (outside store input out image) (outside store' input out image) (Some request) answer
-  text_refused file text slice refusal answer request is same told has kept refuses =
+  pub text_refused : (text slice : List ℕ) (refusal : Refusal) (answer : Answer) (request : Request) → slice ≡ text
+      → answer ≡ answer_of_refusal refusal
+      → HasRequestedText request text store → KeepsFiles store store' → Refuses slice refusal
+      → Answers (outside store input out image) (outside store' input out image) (Some request) answer
+  text_refused text slice refusal answer request same told has kept refuses =
       let A : Answer → Type 0 = λ a. Answers (outside store input out image) (outside store' input out image) (Some request) a in
-      let H : List ℕ → Type 0 = λ name. HasText name text store in
       let R : List ℕ → Type 0 = λ t. Refuses t refusal in
-      subst A (sym told) (by_want request text refusal (wants_memory refusal) refl (subst H (sym is) has) kept (subst R same refuses))
+      subst A (sym told) (by_want request text refusal (wants_memory refusal) refl has kept (subst R same refuses))
 
-  by_cause : (request : Request) (text : List ℕ) (cause : BuildError) → builds request ≡ true → HasText (file_of request) text store → KeepsFiles store store'
+  by_cause : (request : Request) (text : List ℕ) (cause : BuildError) → builds request ≡ true → HasRequestedText request text store
+      → KeepsFiles store store'
       → RefusesToBuild text cause → Answers (outside store input out image) (outside store' input out image) (Some request) (answer_of_cause cause)
   by_cause request text (OfBuild.Refused refusal) asked has kept refuses = by_want request text refusal (wants_memory refusal) refl has kept refuses
   by_cause request text OfBuild.NotBuilt asked has kept refuses = not_built request text asked has refuses (all_kept kept)
 
-  pub text_unbuilt : (file text slice : List ℕ) (cause : BuildError) (answer : Answer) (request : Request) → builds request ≡ true → file_of request ≡ file → slice ≡ text
-      → answer ≡ answer_of_cause cause → HasText file text store → KeepsFiles store store' → RefusesToBuild slice cause
+  pub text_unbuilt : (text slice : List ℕ) (cause : BuildError) (answer : Answer) (request : Request) → builds request ≡ true
+      → slice ≡ text
+      → answer ≡ answer_of_cause cause → HasRequestedText request text store → KeepsFiles store store' → RefusesToBuild slice cause
       → Answers (outside store input out image) (outside store' input out image) (Some request) answer
-  text_unbuilt file text slice cause answer request asked is same told has kept refuses =
+  text_unbuilt text slice cause answer request asked same told has kept refuses =
       let A : Answer → Type 0 = λ a. Answers (outside store input out image) (outside store' input out image) (Some request) a in
-      let H : List ℕ → Type 0 = λ name. HasText name text store in
       let R : List ℕ → Type 0 = λ t. RefusesToBuild t cause in
-      subst A (sym told) (by_cause request text cause asked (subst H (sym is) has) kept (subst R same refuses))
+      subst A (sym told) (by_cause request text cause asked has kept (subst R same refuses))
 
   pub text_accepted : (file text slice : List ℕ) (program : ProgramTree) → slice ≡ text → HasText file text store → KeepsFiles store store' → IsProgramOf slice program
       → Answers (outside store input out image) (outside store' input out image) (Some (check file)) Done
   text_accepted file text slice program same has kept accepted =
       let P : List ℕ → Type 0 = λ t. IsProgramOf t program in
       checked file text program has (subst P same accepted) (all_kept kept)
+
+-- a file by its other name
+same_name : (file named : List ℕ) → Some named ≡ Some file → named ≡ file
+same_name file named is = cc
+
+at_name : (store : StoreState) (file named text : List ℕ) → Some named ≡ Some file → HasText file text store → HasText named text store
+at_name store file named text is has =
+    let H : List ℕ → Type 0 = λ name. HasText name text store in
+    subst H (sym (same_name file named is)) has
+
+-- the text of the file of which a request builds an image
+pub text_of_file : (store : StoreState) (request : Request) (file text : List ℕ) → builds request ≡ true
+    → file_of request ≡ Some file → HasText file text store → HasRequestedText request text store
+text_of_file store (check named) file text asked is has = absurd (never asked)
+text_of_file store (build named out cells depth) file text asked is has = at_name store file named text is has
+text_of_file store (run named cells depth steps stats) file text asked is has = at_name store file named text is has
+text_of_file store (sim named steps) file text asked is has = absurd (never asked)
+text_of_file store (eval named cells depth steps) file text asked is has = absurd (never asked)
+text_of_file store (bench seed size cells depth steps) file text asked is has = let none : None ≡ Some file = is in cc
 
 pub image_built : (store : StoreState) (file text slice : List ℕ) (cells depth : ℕ) (image : List ℕ) → slice ≡ text → HasText file text store → IsBuilt slice cells depth image → IsImageOfFile file cells depth store image
 image_built store file text slice cells depth image same has made =
@@ -107,9 +133,6 @@ module _ (store : StoreState) (input : SourceState) (out : SinkState) (image : L
 
   pub no_words : (request : Option Request) → Answers (outside store input out image) (outside store input out image) request NoMemory
   no_words request = no_memory request nothing_changed (same_streams store store input out image image) (inl refl)
-
-never : false ≡ true → ⊥
-never is = cc
 
 -- what becomes of an image that was built: it is written, or it could not be, or it is run
 module _ (first second : StoreState) (kept : KeepsFiles first second) (image image' : List ℕ) (file : List ℕ) (cells depth : ℕ) (made : IsImageOfFile file cells depth first image') where

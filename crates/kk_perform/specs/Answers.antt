@@ -1,5 +1,5 @@
 -- The answers of the commands, and the causes of each.
-use Rattle.std.specs.Prelude.{◌≡◌, ◌⊎◌, ℕ, ◌+◌, List, take, Bool, true, false, Option, Some, None}
+use Rattle.std.specs.Prelude.{◌≡◌, ◌⊎◌, ℕ, ◌+◌, List, take, length, Bool, true, false, Option, Some, None}
 use Rattle.std.specs.Borrow.{Bor}
 use Rattle.elf_image.specs.declared.bad_image.BadImage.{BadImage as Reason}
 use Rattle.elf_image.specs.Loaded.{greatest_file, reason_of}
@@ -14,6 +14,7 @@ use Rattle.kk_base.specs.declared.status.Status.{Status}
 use Rattle.kk_base.specs.declared.status.Status.TheVariants as OfStatus
 use Rattle.kk_front.specs.Judgement.{IsProgramOf, IsRefusalOf}
 use Rattle.kk_build.specs.Built.{ProgramTree, IsBuilt, IsNotBuilt}
+use Rattle.kk_gen.specs.Generated.{generated}
 use Rattle.rv_sim.specs.declared.halt.Halt.{Halt}
 use Rattle.kk_answer.specs.declared.answer.Answer.{Answer}
 use Rattle.kk_answer.specs.declared.answer.Answer.TheVariants.{Done, Usage, Refused, NotBuilt, NoMemory, FileFault, Ran, Measured, BadImage, Simulated}
@@ -22,10 +23,12 @@ use Rattle.kk_answer.specs.declared.answer.RunEnd.TheVariants as OfRun
 use Rattle.kk_source.specs.Settings.{IsRun}
 use Rattle.kk_source.specs.State.{Setting}
 use Rattle.kk_eval.specs.Evaluations.{RunsSource, RunsOutOfMemory}
-use Rattle.kk_command.specs.Requests.{Request, check, build, run, sim, eval, file_of}
+use Rattle.kk_command.specs.Requests.{Request, check, build, run, sim, eval, bench, file_of}
 use Rattle.kk_perform.specs.ImageRuns.{RunsImage, IsMeasured}
 use Rattle.kk_perform.specs.SourceRuns.{halt_for, MeansRun}
 use Rattle.kk_answer.specs.Ending.{EndsWith}
+use Rattle.kk_answer.specs.Line.{summary_line}
+use Rattle.kk_answer.specs.Puts.{Puts}
 use Rattle.kk_perform.specs.Outside.{Outside, KeepsFiles, KeepsStreams, KeepsAll, FailsToRead, FailsToWrite, WritesAlone}
 
 -- the first bytes of a file, at most so many, where the store tells them
@@ -36,6 +39,15 @@ BeginsFile count file bytes store =
 -- A file's text: no more than its first 65,537 bytes are read, which tell whether there are more than 65,536.
 abbrev pub HasText : List ℕ → List ℕ → StoreState → Type 0
 HasText file text store = BeginsFile (greatest_of Source + 1) file text store
+
+-- the text that is asked for: of a file, or the one that is generated; `sim` asks for none
+abbrev pub HasRequestedText : Request → List ℕ → StoreState → Type 0
+HasRequestedText (check file) text store = HasText file text store
+HasRequestedText (build file out cells depth) text store = HasText file text store
+HasRequestedText (run file cells depth steps stats) text store = HasText file text store
+HasRequestedText (sim image steps) text store = ⊥
+HasRequestedText (eval file cells depth steps) text store = HasText file text store
+HasRequestedText (bench seed size cells depth steps) text store = text ≡ generated seed size
 
 -- A file's image: no more than its first 268,435,457 bytes are read, which tell whether there are more than 268,435,456.
 abbrev pub HasImage : List ℕ → List ℕ → StoreState → Type 0
@@ -52,6 +64,7 @@ abbrev pub IsRequestedImage : Option Request → StoreState → List ℕ → Typ
 IsRequestedImage (Some (build file out cells depth)) store image = IsImageOfFile file cells depth store image
 IsRequestedImage (Some (run file cells depth steps stats)) store image = IsImageOfFile file cells depth store image
 IsRequestedImage (Some (sim file steps)) store image = HasImage file image store
+IsRequestedImage (Some (bench seed size cells depth steps)) store image = IsBuilt (generated seed size) cells depth image
 IsRequestedImage _ store image = ⊥
 
 -- a run whose statistics are told: they were asked for, and the program ended by itself
@@ -59,10 +72,17 @@ abbrev pub tells_statistics : Bool → RunEnd → Bool
 tells_statistics stats OfRun.Ended = stats
 tells_statistics stats _ = false
 
+-- how `bench` ends where the program ended by itself: with an output fault, where the line behind the program's output could not be put
+-- whole
+abbrev pub told_end : Bool → RunEnd
+told_end true = OfRun.Ended
+told_end false = OfRun.OutputFault
+
 -- what is asked for needs an image of a text
 abbrev pub builds : Request → Bool
 builds (build file out cells depth) = true
 builds (run file cells depth steps stats) = true
+builds (bench seed size cells depth steps) = true
 builds _ = false
 
 -- The answers that the words of a line may have, with what each does to the outside. There is no other.
@@ -73,13 +93,16 @@ pub data Answers (before after : Outside) : Option Request → Answer → Type 0
   no_memory : (request : Option Request) → KeepsFiles before.files after.files → KeepsStreams before after
       → (after.image ≡ before.image) ⊎ IsRequestedImage request before.files after.image → Answers before after request NoMemory
   -- FILE or IMAGE could not be read
-  unread : (request : Request) (name : Bor (List ℕ)) → name.now ≡ file_of request
-      → FailsToRead (file_of request) before.files after.files → KeepsStreams before after → after.image ≡ before.image → Answers before after (Some request) (FileFault name)
+  unread : (request : Request) (name : Bor (List ℕ)) → file_of request ≡ Some name.now
+      → FailsToRead name.now before.files after.files → KeepsStreams before after → after.image ≡ before.image
+      → Answers before after (Some request) (FileFault name)
   -- the text is refused, for its first failure
-  refused : (request : Request) (text : List ℕ) (refusal : Refusal) → HasText (file_of request) text before.files → IsRefusalOf text refusal
+  refused : (request : Request) (text : List ℕ) (refusal : Refusal) → HasRequestedText request text before.files
+      → IsRefusalOf text refusal
       → KeepsAll before after → Answers before after (Some request) (Refused refusal)
-  -- build, run: the text is accepted, and the code of its program is too large for an image
-  not_built : (request : Request) (text : List ℕ) → builds request ≡ true → HasText (file_of request) text before.files → IsNotBuilt text
+  -- build, run, bench: the text is accepted, and the code of its program is too large for an image
+  not_built : (request : Request) (text : List ℕ) → builds request ≡ true → HasRequestedText request text before.files
+      → IsNotBuilt text
       → KeepsAll before after → Answers before after (Some request) NotBuilt
   -- check: the text is accepted
   checked : (file text : List ℕ) (program : ProgramTree) → HasText file text before.files → IsProgramOf text program
@@ -117,6 +140,23 @@ pub data Answers (before after : Outside) : Option Request → Answer → Type 0
   cut_short : (file text : List ℕ) (cells depth steps : ℕ) (program : ProgramTree) (setting : Setting) → HasText file text before.files → IsProgramOf text program
       → IsRun program cells depth setting → RunsOutOfMemory setting steps before.input after.input before.out after.out → KeepsFiles before.files after.files
       → after.image ≡ before.image → Answers before after (Some (eval file cells depth steps)) NoMemory
+  -- bench: the image of the generated program ran, for at most `steps` instructions, and stopped so before the program ended by
+  -- itself; what it did is what the program means
+  bench_stopped : (seed size cells depth steps : ℕ) (end : RunEnd) → tells_statistics true end ≡ false
+      → (made : IsBuilt (generated seed size) cells depth after.image)
+      (runs : RunsImage after.image steps (halt_for end) before.input after.input before.out after.out)
+      → MeansRun made.program cells depth end runs.events → KeepsFiles before.files after.files
+      → Answers before after (Some (bench seed size cells depth steps)) (Ran end cells depth steps)
+  -- bench: the same, where the program ended by itself; so many instructions were executed, and so many of the cells are free. Then
+  -- the line that tells this and the bytes of the text and of the image was put on the output, whole or in part
+  bench_ended : (seed size cells depth steps instructions free : ℕ) (whole : Bool) (middle : SinkState)
+      (made : IsBuilt (generated seed size) cells depth after.image)
+      (runs : RunsImage after.image steps (halt_for OfRun.Ended) before.input after.input before.out middle)
+      → MeansRun made.program cells depth OfRun.Ended runs.events
+      → IsMeasured after.image runs.count runs.events cells instructions free
+      → Puts whole (summary_line (length (generated seed size)) (length after.image) instructions free) middle after.out
+      → KeepsFiles before.files after.files
+      → Answers before after (Some (bench seed size cells depth steps)) (Ran (told_end whole) cells depth steps)
 
 -- the words of a line end with a status, by one of their answers
 pub record Ends (request : Option Request) (status : Status) (before after : Outside) (err err' : SinkState) : Type 0 where

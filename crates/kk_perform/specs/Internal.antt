@@ -13,7 +13,10 @@ use Rattle.kk_build.specs.declared.error.BuildError.TheVariants as OfBuild
 use Rattle.kk_answer.specs.declared.answer.Answer.{Answer}
 use Rattle.kk_answer.specs.declared.answer.Answer.TheVariants.{Refused, NotBuilt, NoMemory, Ran, Measured, BadImage}
 use Rattle.kk_answer.specs.declared.answer.RunEnd.{RunEnd}
-use Rattle.kk_perform.specs.Answers.{tells_statistics}
+use Rattle.kk_answer.specs.declared.answer.RunEnd.TheVariants as OfRun
+use Rattle.kk_answer.specs.Line.{summary_line}
+use Rattle.kk_answer.specs.Puts.{Puts}
+use Rattle.kk_perform.specs.Answers.{tells_statistics, told_end}
 use Rattle.kk_perform.specs.ImageRuns.{RunsImage, IsMeasured}
 use Rattle.kk_perform.specs.SourceRuns.{halt_for}
 
@@ -42,6 +45,16 @@ pub data AnswersRun (halt : Halt) (machine : Simulation) (cells depth steps : �
   with_statistics : (end : RunEnd) (instructions free : ℕ) → halt_for end ≡ halt → tells_statistics stats end ≡ true
       → instructions ≡ machine.executed → free ≡ free_cells cells (processor_of machine [] [])
       → AnswersRun halt machine cells depth steps stats (Measured instructions free cells)
+
+-- the answer to a run of a generated program, whose text and image have so many bytes, by why its image stopped and what the machine
+-- is then, with what was put on the output behind it
+pub data AnswersBench (halt : Halt) (machine : Simulation) (cells depth steps source image : ℕ) (out out' : SinkState)
+    : Answer → Type 0 where
+  without_line : (end : RunEnd) → halt_for end ≡ halt → tells_statistics true end ≡ false → out' ≡ out
+      → AnswersBench halt machine cells depth steps source image out out' (Ran end cells depth steps)
+  with_line : (whole : Bool) (instructions free : ℕ) → halt_for OfRun.Ended ≡ halt → instructions ≡ machine.executed
+      → free ≡ free_cells cells (processor_of machine [] []) → Puts whole (summary_line source image instructions free) out out'
+      → AnswersBench halt machine cells depth steps source image out out' (Ran (told_end whole) cells depth steps)
 
 -- on each input of bytes an image never traps, and exits only with the number of a program's end
 abbrev pub EndsWell : List ℕ → Type 0

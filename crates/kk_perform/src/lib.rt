@@ -1,6 +1,7 @@
 //! The commands over the devices of the outside, and what each answers.
 #![tactic(auto)]
 
+mod bench;
 mod commands;
 mod perform;
 

@@ -17,6 +17,7 @@ ghost use Rattle.kk_command.specs.Commands.{request_read};
 ghost use Rattle.kk_perform.specs.SourceRuns.{halt_for};
 ghost use Rattle.kk_perform.specs.Outside.{KeepsFiles, outside};
 
+use crate::bench::bench_program;
 use elf_image::{BadImage, Image};
 use kk_answer::{Answer, RunEnd, wants_memory};
 use kk_base::{Bytes, NoMemory, Read, Refusal, Sink, Source, Store, Wrote};
@@ -37,11 +38,11 @@ const MOST_OF_IMAGE: usize = 268_435_457;
 
 /// An image that was run.
 #[derive(Drop)]
-struct Stopped {
+pub struct Stopped {
     /// The machine as the run left it.
-    machine: Machine,
+    pub machine: Machine,
     /// Why it stopped.
-    halt: Halt,
+    pub halt: Halt,
 }
 
 /// Does a command.
@@ -65,6 +66,11 @@ pub fn perform<'a, F: Store, I: Source, O: Sink>(
         Command::Eval { file, sizes, steps } => {
             evaluate_file(alloc, file, sizes, steps, files, input, out)
         }
+        Command::Bench {
+            generation,
+            sizes,
+            steps,
+        } => bench_program(alloc, generation, sizes, steps, input, out, image),
     }
 }
 
@@ -204,7 +210,7 @@ fn run_accepted<I: Source, O: Sink>(
 fn read_text<'a, F: Store>(alloc: Global, file: &'a str, files: &mut F) -> Result<Bytes, Answer<'a>>
     ensures text { IfOk result (λ text. HasText file.now text (F.state files.old)) }
     ensures kept { OnOk result (KeepsFiles (F.state files.old) (F.state files.new)) }
-    ensures err { IfErr result (λ answer. (input : SourceState) (out : SinkState) (image : List ℕ) (request : Request) → file_of request ≡ file.now → Answers (outside (F.state files.old) input out image) (outside (F.state files.new) input out image) (Some request) answer) }
+    ensures err { IfErr result (λ answer. (input : SourceState) (out : SinkState) (image : List ℕ) (request : Request) → file_of request ≡ Some file.now → Answers (outside (F.state files.old) input out image) (outside (F.state files.new) input out image) (Some request) answer) }
 {
     read_first(alloc, file, MOST_OF_TEXT, files)
 }
@@ -218,7 +224,7 @@ fn read_image<'a, F: Store>(
 ) -> Result<Bytes, Answer<'a>>
     ensures image { IfOk result (λ image. HasImage file.now image (F.state files.old)) }
     ensures kept { OnOk result (KeepsFiles (F.state files.old) (F.state files.new)) }
-    ensures err { IfErr result (λ answer. (input : SourceState) (out : SinkState) (image : List ℕ) (request : Request) → file_of request ≡ file.now → Answers (outside (F.state files.old) input out image) (outside (F.state files.new) input out image) (Some request) answer) }
+    ensures err { IfErr result (λ answer. (input : SourceState) (out : SinkState) (image : List ℕ) (request : Request) → file_of request ≡ Some file.now → Answers (outside (F.state files.old) input out image) (outside (F.state files.new) input out image) (Some request) answer) }
 {
     read_first(alloc, file, MOST_OF_IMAGE, files)
 }
@@ -232,7 +238,7 @@ fn read_first<'a, F: Store>(
 ) -> Result<Bytes, Answer<'a>>
     ensures first { IfOk result (λ bytes. BeginsFile at_most file.now bytes (F.state files.old)) }
     ensures kept { OnOk result (KeepsFiles (F.state files.old) (F.state files.new)) }
-    ensures err { IfErr result (λ answer. (input : SourceState) (out : SinkState) (image : List ℕ) (request : Request) → file_of request ≡ file.now → Answers (outside (F.state files.old) input out image) (outside (F.state files.new) input out image) (Some request) answer) }
+    ensures err { IfErr result (λ answer. (input : SourceState) (out : SinkState) (image : List ℕ) (request : Request) → file_of request ≡ Some file.now → Answers (outside (F.state files.old) input out image) (outside (F.state files.new) input out image) (Some request) answer) }
 {
     match files.read(alloc, file, at_most) {
         Read::Bytes(bytes) => Ok(bytes),
@@ -251,7 +257,7 @@ fn build_image<'a, F: Store>(
 ) -> Result<(), Answer<'a>>
     ensures built { OnOk result (IsImageOfFile file.now sizes.cells sizes.depth (F.state files.old) image.new) }
     ensures kept { OnOk result (KeepsFiles (F.state files.old) (F.state files.new)) }
-    ensures err { IfErr result (λ answer. (input : SourceState) (out : SinkState) (request : Request) → builds request ≡ true → file_of request ≡ file.now → Answers (outside (F.state files.old) input out image.old) (outside (F.state files.new) input out image.new) (Some request) answer) }
+    ensures err { IfErr result (λ answer. (input : SourceState) (out : SinkState) (request : Request) → builds request ≡ true → file_of request ≡ Some file.now → Answers (outside (F.state files.old) input out image.old) (outside (F.state files.new) input out image.new) (Some request) answer) }
 {
     let text = match read_text(alloc, file, files) {
         Ok(text) => text,
@@ -267,7 +273,7 @@ fn build_image<'a, F: Store>(
 }
 
 /// The answer to a text of which nothing is built.
-fn unbuilt_answer<'a>(cause: BuildError) -> Answer<'a>
+pub fn unbuilt_answer<'a>(cause: BuildError) -> Answer<'a>
     ensures { result ≡ answer_of_cause cause }
 {
     match cause {
@@ -298,7 +304,7 @@ fn bad_image_answer<'a>(error: &BadImage) -> Answer<'a>
 }
 
 /// Runs the image that a file loads, for at most so many instructions.
-fn run_built<I: Source, O: Sink>(
+pub fn run_built<I: Source, O: Sink>(
     alloc: Global,
     file: &[u8],
     steps: u64,
@@ -359,7 +365,7 @@ fn run_answer<'a>(stopped: &Stopped, options: RunOptions) -> Answer<'a>
 }
 
 /// Whether the statistics of a run that ended so are told.
-fn tells_statistics(stats: bool, end: RunEnd) -> bool
+pub fn tells_statistics(stats: bool, end: RunEnd) -> bool
     ensures { result ≡ tells_statistics stats end }
 {
     match end {
@@ -369,7 +375,7 @@ fn tells_statistics(stats: bool, end: RunEnd) -> bool
 }
 
 /// How a run ended, by why the image stopped.
-fn run_end(halt: Halt) -> RunEnd
+pub fn run_end(halt: Halt) -> RunEnd
     requires { ExitsWell exit_of (ending_at halt) }
     ensures { halt_for result ≡ halt }
 {

@@ -39,7 +39,7 @@ const NONE: Refused = Refused {
 const ECHO: &str =
     "fun echo(): console () { val b = read-byte(); println(b); if b >= 0 then echo() }; fun main() { echo() }";
 
-static ROWS: [Row; 22] = [
+static ROWS: [Row; 32] = [
     Row {
         line: "kokarv run a.kk",
         text: "fun main() { println(1 + 2 * 3) }",
@@ -122,6 +122,20 @@ static ROWS: [Row; 22] = [
         line: "kokarv build a.kk -o a.elf",
         text: "fun main() { println(1) }",
         refused: Refused {
+            files: 1,
+            input: 0,
+            out: 0,
+            err: 0,
+        },
+        status: Status::FileFault,
+        out: "",
+        err: "file fault: a.kk\n",
+        writes: false,
+    },
+    Row {
+        line: "kokarv build a.kk -o a.elf",
+        text: "fun main() { println(1) }",
+        refused: Refused {
             files: 2,
             input: 0,
             out: 0,
@@ -182,6 +196,20 @@ static ROWS: [Row; 22] = [
             files: 0,
             input: 0,
             out: 1,
+            err: 1,
+        },
+        status: Status::OutputFault,
+        out: "",
+        err: "",
+        writes: false,
+    },
+    Row {
+        line: "kokarv check a.kk",
+        text: "",
+        refused: Refused {
+            files: 0,
+            input: 0,
+            out: 0,
             err: 1,
         },
         status: Status::OutputFault,
@@ -299,6 +327,95 @@ static ROWS: [Row; 22] = [
         status: Status::BadImage,
         out: "",
         err: "bad image: 1\n",
+        writes: false,
+    },
+    Row {
+        line: "kokarv bench 1",
+        text: "",
+        refused: NONE,
+        status: Status::Usage,
+        out: "",
+        err: "usage: kokarv check FILE, build FILE -o OUT, run FILE, sim IMAGE, eval FILE, bench SEED SIZE\n",
+        writes: false,
+    },
+    Row {
+        line: "kokarv bench 1 0",
+        text: "",
+        refused: NONE,
+        status: Status::Usage,
+        out: "",
+        err: "usage: kokarv check FILE, build FILE -o OUT, run FILE, sim IMAGE, eval FILE, bench SEED SIZE\n",
+        writes: false,
+    },
+    Row {
+        line: "kokarv bench 1 101",
+        text: "",
+        refused: NONE,
+        status: Status::Usage,
+        out: "",
+        err: "usage: kokarv check FILE, build FILE -o OUT, run FILE, sim IMAGE, eval FILE, bench SEED SIZE\n",
+        writes: false,
+    },
+    Row {
+        line: "kokarv bench 1 1 --cells 999",
+        text: "",
+        refused: NONE,
+        status: Status::HeapFull,
+        out: "",
+        err: "heap full: 999 cells\n",
+        writes: false,
+    },
+    Row {
+        line: "kokarv bench 1 1 --steps 3",
+        text: "",
+        refused: NONE,
+        status: Status::StepsSpent,
+        out: "",
+        err: "steps spent: 3\n",
+        writes: false,
+    },
+    // The first put is the program's, the others are of the line behind its output.
+    Row {
+        line: "kokarv bench 1 1",
+        text: "",
+        refused: Refused {
+            files: 0,
+            input: 0,
+            out: 1,
+            err: 0,
+        },
+        status: Status::OutputFault,
+        out: "",
+        err: "output fault\n",
+        writes: false,
+    },
+    Row {
+        line: "kokarv bench 1 1",
+        text: "",
+        refused: Refused {
+            files: 0,
+            input: 0,
+            out: 2,
+            err: 0,
+        },
+        status: Status::OutputFault,
+        out: "565500\n",
+        err: "output fault\n",
+        writes: false,
+    },
+    // The text of seed 1 and size 1 has 537 bytes.
+    Row {
+        line: "kokarv bench 1 1",
+        text: "",
+        refused: Refused {
+            files: 0,
+            input: 0,
+            out: 4,
+            err: 0,
+        },
+        status: Status::OutputFault,
+        out: "565500\nsource 537",
+        err: "output fault\n",
         writes: false,
     },
 ];
@@ -454,5 +571,42 @@ fn runs_images(rt: HostRuntime) -> Result<(), NoMemory> {
     for row in &IMAGE_ROWS {
         check_image_row(&rt, rt.alloc(), row)?;
     }
+    Ok(())
+}
+
+/// Does `bench` for the program of seed 1 and size 1, which adds 65 to each of the numbers 1 to 1,000 and prints their sum.
+/// Compares its output up to the number of instructions, and behind it: the text has 537 bytes. Gives the whole output.
+fn check_bench(rt: &impl Abort, alloc: Global) -> Result<Vec<u8>, NoMemory> {
+    let words = words_of(alloc, "kokarv bench 1 1 --cells 1000")?;
+    let mut devices = Devices::new(alloc, "", NONE)?;
+    let status = devices.command(alloc, words.as_slice());
+    let bytes = devices.image.as_slice().len();
+    let before = format!(in alloc; "565500\nsource 537 image {bytes} instructions ")?;
+    let out = devices.out.held_bytes();
+    assert_eq!(rt; status, Status::Done);
+    assert!(rt; out.starts_with(before.as_bytes()));
+    assert!(rt; out.ends_with(b" free 1000\n"));
+    assert_eq!(rt; devices.err.held_bytes(), b"".as_slice());
+    Ok(Vec::from_slice(alloc, out)?)
+}
+
+#[test]
+fn benches_alike_each_time(rt: HostRuntime) -> Result<(), NoMemory> {
+    let first = check_bench(&rt, rt.alloc())?;
+    let second = check_bench(&rt, rt.alloc())?;
+    assert_eq!(rt; first.as_slice(), second.as_slice());
+    Ok(())
+}
+
+/// A print that the room of the output ends in is an output fault, and what fits of it was put.
+#[test]
+fn ends_where_the_output_is_full(rt: HostRuntime) -> Result<(), NoMemory> {
+    let words = words_of(rt.alloc(), "kokarv run a.kk")?;
+    let mut devices = Devices::new(rt.alloc(), "fun main() { println(1); println(2) }", NONE)?;
+    devices.out = MemSink::new(rt.alloc(), 3, &[])?;
+    let status = devices.command(rt.alloc(), words.as_slice());
+    assert_eq!(rt; status, Status::OutputFault);
+    assert_eq!(rt; devices.out.held_bytes(), b"1\n2".as_slice());
+    assert_eq!(rt; devices.err.held_bytes(), b"output fault\n".as_slice());
     Ok(())
 }

@@ -1,5 +1,6 @@
 use Rattle.std.proofs.Common.{map, string_bytes, ◌∙◌}
-use Rattle.kk_command.proofs.TakenLines.{line_told}
+use Rattle.clap.specs.Words.{kind_of}
+use Rattle.kk_command.proofs.TakenLines.{line_told, line_refused, unlike}
 use Rattle.kk_command.proofs.words.command_in.Goals as goal
 
 pub returns : goal.returns
@@ -9,3 +10,8 @@ returns c =
       kinds = c.in-Ok.ensures.kinds;
       matches = c.in-Ok.ensures.matches;
     }
+
+pub returns-in-Err-2 : goal.returns-in-Err-2
+returns-in-Err-2 c =
+    line_refused _ (map string_bytes c.args.words.now) c.in-Err.error c.in_ok-application.ensures.app c.in-Err.ensures.kinds
+    (unlike c.kind.result (kind_of c.in-Err.error) c.eq.result c.kind.ensures c.eq.ensures c.if-eq.false)

@@ -1,5 +1,5 @@
 use Rattle.kk_perform.proofs.Rows.{text_refused, text_accepted}
-use Rattle.std.proofs.Common.{refl}
+use Rattle.kk_command.specs.Requests.{check}
 use Rattle.kk_build.specs.Built.{program_tree}
 use Rattle.kk_perform.proofs.perform.check_file.Goals as goal
 
@@ -9,4 +9,6 @@ returns-in-Ok-read g c = λ input out image.
 
 pub returns : goal.returns
 returns g c = λ input out image.
-    text_refused _ _ input out image c.args.file.now c.in-Ok.text c.as_slice.result.now c.in-Err-read.refusal c.refusal_answer.result _ refl c.as_slice.ensures c.refusal_answer.ensures c.in-Ok.ensures.text c.in-Ok.ensures.kept c.in-Err-read.ensures.err
+    text_refused _ _ input out image c.in-Ok.text c.as_slice.result.now c.in-Err-read.refusal c.refusal_answer.result
+    (check c.args.file.now) c.as_slice.ensures c.refusal_answer.ensures c.in-Ok.ensures.text c.in-Ok.ensures.kept
+    c.in-Err-read.ensures.err

@@ -1,11 +1,13 @@
-use Rattle.std.proofs.Common.{refl}
+use Rattle.kk_command.specs.Requests.{eval}
 use Rattle.kk_build.specs.Built.{program_tree}
 use Rattle.kk_perform.proofs.Rows.{text_refused, program_evaluated, program_cut_short}
 use Rattle.kk_perform.proofs.perform.evaluate_file.Goals as goal
 
 pub returns-in-Err-read : goal.returns-in-Err-read
 returns-in-Err-read g c = λ image.
-    text_refused _ _ _ _ image c.args.file.now c.in-Ok.text c.as_slice.result.now c.in-Err-read.refusal c.refusal_answer.result _ refl c.as_slice.ensures c.refusal_answer.ensures c.in-Ok.ensures.text c.in-Ok.ensures.kept c.in-Err-read.ensures.err
+    text_refused _ _ _ _ image c.in-Ok.text c.as_slice.result.now c.in-Err-read.refusal c.refusal_answer.result
+    (eval c.args.file.now c.args.sizes.cells c.args.sizes.depth c.args.steps) c.as_slice.ensures c.refusal_answer.ensures
+    c.in-Ok.ensures.text c.in-Ok.ensures.kept c.in-Err-read.ensures.err
 
 pub returns-in-Ok-run_accepted : goal.returns-in-Ok-run_accepted
 returns-in-Ok-run_accepted g c = λ image.
