@@ -11,10 +11,12 @@ use Rattle.kk_core.specs.Kinds.{AsksTyped}
 use Rattle.kk_match.specs.Decided.{is_test, IsFormed}
 use Rattle.kk_match.specs.Views.{nodes_in}
 use Rattle.kk_match.proofs.Edges.{formed_few}
+use Rattle.kk_match.specs.Parts.{AreTypeNumbers, TellTypes}
 use Rattle.kk_norm.specs.Deciding.{AreDecisions}
 
 pub are_decisions : {E : Type 0} (constructors : List ConstructorTree) (types : List ℕ) (given patterns : List Pattern) (rows : ℕ)
     (result : Result Decisions E)
+    → AreTypeNumbers constructors types → TellTypes constructors types
     → given ≡ patterns → rows ≡ length given
     → IfOk result (λ found. Decides constructors given (nodes_in found))
     → IfOk result (λ found. AsksTyped constructors given (nodes_in found))
@@ -23,14 +25,14 @@ pub are_decisions : {E : Type 0} (constructors : List ConstructorTree) (types : 
     → IfOk result (λ found. found.tests ≡ count_by is_test (nodes_in found))
     → IfOk result (λ found. found.rows ≡ rows)
     → IfOk result (λ found. AreDecisions constructors patterns (map node_tree found.nodes.items))
-are_decisions constructors types given patterns rows (Ok found) same long decides asks formed lean tests wide =
+are_decisions constructors types given patterns rows (Ok found) numbers tell same long decides asks formed lean tests wide =
     subst (λ (ps : List Pattern). AreDecisions constructors ps (map node_tree found.nodes.items)) same
     (record {
       decides = decides;
       asks = asks;
       orderly = subst (AreOrderly (map node_tree found.nodes.items)) (wide ∙ long) found.orderly;
-      formed = (types, found.tests, found.by_rows, formed);
+      formed = (types, found.tests, found.by_rows, numbers, tell, formed);
       few_tests = omega (arith, formed_few types given (nodes_in found) found.tests found.by_rows formed, tests);
       lean = lean;
     })
-are_decisions constructors types given patterns rows (Err e) same long decides asks formed lean tests wide = decides
+are_decisions constructors types given patterns rows (Err e) numbers tell same long decides asks formed lean tests wide = decides

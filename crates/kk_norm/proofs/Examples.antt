@@ -1,5 +1,5 @@
 -- A core form of a match with a nested pattern, whose variables, openings and order can be read here.
-use Rattle.std.proofs.Common.{◌≡◌, ℕ, zero, suc, ◌<◌, Bool, true, false, ◌||◌, List, [], ◌∷◌, Option, Some, None, refl, sym, subst, arith}
+use Rattle.std.proofs.Common.{◌≡◌, ℕ, zero, suc, ◌<◌, ◌≤◌, ◌-◌, ◌++◌, length, ap, Bool, true, false, ◌||◌, List, [], ◌∷◌, Option, Some, None, refl, sym, subst, arith}
 use Rattle.std.specs.Prelude.{if◌then◌else◌, slice_get, ◌==◌, ◌≢◌, AllPairs, Contains}
 use Rattle.std.proofs.lemmas.Bool.{eqb-true}
 use Rattle.kk_syntax.specs.declared.operator.BinaryOperator.TheVariants.{Subtract}
@@ -15,10 +15,12 @@ use Rattle.kk_core.specs.Decisions.{NodeTree, chooses, tests, targets, row_chose
 use Rattle.kk_core.specs.Edges.{edges_from}
 use Rattle.kk_core.specs.Looks.{looks_from}
 use Rattle.kk_match.specs.Built.{no_state, one_more}
-use Rattle.kk_match.specs.Decided.{TestsAt, IsFormed}
-use Rattle.kk_match.specs.Graphs.{StateTree, test_of, lines_from, IsReached, at_start, by_answer, by_another}
-use Rattle.kk_core.specs.declared.decisions.Answer.TheVariants.{Number}
-use Rattle.kk_match.specs.Parts.{Part}
+use Rattle.kk_match.specs.Decided.{TestsAt, TestOnce, most_tests, IsFormed}
+use Rattle.kk_match.specs.Graphs.{StateTree, test_of, lines_from, HasTests, IsReached, at_start, by_answer, by_another}
+use Rattle.kk_match.specs.Growing.{IsGraphOf}
+use Rattle.kk_core.specs.declared.decisions.Answer.TheVariants.{Constructor, Number}
+use Rattle.kk_match.specs.Parts.{Part, has_several, AreTypeNumbers, TellTypes}
+use Rattle.kk_match.specs.Turned.{turned}
 use Rattle.kk_norm.specs.Deciding.{AreDecisions}
 use Rattle.kk_norm.specs.Normalized.{final, IsCode}
 use Rattle.kk_norm.specs.OpenedCells.{openings}
@@ -91,33 +93,51 @@ tests_nothing (suc k) at (edges, otherwise, is) = absurd (cc)
 -- ---- the states of the match: without parts that need a test, the start is the only one
 
 abbrev alone : StateTree
-alone = lines_from [] 0 (nested ∷ [])
+alone = record { row = 0; left = [] } ∷ []
+
+-- the type of constructor 7 has no other
+start_is : (types : List ℕ) → has_several types 7 ≡ false → lines_from types 0 (nested ∷ []) ≡ alone
+start_is types single =
+    ap (λ (b : Bool).
+    record {
+      row = 0;
+      left = (if b then record { at = []; asked = Constructor 7 } ∷ [] else [])
+          ++ (((if b then record { at = 1 ∷ []; asked = Constructor 7 } ∷ [] else []) ++ []) ++ []);
+    } ∷ [])
+    single
 
 alone_apart : AllPairs (λ one other. one ≢ other) (alone ∷ [])
 alone_apart i j d less short = absurd (omega (arith, less, short))
 
-alone_reached : (state : StateTree) → Contains (alone ∷ []) state → IsReached [] alone state
-alone_reached state (zero, short, same) = subst (IsReached [] alone) same (at_start)
-alone_reached state (suc k, short, same) = absurd (omega (arith, short))
+alone_reached : (types : List ℕ) (state : StateTree) → Contains (alone ∷ []) state → IsReached types alone state
+alone_reached types state (zero, short, same) = subst (IsReached types alone) same (at_start)
+alone_reached types state (suc k, short, same) = absurd (omega (arith, short))
 
 no_test : (q : Part) → test_of alone ≡ Some q → ⊥
 no_test q is = absurd (cc)
 
-nothing_else : (state : StateTree) → IsReached [] alone state → state ≡ alone
-nothing_else state (at_start) = refl
-nothing_else state (by_answer {state = earlier} {q = q} found before test kind) =
-    absurd (no_test q (subst (λ (one : StateTree). test_of one ≡ Some q) (nothing_else earlier before) test))
-nothing_else state (by_another {state = earlier} {at = at} n before test) =
+nothing_else : (types : List ℕ) (state : StateTree) → IsReached types alone state → state ≡ alone
+nothing_else types state (at_start) = refl
+nothing_else types state (by_answer {state = earlier} {q = q} found before test kind) =
+    absurd (no_test q (subst (λ (one : StateTree). test_of one ≡ Some q) (nothing_else types earlier before) test))
+nothing_else types state (by_another {state = earlier} {at = at} n before test) =
     let q : Part = record { at = at; asked = Number n } in
-    absurd (no_test q (subst (λ (one : StateTree). test_of one ≡ Some q) (nothing_else earlier before) test))
+    absurd (no_test q (subst (λ (one : StateTree). test_of one ≡ Some q) (nothing_else types earlier before) test))
 
-formed : IsFormed [] (nested ∷ []) (chooses 0 ∷ []) 0 false
-formed = (
+-- what `IsFormed` says of the decisions, by the start
+abbrev FormedFrom : List ℕ → StateTree → Type 0
+FormedFrom types start =
+    HasTests types start 0 × (0 ≤ most_tests (nested ∷ [])) × TestOnce (chooses 0 ∷ [])
+    × ((others : List NodeTree) × IsGraphOf types (most_tests (nested ∷ [])) start others
+    × ((chooses 0 ∷ []) ≡ turned (length others - 1) others))
+
+from_alone : (types : List ℕ) → FormedFrom types alone
+from_alone types = (
   record {
     states = alone ∷ [];
     apart = alone_apart;
-    reached = alone_reached;
-    all = λ state reached. (0, omega arith, sym (nothing_else state reached));
+    reached = alone_reached types;
+    all = λ state reached. (0, omega arith, sym (nothing_else types state reached));
     tests = refl;
   },
   omega arith,
@@ -137,12 +157,22 @@ formed = (
   ),
 )
 
-are_decisions : (constructors : List ConstructorTree) → AreDecisions constructors (nested ∷ []) (chooses 0 ∷ [])
-are_decisions constructors = record {
+formed : (types : List ℕ) → has_several types 7 ≡ false → IsFormed types (nested ∷ []) (chooses 0 ∷ []) 0 false
+formed types single = subst (FormedFrom types) (sym (start_is types single)) (from_alone types)
+
+-- numbers that tell the types of constructors, by which the type of constructor 7 has no other
+pub record Numbers (constructors : List ConstructorTree) : Type 0 where
+  pub types : List ℕ
+  pub are : AreTypeNumbers constructors types
+  pub tell : TellTypes constructors types
+  pub single : has_several types 7 ≡ false
+
+are_decisions : (constructors : List ConstructorTree) → Numbers constructors → AreDecisions constructors (nested ∷ []) (chooses 0 ∷ [])
+are_decisions constructors numbers = record {
   decides = decides constructors;
   asks = λ t store v typed of. tt;
   orderly = only_row;
-  formed = ([], 0, false, formed);
+  formed = (numbers.types, 0, false, numbers.are, numbers.tell, formed numbers.types numbers.single);
   few_tests = omega arith;
   lean = record {
     edges = λ cells v steps k. omega (arith, no_edges cells v steps k);
@@ -150,12 +180,12 @@ are_decisions constructors = record {
   };
 }
 
-pub is_its_code : (constructors : List ConstructorTree)
+pub is_its_code : (constructors : List ConstructorTree) → Numbers constructors
     → IsCode constructors (final true) [] 1 body (use_of 0 (case 0 (chooses 0 ∷ []) arms))
-is_its_code constructors = (
+is_its_code constructors numbers = (
   chooses 0 ∷ [],
   arms,
-  are_decisions constructors,
+  are_decisions constructors numbers,
   (
     subtraction,
     no_arm,

@@ -28,13 +28,13 @@ pub fn plain_core_forms_keep_meaning()
 /// A core form of a program that is typed, and whose matches are covered, keeps its meaning: its machine tells the same events,
 /// the same numbers of live places and of call frames, and ends alike, on every input, for all lent positions, cells and
 /// depth; with at most two steps for a step of the source, and one more for each cell that a row of a match opens. Its
-/// decisions may be any that choose the first row that matches and ask what types tell. It is a law, and does nothing.
+/// decisions are those of its matches (`AreDecisions`). It is a law, and does nothing.
 pub fn core_forms_of_typed_programs_keep_meaning()
     ensures { (program : ProgramTree) (code : ProgramCode) → IsGroundTyped program → IsCoreForm program code → KeepsMeaningByCells program code }
 {}
 
-/// A core form asks what types tell: for each value of a type that all the patterns of a match are of, each test of its decisions
-/// finds an answer of the type of its edges. It is a law, and does nothing.
+/// A core form asks what types tell: for each value of a type that all the patterns of a match are of, each answer that a
+/// test of its decisions finds is of the type of its edges. It is a law, and does nothing.
 pub fn core_forms_ask_what_types_tell()
     ensures { (program : ProgramTree) (code : ProgramCode) → IsCoreForm program code → AllAskTyped program.constructors code }
 {}

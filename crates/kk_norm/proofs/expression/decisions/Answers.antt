@@ -14,15 +14,15 @@ pub returns : goal.returns
 returns c =
     let all : map (λ p. pattern_tree p.now) c.loop-row.patterns.items ≡ patterns_in (rows_of (map row_tree c.args.rows.now))
     = all_pushed (map (λ p. pattern_tree p.now) c.loop-row.patterns.items) c.args.rows.now c.loop-row.row-index c.loop-row.invariant c.loop-row-test.false ∙ patterns_are c.args.rows.now in
+    let numbers : AreTypeNumbers (ground_program c.args.given.now).constructors (types_of c.deref.result.now) =
+    subst (λ cs. AreTypeNumbers (ground_program c.args.given.now).constructors (types_of cs)) (sym c.deref.ensures.value)
+    (are_type_numbers c.args.given.now) in
+    let tell : TellTypes (ground_program c.args.given.now).constructors (types_of c.deref.result.now) =
+    subst (λ cs. TellTypes (ground_program c.args.given.now).constructors (types_of cs)) (sym c.deref.ensures.value)
+    (numbers_tell c.args.given.now) in
     are_decisions (ground_program c.args.given.now).constructors (types_of c.deref.result.now) (map (λ p. pattern_tree p.now) c.loop-row.patterns.items)
-    (patterns_in (rows_of (map row_tree c.args.rows.now))) (length c.loop-row.patterns.items) c.decide.result all
+    (patterns_in (rows_of (map row_tree c.args.rows.now))) (length c.loop-row.patterns.items) c.decide.result numbers tell all
     (sym (length-map c.loop-row.patterns.items (λ p. pattern_tree p.now)))
-    (c.decide.ensures.decides (ground_program c.args.given.now).constructors
-    (subst (λ cs. AreTypeNumbers (ground_program c.args.given.now).constructors (types_of cs)) (sym c.deref.ensures.value)
-    (are_type_numbers c.args.given.now)))
-    (c.decide.ensures.asks (ground_program c.args.given.now).constructors
-    (subst (λ cs. AreTypeNumbers (ground_program c.args.given.now).constructors (types_of cs)) (sym c.deref.ensures.value)
-    (are_type_numbers c.args.given.now))
-    (subst (λ cs. TellTypes (ground_program c.args.given.now).constructors (types_of cs)) (sym c.deref.ensures.value)
-    (numbers_tell c.args.given.now)))
+    (c.decide.ensures.decides (ground_program c.args.given.now).constructors numbers)
+    (c.decide.ensures.asks (ground_program c.args.given.now).constructors numbers tell)
     c.decide.ensures.formed c.decide.ensures.lean c.decide.ensures.tests c.decide.ensures.rows
