@@ -13,14 +13,17 @@ use std::alloc::Global;
 /// line on `err` where the answer has one: where the status is not `Done`, and for `run --stats`.
 ///
 /// The first word is the program's name. At the return `image` holds the bytes of the image that this call built (`build`,
-/// `run`) or read (`sim`); it is as before where the call came to none. What `run` and `sim` load and run, for at most
-/// `--steps` instructions, are these bytes.
+/// `run`, `bench`) or read (`sim`); it is as before where the call came to none. What `run`, `bench` and `sim` load and run,
+/// for at most `--steps` instructions, are these bytes.
 ///
 /// `sim` ends with `ImageExit`, `Trap`, `StepsSpent` or `Done` exactly as the image does by the table of instructions, and
 /// with `BadImage` exactly where its bytes fail a condition on images. No memory is wanted once an image is loaded.
 ///
 /// `eval` ends with `Done`, `HeapFull`, `StackFull` or `StepsSpent` exactly as the program does by the definition of the
 /// language, within `--steps` of its steps. It wants memory as it goes: where there is none, it ends with `NoMemory`.
+///
+/// `bench` runs the image of a generated program as `run` does. Where the program ends by itself, it puts a line on `out`
+/// behind the program's output, and ends with `OutputFault` where that fails.
 pub fn kokarv<F: Store, I: Source, O: Sink, E: Sink>(
     alloc: Global,
     words: &[String],
