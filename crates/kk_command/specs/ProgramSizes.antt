@@ -1,4 +1,4 @@
--- The sizes of programs that are generated: numbers of functions.
+-- The sizes of programs that are generated: how many functions `f1`, `f2` and so on they have.
 use Rattle.std.specs.Prelude.{ℕ, ◌≤◌}
 
 abbrev pub least_size : ℕ

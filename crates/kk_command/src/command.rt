@@ -27,7 +27,7 @@ pub struct RunOptions {
 pub struct Generation {
     /// What its functions depend on.
     pub seed: u32,
-    /// How many functions it has.
+    /// How many functions `f1`, `f2` and so on it has.
     pub size: u32,
     pub ghost allowed: { IsProgramSize size },
 }

@@ -22,7 +22,7 @@ const DEFAULT_STEPS: u64 = 1_000_000_000;
 /// The greatest number of instructions that a run may be asked for.
 const GREATEST_STEPS: u64 = 9_223_372_036_854_775_807;
 
-/// The greatest number of functions of a generated program.
+/// The greatest size of a generated program.
 const GREATEST_SIZE: u64 = 100;
 
 /// The command that the words of a line are; none where they are no command. The first word is the program's name.
