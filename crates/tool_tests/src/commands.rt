@@ -1,19 +1,12 @@
 //! The program over devices in memory, of which some fail.
 
-use kk_base::{Bytes, NoMemory, Status};
-use kk_memio::{MemSink, MemSource, MemStore};
-use kk_perform::kokarv;
-use std::alloc::{AllocError, Global};
+use crate::devices::{Devices, NONE, Refused, words_of};
+use crate::layers::{ARITHMETIC, CELLS, DEPTH, LENT_PARAMETER, REVERSE};
+use kk_base::{NoMemory, Status};
+use kk_build::build;
+use kk_memio::MemSink;
+use std::alloc::Global;
 use std::process::Abort;
-
-/// The number, from 1, of the call that each device refuses; 0 where it refuses none.
-#[derive(Clone, Copy)]
-struct Refused {
-    files: u64,
-    input: u64,
-    out: u64,
-    err: u64,
-}
 
 /// A command where `a.kk` is the only file, and what it is to end with.
 #[derive(Clone, Copy)]
@@ -27,13 +20,6 @@ struct Row<'a> {
     /// Whether `a.elf` is written.
     writes: bool,
 }
-
-const NONE: Refused = Refused {
-    files: 0,
-    input: 0,
-    out: 0,
-    err: 0,
-};
 
 /// Prints each byte of the input as a number, and -1 at its end.
 const ECHO: &str =
@@ -478,60 +464,6 @@ static IMAGE_ROWS: [ImageRow; 4] = [
     },
 ];
 
-/// The devices of a command.
-#[derive(Drop)]
-struct Devices {
-    files: MemStore,
-    input: MemSource,
-    out: MemSink,
-    err: MemSink,
-    image: Bytes,
-}
-
-impl Devices {
-    /// Devices where `a.kk` is the only file, and the input is the bytes 10 and 255. Another command has left an image.
-    fn new(alloc: Global, text: &str, refused: Refused) -> Result<Self, NoMemory> {
-        let mut files = MemStore::new(alloc, &[refused.files])?;
-        files.add_file("a.kk", text.as_bytes())?;
-        Ok(Devices {
-            files,
-            input: MemSource::new(alloc, b"\n\xff", &[refused.input])?,
-            out: MemSink::new(alloc, 4096, &[refused.out])?,
-            err: MemSink::new(alloc, 4096, &[refused.err])?,
-            image: Bytes::from_vec(Vec::from_slice(alloc, b"another")?),
-        })
-    }
-
-    /// Does a command.
-    fn command(&mut self, alloc: Global, words: &[String]) -> Status {
-        kokarv(
-            alloc,
-            words,
-            &mut self.files,
-            &mut self.input,
-            &mut self.out,
-            &mut self.err,
-            &mut self.image,
-        )
-    }
-
-    /// Whether `a.elf` is the image, and there is one.
-    fn has_image(&self) -> bool {
-        match self.files.file_bytes("a.elf") {
-            Some(bytes) => !bytes.is_empty() && bytes == self.image.as_slice(),
-            None => false,
-        }
-    }
-}
-
-fn words_of(alloc: Global, line: &str) -> Result<Vec<String>, AllocError> {
-    let mut words = Vec::new(alloc);
-    for word in line.split_whitespace() {
-        words.push(String::from_str(alloc, word)?)?;
-    }
-    Ok(words)
-}
-
 /// Does the command of a row, and compares what it ends with.
 fn check_row(rt: &impl Abort, alloc: Global, row: &Row<'_>) -> Result<(), NoMemory> {
     let words = words_of(alloc, row.line)?;
@@ -608,5 +540,25 @@ fn ends_where_the_output_is_full(rt: HostRuntime) -> Result<(), NoMemory> {
     assert_eq!(rt; status, Status::OutputFault);
     assert_eq!(rt; devices.out.held_bytes(), b"1\n2".as_slice());
     assert_eq!(rt; devices.err.held_bytes(), b"output fault\n".as_slice());
+    Ok(())
+}
+
+/// Does a command, and compares the image behind it with the one that is built of the text.
+fn check_image(rt: &impl Abort, alloc: Global, line: &str, text: &str) -> Result<(), NoMemory> {
+    let words = words_of(alloc, line)?;
+    let mut devices = Devices::new(alloc, text, NONE)?;
+    let status = devices.command(alloc, words.as_slice());
+    let built = build(alloc, text.as_bytes(), CELLS, DEPTH);
+    assert_eq!(rt; status, Status::Done);
+    assert!(rt; matches!(&built, Ok(built) if built.as_slice() == devices.image.as_slice()));
+    Ok(())
+}
+
+#[test]
+fn the_image_is_the_one_that_is_built(rt: HostRuntime) -> Result<(), NoMemory> {
+    for text in [ARITHMETIC, REVERSE, LENT_PARAMETER] {
+        check_image(&rt, rt.alloc(), "kokarv run a.kk", text)?;
+        check_image(&rt, rt.alloc(), "kokarv build a.kk -o a.elf", text)?;
+    }
     Ok(())
 }

@@ -1,7 +1,12 @@
-//! Tests of the program over devices in memory, and of the adapters over real files: tests alone.
+//! Tests of the program over devices in memory, of the layers that `build` goes through, and of the adapters over real files: tests
+//! alone.
 #![tactic(auto)]
 
 #[cfg(test)]
 mod adapters;
 #[cfg(test)]
 mod commands;
+#[cfg(test)]
+mod devices;
+#[cfg(test)]
+mod layers;

@@ -1,0 +1,202 @@
+//! What `build` gives is what the layers below it give, one called after the other; and an image leaves its cells free.
+
+ghost use Rattle.kk_base.specs.Sizes.{AreSizes};
+
+use elf_image::write;
+use kk_back::{counted_image, image};
+use kk_base::{Bytes, NoMemory};
+use kk_build::build;
+use kk_core::code_without_cells_has_plain_types;
+use kk_front::{accepted_programs_are_typed, read};
+use kk_instances::instances_mean_the_program;
+use kk_memio::{MemSink, MemSource};
+use kk_middle::{
+    compile, compiled_programs_are_marked, compiled_programs_can_be_lowered,
+    compiled_programs_have_their_kinds, compiled_programs_keep_meaning,
+};
+use kk_norm::normal;
+use rv_cells::judged_programs_are_fit;
+use rv_sim::{Halt, Machine};
+use std::alloc::Global;
+use std::process::Abort;
+use std::test::Fail;
+
+/// The sizes that an image has where none are asked for.
+pub(crate) const CELLS: u32 = 65_536;
+
+pub(crate) const DEPTH: u32 = 4_096;
+
+/// The text of examples/arithmetic.kk. It has no match and no cell.
+pub(crate) const ARITHMETIC: &str = "fun main() { println(1 + 2 * 3) }
+";
+
+/// The text of examples/reverse.kk.
+pub(crate) const REVERSE: &str = "type list<a> { Nil; Cons(head: a, tail: list<a>) }
+fun build(n: int32): list<int32>
+  if n == 0 then Nil else Cons(n, build(n - 1))
+fun len(xs: list<a>): int32
+  match xs
+    Nil -> 0
+    Cons(_, xx) -> 1 + len(xx)
+fun rev(xs: list<a>, acc: list<a>): list<a>
+  match xs
+    Cons(x, xx) -> rev(xx, Cons(x, acc))
+    Nil -> acc
+fun main()
+  match rev(build(3), Nil)
+    Cons(x, _) -> println(x)
+    Nil -> println(0)
+";
+
+/// The text of examples/lent-parameter.kk.
+pub(crate) const LENT_PARAMETER: &str = "type list<a> { Nil; Cons(head: a, tail: list<a>) }
+fun build(n: int32): list<int32>
+  if n == 0 then Nil else Cons(n, build(n - 1))
+fun len(xs: list<a>): int32
+  match xs
+    Nil -> 0
+    Cons(_, xx) -> 1 + len(xx)
+fun sum(xs: list<int32>): int32
+  match xs
+    Nil -> 0
+    Cons(x, xx) -> x + sum(xx)
+fun f(xs: list<int32>): int32
+  match xs
+    Nil -> 0
+    Cons(x, _) -> sum(build(x))
+fun main()
+  println(f(Cons(3, Nil)))
+";
+
+/// The text of examples/shared-pair.kk.
+const SHARED_PAIR: &str = "type list<a> { Nil; Cons(head: a, tail: list<a>) }
+fun build(n: int32): list<int32>
+  if n == 0 then Nil else Cons(n, build(n - 1))
+fun len(xs: list<a>): int32
+  match xs
+    Nil -> 0
+    Cons(_, xx) -> 1 + len(xx)
+type pair { Pair(fst: list<int32>, snd: list<int32>) }
+fun main()
+  val s = Cons(1, Nil)
+  match Pair(s, s)
+    Pair(a, b) -> println(len(a) + len(b))
+";
+
+/// The text of examples/depth.kk.
+const DEPTH_OF_CALLS: &str = "type list<a> { Nil; Cons(head: a, tail: list<a>) }
+fun build(n: int32): list<int32>
+  if n == 0 then Nil else Cons(n, build(n - 1))
+fun len(xs: list<a>): int32
+  match xs
+    Nil -> 0
+    Cons(_, xx) -> 1 + len(xx)
+fun main()
+  println(len(build(3)))
+";
+
+/// `id` is called at two types.
+const IDENTITY: &str = "fun id(x: a): a
+  x
+fun main()
+  println(id(3))
+  if id(True) then println(1) else println(2)
+";
+
+/// The file of the image of a text by its core form; none where the text is refused, or its program has a match or a cell.
+fn core_file(alloc: Global, text: &str) -> Result<Option<Bytes>, NoMemory> {
+    let accepted = match read(alloc, text.as_bytes()) {
+        Ok(accepted) => accepted,
+        Err(_) => return Ok(None),
+    };
+    accepted_programs_are_typed();
+    instances_mean_the_program();
+    let core = normal(alloc, &accepted.instances)?;
+    if !core.is_plain() {
+        return Ok(None);
+    }
+    code_without_cells_has_plain_types();
+    let image = image(alloc, &core, CELLS, DEPTH)?;
+    let file = write(alloc, &image)?;
+    Ok(Some(file))
+}
+
+/// The file of the image of a text by its counted form; none where the text is refused, or its code is too large for an image.
+fn counted_file(alloc: Global, text: &str) -> Result<Option<Bytes>, NoMemory> {
+    let accepted = match read(alloc, text.as_bytes()) {
+        Ok(accepted) => accepted,
+        Err(_) => return Ok(None),
+    };
+    accepted_programs_are_typed();
+    let counted = compile(alloc, &accepted)?;
+    compiled_programs_keep_meaning();
+    compiled_programs_are_marked();
+    compiled_programs_have_their_kinds();
+    compiled_programs_can_be_lowered();
+    judged_programs_are_fit();
+    match counted_image(alloc, &counted, &accepted.instances.texts, CELLS, DEPTH)? {
+        Some(image) => {
+            let file = write(alloc, &image)?;
+            Ok(Some(file))
+        }
+        None => Ok(None),
+    }
+}
+
+/// Compares the file that is built of a text with one that there is.
+fn check_built(rt: &impl Abort, alloc: Global, text: &str, file: &Option<Bytes>) {
+    let built = build(alloc, text.as_bytes(), CELLS, DEPTH);
+    assert!(rt;
+        matches!((&built, file), (Ok(built), Some(file)) if built.as_slice() == file.as_slice())
+    );
+}
+
+#[test]
+fn build_goes_through_the_layers(rt: HostRuntime) -> Result<(), NoMemory> {
+    let file = core_file(rt.alloc(), ARITHMETIC)?;
+    check_built(&rt, rt.alloc(), ARITHMETIC, &file);
+    for text in [REVERSE, LENT_PARAMETER] {
+        let file = counted_file(rt.alloc(), text)?;
+        check_built(&rt, rt.alloc(), text, &file);
+    }
+    Ok(())
+}
+
+/// They are `main`, `id` at `int32` and `id` at `bool`.
+#[test]
+fn a_function_has_an_instance_for_each_type(rt: HostRuntime) {
+    let read = read(rt.alloc(), IDENTITY.as_bytes());
+    assert!(rt; matches!(&read, Ok(accepted) if accepted.instances.instances.len() == 3));
+}
+
+/// Runs the image that is built of a text on an empty input. It exits with 0 and leaves all cells free.
+fn check_cells(
+    rt: &impl Abort,
+    alloc: Global,
+    text: &str,
+    cells: u32,
+    depth: u32,
+) -> Result<(), Fail>
+    requires { AreSizes cells depth }
+{
+    let file = match build(alloc, text.as_bytes(), cells, depth) {
+        Ok(file) => file,
+        Err(_) => return Err(Fail::new("nothing is built")),
+    };
+    let image = elf_image::read(alloc, file.as_slice())?;
+    let mut machine = Machine::load(alloc, &image)?;
+    let mut input = MemSource::new(alloc, b"", &[])?;
+    let mut out = MemSink::new(alloc, 100, &[])?;
+    assert_eq!(rt;
+        machine.run(10_000_000, &mut input, &mut out),
+        Halt::Exit(0)
+    );
+    assert_eq!(rt; machine.free_cells(cells), cells);
+    Ok(())
+}
+
+#[test]
+fn cells_are_free_at_the_end(rt: HostRuntime) -> Result<(), Fail> {
+    check_cells(&rt, rt.alloc(), SHARED_PAIR, 2, DEPTH)?;
+    check_cells(&rt, rt.alloc(), DEPTH_OF_CALLS, 3, 5)
+}
