@@ -106,7 +106,7 @@ static ROWS: [Row; 32] = [
     },
     Row {
         line: "kokarv build a.kk -o a.elf",
-        text: "fun main() { println(1) }",
+        text: "fun main() { println(1 + 2 * 3) }",
         refused: Refused {
             files: 1,
             input: 0,
@@ -120,7 +120,7 @@ static ROWS: [Row; 32] = [
     },
     Row {
         line: "kokarv build a.kk -o a.elf",
-        text: "fun main() { println(1) }",
+        text: "fun main() { println(1 + 2 * 3) }",
         refused: Refused {
             files: 2,
             input: 0,
@@ -242,7 +242,7 @@ static ROWS: [Row; 32] = [
     },
     Row {
         line: "kokarv run a.kk --stats",
-        text: "fun main() { print(1) }",
+        text: "fun main() { println(1 + 2 * 3) }",
         refused: Refused {
             files: 0,
             input: 0,
@@ -250,7 +250,7 @@ static ROWS: [Row; 32] = [
             err: 1,
         },
         status: Status::OutputFault,
-        out: "1",
+        out: "7\n",
         err: "",
         writes: false,
     },
@@ -473,6 +473,7 @@ fn check_row(rt: &impl Abort, alloc: Global, row: &Row<'_>) -> Result<(), NoMemo
     assert_eq!(rt; devices.out.held_bytes(), row.out.as_bytes());
     assert_eq!(rt; devices.err.held_bytes(), row.err.as_bytes());
     assert_eq!(rt; devices.has_image(), row.writes);
+    assert!(rt; devices.has_text(row.text));
     Ok(())
 }
 

@@ -59,6 +59,14 @@ impl Devices {
         )
     }
 
+    /// Whether `a.kk` holds this text.
+    pub(crate) fn has_text(&self, text: &str) -> bool {
+        match self.files.file_bytes("a.kk") {
+            Some(bytes) => bytes == text.as_bytes(),
+            None => false,
+        }
+    }
+
     /// Whether `a.elf` is the image, and there is one.
     pub(crate) fn has_image(&self) -> bool {
         match self.files.file_bytes("a.elf") {
