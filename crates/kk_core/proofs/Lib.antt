@@ -2,8 +2,6 @@ mod Asking
 mod ChosenArms
 mod Examples
 pub mod FewParts
-mod PlainCodes
-mod PlainTypes
 mod Safe
 mod SafeRuns
 mod SafeSteps

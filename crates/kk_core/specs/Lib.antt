@@ -1,3 +1,4 @@
+pub mod CaseLengths
 pub mod Cases
 pub mod CellTypes
 pub mod Choosing
@@ -13,7 +14,4 @@ pub mod Edges
 pub mod Looks
 pub mod Needed
 pub mod NeverStuck
-pub mod Plain
-pub mod PlainCoreTyping
-pub mod PlainPieces
 pub mod Sizes

@@ -1,12 +1,9 @@
-ghost use Rattle.std.specs.Prelude.{◌≡◌, ℕ, List, true};
+ghost use Rattle.std.specs.Prelude.{ℕ, List};
 ghost use Rattle.kk_syntax.specs.GroundTyping.{Table};
-ghost use Rattle.kk_core.specs.Codes.{ProgramCode};
 ghost use Rattle.kk_core.specs.CoreStates.{CoreSetting, CoreState};
 ghost use Rattle.kk_core.specs.CoreTyping.{IsCoreTyped};
 ghost use Rattle.kk_core.specs.Kinds.{MakeOneType, field_count, AllAskTyped, HasKindsAlways};
 ghost use Rattle.kk_core.specs.NeverStuck.{NeverStuck};
-ghost use Rattle.kk_core.specs.Plain.{are_plain_codes};
-ghost use Rattle.kk_core.specs.PlainCoreTyping.{IsPlainCoreTyped};
 
 /// A typed program is never stuck: in each state of each run, the variables that the step reads are bound, decisions choose a row
 /// that has an arm, an opening finds a cell of its constructor with as many fields, a call finds a function with as many
@@ -23,12 +20,4 @@ pub fn typed_code_has_its_kinds()
     ensures { (table : Table) (setting : CoreSetting) (weight : CoreState → ℕ) (input : List ℕ)
         → IsCoreTyped table setting.code → AllAskTyped table.constructors setting.code
         → HasKindsAlways (MakeOneType table.constructors) (field_count table.constructors) weight setting input }
-{}
-
-/// A typed program without cases and openings, which constructs `False` and `True` alone, has the types of programs without
-/// cells; and each program that has those is without cases and openings. It is a law, and does nothing.
-pub fn code_without_cells_has_plain_types()
-    ensures types { (table : Table) (code : ProgramCode) → IsCoreTyped table code → are_plain_codes code.functions ≡ true
-        → IsPlainCoreTyped code }
-    ensures plain { (code : ProgramCode) → IsPlainCoreTyped code → are_plain_codes code.functions ≡ true }
 {}

@@ -4,12 +4,9 @@
 mod decisions;
 mod form;
 mod law;
-mod plain;
 mod shape;
 
 pub use decisions::{Answer, Decisions, Edge, Node};
 pub use form::{Arm, Block, Core, CoreFunction, Last, Step};
-pub use law::{
-    code_without_cells_has_plain_types, typed_code_has_its_kinds, typed_code_is_never_stuck,
-};
+pub use law::{typed_code_has_its_kinds, typed_code_is_never_stuck};
 pub use shape::ConstructorShape;

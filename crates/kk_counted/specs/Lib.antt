@@ -14,6 +14,7 @@ pub mod Heaps
 pub mod Int32
 pub mod Keeping
 pub mod Kinds
+pub mod Lengths
 pub mod Lowerable
 pub mod MarkKeeping
 pub mod Marks

@@ -19,7 +19,7 @@ use Rattle.kk_insert.proofs.TypedMarks.{split, split_low, split_high, parameters
 use Rattle.kk_insert.specs.Insertion.{lent_of, own, insert, inserted_function, inserted}
 use Rattle.kk_insert.specs.MarkTables.{marks_of_types, marks_of_core, AreGround}
 use Rattle.kk_syntax.specs.GroundTyping.{Table, table_of, HasTruths}
-use Rattle.kk_syntax.specs.PlainTyping.{Signature, signature_of}
+use Rattle.kk_syntax.specs.GroundTyping.{Signature, signature_of}
 use Rattle.kk_syntax.specs.PositionsOf.{PositionTable, is_lent}
 use Rattle.kk_syntax.specs.GroundPrograms.{ground_types, ground_program, ground_constructor_tree, arguments_of_type}
 use Rattle.kk_syntax.specs.Programs.{ConstructorTree, ProgramTree}

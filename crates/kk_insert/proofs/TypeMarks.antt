@@ -9,7 +9,7 @@ use Rattle.kk_insert.specs.MarkTables.{marks_of_types, AreGround}
 use Rattle.kk_syntax.proofs.SameTypes.{all_same_only}
 use Rattle.kk_syntax.specs.GroundTyping.{Table, IsFormTyped, HasTruths}
 use Rattle.kk_syntax.specs.OfType.{field_types, fields_of, fields_with, same_types}
-use Rattle.kk_syntax.specs.PlainTyping.{Signature}
+use Rattle.kk_syntax.specs.GroundTyping.{Signature}
 use Rattle.kk_syntax.specs.Programs.{ConstructorTree}
 use Rattle.kk_syntax.specs.Types.{TypeTree, int32, unit_type, type_variable, named, TypeTrees, no_type}
 use Rattle.kk_syntax.specs.Typing.{bool, unary_type, binary_type}

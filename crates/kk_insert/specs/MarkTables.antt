@@ -1,7 +1,7 @@
 -- What the types of a core program tell of marks, and what its core form tells.
 use Rattle.std.specs.Prelude.{◌≡◌, ℕ, List, map, Some, slice_get}
 use Rattle.kk_syntax.specs.GroundTyping.{Table}
-use Rattle.kk_syntax.specs.PlainTyping.{Signature}
+use Rattle.kk_syntax.specs.GroundTyping.{Signature}
 use Rattle.kk_syntax.specs.Programs.{ConstructorTree}
 use Rattle.kk_syntax.specs.Types.{TypeTrees}
 use Rattle.kk_core.specs.CellTypes.{has_cells, made_type}

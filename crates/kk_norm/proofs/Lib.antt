@@ -13,7 +13,6 @@ pub mod Forms
 pub mod Functions
 pub mod HeldValues
 pub mod Keeping
-pub mod KeepingPlain
 pub mod KeepingTyped
 pub mod MatchRows
 pub mod Matches
@@ -21,7 +20,6 @@ pub mod NeededVariables
 pub mod Openings
 pub mod PatternNames
 pub mod Picking
-pub mod PlainCodes
 pub mod ProgramTrees
 pub mod Programs
 mod RunExamples

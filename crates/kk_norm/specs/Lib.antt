@@ -6,5 +6,4 @@ pub mod Names
 pub mod Normal
 pub mod Normalized
 pub mod OpenedCells
-pub mod PlainTrees
 pub mod Written

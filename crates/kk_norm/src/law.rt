@@ -1,29 +1,12 @@
-ghost use Rattle.std.specs.Prelude.{◌≡◌, true};
 ghost use Rattle.kk_syntax.specs.GroundTyping.{table_of, IsGroundTyped};
 ghost use Rattle.kk_syntax.specs.Programs.{ProgramTree};
 ghost use Rattle.kk_core.specs.Kinds.{AllAskTyped};
 ghost use Rattle.kk_core.specs.Cases.{CasesAreWhole};
 ghost use Rattle.kk_core.specs.Codes.{ProgramCode};
 ghost use Rattle.kk_core.specs.CoreTyping.{IsCoreTyped, IsSmall};
-ghost use Rattle.kk_core.specs.Plain.{are_plain_codes};
-ghost use Rattle.kk_norm.specs.Meaning.{KeepsMeaning, KeepsMeaningByCells, CostsLittle};
+ghost use Rattle.kk_norm.specs.Meaning.{KeepsMeaningByCells, CostsLittle};
 ghost use Rattle.kk_norm.specs.Normal.{IsWithin};
 ghost use Rattle.kk_norm.specs.Normalized.{IsCoreForm};
-ghost use Rattle.kk_norm.specs.PlainTrees.{are_plain_functions};
-
-/// A core form has neither matches nor cells exactly where its program has none. It is a law, and does nothing.
-pub fn core_forms_are_plain_as_programs()
-    ensures { (program : ProgramTree) (code : ProgramCode) → IsCoreForm program code
-        → are_plain_codes code.functions ≡ are_plain_functions program.functions }
-{}
-
-/// A core form of a typed program that has neither matches nor cells keeps its meaning: its machine tells the same events, the
-/// same numbers of live places and of call frames, and ends alike, on every input, for all lent positions, cells and depth;
-/// with at most two steps for a step of the source. It is a law, and does nothing.
-pub fn plain_core_forms_keep_meaning()
-    ensures { (program : ProgramTree) (code : ProgramCode) → IsGroundTyped program → IsCoreForm program code
-        → are_plain_codes code.functions ≡ true → KeepsMeaning program code }
-{}
 
 /// A core form of a program that is typed, and whose matches are covered, keeps its meaning: its machine tells the same events,
 /// the same numbers of live places and of call frames, and ends alike, on every input, for all lent positions, cells and

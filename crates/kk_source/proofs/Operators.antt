@@ -10,7 +10,7 @@ use Rattle.kk_syntax.specs.declared.program.Form.{Form}
 use Rattle.kk_syntax.specs.declared.program.Form.TheVariants.{Number, Unit as Nothing, ReadByte, PrintText, Unary, Binary, Print, Construct, Call}
 use Rattle.kk_syntax.specs.GroundTyping.{HasTruths, Table, IsFormTyped}
 use Rattle.kk_syntax.specs.OfType.{same_types, with_arguments, fields_with, fields_of, field_types}
-use Rattle.kk_syntax.specs.PlainTyping.{Signature, signature_of}
+use Rattle.kk_syntax.specs.GroundTyping.{Signature, signature_of}
 use Rattle.kk_syntax.specs.Programs.{ConstructorTree, FunctionTree}
 use Rattle.kk_syntax.specs.Types.{TypeTree, TypeTrees, int32, unit_type, type_variable, named}
 use Rattle.kk_syntax.specs.Typing.{bool, unary_type, binary_type}

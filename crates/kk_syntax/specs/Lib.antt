@@ -11,7 +11,6 @@ pub mod OwnedPositions
 pub mod OwnedSearch
 pub mod Patterns
 pub mod Places
-pub mod PlainTyping
 pub mod PositionsOf
 pub mod Programs
 pub mod Shapes

@@ -13,7 +13,7 @@ use Rattle.kk_syntax.specs.declared.program.Form.TheVariants.{Number, Unit as No
 use Rattle.kk_syntax.specs.Programs.{text_at}
 use Rattle.kk_syntax.specs.Shapes.{is_among}
 use Rattle.kk_syntax.specs.Types.{TypeTree, int32, unit_type, type_variable, named}
-use Rattle.kk_syntax.specs.PlainTyping.{bool, binary_type}
+use Rattle.kk_syntax.specs.Typing.{bool, binary_type}
 use Rattle.kk_source.specs.Arithmetic.{wrapped}
 use Rattle.kk_source.specs.State.{Value, integer, unit, constant, place, Environment, heap_full}
 use Rattle.kk_source.specs.Live.{value_of}

@@ -72,10 +72,10 @@ abbrev program : List Lines
 program = record { params = []; code = main } ∷ record { params = 0 ∷ []; code = adder } ∷ []
 
 -- at depth 2 it prints 6 and finishes; at depth 1 the call finds the stack full
-prints : (trace (asm_machine toy 0 2 program) 8 (asm_start (record { params = []; code = main }) []) ≡ 6 ∷ []) × (ending_after (asm_machine toy 0 2 program) 8 (asm_start (record { params = []; code = main }) []) ≡ Some 0)
+prints : (trace (asm_machine toy 2 program) 8 (asm_start (record { params = []; code = main }) []) ≡ 6 ∷ []) × (ending_after (asm_machine toy 2 program) 8 (asm_start (record { params = []; code = main }) []) ≡ Some 0)
 prints = (refl, refl)
 
-stops : (trace (asm_machine toy 0 1 program) 8 (asm_start (record { params = []; code = main }) []) ≡ []) × (ending_after (asm_machine toy 0 1 program) 8 (asm_start (record { params = []; code = main }) []) ≡ Some 102)
+stops : (trace (asm_machine toy 1 program) 8 (asm_start (record { params = []; code = main }) []) ≡ []) × (ending_after (asm_machine toy 1 program) 8 (asm_start (record { params = []; code = main }) []) ≡ Some 102)
 stops = (refl, refl)
 
 abbrev x5 : Place

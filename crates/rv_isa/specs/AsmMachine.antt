@@ -6,7 +6,7 @@ use Rattle.rv_isa.specs.declared.asm.Action.TheVariants.{Compute, Label, Jump, B
 use Rattle.rv_isa.specs.AsmCode.{Line, Lines}
 use Rattle.rv_isa.specs.Primitives.{Reply, answers, ends, fails, Primitives, Turn, go, ended, stuck, or_stuck, by_token, end_of}
 use Rattle.rv_isa.specs.Frames.{Frame, empty, put, put_into, all_of, only_of, result_of, received, found, top, taken_if, holding, unholding}
-use Rattle.rv_isa.specs.Costs.{instructions_of, move_instructions}
+use Rattle.rv_isa.specs.Costs.{instructions_of, move_instructions, line_moves}
 
 -- the frames, the running one first, and what is shared
 pub record AsmState (H : Type 0) : Type 0 where
@@ -101,25 +101,25 @@ asm_told m (go s) = m.told s.shared
 asm_told m (ended how shared) = m.told shared
 asm_told m stuck = []
 
--- What the next line weighs: the most instructions that it executes, with so many moves before it.
-abbrev pub asm_line_weight : {H E W : Type 0} → Primitives H E W → ℕ → List (Frame Line) → H → Frame Line → List Line → ℕ
-asm_line_weight m moves frames shared f [] = 0
-asm_line_weight m moves frames shared f (line ∷ rest) =
-    moves * move_instructions + instructions_of m line.action (all_of (map f.cells line.args)) (top frames) shared
+-- what the next line weighs: the most instructions that it executes, with the moves for its arguments and its result
+abbrev pub asm_line_weight : {H E W : Type 0} → Primitives H E W → List (Frame Line) → H → Frame Line → List Line → ℕ
+asm_line_weight m frames shared f [] = 0
+asm_line_weight m frames shared f (line ∷ rest) =
+    line_moves line * move_instructions + instructions_of m line.action (all_of (map f.cells line.args)) (top frames) shared
 
-abbrev pub asm_frames_weight : {H E W : Type 0} → Primitives H E W → ℕ → List (Frame Line) → H → ℕ
-asm_frames_weight m moves [] shared = 0
-asm_frames_weight m moves (f ∷ fs) shared = asm_line_weight m moves (f ∷ fs) shared f f.code
+abbrev pub asm_frames_weight : {H E W : Type 0} → Primitives H E W → List (Frame Line) → H → ℕ
+asm_frames_weight m [] shared = 0
+asm_frames_weight m (f ∷ fs) shared = asm_line_weight m (f ∷ fs) shared f f.code
 
-abbrev pub asm_weight : {H E W : Type 0} → Primitives H E W → ℕ → AsmTurn H W → ℕ
-asm_weight m moves (go s) = asm_frames_weight m moves s.frames s.shared
-asm_weight m moves (ended how shared) = 0
-asm_weight m moves stuck = 0
+abbrev pub asm_weight : {H E W : Type 0} → Primitives H E W → AsmTurn H W → ℕ
+asm_weight m (go s) = asm_frames_weight m s.frames s.shared
+asm_weight m (ended how shared) = 0
+asm_weight m stuck = 0
 
--- the machine of a program at a depth, each of whose lines may have so many moves before it once it is placed
-abbrev pub asm_machine : {H E W : Type 0} → Primitives H E W → ℕ → ℕ → List Lines → Machine (AsmTurn H W) E W
-asm_machine m moves depth q =
-    weighing (asm_weight m moves) end_of (λ t. (drop (length (asm_told m t)) (asm_told m (asm_next m depth q t)), asm_next m depth q t))
+-- the machine of a program at a depth
+abbrev pub asm_machine : {H E W : Type 0} → Primitives H E W → ℕ → List Lines → Machine (AsmTurn H W) E W
+asm_machine m depth q =
+    weighing (asm_weight m) end_of (λ t. (drop (length (asm_told m t)) (asm_told m (asm_next m depth q t)), asm_next m depth q t))
 
 -- the start of a function without parameters
 abbrev pub asm_start : {H W : Type 0} → Lines → H → AsmTurn H W

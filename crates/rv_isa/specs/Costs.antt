@@ -1,9 +1,11 @@
 -- The most instructions that each action takes once it is placed.
-use Rattle.std.specs.Prelude.{ℕ, ◌+◌, List, Option, Some}
+use Rattle.std.specs.Prelude.{ℕ, ◌+◌, ◌*◌, List, [], ◌∷◌, Option, Some, None, length}
 use Rattle.rv_isa.specs.declared.asm.Action.{Action}
 use Rattle.rv_isa.specs.declared.asm.Action.TheVariants.{Compute, Label, Jump, Branch, Call, TailCall, Return, Routine, Hold, Unhold}
 use Rattle.rv_isa.specs.declared.asm.Operation.{Operation}
 use Rattle.rv_isa.specs.declared.asm.Operation.TheVariants.{Li, La, Dup, Free}
+use Rattle.rv_isa.specs.AsmCode.{Line, Lines}
+use Rattle.rv_isa.specs.PlacedCode.{PlacedLine, does, moves, PlacedLines}
 use Rattle.rv_isa.specs.Primitives.{Primitives}
 
 -- A constant and an address are two instructions. A count is loaded, raised and stored, unless the reference names no cell; a token is
@@ -41,3 +43,48 @@ action_instructions Unhold = 7
 
 abbrev pub instructions_of : {H E W : Type 0} → Primitives H E W → Action → Option (List ℕ) → Option ℕ → H → ℕ
 instructions_of m action words held shared = action_instructions action + routine_instructions m action words held shared
+
+-- ---- moves
+
+-- The moves for the arguments of an action. Each is loaded; those of a call are stored once more, by its callee.
+abbrev pub argument_moves : Action → ℕ → ℕ
+argument_moves (Call f) count = 2 * count
+argument_moves (TailCall f) count = 2 * count
+argument_moves _ count = count
+
+-- the move for a result, which is stored
+abbrev pub result_moves : {A : Type 0} → Option A → ℕ
+result_moves None = 0
+result_moves (Some into) = 1
+
+-- the moves that a line needs for what it reads and writes, where each value has a slot of the frame
+abbrev pub line_moves : Line → ℕ
+line_moves line = argument_moves line.action (length line.args) + result_moves line.into
+
+-- ---- how long code is
+
+-- The most instructions that a line is, with its moves, that a code is, and that all functions are. Those of a function store its
+-- parameters first.
+abbrev pub line_length : Line → ℕ
+line_length line = line_moves line * move_instructions + action_instructions line.action
+
+abbrev pub code_length : List Line → ℕ
+code_length [] = 0
+code_length (line ∷ code) = line_length line + code_length code
+
+abbrev pub functions_length : List Lines → ℕ
+functions_length [] = 0
+functions_length (function ∷ functions) = length function.params * move_instructions + code_length function.code + functions_length functions
+
+-- the same of code with places
+abbrev pub placed_line_length : PlacedLine → ℕ
+placed_line_length (does alive action args into) = action_instructions action
+placed_line_length (moves alive value way) = move_instructions
+
+abbrev pub placed_code_length : List PlacedLine → ℕ
+placed_code_length [] = 0
+placed_code_length (line ∷ code) = placed_line_length line + placed_code_length code
+
+abbrev pub placed_functions_length : List PlacedLines → ℕ
+placed_functions_length [] = 0
+placed_functions_length (function ∷ functions) = placed_code_length function.code + placed_functions_length functions
