@@ -1,5 +1,6 @@
 pub mod Checked
 pub mod Covered
+pub mod Depths
 pub mod GroundLimits
 pub mod GroundPrograms
 pub mod GroundTypes
