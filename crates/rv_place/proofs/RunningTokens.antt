@@ -1,6 +1,6 @@
 -- Tokens that are held and taken back by the machine of the placed form, followed by the processor.
 use Rattle.std.proofs.Common.{◌≡◌, ◌≢◌, ◌==◌, ◌||◌, ◌≤◌, ◌<◌, ◌⊎◌, inl, inr, ℕ, zero, suc, ◌+◌, ◌*◌, ◌%◌, ◌^◌, List, [], ◌∷◌}
-use Rattle.std.proofs.Common.{length, map, Option, Some, None, Bool, true, false, All, cond, option_map, refl, sym, ap, ◌∙◌, subst}
+use Rattle.std.proofs.Common.{map, Option, Some, None, Bool, true, false, All, cond, refl, sym, ap, ◌∙◌, subst}
 use Rattle.std.proofs.Common.{arith, lit<}
 use Rattle.std.proofs.lemmas.Bool.{or_parts, eqb-true, eqb-false}
 use Rattle.kk_base.specs.Memory.{Part}
@@ -14,11 +14,11 @@ use Rattle.rv_isa.specs.declared.placed.Symbol.{Symbol}
 use Rattle.rv_isa.specs.declared.placed.Symbol.TheVariants as symbol
 use Rattle.rv_isa.specs.PlacedCode.{PlacedLine, PlacedLines}
 use Rattle.rv_isa.specs.Arithmetic.{sum_word}
-use Rattle.rv_isa.specs.Primitives.{go, stuck, or_stuck, by_token}
+use Rattle.rv_isa.specs.Primitives.{stuck, or_stuck, by_token}
 use Rattle.rv_isa.specs.Frames.{Frame, all_of, only_of, holding, unholding, off_top, is_among}
-use Rattle.rv_isa.specs.PlacedMachine.{PlacedState, PlacedTurn, read_at, kept_by, only_slot, slot_of, placed_goes, placed_acts}
-use Rattle.rv_isa.specs.Bytes.{bytes_at, number_at}
-use Rattle.rv_isa.specs.Processor.{Processor, Ending, value, can_load, can_store}
+use Rattle.rv_isa.specs.PlacedMachine.{PlacedTurn, read_at, kept_by, only_slot, slot_of, placed_goes, placed_acts}
+use Rattle.rv_isa.specs.Bytes.{number_at}
+use Rattle.rv_isa.specs.Processor.{Processor, Ending, value, can_store}
 use Rattle.rv_isa.specs.Execution.{Leads}
 use Rattle.rv_isa.specs.Standing.{Code}
 use Rattle.rv_isa.proofs.Bytes.{bytes_at-same}
@@ -34,7 +34,7 @@ use Rattle.cell_heap.specs.Blocks as OfBlocks
 use Rattle.cell_heap.specs.Known.{IsOwnBlock, HoldsCells}
 use Rattle.cell_heap.proofs.Frames.{changed-same}
 use Rattle.cell_heap.proofs.Blocks.{mapped, own-cell, own-inside}
-use Rattle.cell_runtime.specs.Calls.{IsAt, HasWayBack, Returns, KeepsOutside}
+use Rattle.cell_runtime.specs.Calls.{IsAt, HasWayBack, KeepsOutside}
 use Rattle.cell_runtime.specs.Tokens.{Held, no_token, newest, IsHold, IsUnhold}
 use Rattle.cell_runtime.proofs.Blocks.{word_kept, token_view, held_holds, unheld_holds, again_holds}
 use Rattle.rv_world.specs.World.{World, with_cells, on_cells, primitives}
@@ -44,8 +44,8 @@ use Rattle.rv_place.specs.Instructions.{words_of_jump, CallsTo}
 use Rattle.rv_place.specs.declared.reach.Forms.{Forms}
 use Rattle.rv_place.specs.Lines.{Map, IsSymbolAt, CallsForToken}
 use Rattle.rv_place.specs.Grounds.{Ground, stack_end, constant_bytes}
-use Rattle.rv_place.specs.Running.{most_lines, IsIn, FramesAt, word_of, links_in, links_of, Agrees, Running}
-use Rattle.rv_place.proofs.RunningExecuting.{Done, Gets, addi_row, done_on, plain_gets}
+use Rattle.rv_place.specs.Running.{most_lines, IsIn, FramesAt, word_of, links_in, links_of, Running}
+use Rattle.rv_place.proofs.RunningExecuting.{Done, addi_row, done_on, plain_gets}
 use Rattle.rv_place.proofs.RunningLines.{jump_some, jump_most}
 use Rattle.rv_place.proofs.RunningRows.{jump_to, jump_last}
 use Rattle.rv_place.proofs.RunningFrames.{handed_apart, frames_kept}
