@@ -51,7 +51,7 @@ use Rattle.rv_place.proofs.RunningExecuting.{plain_gets, load_gets, store_goes}
 use Rattle.rv_place.proofs.RunningFrames.{handed_apart, frames_kept}
 use Rattle.rv_place.proofs.RunningLinks.{is_own, roots_done}
 use Rattle.rv_place.proofs.RunningWords.{words_in, AllFit, AllHanded, InRegisters, in_registers, Computed}
-use Rattle.rv_place.proofs.RunningComes.{NoneHanded, or_stuck_some, mapped_some, Comes, comes_go, runs_on, agrees_done, sp_low}
+use Rattle.rv_place.proofs.RunningComes.{NoneHanded, or_stuck_some, Comes, comes_go, runs_on, agrees_done, sp_low}
 use Rattle.rv_place.proofs.RunningComes.{constants_kept, stays}
 use Rattle.rv_place.proofs.RunningMoves.{gives_word, follow_words}
 
@@ -353,7 +353,7 @@ module _ {map_of : Map} {pool : Pool} {functions : List PlacedLines} {depth buff
       → (next : Cells) × (o ≡ Some next) × (placed_goes behind fs known (with_cells world next) ≡ turn)
   settled into o turn none is good =
       let result = or_stuck_some (changes world o) (λ r. placed_gives into r.0 behind fs known r.1) turn is good in
-      let next = mapped_some (λ (c : Cells). (0, with_cells world c)) o result.0 result.1 in
+      let next = mapped (λ (c : Cells). (0, with_cells world c)) o result.0 result.1 in
       let gives : placed_gives into 0 behind fs known (with_cells world next.0) ≡ turn = subst (λ (r : ℕ
       × World). placed_gives into r.0 behind fs known r.1 ≡ turn) (sym next.2) result.2 in
       (next.0, next.1, subst (λ i. placed_gives i 0 behind fs known (with_cells world next.0) ≡ turn) none gives)
@@ -373,7 +373,7 @@ module _ {map_of : Map} {pool : Pool} {functions : List PlacedLines} {depth buff
         let loaded : Option ℕ = load (value s.registers a.number) offset.word world.cells in
         let result = or_stuck_some (option_map (λ (word : ℕ). (word, world)) loaded)
         (λ r. placed_gives into r.0 behind fs known r.1) turn is good in
-        let word = mapped_some (λ (word : ℕ). (word, world)) loaded result.0 result.1 in
+        let word = mapped (λ (word : ℕ). (word, world)) loaded result.0 result.1 in
         let gives_it : placed_gives into word.0 behind fs known world ≡ turn = subst (λ (r : ℕ
         × World). placed_gives into r.0 behind fs known r.1 ≡ turn) (sym word.2) result.2 in
         subst (λ t. Comes map_of pool functions depth stop code parts 1 old t s) gives_it
