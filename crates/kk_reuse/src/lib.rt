@@ -1,0 +1,3 @@
+//! Reuse: counted code whose constructions take the cells that openings have freed. What it makes of code is a function in specs/;
+//! laws say that its runs are the same.
+#![tactic(auto)]
