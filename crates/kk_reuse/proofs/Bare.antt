@@ -8,7 +8,7 @@ use Rattle.kk_counted.specs.BareForms.{bare, bare_arms}
 use Rattle.kk_reuse.specs.Following.{may_make, kept, taken}
 use Rattle.kk_reuse.specs.Pairing.{frees, holds, unholds, nulls, moves_up, filled_up, settled, left_by, paired_form, paired, paired_arms}
 
-bare_frees : (n : ℕ) (code : Tokened) → bare (frees n code) ≡ bare code
+pub bare_frees : (n : ℕ) (code : Tokened) → bare (frees n code) ≡ bare code
 bare_frees zero code = refl
 bare_frees (suc n) code = bare_frees n code
 
@@ -16,7 +16,7 @@ bare_holds : (n : ℕ) (code : Tokened) → bare (holds n code) ≡ bare code
 bare_holds zero code = refl
 bare_holds (suc n) code = bare_holds n (Tokened.hold n code)
 
-bare_unholds : (n : ℕ) (code : Tokened) → bare (unholds n code) ≡ bare code
+pub bare_unholds : (n : ℕ) (code : Tokened) → bare (unholds n code) ≡ bare code
 bare_unholds zero code = refl
 bare_unholds (suc n) code = bare_unholds n code
 

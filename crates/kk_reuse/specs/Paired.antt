@@ -13,12 +13,12 @@ IsTimely behind tokens code = (tokens ≡ []) ⊎ (may_make behind (bare code) �
 -- some tokens are others without one of them
 pub data Without (y : ℕ) : List ℕ → List ℕ → Type 0 where
   here : (older : List ℕ) → Without y (y ∷ older) older
-  below : (x : ℕ) (tokens others : List ℕ) → Without y tokens others → Without y (x ∷ tokens) (x ∷ others)
+  deeper : (x : ℕ) (tokens others : List ℕ) → Without y tokens others → Without y (x ∷ tokens) (x ∷ others)
 
 -- one token is in another slot, at its place among the others
 pub data Renamed (to of : ℕ) : List ℕ → List ℕ → Type 0 where
   here : (older : List ℕ) → Renamed to of (of ∷ older) (to ∷ older)
-  below : (x : ℕ) (tokens others : List ℕ) → Renamed to of tokens others → Renamed to of (x ∷ tokens) (x ∷ others)
+  deeper : (x : ℕ) (tokens others : List ℕ) → Renamed to of tokens others → Renamed to of (x ∷ tokens) (x ∷ others)
 
 -- Code is paired, by the slots of its tokens, the newest first, and of those that its block leaves. A null token comes in as the
 -- oldest.
