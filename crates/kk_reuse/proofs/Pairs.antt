@@ -1,5 +1,5 @@
 -- Paired code is paired: each construction takes the newest token, and the others are freed where none can follow.
-use Rattle.std.proofs.Common.{◌≡◌, ◌≤◌, ◌⊎◌, inl, inr, ℕ, zero, suc, ◌+◌, ◌-◌, Bool, true, false, if◌then◌else◌, List, [], ◌∷◌, ◌++◌, map, max, Some, refl, sym, ap, subst, ◌∙◌, arith, append_assoc}
+use Rattle.std.proofs.Common.{◌≡◌, ◌≤◌, ◌⊎◌, inl, inr, ℕ, zero, suc, ◌+◌, ◌-◌, Bool, true, false, if◌then◌else◌, List, [], ◌∷◌, ◌++◌, map, Some, refl, sym, ap, subst, ◌∙◌, arith, append_assoc}
 use Rattle.std.specs.Prelude.{slice_get}
 use Rattle.kk_syntax.specs.declared.program.Form.{Form}
 use Rattle.kk_syntax.specs.declared.program.Form.TheVariants.{Number, Unit as Nothing, ReadByte, PrintText, Unary, Binary, Print, Construct, Call}
@@ -26,9 +26,12 @@ timely behind code n tokened is (inr makes) = inr (ap (may_make behind) is ∙ m
 frees_pair : (n : ℕ) (behind : Bool) (left : List ℕ) (code : Tokened) → may_make behind (bare code) ≡ false
     → IsPaired behind left [] code → IsPaired behind left (slots_below n) (frees n code)
 frees_pair zero behind left code none pairs = pairs
-frees_pair (suc n) behind left code none pairs =
-    (slots_below n, ap (may_make behind) (bare_frees n code) ∙ none, Without.here (slots_below n),
-    frees_pair n behind left code none pairs)
+frees_pair (suc n) behind left code none pairs = (
+  slots_below n,
+  ap (may_make behind) (bare_frees n code) ∙ none,
+  Without.here (slots_below n),
+  frees_pair n behind left code none pairs,
+)
 
 unholds_pair : (n : ℕ) (behind : Bool) (left tokens : List ℕ) (code : Tokened) → IsPaired behind left tokens code
     → IsPaired behind left tokens (unholds n code)
@@ -66,9 +69,11 @@ moves_pair : (by n : ℕ) (behind : Bool) (left done : List ℕ) (code : Tokened
 moves_pair by zero behind left done code pairs = pairs
 moves_pair by (suc n) behind left done code pairs =
     let rest = moves_pair by n behind left (done ++ (n + by) ∷ []) code
-    (subst (λ ts. IsPaired behind left ts code) (sym (append_assoc done ((n + by) ∷ []) (raised by n))) pairs) in
-    (done ++ (n + by) ∷ slots_below n, renamed_behind (n + by) n done (slots_below n),
-    subst (λ ts. IsPaired behind left ts (moves_up by n code)) (append_assoc done ((n + by) ∷ []) (slots_below n)) rest)
+    (subst (λ ts. IsPaired behind left ts code) (sym (append_assoc done ((n + by) ∷ []) (raised by n))) pairs) in (
+      done ++ (n + by) ∷ slots_below n,
+      renamed_behind (n + by) n done (slots_below n),
+      subst (λ ts. IsPaired behind left ts (moves_up by n code)) (append_assoc done ((n + by) ∷ []) (slots_below n)) rest,
+    )
 
 raised_all : (by n : ℕ) → raised by n ++ slots_below by ≡ slots_below (n + by)
 raised_all by zero = ap slots_below (same by)
@@ -187,10 +192,11 @@ mutual
   paired_pairs (tail_call f arguments) behind l n keeps few =
       frees_pair n behind (slots_below l) (Tokened.tail_call f arguments) refl refl
   paired_pairs (branch x positive negative) behind l n keeps few =
-      let all = branch x positive negative in
-      (timely behind all n (paired behind l n all) (bare_paired behind l n all) keeps,
-      behind_pairs positive behind l n (λ k. paired_pairs positive behind l (kept behind positive n) k (omega (arith, few))),
-      behind_pairs negative behind l n (λ k. paired_pairs negative behind l (kept behind negative n) k (omega (arith, few))))
+      let all = branch x positive negative in (
+        timely behind all n (paired behind l n all) (bare_paired behind l n all) keeps,
+        behind_pairs positive behind l n (λ k. paired_pairs positive behind l (kept behind positive n) k (omega (arith, few))),
+        behind_pairs negative behind l n (λ k. paired_pairs negative behind l (kept behind negative n) k (omega (arith, few))),
+      )
   paired_pairs (case x decisions arms) behind l n keeps few =
       let all = case x decisions arms in
       (timely behind all n (paired behind l n all) (bare_paired behind l n all) keeps, arms_pair arms behind l n few)
@@ -207,39 +213,47 @@ mutual
       let b = may_make behind rest in
       let later = settled behind rest m (paired behind l (kept behind rest m) rest) in
       let same : bare later ≡ rest = bare_settled behind rest m (paired behind l (kept behind rest m) rest)
-      ∙ bare_paired behind l (kept behind rest m) rest in
-      (slots_below m, timely behind all n (paired behind l n all) (bare_paired behind l n all) keeps,
-      subst (λ r. IsPaired (may_make behind r) (slots_below m) (slots_below n)
-      (settled b block n (paired b m (kept b block n) block))) (sym same)
-      (behind_pairs block b m n (λ k. paired_pairs block b m (kept b block n) k (omega arith))),
-      behind_pairs rest behind l m (λ k. paired_pairs rest behind l (kept behind rest m) k few))
+      ∙ bare_paired behind l (kept behind rest m) rest in (
+        slots_below m,
+        timely behind all n (paired behind l n all) (bare_paired behind l n all) keeps,
+        subst (λ r. IsPaired (may_make behind r) (slots_below m) (slots_below n)
+            (settled b block n (paired b m (kept b block n) block))) (sym same)
+            (behind_pairs block b m n (λ k. paired_pairs block b m (kept b block n) k (omega arith))),
+        behind_pairs rest behind l m (λ k. paired_pairs rest behind l (kept behind rest m) k few),
+      )
   paired_pairs (read x c fields rest) behind l n keeps few =
-      let all = read x c fields rest in
-      (timely behind all n (paired behind l n all) (bare_paired behind l n all) keeps,
-      behind_pairs rest behind l n (λ k. paired_pairs rest behind l (kept behind rest n) k few))
+      let all = read x c fields rest in (
+        timely behind all n (paired behind l n all) (bare_paired behind l n all) keeps,
+        behind_pairs rest behind l n (λ k. paired_pairs rest behind l (kept behind rest n) k few),
+      )
   paired_pairs (open_cell x c fields used rest) behind l n keeps few =
-      let all = open_cell x c fields used rest in
-      (timely behind all n (paired behind l n all) (bare_paired behind l n all) keeps,
-      behind_pairs rest behind l (suc n) (λ k. paired_pairs rest behind l (kept behind rest (suc n)) k few))
+      let all = open_cell x c fields used rest in (
+        timely behind all n (paired behind l n all) (bare_paired behind l n all) keeps,
+        behind_pairs rest behind l (suc n) (λ k. paired_pairs rest behind l (kept behind rest (suc n)) k few),
+      )
   paired_pairs (if_unique x c fields used rest) behind l n keeps few =
-      let all = if_unique x c fields used rest in
-      (timely behind all n (paired behind l n all) (bare_paired behind l n all) keeps,
-      behind_pairs rest behind l (suc n) (λ k. paired_pairs rest behind l (kept behind rest (suc n)) k few))
+      let all = if_unique x c fields used rest in (
+        timely behind all n (paired behind l n all) (bare_paired behind l n all) keeps,
+        behind_pairs rest behind l (suc n) (λ k. paired_pairs rest behind l (kept behind rest (suc n)) k few),
+      )
   paired_pairs (dup x rest) behind l n keeps few =
-      let all = dup x rest in
-      (timely behind all n (paired behind l n all) (bare_paired behind l n all) keeps,
-      behind_pairs rest behind l n (λ k. paired_pairs rest behind l (kept behind rest n) k few))
+      let all = dup x rest in (
+        timely behind all n (paired behind l n all) (bare_paired behind l n all) keeps,
+        behind_pairs rest behind l n (λ k. paired_pairs rest behind l (kept behind rest n) k few),
+      )
   paired_pairs (drop x rest) behind l n keeps few =
-      let all = drop x rest in
-      (timely behind all n (paired behind l n all) (bare_paired behind l n all) keeps,
-      behind_pairs rest behind l n (λ k. paired_pairs rest behind l (kept behind rest n) k few))
+      let all = drop x rest in (
+        timely behind all n (paired behind l n all) (bare_paired behind l n all) keeps,
+        behind_pairs rest behind l n (λ k. paired_pairs rest behind l (kept behind rest n) k few),
+      )
 
   arms_pair : (arms : CountedArms) (behind : Bool) (l n : ℕ) → arms_leave behind n arms ≤ l
       → ArePaired behind (slots_below l) (slots_below n) (paired_arms behind l n arms)
   arms_pair no_arm behind l n few = tt
-  arms_pair (arm body rest) behind l n few =
-      (behind_pairs body behind l n (λ k. paired_pairs body behind l (kept behind body n) k (omega (arith, few))),
-      arms_pair rest behind l n (omega (arith, few)))
+  arms_pair (arm body rest) behind l n few = (
+    behind_pairs body behind l n (λ k. paired_pairs body behind l (kept behind body n) k (omega (arith, few))),
+    arms_pair rest behind l n (omega (arith, few)),
+  )
 
 pub program_pairs : (program : CountedProgram) → AllPaired (paired_program program)
 program_pairs program f function is = by program.functions f is

@@ -1,5 +1,5 @@
 -- Paired code spends its tokens: each once on each path, and all are held at a call.
-use Rattle.std.proofs.Common.{◌≡◌, ◌≤◌, ℕ, zero, suc, ◌+◌, ◌-◌, ◌==◌, Bool, true, false, ◌||◌, ◌&&◌, not, if◌then◌else◌, List, [], ◌∷◌, ◌++◌, map, max, Some, nat_lt, nat_le, refl, sym, ap, subst, ◌∙◌, arith}
+use Rattle.std.proofs.Common.{◌≡◌, ◌≤◌, ℕ, zero, suc, ◌+◌, ◌-◌, ◌==◌, Bool, true, false, ◌||◌, ◌&&◌, not, if◌then◌else◌, List, [], ◌∷◌, ◌++◌, map, Some, nat_lt, nat_le, refl, sym, ap, subst, ◌∙◌, arith}
 use Rattle.std.specs.Prelude.{slice_get}
 use Rattle.std.proofs.lemmas.Bool.Decides.{nat_tests}
 use Rattle.kk_syntax.specs.declared.program.Form.{Form}
@@ -141,9 +141,14 @@ AreFrom slots low high = (z : ℕ) → is_among slots z ≡ (nat_le low z && nat
 nulls_spend : (more high : ℕ) (left slots : List ℕ) (code : Tokened) → more ≤ high → AreFrom slots more high
     → ((later : List ℕ) → AreFrom later 0 high → SpendsTokens left later [] code) → SpendsTokens left slots [] (nulls more code)
 nulls_spend zero high left slots code low from spends = spends slots from
-nulls_spend (suc more) high left slots code low from spends =
-    (refl, (from more ∙ not_yet more high, nulls_spend more high left (more ∷ slots) code (omega (arith, low))
-    (λ z. ap (λ b. (more == z) || b) (from z) ∙ now more high z low) spends))
+nulls_spend (suc more) high left slots code low from spends = (
+  refl,
+  (
+    from more ∙ not_yet more high,
+    nulls_spend more high left (more ∷ slots) code (omega (arith, low))
+        (λ z. ap (λ b. (more == z) || b) (from z) ∙ now more high z low) spends,
+  ),
+)
   where
     not_yet : (more high : ℕ) → (nat_le (suc more) more && nat_lt more high) ≡ false
     not_yet more high = grind (arith, nat_tests)
@@ -191,9 +196,10 @@ Spends_behind left n rest = (later : List ℕ) → AreBelow later n → SpendsTo
 called : (n x f : ℕ) (arguments left slots : List ℕ) (rest : Tokened) → AreBelow slots n → Spends_behind left n rest
     → SpendsTokens left slots [] (holds n (Tokened.compute x (Call f) arguments [] (unholds n rest)))
 called n x f arguments left slots rest below spends =
-    holds_spend n left slots [] (Tokened.compute x (Call f) arguments [] (unholds n rest)) (λ z low. (below z ∙ low, refl))
-    ((λ y there. among_front (slots_below n) [] y (slots_are n y ∙ (sym (below y) ∙ there))),
-    unholds_spend n left slots rest (λ z low. below z ∙ low) (spends slots below))
+    holds_spend n left slots [] (Tokened.compute x (Call f) arguments [] (unholds n rest)) (λ z low. (below z ∙ low, refl)) (
+      (λ y there. among_front (slots_below n) [] y (slots_are n y ∙ (sym (below y) ∙ there))),
+      unholds_spend n left slots rest (λ z low. below z ∙ low) (spends slots below),
+    )
 
 form_spends : (n x : ℕ) (form : Form) (arguments left slots : List ℕ) (rest : Tokened) → AreBelow slots n
     → Spends_behind left (taken form arguments n) rest → SpendsTokens left slots [] (paired_form n x form arguments rest)
@@ -204,9 +210,19 @@ form_spends zero x (Construct c) (first ∷ arguments) left slots rest below spe
     ((refl, (tt, λ z. sym (below z ∙ none_below z))), spends slots below)
 form_spends (suc n) x (Construct c) [] left slots rest below spends = (refl, spends slots below)
 form_spends (suc n) x (Construct c) (first ∷ arguments) left slots rest below spends =
-    let less = without_last slots n below in
-    (refl, (last_there slots n below, (slots_apart n, (below_same (slots_below n) (without (n ∷ []) slots) n (slots_are n) less,
-    spends (without (n ∷ []) slots) (subst (AreBelow (without (n ∷ []) slots)) (one_less n) less)))))
+    let less = without_last slots n below in (
+      refl,
+      (
+        last_there slots n below,
+        (
+          slots_apart n,
+          (
+            below_same (slots_below n) (without (n ∷ []) slots) n (slots_are n) less,
+            spends (without (n ∷ []) slots) (subst (AreBelow (without (n ∷ []) slots)) (one_less n) less),
+          ),
+        ),
+      ),
+    )
   where
     one_less : (n : ℕ) → n ≡ suc n - 1
     one_less n = omega arith
@@ -233,11 +249,15 @@ mutual
   paired_spends (give x) behind l n left slots below all few = filled_spends l n x left slots below all few
   paired_spends (tail_call f arguments) behind l n left slots below all few =
       frees_spend n left slots (Tokened.tail_call f arguments) below (λ later none. (refl, λ z. none z ∙ none_below z))
-  paired_spends (branch x positive negative) behind l n left slots below all few =
-      (refl, (settles (may_make behind positive) n left slots (λ k. paired behind l k positive) below
-      (λ later lower. paired_spends positive behind l (kept behind positive n) left later lower all (omega (arith, few))),
+  paired_spends (branch x positive negative) behind l n left slots below all few = (
+    refl,
+    (
+      settles (may_make behind positive) n left slots (λ k. paired behind l k positive) below
+          (λ later lower. paired_spends positive behind l (kept behind positive n) left later lower all (omega (arith, few))),
       settles (may_make behind negative) n left slots (λ k. paired behind l k negative) below
-      (λ later lower. paired_spends negative behind l (kept behind negative n) left later lower all (omega (arith, few)))))
+          (λ later lower. paired_spends negative behind l (kept behind negative n) left later lower all (omega (arith, few))),
+    ),
+  )
   paired_spends (case x decisions arms) behind l n left slots below all few =
       (refl, arms_spend arms behind l n left slots below all few)
   paired_spends (compute x form arguments rest) behind l n left slots below all few =
@@ -246,39 +266,61 @@ mutual
       (λ later lower. settles (may_make behind rest) (taken form arguments n) left later (λ k. paired behind l k rest) lower
       (λ last low. paired_spends rest behind l (kept behind rest (taken form arguments n)) left last low all few))
   paired_spends (inside x block rest) behind l n left slots below all few =
-      let m = left_by behind n block rest in
-      (slots_below m, (refl, (
-        settles (may_make (may_make behind rest) block) n (slots_below m) slots (λ k. paired (may_make behind rest) m k block) below
-            (λ later lower. paired_spends block (may_make behind rest) m (kept (may_make behind rest) block n) (slots_below m) later
-            lower (slots_are m) (omega arith)),
-        settles (may_make behind rest) m left (slots_below m) (λ k. paired behind l k rest) (slots_are m)
-            (λ later lower. paired_spends rest behind l (kept behind rest m) left later lower all few),
-      )))
-  paired_spends (read x c fields rest) behind l n left slots below all few =
-      (refl, settles (may_make behind rest) n left slots (λ k. paired behind l k rest) below
-      (λ later lower. paired_spends rest behind l (kept behind rest n) left later lower all few))
-  paired_spends (open_cell x c fields used rest) behind l n left slots below all few =
-      (refl, (next_free slots n below, settles (may_make behind rest) (suc n) left (n ∷ slots) (λ k. paired behind l k rest)
-      (with_next slots n below)
-      (λ later lower. paired_spends rest behind l (kept behind rest (suc n)) left later lower all few)))
-  paired_spends (if_unique x c fields used rest) behind l n left slots below all few =
-      (refl, (next_free slots n below, settles (may_make behind rest) (suc n) left (n ∷ slots) (λ k. paired behind l k rest)
-      (with_next slots n below)
-      (λ later lower. paired_spends rest behind l (kept behind rest (suc n)) left later lower all few)))
-  paired_spends (dup x rest) behind l n left slots below all few =
-      (refl, settles (may_make behind rest) n left slots (λ k. paired behind l k rest) below
-      (λ later lower. paired_spends rest behind l (kept behind rest n) left later lower all few))
-  paired_spends (drop x rest) behind l n left slots below all few =
-      (refl, settles (may_make behind rest) n left slots (λ k. paired behind l k rest) below
-      (λ later lower. paired_spends rest behind l (kept behind rest n) left later lower all few))
+      let m = left_by behind n block rest in (
+        slots_below m,
+        (
+          refl,
+          (
+            settles (may_make (may_make behind rest) block) n (slots_below m) slots (λ k. paired (may_make behind rest) m k block) below
+                (λ later lower. paired_spends block (may_make behind rest) m (kept (may_make behind rest) block n) (slots_below m) later
+                lower (slots_are m) (omega arith)),
+            settles (may_make behind rest) m left (slots_below m) (λ k. paired behind l k rest) (slots_are m)
+                (λ later lower. paired_spends rest behind l (kept behind rest m) left later lower all few),
+          ),
+        ),
+      )
+  paired_spends (read x c fields rest) behind l n left slots below all few = (
+    refl,
+    settles (may_make behind rest) n left slots (λ k. paired behind l k rest) below
+        (λ later lower. paired_spends rest behind l (kept behind rest n) left later lower all few),
+  )
+  paired_spends (open_cell x c fields used rest) behind l n left slots below all few = (
+    refl,
+    (
+      next_free slots n below,
+      settles (may_make behind rest) (suc n) left (n ∷ slots) (λ k. paired behind l k rest)
+          (with_next slots n below)
+          (λ later lower. paired_spends rest behind l (kept behind rest (suc n)) left later lower all few),
+    ),
+  )
+  paired_spends (if_unique x c fields used rest) behind l n left slots below all few = (
+    refl,
+    (
+      next_free slots n below,
+      settles (may_make behind rest) (suc n) left (n ∷ slots) (λ k. paired behind l k rest)
+          (with_next slots n below)
+          (λ later lower. paired_spends rest behind l (kept behind rest (suc n)) left later lower all few),
+    ),
+  )
+  paired_spends (dup x rest) behind l n left slots below all few = (
+    refl,
+    settles (may_make behind rest) n left slots (λ k. paired behind l k rest) below
+        (λ later lower. paired_spends rest behind l (kept behind rest n) left later lower all few),
+  )
+  paired_spends (drop x rest) behind l n left slots below all few = (
+    refl,
+    settles (may_make behind rest) n left slots (λ k. paired behind l k rest) below
+        (λ later lower. paired_spends rest behind l (kept behind rest n) left later lower all few),
+  )
 
   arms_spend : (arms : CountedArms) (behind : Bool) (l n : ℕ) (left slots : List ℕ) → AreBelow slots n → AreBelow left l
       → arms_leave behind n arms ≤ l → SpendAllTokens left slots (paired_arms behind l n arms)
   arms_spend no_arm behind l n left slots below all few = tt
-  arms_spend (arm body rest) behind l n left slots below all few =
-      (settles (may_make behind body) n left slots (λ k. paired behind l k body) below
-      (λ later lower. paired_spends body behind l (kept behind body n) left later lower all (omega (arith, few))),
-      arms_spend rest behind l n left slots below all (omega (arith, few)))
+  arms_spend (arm body rest) behind l n left slots below all few = (
+    settles (may_make behind body) n left slots (λ k. paired behind l k body) below
+        (λ later lower. paired_spends body behind l (kept behind body n) left later lower all (omega (arith, few))),
+    arms_spend rest behind l n left slots below all (omega (arith, few)),
+  )
 
 -- ---- a function leaves none
 

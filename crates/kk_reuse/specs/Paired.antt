@@ -1,7 +1,6 @@
 -- When code with tokens is paired: on each path a construction with fields takes the newest token that is not yet spent, if there is
 -- one; each other token is freed where no construction can follow any more; and each is spent once.
 use Rattle.std.specs.Prelude.{◌≡◌, ◌⊎◌, ℕ, Bool, true, false, List, [], ◌∷◌, ◌++◌, Some, slice_get}
-use Rattle.kk_syntax.specs.declared.program.Form.{Form}
 use Rattle.kk_counted.specs.BareForms.{bare}
 use Rattle.kk_counted.specs.TokenedCodes.{Tokened, TokenedArms, TokenedFunction, TokenedProgram}
 use Rattle.kk_reuse.specs.Following.{makes_cell, may_make}

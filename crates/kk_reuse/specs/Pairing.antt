@@ -4,6 +4,8 @@ use Rattle.std.specs.Prelude.{ℕ, zero, suc, ◌+◌, ◌-◌, Bool, false, Lis
 use Rattle.kk_syntax.specs.declared.program.Form.{Form}
 use Rattle.kk_syntax.specs.declared.program.Form.TheVariants.{Construct, Call}
 use Rattle.kk_counted.specs.CountedCodes.{Counted, give, tail_call, branch, case, compute, inside, read, open_cell, if_unique, dup, drop, CountedArms, no_arm, arm, CountedFunction, CountedProgram}
+use Rattle.kk_counted.specs.CountedStates.{CountedSetting}
+use Rattle.kk_counted.specs.TokenStates.{TokenSetting}
 use Rattle.kk_counted.specs.TokenedCodes.{Tokened, TokenedArms, TokenedFunction, TokenedProgram}
 use Rattle.kk_reuse.specs.Following.{may_make, kept, taken, leaves}
 
@@ -90,3 +92,12 @@ paired_function function = record { parameters = function.parameters; body = pai
 abbrev pub paired_program : CountedProgram → TokenedProgram
 paired_program program =
     record { functions = map paired_function program.functions; texts = program.texts; main = program.main }
+
+-- what is run: constructions in a token's cell write all fields
+abbrev pub paired_setting : CountedSetting → TokenSetting
+paired_setting setting = record {
+  program = paired_program setting.program;
+  cells = setting.cells;
+  depth = setting.depth;
+  leaves = false;
+}
