@@ -14,3 +14,4 @@ pub mod Sound
 pub mod TakenInput
 mod TypedExamples
 pub mod Values
+pub mod WithoutLimits
