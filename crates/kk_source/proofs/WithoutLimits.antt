@@ -5,7 +5,8 @@ use Rattle.kk_base.proofs.Agreements.{prefix_through}
 use Rattle.kk_base.proofs.Machines.{trace_grows, ending_stays, trace_stays}
 use Rattle.kk_source.specs.State.{Setting, ended}
 use Rattle.kk_source.specs.SourceAfter.{source_machine, first_state, After, source_after, unlimited_after, HasRoom}
-use Rattle.kk_source.proofs.Laws.{longer_trace, same_with_room}
+use Rattle.kk_source.proofs.Laws.{seen_ending, longer_trace, same_with_room}
+use Rattle.kk_source.proofs.NeverFull.{has_room}
 
 -- as many steps as are more than cells, depth and steps
 abbrev enough : Setting → ℕ → ℕ
@@ -30,3 +31,8 @@ ends_so setting input n ends =
     (m, same_with_room setting input (m + 2) (m + 2) (omega arith) (omega arith) m room
     ∙ (ap (λ events. record { trace = events; ending = (source_after setting input m).ending }) same
     ∙ ap (λ how. record { trace = (source_after setting input n).trace; ending = how }) (later ∙ sym ends)))
+
+pub never_full : (setting : Setting) (input : List ℕ) (n : ℕ) → HasRoom (unlimited_after setting input n).ending
+never_full setting input n =
+    let wide : Setting = record setting { cells = n + 2; depth = n + 2 } in
+    subst HasRoom (sym (seen_ending wide input n)) (has_room wide input n (omega arith) (omega arith))

@@ -34,12 +34,14 @@ pub fn more_room_goes_further()
 {}
 
 /// A run goes as far as the run without limits, and does the same: its trace is the beginning of one of that run; and where it ends by
-/// itself, so does that run, with the same trace. It is a law, and does nothing.
+/// itself, so does that run, with the same trace. The run without limits finds neither its heap nor its stack full. It is a law, and
+/// does nothing.
 pub fn runs_follow_without_limits()
     ensures prefix { (setting : Setting) (input : List ℕ) (n : ℕ)
         → (m : ℕ) × IsPrefix (source_after setting input n).trace (unlimited_after setting input m).trace }
     ensures whole { (setting : Setting) (input : List ℕ) (n : ℕ) → (source_after setting input n).ending ≡ Some ended
         → (m : ℕ) × (unlimited_after setting input m ≡ source_after setting input n) }
+    ensures room { (setting : Setting) (input : List ℕ) (n : ℕ) → HasRoom (unlimited_after setting input n).ending }
 {}
 
 /// What a run does depends on that part of the input alone that it has taken: with any other input from which its events
