@@ -41,7 +41,7 @@ module _ (setting : Setting) where
   same_ending None = refl
   same_ending (Some end) = refl
 
-  seen_ending : (input : List ℕ) (n : ℕ) → (source_after setting input n).ending ≡ ending_after (store_machine setting) n (first_state setting input)
+  pub seen_ending : (input : List ℕ) (n : ℕ) → (source_after setting input n).ending ≡ ending_after (store_machine setting) n (first_state setting input)
   seen_ending input n =
       same_ending (ending_of (state (source_machine setting) n (first_state setting input)))
       ∙ ap ending_of (state-mapped events_of (λ end. end) (store_machine setting) n (first_state setting input))

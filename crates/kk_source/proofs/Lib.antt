@@ -5,6 +5,7 @@ pub mod Kept
 pub mod Laws
 pub mod Live
 pub mod Matching
+pub mod NeverFull
 pub mod Operators
 pub mod Roomier
 pub mod Safe
@@ -14,3 +15,4 @@ pub mod Sound
 pub mod TakenInput
 mod TypedExamples
 pub mod Values
+pub mod WithoutLimits

@@ -1,5 +1,5 @@
 -- What a run of a program has come to after a number of steps.
-use Rattle.std.specs.Prelude.{ℕ, List, Option, Some, None}
+use Rattle.std.specs.Prelude.{ℕ, ◌+◌, List, Option, Some, None}
 use Rattle.kk_base.specs.Trace.{Event}
 use Rattle.kk_base.specs.Machines.{Machine, until, mapped, trace, ending_after}
 use Rattle.kk_source.specs.Notes.{Note, events_of}
@@ -49,3 +49,7 @@ HasRoom (Some heap_full) = ⊥
 HasRoom (Some stack_full) = ⊥
 HasRoom (Some ended) = Unit {0}
 HasRoom None = Unit {0}
+
+-- a run without limits after n steps: with more cells and a greater depth than n steps can fill
+abbrev pub unlimited_after : Setting → List ℕ → ℕ → After
+unlimited_after setting input n = source_after (record setting { cells = n + 2; depth = n + 2 }) input n

@@ -1,14 +1,14 @@
-ghost use Rattle.std.specs.Prelude.{◌≡◌, ◌≤◌, ◌↔◌, ℕ, List, true};
+ghost use Rattle.std.specs.Prelude.{◌≡◌, ◌≤◌, ◌↔◌, ℕ, List, true, Some};
 ghost use Rattle.kk_base.specs.Trace.{IsPrefix, TakesFrom};
 ghost use Rattle.kk_base.specs.Machines.{state};
 ghost use Rattle.kk_syntax.specs.GroundTyping.{IsGroundTyped};
 ghost use Rattle.kk_syntax.specs.Programs.{ProgramTree};
 ghost use Rattle.kk_source.specs.Settings.{IsRun};
-ghost use Rattle.kk_source.specs.State.{Setting, Value};
+ghost use Rattle.kk_source.specs.State.{Setting, Value, ended};
 ghost use Rattle.kk_source.specs.Live.{is_live, Reached};
 ghost use Rattle.kk_source.specs.NeverStuck.{NeverStuck};
 ghost use Rattle.kk_source.specs.Sound.{Sound};
-ghost use Rattle.kk_source.specs.SourceAfter.{store_machine, first_state, source_after, HasRoom};
+ghost use Rattle.kk_source.specs.SourceAfter.{store_machine, first_state, source_after, unlimited_after, HasRoom};
 
 /// In each state of a run, values name cells that are there, and fields name older cells; and a place is live exactly where
 /// it can be reached, by a way through fields, from what is held. It is a law, and does nothing.
@@ -31,6 +31,17 @@ pub fn more_room_goes_further()
         → setting.cells ≤ cells → setting.depth ≤ depth → (n : ℕ)
         → HasRoom (source_after setting input n).ending
         → source_after (record setting { cells = cells; depth = depth }) input n ≡ source_after setting input n }
+{}
+
+/// A run goes as far as the run without limits, and does the same: its trace is the beginning of one of that run; and where it ends by
+/// itself, so does that run, with the same trace. The run without limits finds neither its heap nor its stack full. It is a law, and
+/// does nothing.
+pub fn runs_follow_without_limits()
+    ensures prefix { (setting : Setting) (input : List ℕ) (n : ℕ)
+        → (m : ℕ) × IsPrefix (source_after setting input n).trace (unlimited_after setting input m).trace }
+    ensures whole { (setting : Setting) (input : List ℕ) (n : ℕ) → (source_after setting input n).ending ≡ Some ended
+        → (m : ℕ) × (unlimited_after setting input m ≡ source_after setting input n) }
+    ensures room { (setting : Setting) (input : List ℕ) (n : ℕ) → HasRoom (unlimited_after setting input n).ending }
 {}
 
 /// What a run does depends on that part of the input alone that it has taken: with any other input from which its events

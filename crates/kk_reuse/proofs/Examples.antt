@@ -1,0 +1,44 @@
+-- Paired code by computation.
+use Rattle.std.proofs.Common.{◌≡◌, false, [], ◌∷◌, refl}
+use Rattle.kk_syntax.specs.declared.program.Form.TheVariants.{Unit as Nothing, Construct, Call}
+use Rattle.kk_counted.specs.CountedCodes.{give, tail_call, branch, compute, inside, if_unique, drop}
+use Rattle.kk_counted.specs.TokenedCodes.{Tokened}
+use Rattle.kk_reuse.specs.Pairing.{paired}
+
+-- A list is reversed in place: variable 0 is the list, and 1 what is reversed so far. The new cell is that of the list.
+reversed : paired false 0 0
+    (if_unique 0 7 (2 ∷ 3 ∷ []) (2 ∷ 3 ∷ []) (compute 4 (Construct 7) (2 ∷ 1 ∷ []) (tail_call 0 (3 ∷ 4 ∷ []))))
+    ≡ Tokened.if_unique 0 7 (2 ∷ 3 ∷ []) (2 ∷ 3 ∷ []) 0
+    (Tokened.fill 4 0 7 2 (1 ∷ []) [] [] (Tokened.tail_call 0 (3 ∷ 4 ∷ [])))
+reversed = refl
+
+-- A token waits for the call in front of the construction: it is held there.
+held : paired false 0 0
+    (if_unique 0 7 (1 ∷ 2 ∷ []) (1 ∷ 2 ∷ []) (compute 3 (Call 0) (2 ∷ []) (compute 4 (Construct 7) (1 ∷ 3 ∷ []) (give 4))))
+    ≡ Tokened.if_unique 0 7 (1 ∷ 2 ∷ []) (1 ∷ 2 ∷ []) 0
+    (Tokened.hold 0 (Tokened.compute 3 (Call 0) (2 ∷ []) [] (Tokened.unhold 0
+    (Tokened.fill 4 0 7 1 (3 ∷ []) [] [] (Tokened.give 4)))))
+held = refl
+
+-- Of two tokens a construction takes the newer one, and the other is freed before the tail call.
+newest : paired false 0 0
+    (if_unique 0 7 (2 ∷ []) (2 ∷ []) (if_unique 2 7 (3 ∷ []) (3 ∷ [])
+    (compute 4 (Construct 7) (3 ∷ []) (tail_call 0 (4 ∷ 1 ∷ [])))))
+    ≡ Tokened.if_unique 0 7 (2 ∷ []) (2 ∷ []) 0 (Tokened.if_unique 2 7 (3 ∷ []) (3 ∷ []) 1
+    (Tokened.fill 4 1 7 3 [] [] (0 ∷ []) (Tokened.free 0 (Tokened.tail_call 0 (4 ∷ 1 ∷ [])))))
+newest = refl
+
+-- One arm of a block leaves a token, and the other none: it gets a null one, and the construction behind takes what is there.
+uneven : paired false 0 0
+    (inside 5 (branch 1 (if_unique 0 7 (2 ∷ []) [] (compute 3 Nothing [] (give 3))) (drop 0 (compute 4 Nothing [] (give 4))))
+    (compute 6 (Construct 7) (5 ∷ []) (give 6)))
+    ≡ Tokened.inside 5 (Tokened.branch 1
+    (Tokened.if_unique 0 7 (2 ∷ []) [] 0 (Tokened.compute 3 Nothing [] [] (Tokened.give 3)))
+    (Tokened.drop 0 (Tokened.compute 4 Nothing [] [] (Tokened.null 0 (Tokened.give 4)))))
+    (Tokened.fill 6 0 7 5 [] [] [] (Tokened.give 6))
+uneven = refl
+
+-- where no construction can follow a token is freed at once
+unused : paired false 0 0 (if_unique 0 7 (1 ∷ []) (1 ∷ []) (give 1))
+    ≡ Tokened.if_unique 0 7 (1 ∷ []) (1 ∷ []) 0 (Tokened.free 0 (Tokened.give 1))
+unused = refl

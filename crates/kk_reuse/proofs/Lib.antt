@@ -1,0 +1,5 @@
+pub mod Bare
+mod Examples
+pub mod Spends
+pub mod Pairs
+pub mod Programs

@@ -1,0 +1,7 @@
+//! Reuse: counted code whose constructions take the cells that openings have freed. What it makes of code is a function in specs/;
+//! laws say that its runs are the same.
+#![tactic(auto)]
+
+mod law;
+
+pub use law::{paired_code_runs_the_same, paired_code_spends_its_tokens};
