@@ -57,11 +57,11 @@ AreWellLowered =
     → (main : CountedFunction) → slice_get code.functions code.main ≡ Some main → main.parameters ≡ 0
     → IsProgramLowered (layout_in shape) (table_of shape) code texts each
 
--- the law that the assembler code of a program in counted form is no longer than that form
+-- the law that the assembler code of a program in counted form is no longer than that form tells
 abbrev pub AreShortLowered : Type 0
 AreShortLowered =
-    (shape : Shape) (literals : List (List ℕ)) (functions : List CountedFunction) (each : List Lines) (texts : List (List ℕ))
-    → AreLowerable (table_of shape) functions → IsLoweredForm shape literals functions each texts
+    (shape : Shape) (functions : List CountedFunction) (literals texts : List (List ℕ)) (each : List Lines)
+    → AreLowerable (table_of shape) functions → IsNarrow (layout_in shape) → IsLoweredForm shape literals functions each texts
     → (Costs.functions_length each ≤ functions_length functions) × (length (all_bytes texts) ≤ 256 * all_computes functions)
 
 no_params : (names : List ℕ) (n : ℕ) → names ≡ from_to 0 n → n ≡ 0 → names ≡ []
@@ -82,7 +82,8 @@ module _ (shape : Shape) (code : CountedProgram) (functions : List Lines) (texts
   -- it is short, and so fits a text
   fits : AreShortLowered → FitsText functions texts
   fits are_short_lowered =
-      let short = are_short_lowered shape code.texts code.functions functions texts runnable.lowerable form in
+      let short =
+      are_short_lowered shape code.functions code.texts texts functions runnable.lowerable runnable.narrow form in
       let code_length = short.0 in
       let bytes = short.1 in
       let most_length = runnable.short.length in
