@@ -46,8 +46,10 @@ instructions_of m action words held shared = action_instructions action + routin
 
 -- ---- moves
 
--- The moves for the arguments of an action. Each is loaded; those of a call are stored once more, by its callee.
+-- The moves for the arguments of an action. Each is loaded. Those of a computation are stored again behind it, where they are
+-- still needed, since a value has one place at a time; those of a call are stored once more, by its callee.
 abbrev pub argument_moves : Action → ℕ → ℕ
+argument_moves (Compute operation) count = 2 * count
 argument_moves (Call f) count = 2 * count
 argument_moves (TailCall f) count = 2 * count
 argument_moves _ count = count

@@ -7,6 +7,7 @@ pub mod Steps
 pub mod Following
 pub mod Simulating
 pub mod Rows
+pub mod Paying
 pub mod Lists
 pub mod Aliveness
 pub mod InRegisters

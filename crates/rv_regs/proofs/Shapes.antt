@@ -2,8 +2,9 @@
 use Rattle.std.proofs.Common.{◌≡◌, ◌<◌, ◌≤◌, ◌+◌, ◌*◌, ℕ, suc, List, [], ◌∷◌, Option, Some, None, Bool, true, All, refl, sym, subst, arith, map, length, length-append}
 use Rattle.std.specs.List.{AllByRecursion, filter}
 use Rattle.std.proofs.lemmas.Bool.{cond_both}
+use Rattle.std.proofs.lemmas.List.{length-map}
 use Rattle.rv_isa.specs.declared.asm.Action.{Action}
-use Rattle.rv_isa.specs.declared.asm.Action.TheVariants.{Compute, Hold, Unhold}
+use Rattle.rv_isa.specs.declared.asm.Action.TheVariants.{Compute, Call, TailCall, Hold, Unhold}
 use Rattle.rv_isa.specs.declared.placed.Place.TheVariants.{Register as register}
 use Rattle.rv_isa.specs.declared.placed.Operand.{Operand}
 use Rattle.rv_isa.specs.declared.placed.Listed.{Listed}
@@ -13,12 +14,13 @@ use Rattle.rv_isa.specs.Conventions.{argument}
 use Rattle.rv_isa.specs.Frames.{is_among}
 use Rattle.rv_isa.specs.declared.placed.Placed.{Placed}
 use Rattle.rv_isa.specs.PlacedCode.{PlacedLine, moves, PlacedLines, placed_functions}
-use Rattle.rv_isa.specs.WellFormed.{IsLineFormed, AreLinesFormed, IsWellFormed, AreWellFormed, most_args, most_values, all_lines}
+use Rattle.rv_isa.specs.WellFormed.{IsLineFormed, AreLinesFormed, IsWellFormed, AreWellFormed, most_args, most_values}
+use Rattle.rv_isa.specs.Costs.{argument_moves, result_moves, move_instructions, code_length, functions_length, placed_code_length, placed_functions_length}
 use Rattle.rv_regs.specs.declared.slots.Loaded.{Loaded}
 use Rattle.rv_regs.specs.Alive.{alive_values}
 use Rattle.rv_regs.specs.Plain.{numbered, place_in, listing_at, listings, operand_at, first_register, result_register, load_from, falls_to, given, left_in, stays, pending, loads, stores, line_and_stores, placed_code, placed_function}
-use Rattle.rv_regs.specs.Relation.{leading, FewMoves, AllFewMoves}
-use Rattle.rv_regs.specs.Shape.{IsBelow, IsResultBelow, AllSlotsBelow, LineHoldsNone, all_items, IsPlainlyPlaced, most_moves, most_row, most_start}
+use Rattle.rv_regs.specs.Relation.{leading, first_args, stores_behind, FewMoves, FunctionFewMoves, AllFewMoves}
+use Rattle.rv_regs.specs.Shape.{IsBelow, IsResultBelow, AllSlotsBelow, LineHoldsNone, IsPlainlyPlaced}
 use Rattle.rv_regs.proofs.Lists.{all_made, each_among}
 use Rattle.rv_regs.proofs.Aliveness.{alive_small}
 use Rattle.rv_regs.proofs.InRegisters.{AreAmong, left_among}
@@ -42,19 +44,31 @@ pub few_args : (action : Action) (args : List ℕ) → length args ≤ most_args
 few_args (Compute operation) args few = omega (arith, few)
 few_args action args few = omega (arith, few, most_registers action)
 
-few_given : (action : Action) (into : Option ℕ) (behind : List ℕ) → length (given action into behind) ≤ 1
+few_given : (action : Action) (into : Option ℕ) (behind : List ℕ) → length (given action into behind) ≤ result_moves into
 few_given action None behind = omega arith
 few_given action (Some v) behind =
     cond_both (is_among v behind) (record { value = v; register = numbered (result_register action) } ∷ []) [] (λ (ls : List Loaded). length ls ≤ 1) (λ t. omega arith) (λ t. omega arith)
 
+-- what is stored again behind a line: what a computation has read
+abbrev left_stores : Action → ℕ → ℕ
+left_stores (Compute operation) count = count
+left_stores _ count = 0
+
+moves_enough : (action : Action) (count : ℕ) → count + left_stores action count ≤ argument_moves action count
+moves_enough (Compute operation) count = omega arith
+moves_enough (Call f) count = omega arith
+moves_enough (TailCall f) count = omega arith
+moves_enough action count = omega arith
+
 few_left : (action : Action) (args : List ℕ) (into : Option ℕ) (rest : List Line) → IsLineFormed (record { action = action; args = args; into = into }) rest
-    → length (left_in into (falls_to action (alive_values rest)) (load_from (first_register action) args)) ≤ 2
-few_left (Compute operation) args into rest formed = omega (arith, few_kept (stays into (alive_values rest)) (load_from 5 args), few_loads 5 args, formed.few)
+    → length (left_in into (falls_to action (alive_values rest)) (load_from (first_register action) args)) ≤ left_stores action (length args)
+few_left (Compute operation) args into rest formed = omega (arith, few_kept (stays into (alive_values rest)) (load_from 5 args), few_loads 5 args)
 few_left Hold args into rest formed = absurd formed.holds_none
 few_left Unhold args into rest formed = absurd formed.holds_none
-few_left action args into rest formed = subst (λ (ls : List Loaded). length ls ≤ 2) (sym (none_left action args into rest formed refl)) (omega arith)
+few_left action args into rest formed = subst (λ (ls : List Loaded). length ls ≤ left_stores action (length args)) (sym (none_left action args into rest formed refl)) (omega arith)
 
-few_pending : (line : Line) (rest : List Line) → IsLineFormed line rest → length (pending line.action line.into (alive_values rest) (load_from (first_register line.action) line.args)) ≤ 3
+few_pending : (line : Line) (rest : List Line) → IsLineFormed line rest
+    → length (pending line.action line.into (alive_values rest) (load_from (first_register line.action) line.args)) ≤ left_stores line.action (length line.args) + result_moves line.into
 few_pending line rest formed =
     omega (
       arith,
@@ -73,75 +87,98 @@ leading_loads : (values : List ℕ) (ls : List Loaded) (after : List PlacedLine)
 leading_loads values [] after = omega arith
 leading_loads values (l ∷ ls) after = omega (arith, leading_loads values ls (moves (listings (place_in ls) values) l.value (Load l.value l.register) ∷ after))
 
-few_stores : (most : ℕ) (values : List ℕ) (ls : List Loaded) (next : List PlacedLine) → length ls + leading next ≤ most → FewMoves most next → FewMoves most (stores values ls next)
-few_stores most values [] next within few = few
-few_stores most values (l ∷ ls) next within few = (omega (arith, leading_stores values ls next, within), few_stores most values ls next (omega (arith, within)) few)
+args_stores : (values : List ℕ) (ls : List Loaded) (next : List PlacedLine) → first_args (stores values ls next) ≡ first_args next
+args_stores values [] next = refl
+args_stores values (l ∷ ls) next = args_stores values ls next
 
-few_loaded : (most : ℕ) (values : List ℕ) (ls : List Loaded) (after : List PlacedLine) → length ls + leading after ≤ most → FewMoves most after → FewMoves most (loads values ls after)
-few_loaded most values [] after within few = few
-few_loaded most values (l ∷ ls) after within few =
-    few_loaded most values ls (moves (listings (place_in ls) values) l.value (Load l.value l.register) ∷ after) (omega (arith, within)) (omega (arith, within), few)
+args_loads : (values : List ℕ) (ls : List Loaded) (after : List PlacedLine) → first_args (loads values ls after) ≡ first_args after
+args_loads values [] after = refl
+args_loads values (l ∷ ls) after = args_loads values ls (moves (listings (place_in ls) values) l.value (Load l.value l.register) ∷ after)
+
+few_stores : (values : List ℕ) (ls : List Loaded) (next : List PlacedLine) → FewMoves next → FewMoves (stores values ls next)
+few_stores values [] next few = few
+few_stores values (l ∷ ls) next few = few_stores values ls next few
+
+few_loaded : (values : List ℕ) (ls : List Loaded) (after : List PlacedLine) → FewMoves after → FewMoves (loads values ls after)
+few_loaded values [] after few = few
+few_loaded values (l ∷ ls) after few = few_loaded values ls (moves (listings (place_in ls) values) l.value (Load l.value l.register) ∷ after) few
 
 abbrev line_and_more : Line → List Line → List PlacedLine
 line_and_more line rest = line_and_stores line.action line.args line.into (alive_values (line ∷ rest)) (alive_values rest) (placed_code rest)
 
-leading_code : (code : List Line) → AreLinesFormed code → leading (placed_code code) ≤ 8
-leading_code [] formed = omega arith
-leading_code (line ∷ rest) formed =
+-- only the loads of its first statement stand at the front of code
+leading_code : (code : List Line) → leading (placed_code code) ≤ first_args (placed_code code)
+leading_code [] = omega arith
+leading_code (line ∷ rest) =
     omega (
       arith,
       leading_loads (alive_values (line ∷ rest)) (load_from (first_register line.action) line.args) (line_and_more line rest),
+      args_loads (alive_values (line ∷ rest)) (load_from (first_register line.action) line.args) (line_and_more line rest),
       few_loads (first_register line.action) line.args,
-      few_args line.action line.args formed.0.few,
+      length-map line.args (operand_at (place_in (load_from (first_register line.action) line.args))),
     )
 
-few_code : (code : List Line) → AreLinesFormed code → FewMoves most_moves (placed_code code)
+-- stores, so many, before such code
+leading_both : (values : List ℕ) (ls : List Loaded) (most : ℕ) (code : List Line) → length ls ≤ most → leading (stores values ls (placed_code code)) ≤ most + first_args (stores values ls (placed_code code))
+leading_both values ls most code few = omega (arith, few, leading_stores values ls (placed_code code), args_stores values ls (placed_code code), leading_code code)
+
+same_given : (action : Action) (into : Option ℕ) → result_moves (result_of action into) ≡ result_moves into
+same_given action None = refl
+same_given action (Some v) = refl
+
+-- the stores behind a line are within those that may stand there, unless it is a call, whose arguments its callee stores
+stores_enough : (action : Action) (args : List Operand) (into : Option Operand) (count results : ℕ) → length args ≡ count → result_moves into ≡ results → left_stores action count + results ≤ stores_behind action args into
+stores_enough (Compute operation) args into count results many same = omega (arith, many, same)
+stores_enough action args into count results many same = omega (arith, same)
+
+few_code : (code : List Line) → AreLinesFormed code → FewMoves (placed_code code)
 few_code [] formed = tt
 few_code (line ∷ rest) formed =
-    let few_row = few_loads (first_register line.action) line.args in
-    let few_here = few_args line.action line.args formed.0.few in
-    few_loaded most_moves (alive_values (line ∷ rest)) (load_from (first_register line.action) line.args) (line_and_more line rest) (omega (arith, few_row, few_here)) (
-      omega arith,
-      few_stores most_moves (alive_values rest) (pending line.action line.into (alive_values rest) (load_from (first_register line.action) line.args)) (placed_code rest)
-          (omega (arith, few_pending line rest formed.0, leading_code rest formed.1)) (few_code rest formed.1),
+    let loaded : List Loaded = load_from (first_register line.action) line.args in
+    let operands : List Operand = map (operand_at (place_in loaded)) line.args in
+    let behind : left_stores line.action (length line.args) + result_moves line.into ≤ stores_behind line.action operands (result_of line.action line.into) =
+    stores_enough line.action operands (result_of line.action line.into) (length line.args) (result_moves line.into) (length-map line.args (operand_at (place_in loaded))) (same_given line.action line.into) in
+    few_loaded (alive_values (line ∷ rest)) loaded (line_and_more line rest) (
+      leading_both (alive_values rest) (pending line.action line.into (alive_values rest) loaded) (stores_behind line.action operands (result_of line.action line.into)) rest (omega (arith, few_pending line rest formed.0, behind)),
+      few_stores (alive_values rest) (pending line.action line.into (alive_values rest) loaded) (placed_code rest) (few_code rest formed.1),
     )
 
-few_start : (params alive : List ℕ) → length params ≤ 8 → length (left_in None alive (load_from (argument 0) params)) ≤ 8
-few_start params alive few = omega (arith, few_kept (stays None alive) (load_from (argument 0) params), few_loads (argument 0) params, few)
+few_start : (params alive : List ℕ) → length (left_in None alive (load_from (argument 0) params)) ≤ length params
+few_start params alive = omega (arith, few_kept (stays None alive) (load_from (argument 0) params), few_loads (argument 0) params)
 
--- ---- lines
+-- ---- how long
 
-length_stores : (values : List ℕ) (ls : List Loaded) (next : List PlacedLine) → length (stores values ls next) ≡ length ls + length next
+length_stores : (values : List ℕ) (ls : List Loaded) (next : List PlacedLine) → placed_code_length (stores values ls next) ≡ length ls * move_instructions + placed_code_length next
 length_stores values [] next = omega arith
 length_stores values (l ∷ ls) next = omega (arith, length_stores values ls next)
 
-length_loads : (values : List ℕ) (ls : List Loaded) (after : List PlacedLine) → length (loads values ls after) ≡ length ls + length after
+length_loads : (values : List ℕ) (ls : List Loaded) (after : List PlacedLine) → placed_code_length (loads values ls after) ≡ length ls * move_instructions + placed_code_length after
 length_loads values [] after = omega arith
 length_loads values (l ∷ ls) after = omega (arith, length_loads values ls (moves (listings (place_in ls) values) l.value (Load l.value l.register) ∷ after))
 
-length_code : (code : List Line) → AreLinesFormed code → length (placed_code code) ≤ most_row * length code
+length_code : (code : List Line) → AreLinesFormed code → placed_code_length (placed_code code) ≤ code_length code
 length_code [] formed = omega arith
 length_code (line ∷ rest) formed =
     omega (
       arith,
       length_loads (alive_values (line ∷ rest)) (load_from (first_register line.action) line.args) (line_and_more line rest),
       few_loads (first_register line.action) line.args,
-      few_args line.action line.args formed.0.few,
+      moves_enough line.action (length line.args),
       few_pending line rest formed.0,
       length_stores (alive_values rest) (pending line.action line.into (alive_values rest) (load_from (first_register line.action) line.args)) (placed_code rest),
       length_code rest formed.1,
     )
 
-length_function : (f : Lines) → IsWellFormed f → length (placed_function f).code ≤ most_row * length f.code + most_start
+length_function : (f : Lines) → IsWellFormed f → placed_code_length (placed_function f).code ≤ length f.params * move_instructions + code_length f.code
 length_function f formed =
     omega (
       arith,
       length_stores (alive_values f.code) (left_in None (alive_values f.code) (load_from (argument 0) f.params)) (placed_code f.code),
-      few_start f.params (alive_values f.code) formed.few_params,
+      few_start f.params (alive_values f.code),
       length_code f.code formed.lines,
     )
 
-all_length : (functions : List Lines) → AreWellFormed functions → all_items (map placed_function functions) ≤ most_row * all_lines functions + most_start * length functions
+all_length : (functions : List Lines) → AreWellFormed functions → placed_functions_length (map placed_function functions) ≤ functions_length functions
 all_length [] formed = omega arith
 all_length (f ∷ fs) formed = omega (arith, length_function f formed.0, all_length fs formed.1)
 
@@ -209,18 +246,19 @@ of_each P [] each formed = tt
 of_each P (f ∷ fs) each formed = (each f formed.0, of_each P fs each formed.1)
 
 record HasPlainShape (functions : List Lines) (placed : List PlacedLines) : Type 0 where
-  few_moves : AllFewMoves most_moves placed
+  few_moves : AllFewMoves placed
   slots : AllByRecursion (λ (function : PlacedLines). AllSlotsBelow most_values function.code) placed
   holds_none : AllByRecursion (λ (function : PlacedLines). AllByRecursion LineHoldsNone function.code) placed
-  few_items : all_items placed ≤ most_row * all_lines functions + most_start * length functions
+  short : placed_functions_length placed ≤ functions_length functions
 
 plain_shape : (functions : List Lines) → AreWellFormed functions → HasPlainShape functions (map placed_function functions)
 plain_shape functions formed =
     record {
-      few_moves = of_each (λ (p : PlacedLines). FewMoves most_moves p.code) functions
-          (λ f well.
-          few_stores most_moves (alive_values f.code) (left_in None (alive_values f.code) (load_from (argument 0) f.params)) (placed_code f.code)
-          (omega (arith, few_start f.params (alive_values f.code) well.few_params, leading_code f.code well.lines)) (few_code f.code well.lines))
+      few_moves = of_each FunctionFewMoves functions
+          (λ f well. (
+            leading_both (alive_values f.code) (left_in None (alive_values f.code) (load_from (argument 0) f.params)) (length f.params) f.code (few_start f.params (alive_values f.code)),
+            few_stores (alive_values f.code) (left_in None (alive_values f.code) (load_from (argument 0) f.params)) (placed_code f.code) (few_code f.code well.lines),
+          ))
           formed;
       slots = of_each (λ (p : PlacedLines). AllSlotsBelow most_values p.code) functions
           (λ f well.
@@ -230,7 +268,7 @@ plain_shape functions formed =
       holds_none = of_each (λ (p : PlacedLines). AllByRecursion LineHoldsNone p.code) functions
           (λ f well. none_in_stores (alive_values f.code) (left_in None (alive_values f.code) (load_from (argument 0) f.params)) (placed_code f.code) (none_in_code f.code well.lines))
           formed;
-      few_items = all_length functions formed;
+      short = all_length functions formed;
     }
 
 -- a text of such functions that has no memory of its own
@@ -238,4 +276,4 @@ pub plainly_placed : (functions : List Lines) (placed : Placed) → AreWellForme
     → IsPlainlyPlaced functions placed
 plainly_placed functions placed formed is memory =
     let shape : HasPlainShape functions (placed_functions placed) = subst (HasPlainShape functions) (sym is) (plain_shape functions formed) in
-    record { few_moves = shape.few_moves; slots = shape.slots; holds_none = shape.holds_none; few_items = shape.few_items; memory = memory }
+    record { few_moves = shape.few_moves; slots = shape.slots; holds_none = shape.holds_none; short = shape.short; memory = memory }

@@ -1,7 +1,7 @@
 -- The placed form's machine simulates the assembler form's: the moves that stand before a statement, and then the statement.
-use Rattle.std.proofs.Common.{◌≡◌, ◌≢◌, ◌==◌, ◌+◌, ◌*◌, ◌≤◌, ◌<◌, ℕ, zero, suc, List, [], ◌∷◌, ◌++◌, Option, Some, None, Bool, false, All, slice_get, length, drop, inl, inr, refl, sym, ◌∙◌, ap, subst, arith, map, option_map}
+use Rattle.std.proofs.Common.{◌≡◌, ◌≢◌, ◌==◌, ◌+◌, ◌-◌, ◌*◌, ◌≤◌, ◌<◌, ℕ, zero, suc, List, [], ◌∷◌, ◌++◌, Option, Some, None, Bool, false, All, slice_get, length, drop, inl, inr, refl, sym, ◌∙◌, ap, subst, arith, map, option_map}
 use Rattle.std.proofs.Math.Seq.{drop-length}
-use Rattle.std.proofs.lemmas.List.{append-nil}
+use Rattle.std.proofs.lemmas.List.{append-nil, length-map}
 use Rattle.std.proofs.lemmas.List.Elements.{All-head}
 use Rattle.std.proofs.lemmas.Bool.{cond-true, cond-false, or_from, ne_eqb, false≢true}
 use Rattle.kk_base.specs.Machines.{trace, state, weight_of}
@@ -18,18 +18,19 @@ use Rattle.rv_isa.specs.AsmCode.{Line, Lines}
 use Rattle.rv_isa.specs.PlacedCode.{PlacedLine, does, moves, PlacedLines, from_of, to_of}
 use Rattle.rv_isa.specs.Primitives.{Primitives, go, ended, stuck, or_stuck, end_of}
 use Rattle.rv_isa.specs.Conventions.{conforms}
-use Rattle.rv_isa.specs.Costs.{instructions_of, move_instructions}
+use Rattle.rv_isa.specs.Costs.{instructions_of, move_instructions, argument_moves, result_moves}
 use Rattle.rv_isa.specs.Frames.{Frame, empty, all_of, top, is_among}
 use Rattle.rv_isa.specs.AsmMachine.{AsmTurn, asm_acts, asm_line, asm_machine, asm_told, asm_line_weight, asm_start, bound}
 use Rattle.rv_isa.specs.PlacedMachine.{PlacedState, PlacedTurn, read_at, registers_with, slots_with, is_held, placed_acts, placed_line, placed_next, placed_machine, placed_told, placed_weight, placed_line_weight, placed_start}
 use Rattle.rv_regs.specs.Listings.{first_alive, marks}
 use Rattle.rv_regs.specs.Conditions.{value_of, without_moves, IsAtPlace, IsKept, AllFit, ArePlacings}
-use Rattle.rv_regs.specs.Relation.{HeldAs, Stands, AllWait, FramesStand, StandsFor, NeverStuck, leading, FewMoves, AllFewMoves, FramesFewMoves, HasFewMoves, Related, IsNotStuck}
+use Rattle.rv_regs.specs.Relation.{HeldAs, Stands, AllWait, FramesStand, StandsFor, NeverStuck, leading, first_args, FewMoves, FunctionFewMoves, AllFewMoves, FramesFewMoves, stores_before, HasFewMoves, Related, IsNotStuck}
 use Rattle.rv_regs.proofs.Changing.{holds_next, change_place}
 use Rattle.rv_regs.proofs.Chains.{token, IsNext, held_next}
 use Rattle.rv_regs.proofs.Placing.{listed_has}
 use Rattle.rv_regs.proofs.Tokens.{apart_first, top_same}
-use Rattle.rv_regs.proofs.Rows.{leading_within, few_next, function_few}
+use Rattle.rv_regs.proofs.Rows.{argument_stores, moves_are, CallFits, function_few, statement_few}
+use Rattle.rv_regs.proofs.Paying.{same_result, loads_paid, call_fits}
 use Rattle.rv_regs.proofs.Steps.{words_at, word_at, same_go, callee_both, enters}
 use Rattle.rv_regs.proofs.Following.{follows}
 
@@ -108,20 +109,23 @@ module _ {H E W : Type 0} (m : Primitives H E W) (depth : ℕ) (asm : List Lines
       (same_go (all_of (map f.cells (map value_of args))) next next'
       (λ words e. follows m depth asm placed all alive args registers shared f' fs g' gs words on waits action into fit.0.0 fit.0.1)))))
 
-  -- a statement weighs as much in both machines
+  -- a statement weighs as much in both machines, but for the moves that it pays for
   weighs_same : (alive : List Listed) (action : Action) (args : List Operand) (into : Option Operand) (rest : List PlacedLine) (registers : ℕ → Option ℕ) (shared : H) (f : Frame Line) (fs : List (Frame Line)) (g : Frame PlacedLine) (gs : List (Frame PlacedLine))
       → g.code ≡ does alive action args into ∷ rest → Stands (first_alive g.code) registers f g → AllWait fs gs
-      → placed_line_weight m (g ∷ gs) registers shared g g.code ≤ 0 * move_instructions + asm_line_weight m 0 (f ∷ fs) shared f f.code
+      → placed_line_weight m (g ∷ gs) registers shared g g.code + (argument_moves action (length args) + result_moves into) * move_instructions ≡ asm_line_weight m (f ∷ fs) shared f f.code
   weighs_same alive action args into rest registers shared f fs g gs at stands waits =
       let stands' : Stands alive registers f g = subst (λ (c : List PlacedLine). Stands (first_alive c) registers f g) at stands in
       let fit : AllFit g.whole (does alive action args into ∷ rest) = subst (λ (c : List PlacedLine). AllFit g.whole c) at stands.same.code_fits in
       let here : f.code ≡ record { action = action; args = map value_of args; into = option_map value_of into } ∷ without_moves rest = sym stands.same.code ∙ ap without_moves at in
       let same : map f.cells (map value_of args) ≡ map (λ (arg : Operand). read_at registers g.cells arg.place) args = words_at alive f.cells registers g.cells args stands'.holds fit.0.1.stand in
       let a : placed_line_weight m (g ∷ gs) registers shared g g.code ≡ instructions_of m action (all_of (map (λ (arg : Operand). read_at registers g.cells arg.place) args)) (top (g ∷ gs)) shared = ap (placed_line_weight m (g ∷ gs) registers shared g) at in
-      let b : asm_line_weight m 0 (f ∷ fs) shared f f.code ≡ 0 * move_instructions + instructions_of m action (all_of (map f.cells (map value_of args))) (top (f ∷ fs)) shared = ap (asm_line_weight m 0 (f ∷ fs) shared f) here in
+      let b : asm_line_weight m (f ∷ fs) shared f f.code
+      ≡ (argument_moves action (length (map value_of args)) + result_moves (option_map value_of into)) * move_instructions + instructions_of m action (all_of (map f.cells (map value_of args))) (top (f ∷ fs)) shared
+      = ap (asm_line_weight m (f ∷ fs) shared f) here in
       let c : instructions_of m action (all_of (map f.cells (map value_of args))) (top (f ∷ fs)) shared ≡ instructions_of m action (all_of (map (λ (arg : Operand). read_at registers g.cells arg.place) args)) (top (g ∷ gs)) shared
       = ap (λ ws. instructions_of m action (all_of ws) (top (f ∷ fs)) shared) same ∙ ap (λ held. instructions_of m action (all_of (map (λ (arg : Operand). read_at registers g.cells arg.place) args)) held shared) (top_same alive registers f fs g gs stands' waits) in
-      omega (arith, a, b, c)
+      let d : argument_moves action (length (map value_of args)) ≡ argument_moves action (length args) = ap (argument_moves action) (length-map args value_of) in
+      omega (arith, a, b, c, d, same_result into)
 
   -- where the upper machine can go on, what was told is the same
   told_same : (s : AsmTurn H W) (t : PlacedTurn H W) → s ≢ stuck → StandsFor s t → asm_told m s ≡ placed_told m t
@@ -133,15 +137,17 @@ module _ {H E W : Type 0} (m : Primitives H E W) (depth : ℕ) (asm : List Lines
   told_same (ended how shared) stuck goes stands = absurd stands
   told_same stuck t goes stands = absurd (goes refl)
 
-  -- The placed machine comes by so many steps, of so much weight at most, to a state that stands for another, with these events.
-  record Arrives (most weight : ℕ) (events : List E) (s : AsmTurn H W) (t : PlacedTurn H W) : Type 0 where
+  -- The placed machine comes by some steps, which weigh at most `weight` with what they leave for stores to come, to a state
+  -- that stands for another, with these events.
+  record Arrives (weight : ℕ) (events : List E) (s : AsmTurn H W) (t : PlacedTurn H W) : Type 0 where
     steps : ℕ
+    left : ℕ
     some : 1 ≤ steps
-    within : weight_of (placed_machine m depth placed) steps t ≤ weight
+    within : weight_of (placed_machine m depth placed) steps t + left ≤ weight
     events_are : trace (placed_machine m depth placed) steps t ≡ events
     passes : (k : ℕ) → k < steps → state (placed_machine m depth placed) k t ≢ stuck
     stands : StandsFor s (state (placed_machine m depth placed) steps t)
-    few : HasFewMoves most (state (placed_machine m depth placed) steps t)
+    few : HasFewMoves left (state (placed_machine m depth placed) steps t)
 
   not_stuck : (t : PlacedState H) → IsNotStuck {H = H} {W = W} (go t)
   not_stuck t e = cc
@@ -150,12 +156,13 @@ module _ {H E W : Type 0} (m : Primitives H E W) (depth : ℕ) (asm : List Lines
   ended_not_stuck how shared e = cc
 
   -- one step
-  arrives_now : (most weight : ℕ) (s : AsmTurn H W) (t : PlacedState H) → placed_weight m (go t) ≤ weight → s ≢ stuck → StandsFor s (placed_next m depth placed (go t)) → HasFewMoves most (placed_next m depth placed (go t))
-      → Arrives most weight (drop (length (m.told t.shared)) (asm_told m s)) s (go t)
-  arrives_now most weight s t within goes stands few =
+  arrives_now : (weight left : ℕ) (s : AsmTurn H W) (t : PlacedState H) → placed_weight m (go t) + left ≤ weight → s ≢ stuck → StandsFor s (placed_next m depth placed (go t)) → HasFewMoves left (placed_next m depth placed (go t))
+      → Arrives weight (drop (length (m.told t.shared)) (asm_told m s)) s (go t)
+  arrives_now weight left s t within goes stands few =
       let told : asm_told m s ≡ placed_told m (placed_next m depth placed (go t)) = told_same s (placed_next m depth placed (go t)) goes stands in
       record {
         steps = 1;
+        left = left;
         some = omega arith;
         within = omega (arith, within);
         events_are = append_nil_of (drop (length (m.told t.shared)) (placed_told m (placed_next m depth placed (go t)))) ∙ ap (drop (length (m.told t.shared))) (sym told);
@@ -172,11 +179,12 @@ module _ {H E W : Type 0} (m : Primitives H E W) (depth : ℕ) (asm : List Lines
       append_nil_of xs = append-nil xs
 
   -- a step without events before
-  arrives_later : (most weight more : ℕ) (events : List E) (s : AsmTurn H W) (t : PlacedTurn H W) (moved_weight : (placed_machine m depth placed).weight t ≤ more) → ((placed_machine m depth placed).step t).0 ≡ [] → t ≢ stuck
-      → Arrives most weight events s ((placed_machine m depth placed).step t).1 → Arrives most (more + weight) events s t
-  arrives_later most weight more events s t light silent goes later =
+  arrives_later : (weight more : ℕ) (events : List E) (s : AsmTurn H W) (t : PlacedTurn H W) (moved_weight : (placed_machine m depth placed).weight t ≤ more) → ((placed_machine m depth placed).step t).0 ≡ [] → t ≢ stuck
+      → Arrives weight events s ((placed_machine m depth placed).step t).1 → Arrives (more + weight) events s t
+  arrives_later weight more events s t light silent goes later =
       record {
         steps = suc later.steps;
+        left = later.left;
         some = omega arith;
         within = omega (arith, light, later.within);
         events_are = ap (λ (first : List E). first ++ trace (placed_machine m depth placed) later.steps ((placed_machine m depth placed).step t).1) silent ∙ later.events_are;
@@ -189,21 +197,25 @@ module _ {H E W : Type 0} (m : Primitives H E W) (depth : ℕ) (asm : List Lines
       from_here zero lt = goes
       from_here (suc k) lt = later.passes k (omega arith)
 
-  asm_goes_on : Frame Line → List (Frame Line) → H → AsmTurn H W
-  asm_goes_on f fs shared = asm_line m depth asm f fs shared f.code
-
-  -- the moves before a statement, and the statement
-  arrives : (most : ℕ) (code : List PlacedLine) (registers : ℕ → Option ℕ) (shared : H) (f : Frame Line) (fs : List (Frame Line)) (g : Frame PlacedLine) (gs : List (Frame PlacedLine))
-      → AllFewMoves most placed → g.code ≡ code → Stands (first_alive g.code) registers f g → AllWait fs gs → FramesFewMoves most (g ∷ gs) → asm_line m depth asm f fs shared f.code ≢ stuck
-      → Arrives most (leading code * move_instructions + asm_line_weight m 0 (f ∷ fs) shared f f.code) (drop (length (m.told shared)) (asm_told m (asm_line m depth asm f fs shared f.code)))
+  -- The moves before a statement, and the statement. What it pays is the moves before it that are its loads, and `weight`.
+  arrives : (weight : ℕ) (code : List PlacedLine) (registers : ℕ → Option ℕ) (shared : H) (f : Frame Line) (fs : List (Frame Line)) (g : Frame PlacedLine) (gs : List (Frame PlacedLine))
+      → AllFewMoves placed → g.code ≡ code → Stands (first_alive g.code) registers f g → AllWait fs gs → FramesFewMoves (g ∷ gs) → asm_line m depth asm f fs shared f.code ≢ stuck
+      → asm_line_weight m (f ∷ fs) shared f f.code + stores_before gs * move_instructions ≤ weight + first_args code * move_instructions
+      → Arrives (leading code * move_instructions + weight) (drop (length (m.told shared)) (asm_told m (asm_line m depth asm f fs shared f.code)))
       (asm_line m depth asm f fs shared f.code) (go (record { frames = g ∷ gs; registers = registers; shared = shared }))
-  arrives most [] registers shared f fs g gs all_few at stands waits few goes =
+  arrives weight [] registers shared f fs g gs all_few at stands waits few goes pays =
       absurd (goes (ap (asm_line m depth asm f fs shared) (sym stands.same.code ∙ ap without_moves at)))
-  arrives most (does alive action args into ∷ rest) registers shared f fs g gs all_few at stands waits few goes =
-      arrives_now most (leading (does alive action args into ∷ rest) * move_instructions + asm_line_weight m 0 (f ∷ fs) shared f f.code) (asm_line m depth asm f fs shared f.code)
-      (record { frames = g ∷ gs; registers = registers; shared = shared }) (weighs_same alive action args into rest registers shared f fs g gs at stands waits) goes
-      (statement alive action args into rest registers shared f fs g gs at stands waits) (few_next m most depth placed all_few g gs registers shared few)
-  arrives most (moves alive value way ∷ rest) registers shared f fs g gs all_few at stands waits few goes =
+  arrives weight (does alive action args into ∷ rest) registers shared f fs g gs all_few at stands waits few goes pays =
+      let left : ℕ = (argument_stores action (length args) + result_moves into + stores_before gs) * move_instructions in
+      let here : f.code ≡ record { action = action; args = map value_of args; into = option_map value_of into } ∷ without_moves rest = sym stands.same.code ∙ ap without_moves at in
+      let fits : CallFits placed action (length args)
+      = call_fits m depth asm placed all action args into (without_moves rest) f fs shared (subst (λ (c : List Line). asm_line m depth asm f fs shared c ≢ stuck) here goes) in
+      arrives_now (leading (does alive action args into ∷ rest) * move_instructions + weight) left (asm_line m depth asm f fs shared f.code)
+      (record { frames = g ∷ gs; registers = registers; shared = shared })
+      (omega (arith, pays, moves_are action (length args), weighs_same alive action args into rest registers shared f fs g gs at stands waits)) goes
+      (statement alive action args into rest registers shared f fs g gs at stands waits)
+      (statement_few m depth left placed all_few alive action args into rest g gs registers shared at few fits (omega arith))
+  arrives weight (moves alive value way ∷ rest) registers shared f fs g gs all_few at stands waits few goes pays =
       let registers' : ℕ → Option ℕ = registers_with (to_of way) (read_at registers g.cells (from_of way)) registers in
       let g' : Frame PlacedLine = record g { code = rest; cells = slots_with (to_of way) (read_at registers g.cells (from_of way)) g.cells } in
       let t : PlacedState H = record { frames = g ∷ gs; registers = registers; shared = shared } in
@@ -213,91 +225,88 @@ module _ {H E W : Type 0} (m : Primitives H E W) (depth : ℕ) (asm : List Lines
       let write : Operand = record { value = value; place = to_of way } in
       let free : is_held g.held (to_of way) ≡ false = clear_of_held alive (first_alive rest) (marks None (record { value = value; place = from_of way } ∷ [])) write (λ x. false) fit.0.kept.0 f.held g.held stands'.held in
       let on : placed_next m depth placed (go t) ≡ go t' = ap (placed_line m depth placed g gs registers shared) at ∙ cond-false (is_held g.held (to_of way)) stuck (go t') free in
-      let few' : FramesFewMoves most (g' ∷ gs) = subst (λ (u : PlacedTurn H W). HasFewMoves most u) on (few_next m most depth placed all_few g gs registers shared few) in
-      let later = arrives most rest registers' shared f fs g' gs all_few refl stands' waits few' goes in
+      let few' : FramesFewMoves (g' ∷ gs) = ((subst FewMoves at few.0.0, few.0.1), few.1) in
+      let later = arrives weight rest registers' shared f fs g' gs all_few refl stands' waits few' goes pays in
       let light : placed_weight m (go t) ≤ move_instructions = omega (arith, ap (placed_line_weight m (g ∷ gs) registers shared g) at) in
       let silent : drop (length (m.told shared)) (placed_told m (placed_next m depth placed (go t))) ≡ [] = ap (λ (u : PlacedTurn H W). drop (length (m.told shared)) (placed_told m u)) on ∙ drop-length (m.told shared) in
       let events : List E = drop (length (m.told shared)) (asm_told m (asm_line m depth asm f fs shared f.code)) in
-      let weight : ℕ = leading rest * move_instructions + asm_line_weight m 0 (f ∷ fs) shared f f.code in
-      let there : Arrives most weight events (asm_line m depth asm f fs shared f.code) (placed_next m depth placed (go t)) = subst (λ (u : PlacedTurn H W). Arrives most weight events (asm_line m depth asm f fs shared f.code) u) (sym on) later in
-      subst (λ w. Arrives most w events (asm_line m depth asm f fs shared f.code) (go t)) (omega arith)
-      (arrives_later most weight move_instructions events (asm_line m depth asm f fs shared f.code) (go t) light silent (not_stuck t) there)
-
-  weighs_rows : (most lead : ℕ) (frames : List (Frame Line)) (shared : H) (f : Frame Line) (code : List Line) → code ≢ [] → lead ≤ most
-      → lead * move_instructions + asm_line_weight m 0 frames shared f code ≤ asm_line_weight m most frames shared f code
-  weighs_rows most lead frames shared f [] some within = absurd (some refl)
-  weighs_rows most lead frames shared f (line ∷ rest) some within = omega (arith, within)
+      let there : Arrives (leading rest * move_instructions + weight) events (asm_line m depth asm f fs shared f.code) (placed_next m depth placed (go t))
+      = subst (λ (u : PlacedTurn H W). Arrives (leading rest * move_instructions + weight) events (asm_line m depth asm f fs shared f.code) u) (sym on) later in
+      subst (λ w. Arrives w events (asm_line m depth asm f fs shared f.code) (go t)) (omega arith)
+      (arrives_later (leading rest * move_instructions + weight) move_instructions events (asm_line m depth asm f fs shared f.code) (go t) light silent (not_stuck t) there)
 
   -- a step of the upper machine, by steps of the lower
-  steps_on : (most credit idle : ℕ) (frames : List (Frame Line)) (frames' : List (Frame PlacedLine)) (registers : ℕ → Option ℕ) (shared : H) → AllFewMoves most placed
-      → NeverStuck m depth asm (go (record { frames = frames; shared = shared })) → FramesStand registers frames frames' → FramesFewMoves most frames'
-      → Reaches (placed_machine m depth placed) (Related m most depth asm) IsNotStuck 1 ((asm_machine m most depth asm).weight (go (record { frames = frames; shared = shared })) + credit) 1 idle
-      ((asm_machine m most depth asm).step (go (record { frames = frames; shared = shared }))).0 ((asm_machine m most depth asm).step (go (record { frames = frames; shared = shared }))).1
+  steps_on : (credit idle : ℕ) (frames : List (Frame Line)) (frames' : List (Frame PlacedLine)) (registers : ℕ → Option ℕ) (shared : H) → AllFewMoves placed
+      → NeverStuck m depth asm (go (record { frames = frames; shared = shared })) → FramesStand registers frames frames' → HasFewMoves {H = H} {W = W} credit (go (record { frames = frames'; registers = registers; shared = shared }))
+      → Reaches (placed_machine m depth placed) (Related m depth asm) IsNotStuck 1 ((asm_machine m depth asm).weight (go (record { frames = frames; shared = shared })) + credit) 1 idle
+      ((asm_machine m depth asm).step (go (record { frames = frames; shared = shared }))).0 ((asm_machine m depth asm).step (go (record { frames = frames; shared = shared }))).1
       (go (record { frames = frames'; registers = registers; shared = shared }))
-  steps_on most credit idle [] frames' registers shared all_few never stands few = absurd stands
-  steps_on most credit idle (f ∷ fs) [] registers shared all_few never stands few = absurd stands
-  steps_on most credit idle (f ∷ fs) (g ∷ gs) registers shared all_few never stands few =
+  steps_on credit idle [] frames' registers shared all_few never stands few = absurd stands
+  steps_on credit idle (f ∷ fs) [] registers shared all_few never stands few = absurd stands
+  steps_on credit idle (f ∷ fs) (g ∷ gs) registers shared all_few never stands few =
       let goes : asm_line m depth asm f fs shared f.code ≢ stuck = never 1 in
-      let some_code : f.code ≢ [] = λ none. goes (ap (asm_line m depth asm f fs shared) none) in
-      let there = arrives most g.code registers shared f fs g gs all_few refl stands.0 stands.1 few goes in
-      let rows = weighs_rows most (leading g.code) (f ∷ fs) shared f f.code some_code (leading_within most g.code few.0.0) in
+      let loads : first_args g.code * move_instructions ≤ asm_line_weight m (f ∷ fs) shared f f.code
+      = subst (λ (c : List Line). first_args g.code * move_instructions ≤ asm_line_weight m (f ∷ fs) shared f c) stands.0.same.code (loads_paid m (f ∷ fs) shared f g.code) in
+      let weight : ℕ = asm_line_weight m (f ∷ fs) shared f f.code + stores_before gs * move_instructions - first_args g.code * move_instructions in
+      let there = arrives weight g.code registers shared f fs g gs all_few refl stands.0 stands.1 few.0 goes (omega arith) in
       record {
         steps = there.steps;
-        credit_after = credit;
+        credit_after = there.left;
         idle_after = idle;
-        paid = omega (arith, there.within, rows);
+        paid = omega (arith, there.within, loads, few.1);
         moves = omega (arith, there.some);
         events_are = there.events_are;
         passes = there.passes;
         related = ((λ n. never (suc n)), (there.stands, there.few));
       }
 
-  steps_by : (most credit idle : ℕ) (s : AsmTurn H W) (t : PlacedTurn H W) → AllFewMoves most placed → Related m most depth asm credit idle s t
-      → Reaches (placed_machine m depth placed) (Related m most depth asm) IsNotStuck 1 ((asm_machine m most depth asm).weight s + credit) 1 idle ((asm_machine m most depth asm).step s).0 ((asm_machine m most depth asm).step s).1 t
-  steps_by most credit idle (go s) (go t) all_few related =
-      subst (λ (shared : H). Reaches (placed_machine m depth placed) (Related m most depth asm) IsNotStuck 1 ((asm_machine m most depth asm).weight (go s) + credit) 1 idle ((asm_machine m most depth asm).step (go s)).0 ((asm_machine m most depth asm).step (go s)).1
+  steps_by : (credit idle : ℕ) (s : AsmTurn H W) (t : PlacedTurn H W) → AllFewMoves placed → Related m depth asm credit idle s t
+      → Reaches (placed_machine m depth placed) (Related m depth asm) IsNotStuck 1 ((asm_machine m depth asm).weight s + credit) 1 idle ((asm_machine m depth asm).step s).0 ((asm_machine m depth asm).step s).1 t
+  steps_by credit idle (go s) (go t) all_few related =
+      subst (λ (shared : H). Reaches (placed_machine m depth placed) (Related m depth asm) IsNotStuck 1 ((asm_machine m depth asm).weight (go s) + credit) 1 idle ((asm_machine m depth asm).step (go s)).0 ((asm_machine m depth asm).step (go s)).1
       (go (record { frames = t.frames; registers = t.registers; shared = shared }))) related.1.0.1
-      (steps_on most credit idle s.frames t.frames t.registers s.shared all_few related.0 related.1.0.0 related.1.1)
-  steps_by most credit idle (go s) (ended how shared) all_few related = absurd related.1.0
-  steps_by most credit idle (go s) stuck all_few related = absurd related.1.0
-  steps_by most credit idle (ended how shared) (go t) all_few related = absurd related.1.0
-  steps_by most credit idle (ended how shared) (ended how' shared') all_few related =
-      ended_reaches (asm_machine m most depth asm) (placed_machine m depth placed) (Related m most depth asm) IsNotStuck 1 credit idle (ended how shared) (ended how' shared') how
+      (steps_on credit idle s.frames t.frames t.registers s.shared all_few related.0 related.1.0.0 related.1.1)
+  steps_by credit idle (go s) (ended how shared) all_few related = absurd related.1.0
+  steps_by credit idle (go s) stuck all_few related = absurd related.1.0
+  steps_by credit idle (ended how shared) (go t) all_few related = absurd related.1.0
+  steps_by credit idle (ended how shared) (ended how' shared') all_few related =
+      ended_reaches (asm_machine m depth asm) (placed_machine m depth placed) (Related m depth asm) IsNotStuck 1 credit idle (ended how shared) (ended how' shared') how
       (omega arith) related refl (ap (λ (w : W). Some w) (sym related.1.0.0)) (ended_not_stuck how' shared')
-  steps_by most credit idle (ended how shared) stuck all_few related = absurd related.1.0
-  steps_by most credit idle stuck t all_few related = absurd (related.0 0 refl)
+  steps_by credit idle (ended how shared) stuck all_few related = absurd related.1.0
+  steps_by credit idle stuck t all_few related = absurd (related.0 0 refl)
 
-  ends_alike : (most credit idle : ℕ) (s : AsmTurn H W) (t : PlacedTurn H W) → Related m most depth asm credit idle s t → end_of t ≡ end_of s
-  ends_alike most credit idle (go s) (go t) related = refl
-  ends_alike most credit idle (go s) (ended how shared) related = absurd related.1.0
-  ends_alike most credit idle (go s) stuck related = absurd related.1.0
-  ends_alike most credit idle (ended how shared) (go t) related = absurd related.1.0
-  ends_alike most credit idle (ended how shared) (ended how' shared') related = ap (λ (w : W). Some w) (sym related.1.0.0)
-  ends_alike most credit idle (ended how shared) stuck related = absurd related.1.0
-  ends_alike most credit idle stuck t related = absurd (related.0 0 refl)
+  ends_alike : (credit idle : ℕ) (s : AsmTurn H W) (t : PlacedTurn H W) → Related m depth asm credit idle s t → end_of t ≡ end_of s
+  ends_alike credit idle (go s) (go t) related = refl
+  ends_alike credit idle (go s) (ended how shared) related = absurd related.1.0
+  ends_alike credit idle (go s) stuck related = absurd related.1.0
+  ends_alike credit idle (ended how shared) (go t) related = absurd related.1.0
+  ends_alike credit idle (ended how shared) (ended how' shared') related = ap (λ (w : W). Some w) (sym related.1.0.0)
+  ends_alike credit idle (ended how shared) stuck related = absurd related.1.0
+  ends_alike credit idle stuck t related = absurd (related.0 0 refl)
 
   -- code with places simulates the code that it was made of
-  pub simulates : (most : ℕ) → AllFewMoves most placed → Simulates (asm_machine m most depth asm) (placed_machine m depth placed) (Related m most depth asm) IsNotStuck 1
-  simulates most all_few = record { by = λ credit idle s t related. steps_by most credit idle s t all_few related; alike = ends_alike most }
+  pub simulates : AllFewMoves placed → Simulates (asm_machine m depth asm) (placed_machine m depth placed) (Related m depth asm) IsNotStuck 1
+  simulates all_few = record { by = λ credit idle s t related. steps_by credit idle s t all_few related; alike = ends_alike }
 
   -- the start of a function without parameters
-  pub starts : (most n : ℕ) (main : Lines) (shared : H) → AllFewMoves most placed → slice_get asm n ≡ Some main → main.params ≡ [] → NeverStuck m depth asm (asm_start main shared)
-      → (placed_main : PlacedLines) × (slice_get placed n ≡ Some placed_main) × Related m most depth asm 0 0 (asm_start main shared) (placed_start placed_main shared)
-  starts most n main shared all_few e none never =
+  pub starts : (n : ℕ) (main : Lines) (shared : H) → AllFewMoves placed → slice_get asm n ≡ Some main → main.params ≡ [] → NeverStuck m depth asm (asm_start main shared)
+      → (placed_main : PlacedLines) × (slice_get placed n ≡ Some placed_main) × Related m depth asm 0 0 (asm_start main shared) (placed_start placed_main shared)
+  starts n main shared all_few e none never =
       let there = callee_both asm placed all n main e in
       let bound_is : bound main.params [] ≡ Some empty = ap (λ (params : List ℕ). bound params []) none in
-      let few : FewMoves most there.0.code = function_few most placed n there.0 all_few there.1 in
-      (there.0, there.1, (never, (((enters main there.0 [] empty there.2 bound_is, tt), refl), ((few, few), tt))))
+      let few : FunctionFewMoves there.0 = function_few placed n there.0 all_few there.1 in
+      let no_params : length there.0.params ≡ 0 = ap (λ (params : List ℕ). length params) (there.2.params ∙ none) in
+      (there.0, there.1, (never, (((enters main there.0 [] empty there.2 bound_is, tt), refl), (((few.1, few.1), tt), omega (arith, few.0, no_params)))))
 
-  pub agrees : (most n : ℕ) (main : Lines) (shared : H) → AllFewMoves most placed → slice_get asm n ≡ Some main → main.params ≡ [] → NeverStuck m depth asm (asm_start main shared)
-      → (placed_main : PlacedLines) × (slice_get placed n ≡ Some placed_main) × Agree (asm_machine m most depth asm) (placed_machine m depth placed) 0 (λ steps. steps * 1 + 0 + 1) (asm_start main shared) (placed_start placed_main shared)
-  agrees most n main shared all_few e none never =
-      let there = starts most n main shared all_few e none never in
-      (there.0, there.1, simulates_agree (asm_machine m most depth asm) (placed_machine m depth placed) (Related m most depth asm) IsNotStuck 1 (simulates most all_few) 0 0 (asm_start main shared) (placed_start there.0 shared) there.2)
+  pub agrees : (n : ℕ) (main : Lines) (shared : H) → AllFewMoves placed → slice_get asm n ≡ Some main → main.params ≡ [] → NeverStuck m depth asm (asm_start main shared)
+      → (placed_main : PlacedLines) × (slice_get placed n ≡ Some placed_main) × Agree (asm_machine m depth asm) (placed_machine m depth placed) 0 (λ steps. steps * 1 + 0 + 1) (asm_start main shared) (placed_start placed_main shared)
+  agrees n main shared all_few e none never =
+      let there = starts n main shared all_few e none never in
+      (there.0, there.1, simulates_agree (asm_machine m depth asm) (placed_machine m depth placed) (Related m depth asm) IsNotStuck 1 (simulates all_few) 0 0 (asm_start main shared) (placed_start there.0 shared) there.2)
 
   -- from there on each state can go on, or has ended
-  pub never_stuck : (most n : ℕ) (main : Lines) (shared : H) → AllFewMoves most placed → slice_get asm n ≡ Some main → main.params ≡ [] → NeverStuck m depth asm (asm_start main shared)
+  pub never_stuck : (n : ℕ) (main : Lines) (shared : H) → AllFewMoves placed → slice_get asm n ≡ Some main → main.params ≡ [] → NeverStuck m depth asm (asm_start main shared)
       → (placed_main : PlacedLines) × (slice_get placed n ≡ Some placed_main) × ((steps : ℕ) → state (placed_machine m depth placed) steps (placed_start placed_main shared) ≢ stuck)
-  never_stuck most n main shared all_few e none never =
-      let there = starts most n main shared all_few e none never in
-      (there.0, there.1, simulates_passing (asm_machine m most depth asm) (placed_machine m depth placed) (Related m most depth asm) IsNotStuck 1 (simulates most all_few) 0 0 (asm_start main shared) (placed_start there.0 shared) there.2)
+  never_stuck n main shared all_few e none never =
+      let there = starts n main shared all_few e none never in
+      (there.0, there.1, simulates_passing (asm_machine m depth asm) (placed_machine m depth placed) (Related m depth asm) IsNotStuck 1 (simulates all_few) 0 0 (asm_start main shared) (placed_start there.0 shared) there.2)

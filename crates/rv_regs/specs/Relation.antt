@@ -1,15 +1,19 @@
 -- When a state of the placed form's machine stands for one of the assembler form's.
-use Rattle.std.specs.Prelude.{◌≡◌, ◌≢◌, ◌⊎◌, ◌≤◌, ℕ, suc, List, [], ◌∷◌, Option, Some, None, true, false, ⊤}
+use Rattle.std.specs.Prelude.{◌≡◌, ◌≢◌, ◌⊎◌, ◌≤◌, ◌+◌, ◌-◌, ◌*◌, ℕ, suc, List, [], ◌∷◌, Option, Some, None, true, false, ⊤, length}
 use Rattle.std.specs.List.{AllByRecursion}
 use Rattle.kk_base.specs.Machines.{state}
+use Rattle.rv_isa.specs.declared.asm.Action.{Action}
+use Rattle.rv_isa.specs.declared.asm.Action.TheVariants.{Compute}
 use Rattle.rv_isa.specs.declared.placed.Place.{Place}
 use Rattle.rv_isa.specs.declared.placed.Place.TheVariants.{Slot as slot}
+use Rattle.rv_isa.specs.declared.placed.Operand.{Operand}
 use Rattle.rv_isa.specs.declared.placed.Listed.{Listed}
 use Rattle.rv_isa.specs.AsmCode.{Line, Lines}
 use Rattle.rv_isa.specs.PlacedCode.{PlacedLine, does, moves, PlacedLines}
 use Rattle.rv_isa.specs.Primitives.{Primitives, go, ended, stuck}
 use Rattle.rv_isa.specs.Frames.{Frame, is_among}
 use Rattle.rv_isa.specs.AsmMachine.{AsmTurn, asm_machine}
+use Rattle.rv_isa.specs.Costs.{move_instructions, result_moves}
 use Rattle.rv_isa.specs.PlacedMachine.{PlacedTurn, read_at, number_of}
 use Rattle.rv_regs.specs.Listings.{first_alive, listed_as}
 use Rattle.rv_regs.specs.Conditions.{Apart, without_moves, AllFit}
@@ -79,7 +83,9 @@ StandsFor stuck t = ⊤
 
 -- no run comes to a state that can do nothing more
 abbrev pub NeverStuck : {H E W : Type 0} → Primitives H E W → ℕ → List Lines → AsmTurn H W → Type 0
-NeverStuck m depth q s = (n : ℕ) → state (asm_machine m 0 depth q) n s ≢ stuck
+NeverStuck m depth q s = (n : ℕ) → state (asm_machine m depth q) n s ≢ stuck
+
+-- ---- moves
 
 -- the moves with which code begins
 abbrev pub leading : List PlacedLine → ℕ
@@ -87,25 +93,47 @@ leading [] = 0
 leading (does alive action args into ∷ code) = 0
 leading (moves alive value way ∷ code) = suc (leading code)
 
--- so many moves at most stand in a row
-abbrev pub FewMoves : ℕ → List PlacedLine → Type 0
-FewMoves most [] = ⊤
-FewMoves most (line ∷ code) = (leading (line ∷ code) ≤ most) × FewMoves most code
+-- the arguments of the first statement of code, each of which may be loaded before it
+abbrev pub first_args : List PlacedLine → ℕ
+first_args [] = 0
+first_args (does alive action args into ∷ code) = length args
+first_args (moves alive value way ∷ code) = first_args code
 
-abbrev pub AllFewMoves : ℕ → List PlacedLines → Type 0
-AllFewMoves most functions = AllByRecursion (λ (function : PlacedLines). FewMoves most function.code) functions
+-- the stores behind a statement: of its result, and of what a computation has read
+abbrev pub stores_behind : Action → List Operand → Option Operand → ℕ
+stores_behind (Compute operation) args into = length args + result_moves into
+stores_behind action args into = result_moves into
 
-abbrev pub FramesFewMoves : ℕ → List (Frame PlacedLine) → Type 0
-FramesFewMoves most frames = AllByRecursion (λ (frame : Frame PlacedLine). FewMoves most frame.code × FewMoves most frame.whole) frames
+-- between two statements stand no more moves than the stores behind the first and the loads before the second
+abbrev pub FewMoves : List PlacedLine → Type 0
+FewMoves [] = ⊤
+FewMoves (does alive action args into ∷ code) = (leading code ≤ stores_behind action args into + first_args code) × FewMoves code
+FewMoves (moves alive value way ∷ code) = FewMoves code
 
+-- and before the first one no more than the stores of the parameters, and its loads
+abbrev pub FunctionFewMoves : PlacedLines → Type 0
+FunctionFewMoves function = (leading function.code ≤ length function.params + first_args function.code) × FewMoves function.code
+
+abbrev pub AllFewMoves : List PlacedLines → Type 0
+AllFewMoves functions = AllByRecursion FunctionFewMoves functions
+
+abbrev pub FramesFewMoves : List (Frame PlacedLine) → Type 0
+FramesFewMoves frames = AllByRecursion (λ (frame : Frame PlacedLine). FewMoves frame.code × FewMoves frame.whole) frames
+
+-- the moves at the front of each frame's code that are no loads of its first statement: earlier statements have paid for them
+abbrev pub stores_before : List (Frame PlacedLine) → ℕ
+stores_before [] = 0
+stores_before (frame ∷ frames) = (leading frame.code - first_args frame.code) + stores_before frames
+
+-- a state with few moves, and those that were paid for are within the weight that is saved
 abbrev pub HasFewMoves : {H W : Type 0} → ℕ → PlacedTurn H W → Type 0
-HasFewMoves most (go t) = FramesFewMoves most t.frames
-HasFewMoves most (ended how shared) = ⊤
-HasFewMoves most stuck = ⊤
+HasFewMoves credit (go t) = FramesFewMoves t.frames × (stores_before t.frames * move_instructions ≤ credit)
+HasFewMoves credit (ended how shared) = ⊤
+HasFewMoves credit stuck = ⊤
 
--- what the simulation keeps; it saves no weight, and each step is paid for at once
-abbrev pub Related : {H E W : Type 0} → Primitives H E W → ℕ → ℕ → List Lines → ℕ → ℕ → AsmTurn H W → PlacedTurn H W → Type 0
-Related m most depth asm credit idle s t = NeverStuck m depth asm s × (StandsFor s t × HasFewMoves most t)
+-- what the simulation keeps; each step is paid for at once
+abbrev pub Related : {H E W : Type 0} → Primitives H E W → ℕ → List Lines → ℕ → ℕ → AsmTurn H W → PlacedTurn H W → Type 0
+Related m depth asm credit idle s t = NeverStuck m depth asm s × (StandsFor s t × HasFewMoves credit t)
 
 -- the placed form's machine passes no state in which it can do nothing
 abbrev pub IsNotStuck : {H W : Type 0} → PlacedTurn H W → Type 0

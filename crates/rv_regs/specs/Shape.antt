@@ -1,5 +1,5 @@
 -- The shape of code in the plainest places: what the layer below rests on.
-use Rattle.std.specs.Prelude.{◌≡◌, ◌+◌, ◌*◌, ◌<◌, ◌≤◌, ℕ, List, [], ◌∷◌, Option, Some, None, All, length}
+use Rattle.std.specs.Prelude.{◌≡◌, ◌<◌, ◌≤◌, ℕ, List, Option, Some, None, All}
 use Rattle.std.specs.List.{AllByRecursion}
 use Rattle.rv_isa.specs.declared.placed.Listed.{Listed}
 use Rattle.rv_isa.specs.declared.placed.Operand.{Operand}
@@ -8,12 +8,9 @@ use Rattle.rv_isa.specs.declared.placed.Place.TheVariants.{Register as register,
 use Rattle.rv_isa.specs.declared.placed.Placed.{Placed}
 use Rattle.rv_isa.specs.AsmCode.{Lines}
 use Rattle.rv_isa.specs.PlacedCode.{PlacedLine, does, moves, PlacedLines, placed_functions, from_of, to_of}
-use Rattle.rv_isa.specs.WellFormed.{HoldsNone, most_values, all_lines}
+use Rattle.rv_isa.specs.Costs.{functions_length, placed_functions_length}
+use Rattle.rv_isa.specs.WellFormed.{HoldsNone, most_values}
 use Rattle.rv_regs.specs.Relation.{AllFewMoves}
-
--- the most moves that stand in a row
-abbrev pub most_moves : ℕ
-most_moves = 16
 
 -- ---- slots
 
@@ -40,23 +37,12 @@ abbrev pub LineHoldsNone : PlacedLine → Type 0
 LineHoldsNone (does alive action args into) = HoldsNone action
 LineHoldsNone (moves alive value way) = Unit {0}
 
--- ---- numbers of lines
-
-abbrev pub all_items : List PlacedLines → ℕ
-all_items [] = 0
-all_items (function ∷ functions) = length function.code + all_items functions
-
--- a line has this many moves and itself at most, and the start of a function this many moves
-abbrev pub most_row : ℕ
-most_row = 12
-
-abbrev pub most_start : ℕ
-most_start = 8
+-- ---- all of it
 
 -- a program in the plainest places, which has no memory of its own
 pub record IsPlainlyPlaced (functions : List Lines) (placed : Placed) : Type 0 where
-  pub few_moves : AllFewMoves most_moves (placed_functions placed)
+  pub few_moves : AllFewMoves (placed_functions placed)
   pub slots : AllByRecursion (λ (function : PlacedLines). AllSlotsBelow most_values function.code) (placed_functions placed)
   pub holds_none : AllByRecursion (λ (function : PlacedLines). AllByRecursion LineHoldsNone function.code) (placed_functions placed)
-  pub few_items : all_items (placed_functions placed) ≤ most_row * all_lines functions + most_start * length functions
+  pub short : placed_functions_length (placed_functions placed) ≤ functions_length functions
   pub memory : placed.memory ≡ record { size = 0; stack_bottom = 0 }

@@ -26,22 +26,23 @@ pub trait Execution {
 
 /// A valid placed form means what its assembler form means, whatever gave the values their places.
 ///
-/// Where at most `most` moves stand in a row, its machine simulates that of the assembler form: the moves before a
+/// Where no more moves stand between two statements than the stores behind the first and the loads before the second, its
+/// machine simulates that of the assembler form, which weighs each statement with those of its own: the moves before a
 /// statement, and then the statement. The start of a function without parameters stands for that of the same function,
 /// and from there on the machines agree: they tell the same events and end alike. A run of the assembler form must never
 /// come to a state in which it can do nothing more; then the placed form comes to none either. It is a law, and does
 /// nothing.
 pub fn valid_forms_keep_meaning<M: Execution>()
-    ensures simulates { (asm : Asm) (placed : Placed) (most depth : ℕ) → IsValid asm placed → AllFewMoves most (placed_functions placed)
-        → Simulates (asm_machine M.primitives most depth (asm_functions asm)) (placed_machine M.primitives depth (placed_functions placed)) (Related M.primitives most depth (asm_functions asm)) IsNotStuck 1 }
-    ensures starts { (asm : Asm) (placed : Placed) (most depth n : ℕ) (main : Lines) (shared : M.Shared) → IsValid asm placed → AllFewMoves most (placed_functions placed)
+    ensures simulates { (asm : Asm) (placed : Placed) (depth : ℕ) → IsValid asm placed → AllFewMoves (placed_functions placed)
+        → Simulates (asm_machine M.primitives depth (asm_functions asm)) (placed_machine M.primitives depth (placed_functions placed)) (Related M.primitives depth (asm_functions asm)) IsNotStuck 1 }
+    ensures starts { (asm : Asm) (placed : Placed) (depth n : ℕ) (main : Lines) (shared : M.Shared) → IsValid asm placed → AllFewMoves (placed_functions placed)
         → slice_get (asm_functions asm) n ≡ Some main → main.params ≡ [] → NeverStuck M.primitives depth (asm_functions asm) (asm_start main shared)
-        → (placed_main : PlacedLines) × (slice_get (placed_functions placed) n ≡ Some placed_main) × Related M.primitives most depth (asm_functions asm) 0 0 (asm_start main shared) (placed_start placed_main shared) }
-    ensures agrees { (asm : Asm) (placed : Placed) (most depth n : ℕ) (main : Lines) (shared : M.Shared) → IsValid asm placed → AllFewMoves most (placed_functions placed)
+        → (placed_main : PlacedLines) × (slice_get (placed_functions placed) n ≡ Some placed_main) × Related M.primitives depth (asm_functions asm) 0 0 (asm_start main shared) (placed_start placed_main shared) }
+    ensures agrees { (asm : Asm) (placed : Placed) (depth n : ℕ) (main : Lines) (shared : M.Shared) → IsValid asm placed → AllFewMoves (placed_functions placed)
         → slice_get (asm_functions asm) n ≡ Some main → main.params ≡ [] → NeverStuck M.primitives depth (asm_functions asm) (asm_start main shared)
         → (placed_main : PlacedLines) × (slice_get (placed_functions placed) n ≡ Some placed_main)
-        × Agree (asm_machine M.primitives most depth (asm_functions asm)) (placed_machine M.primitives depth (placed_functions placed)) 0 (λ steps. steps * 1 + 0 + 1) (asm_start main shared) (placed_start placed_main shared) }
-    ensures never_stuck { (asm : Asm) (placed : Placed) (most depth n : ℕ) (main : Lines) (shared : M.Shared) → IsValid asm placed → AllFewMoves most (placed_functions placed)
+        × Agree (asm_machine M.primitives depth (asm_functions asm)) (placed_machine M.primitives depth (placed_functions placed)) 0 (λ steps. steps * 1 + 0 + 1) (asm_start main shared) (placed_start placed_main shared) }
+    ensures never_stuck { (asm : Asm) (placed : Placed) (depth n : ℕ) (main : Lines) (shared : M.Shared) → IsValid asm placed → AllFewMoves (placed_functions placed)
         → slice_get (asm_functions asm) n ≡ Some main → main.params ≡ [] → NeverStuck M.primitives depth (asm_functions asm) (asm_start main shared)
         → (placed_main : PlacedLines) × (slice_get (placed_functions placed) n ≡ Some placed_main)
         × ((steps : ℕ) → state (placed_machine M.primitives depth (placed_functions placed)) steps (placed_start placed_main shared) ≢ stuck) }
