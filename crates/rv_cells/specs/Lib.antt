@@ -3,7 +3,6 @@ pub mod Follows
 pub mod Steps
 pub mod CellLines
 pub mod CountedLines
-pub mod Sizes
 pub mod Written
 pub mod Marked
 pub mod Costs

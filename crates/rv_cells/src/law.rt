@@ -1,10 +1,11 @@
-ghost use Rattle.std.specs.Prelude.{◌≡◌, ◌<◌, ◌≤◌, ℕ, suc, ◌%◌, ◌^◌, Bool, List, [], ◌∷◌, length, All, Option, Some, None, true, slice_get};
+ghost use Rattle.std.specs.Prelude.{◌≡◌, ◌<◌, ◌≤◌, ℕ, suc, ◌%◌, ◌^◌, ◌*◌, Bool, List, [], ◌∷◌, length, All, Option, Some, None, true, slice_get};
 ghost use Rattle.cell_heap.specs.Pool.{Pool};
 ghost use Rattle.cell_heap.specs.Blocks.{Cells, own, with_block, with_word, request, unused_cells};
 ghost use Rattle.kk_source.specs.State.{Value, Cell};
 ghost use Rattle.kk_source.specs.Sound.{AllWithin};
 ghost use Rattle.kk_counted.specs.CountedCodes.{CountedFunction, CountedProgram};
 ghost use Rattle.kk_counted.specs.declared.shape.Shape.{Shape};
+ghost use Rattle.kk_counted.specs.Lengths.{all_computes, functions_length as counted_length};
 ghost use Rattle.kk_counted.specs.Lowerable.{AreLowerable};
 ghost use Rattle.kk_counted.specs.CountBounds.{AllSpendAtMost};
 ghost use Rattle.kk_counted.specs.CountedStates.{CountedSetting, CountedState};
@@ -20,6 +21,8 @@ ghost use Rattle.rv_cells.specs.Lowered.{IsLoweredForm};
 ghost use Rattle.rv_cells.specs.Tables.{table_of, layout_in};
 ghost use Rattle.rv_cells.specs.Follows.{IsBlockOf, Owner, nobody, cell_of, in_hand, Follows, with_owner, assign, NoneInHand};
 ghost use Rattle.rv_isa.specs.AsmCode.{Lines};
+ghost use Rattle.rv_isa.specs.Costs.{functions_length};
+ghost use Rattle.rv_world.specs.Operations.{all_bytes};
 ghost use Rattle.rv_cells.specs.Costs.{counted_instructions};
 ghost use Rattle.rv_cells.specs.Fitting.{AreTagged, count_of_fields, IsFit};
 ghost use Rattle.rv_cells.specs.Meaning.{setting_on, IsProgramLowered, RunsTheSame};
@@ -110,6 +113,15 @@ pub fn lowered_programs_are_well_formed()
         → IsNarrow (layout_in shape) → (layout_in shape).tag 0 ≡ 0 → (layout_in shape).tag 1 ≡ 1
         → (main : CountedFunction) → slice_get code.functions code.main ≡ Some main → main.parameters ≡ 0
         → IsProgramLowered (layout_in shape) (table_of shape) code texts each }
+{}
+
+/// The assembler code of a program in counted form that can be lowered, and is so, is no longer than its counted form tells, and its
+/// constant bytes are no more than 256 for each form on values: where its constructors have six fields at most. It is a law, and does
+/// nothing.
+pub fn lowered_programs_are_short()
+    ensures { (shape : Shape) (functions : List CountedFunction) (literals texts : List (List ℕ)) (each : List Lines)
+        → AreLowerable (table_of shape) functions → IsNarrow (layout_in shape) → IsLoweredForm shape literals functions each texts
+        → (functions_length each ≤ counted_length functions) × (length (all_bytes texts) ≤ 256 * all_computes functions) }
 {}
 
 /// A program in counted form whose functions are all lowered runs the same as its assembler code, where each state of its run is not
