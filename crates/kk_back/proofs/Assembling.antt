@@ -33,7 +33,7 @@ use Rattle.rv_place.specs.Addresses.{frame_size}
 use Rattle.rv_place.specs.Bytes.{IsTextOf}
 use Rattle.rv_place.specs.Images.{IsPlacedImage, EndsWithCells, first_processor, outside_lines}
 use Rattle.rv_place.specs.Running.{NeverStuck}
-use Rattle.rv_place.specs.Texts.{ArePlaceable, ArePlacedWords, map_of, pool_in, constants_of, text_bytes}
+use Rattle.rv_place.specs.Texts.{ArePlaceable, ArePlacedWords, map_of, pool_in, constants_of, text_bytes, most_text_words, most_constant_bytes}
 use Rattle.rv_place.proofs.BootFits.{FitsImage, fits-image}
 use Rattle.rv_place.proofs.BootSizes.{bytes_most, page_multiple}
 use Rattle.rv_place.specs.declared.words.Words.{Words}
@@ -149,7 +149,7 @@ module _ {cells depth : ℕ} {asm : Asm} {placed runtime : Placed} {words : Word
 
   constants_fit : first + length (all_bytes (asm_constants asm)) < 2 ^ 32
   constants_fit =
-      let most : text_bytes runtime placed ≤ 176193536 = bytes_most can_be_placed in
+      let most : text_bytes runtime placed ≤ 4 * most_text_words + most_constant_bytes = bytes_most can_be_placed in
       let bytes : length (all_bytes (placed_constants placed)) ≡ length (all_bytes (asm_constants asm)) = ap (λ (texts : List (List ℕ)). length (all_bytes texts)) makes.valid.constants in
       omega (arith, most, bytes)
 

@@ -34,7 +34,7 @@ use std::alloc::Global;
 const MOST_OF_TEXT: usize = 65_537;
 
 /// How many bytes of an image are read: one more than it may have.
-const MOST_OF_IMAGE: usize = 268_435_457;
+const MOST_OF_IMAGE: usize = 2_147_483_649;
 
 /// An image that was run.
 #[derive(Drop)]

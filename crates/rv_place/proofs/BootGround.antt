@@ -23,7 +23,7 @@ use Rattle.cell_runtime.specs.Tokens.{IsHold, IsUnhold}
 use Rattle.rv_place.specs.Images.{code_in}
 use Rattle.rv_place.specs.declared.words.Words.{Words}
 use Rattle.rv_place.specs.Addresses.{IsBehind, frame_size}
-use Rattle.rv_place.specs.Texts.{ArePlaceable, text_bytes, memory_of, pool_in, map_of, ArePlacedWords}
+use Rattle.rv_place.specs.Texts.{ArePlaceable, most_text_words, most_constant_bytes, text_bytes, memory_of, pool_in, map_of, ArePlacedWords}
 use Rattle.rv_place.specs.Grounds.{HasRoutine, Ground}
 use Rattle.rv_place.proofs.BootLoaded.{two_parts, text-loaded, memory-loaded, memory-stored, stored-behind}
 use Rattle.rv_place.proofs.BootSizes.{memory_behind, memory_page, page_behind, page_near, page_multiple, stack_most, words_most, bytes_most, memory_most}
@@ -65,9 +65,9 @@ behind_read_byte =
 
 -- The text ends before the memory behind it. There the buffer and the cells come first, and the stack at the begin of a page; all is far below 2^32.
 pub record HasRoom (cells depth frame text memory bottom size : ℕ) : Type 0 where
-  pub few_text : text ≤ 176193536
+  pub few_text : text ≤ 4 * most_text_words + most_constant_bytes
   pub behind : text_start + text ≤ memory
-  pub near : memory ≤ 176263168
+  pub near : memory ≤ text_start + 4 * most_text_words + most_constant_bytes + 4095
   pub memory_page : memory % 4096 ≡ 0
   pub some_cells : 36 + 32 * cells ≤ bottom
   pub few_cells : bottom ≤ 33558563

@@ -7,6 +7,7 @@ use Rattle.rv_isa.specs.declared.asm.Action.{Action}
 use Rattle.rv_isa.specs.declared.asm.Action.TheVariants.{Compute, Label, Jump, Branch, Call, TailCall, Return, Routine, Hold, Unhold}
 use Rattle.rv_isa.specs.declared.asm.Operation.{Operation}
 use Rattle.rv_isa.specs.declared.placed.Placed.{Placed}
+use Rattle.rv_isa.specs.Costs.{operation_instructions, action_instructions, placed_line_length, placed_code_length, placed_functions_length}
 use Rattle.rv_isa.specs.PlacedCode.{PlacedLine, does, moves, PlacedLines, placed_functions, placed_constants}
 use Rattle.cell_runtime.specs.Layouts.{next_page}
 use Rattle.rv_world.specs.Operations.{all_bytes}
@@ -16,12 +17,12 @@ use Rattle.rv_place.specs.Addresses.{words_of_action, words_of_line, words_of_li
 use Rattle.rv_place.specs.declared.reach.Forms.{Forms}
 use Rattle.rv_place.specs.declared.reach.Reach.{Reach}
 use Rattle.rv_place.proofs.RunningLines.{jump_most, branch_most}
-use Rattle.rv_place.specs.Texts.{all_items, ArePlaceable, text_words, text_bytes, memory_of, ArePlacedWords, jumps_of}
+use Rattle.rv_place.specs.Texts.{ArePlaceable, most_text_words, most_constant_bytes, text_words, text_bytes, memory_of, ArePlacedWords, jumps_of}
 use Rattle.rv_place.specs.Bytes.{IsTextOf}
 
 -- ---- how many instructions code is
 
-operation_most : (operation : Operation) → words_of_operation operation ≤ 5
+operation_most : (operation : Operation) → words_of_operation operation ≤ operation_instructions operation
 operation_most (Operation.Register operation) = omega arith
 operation_most (Operation.Immediate operation immediate) = omega arith
 operation_most (Operation.Shift operation amount) = omega arith
@@ -33,27 +34,27 @@ operation_most (Operation.Sw offset) = omega arith
 operation_most Operation.Dup = omega arith
 operation_most Operation.Free = omega arith
 
-action_most : (forms : Forms) (action : Action) → words_of_action forms action ≤ 5
+action_most : (forms : Forms) (action : Action) → words_of_action forms action ≤ action_instructions action
 action_most forms (Compute operation) = operation_most operation
 action_most forms (Label l) = omega arith
-action_most forms (Jump l) = omega (arith, jump_most forms.jumps)
-action_most forms (Branch condition l) = omega (arith, branch_most forms.jumps forms.branches)
+action_most forms (Jump l) = jump_most forms.jumps
+action_most forms (Branch condition l) = branch_most forms.jumps forms.branches
 action_most forms (Call f) = omega (arith, jump_most forms.jumps)
-action_most forms (TailCall f) = omega (arith, jump_most forms.jumps)
+action_most forms (TailCall f) = jump_most forms.jumps
 action_most forms Return = omega arith
-action_most forms (Routine routine) = omega (arith, jump_most forms.jumps)
+action_most forms (Routine routine) = jump_most forms.jumps
 action_most forms Hold = omega (arith, jump_most forms.jumps)
 action_most forms Unhold = omega (arith, jump_most forms.jumps)
 
-line_most : (forms : Forms) (line : PlacedLine) → words_of_line forms line ≤ 5
+line_most : (forms : Forms) (line : PlacedLine) → words_of_line forms line ≤ placed_line_length line
 line_most forms (does alive action args into) = action_most forms action
 line_most forms (moves alive value way) = omega arith
 
-lines_most : (forms : Forms) (lines : List PlacedLine) → words_of_lines forms lines ≤ 5 * length lines
+lines_most : (forms : Forms) (lines : List PlacedLine) → words_of_lines forms lines ≤ placed_code_length lines
 lines_most forms [] = omega arith
 lines_most forms (line ∷ lines) = omega (arith, line_most forms line, lines_most forms lines)
 
-pub functions_most : (jumps : Reach) (functions : List PlacedLines) → words_of_functions jumps functions ≤ 6 * length functions + 5 * all_items functions
+functions_most : (jumps : Reach) (functions : List PlacedLines) → words_of_functions jumps functions ≤ 6 * length functions + placed_functions_length functions
 functions_most jumps [] = omega arith
 functions_most jumps (function ∷ functions) = omega (arith, jump_most jumps, lines_most (forms_of jumps function.code) function.code, functions_most jumps functions)
 
@@ -84,14 +85,14 @@ stack_most depth frame few small = mul-le depth frame greatest_depth 2044 few sm
 -- ---- the text
 
 module _ {runtime program : Placed} (placeable : ArePlaceable runtime program) where
-  pub words_most : text_words runtime program ≤ 41951232
+  pub words_most : text_words runtime program ≤ most_text_words
   words_most =
-      omega (arith, functions_most (jumps_of runtime program) (placed_functions program), placeable.runtime_size, placeable.few_functions, placeable.few_items)
+      omega (arith, functions_most (jumps_of runtime program) (placed_functions program), placeable.runtime_size, placeable.few_functions, placeable.short)
 
-  pub bytes_most : text_bytes runtime program ≤ 176193536
+  pub bytes_most : text_bytes runtime program ≤ 4 * most_text_words + most_constant_bytes
   bytes_most = omega (arith, words_most, placeable.few_bytes)
 
-  pub memory_most : memory_of runtime program ≤ 176263168
+  pub memory_most : memory_of runtime program ≤ text_start + 4 * most_text_words + most_constant_bytes + 4095
   memory_most = omega (arith, bytes_most, memory_near (text_bytes runtime program))
 
 -- the bytes of a text are as many as its instructions and constants take

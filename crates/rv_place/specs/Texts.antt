@@ -3,7 +3,8 @@ use Rattle.std.specs.Prelude.{◌≡◌, ℕ, ◌+◌, ◌*◌, ◌%◌, ◌≤�
 use Rattle.elf_image.specs.Program.{text_start, memory_start}
 use Rattle.rv_isa.specs.declared.instr.Instr.{Instr}
 use Rattle.rv_isa.specs.declared.placed.Placed.{Placed}
-use Rattle.rv_isa.specs.PlacedCode.{PlacedLines, placed_functions, placed_constants}
+use Rattle.rv_isa.specs.PlacedCode.{placed_functions, placed_constants}
+use Rattle.rv_isa.specs.Costs.{placed_functions_length}
 use Rattle.rv_isa.specs.Standing.{code_of}
 use Rattle.cell_runtime.specs.Lines.{Spells, AreWithin, words_of, labels_of}
 use Rattle.cell_heap.specs.Pool.{Pool}
@@ -17,22 +18,39 @@ use Rattle.rv_place.specs.declared.words.Words.{Words}
 
 -- ---- what can be placed
 
--- the lines of all functions
-abbrev pub all_items : List PlacedLines → ℕ
-all_items [] = 0
-all_items (function ∷ functions) = length function.code + all_items functions
+-- the most instructions of all functions' lines, without the entries
+abbrev pub most_text_length : ℕ
+most_text_length = 400000000
 
--- A runtime and a program that can be placed: the stack begins at a page, so that one LUI gives the address of its lowest frame; frames are at most 2,044 bytes, so that each slot is within reach of the stack pointer; and the text
--- is small enough for a text part.
+abbrev pub most_functions : ℕ
+most_functions = 1024
+
+-- the most instructions of a runtime
+abbrev pub most_runtime_words : ℕ
+most_runtime_words = 1024
+
+-- the most instructions of a text, where each function has an entry of 6 at most
+abbrev pub most_text_words : ℕ
+most_text_words = most_runtime_words + 6 * most_functions + most_text_length
+
+abbrev pub most_constant_bytes : ℕ
+most_constant_bytes = 8388608
+
+-- no part of a text stands above this address, and memory begins below it
+abbrev pub greatest_address : ℕ
+greatest_address = 2147483648
+
+-- A runtime and a program that can be placed: the stack begins at a page, so that one LUI gives the address of its lowest frame;
+-- frames are at most 2,044 bytes, so that each slot is within reach of the stack pointer; and the text is small enough for a text part.
 pub record ArePlaceable (runtime program : Placed) : Type 0 where
   pub lines : AreWithin greatest_reach runtime.natives.items
-  pub runtime_size : words_of runtime.natives.items ≤ 1024
+  pub runtime_size : words_of runtime.natives.items ≤ most_runtime_words
   pub bottom : runtime.memory.stack_bottom ≤ 268435456
   pub bottom_page : runtime.memory.stack_bottom % 4096 ≡ 0
   pub frames : frame_size (placed_functions program) ≤ 2044
-  pub few_functions : length (placed_functions program) ≤ 1024
-  pub few_items : all_items (placed_functions program) ≤ 8388608
-  pub few_bytes : length (all_bytes (placed_constants program)) ≤ 8388608
+  pub few_functions : length (placed_functions program) ≤ most_functions
+  pub short : placed_functions_length (placed_functions program) ≤ most_text_length
+  pub few_bytes : length (all_bytes (placed_constants program)) ≤ most_constant_bytes
 
 -- ---- the text
 

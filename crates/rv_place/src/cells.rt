@@ -4,6 +4,7 @@ ghost use Rattle.std.specs.Prelude.{◌≡◌, ℕ, ◌+◌, ◌*◌, ◌≤◌,
 ghost use Rattle.rv_isa.specs.PlacedMachine.{only_slot};
 ghost use Rattle.rv_place.specs.Addresses.{slot_offset, slots_of_operands};
 ghost use Rattle.rv_place.specs.Instructions.{RaisesCount, FreesToken, words_of_jump};
+ghost use Rattle.rv_place.specs.Texts.{greatest_address};
 ghost use Rattle.rv_place.specs.Emitted.{Grew, TokenCalled};
 
 use crate::emit::{emit, emit_call, slot_offset};
@@ -116,7 +117,7 @@ pub fn emit_token(
     args: &[Operand],
     target: u32,
 ) -> Result<(), NoMemory>
-    requires at { at ≤ 536870912 }
+    requires at { at ≤ greatest_address }
     requires slots { 4 * slots_of_operands args.now + 4 ≤ 2044 }
     ensures { OnOk result (Grew (1 + words_of_jump jumps) (TokenCalled jumps args.now target at) code.old.items code.new.items) }
 {

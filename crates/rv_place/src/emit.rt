@@ -7,6 +7,7 @@ ghost use Rattle.rv_place.specs.declared.reach.Reach.TheVariants.{Near, Far};
 ghost use Rattle.rv_place.specs.Addresses.{slot_offset, slots_of_place, branch_words, jump_words, entry_words};
 ghost use Rattle.rv_place.specs.Registers.{zero_register, ra, sp, t0};
 ghost use Rattle.rv_place.specs.Instructions.{LoadsWord, words_of_jump, words_of_branch, JumpsBy, JumpsTo, CallsTo, BranchesOn, branch_instruction, opposite};
+ghost use Rattle.rv_place.specs.Texts.{greatest_address};
 ghost use Rattle.rv_place.specs.Emitted.{Grew, AreNear, JumpReaches, BranchReaches, TakesFrame, ReturnBy, EntryBy, MoveBy};
 
 use crate::chart::Chart;
@@ -210,7 +211,7 @@ fn emit_far_branch(
     right: Register,
     target: u32,
 ) -> Result<(), NoMemory>
-    requires at { at ≤ 536870912 }
+    requires at { at ≤ greatest_address }
     ensures { OnOk result (Grew (1 + words_of_jump jumps) (λ c p. p ≡ at → JumpReaches jumps (p + 4) target → BranchesOn jumps Far c p condition left right target) code.old.items code.new.items) }
 {
     let over = over_jump(jumps);
@@ -232,7 +233,7 @@ pub fn emit_branch(
     right: Register,
     target: u32,
 ) -> Result<(), NoMemory>
-    requires at { at ≤ 536870912 }
+    requires at { at ≤ greatest_address }
     ensures { OnOk result (Grew (words_of_branch forms.jumps forms.branches) (λ c p. p ≡ at → BranchReaches forms.jumps forms.branches p target → BranchesOn forms.jumps forms.branches c p condition left right target) code.old.items code.new.items) }
 {
     match forms.branches {
@@ -325,7 +326,7 @@ fn page(address: u32) -> UpperImmediate
 
 /// The entry of a function, at the address `at`: where no frame is left, the stop for a full stack; else a frame is taken.
 pub fn emit_entry(code: &mut Vec<Instr>, at: u32, chart: &Chart) -> Result<(), NoMemory>
-    requires at { at ≤ 268435456 }
+    requires at { at + 4 ≤ greatest_address }
     requires some { 1 ≤ chart.now.frame }
     requires few { chart.now.frame ≤ 2044 }
     ensures { OnOk result (Grew (entry_words chart.now.jumps) (EntryBy chart.now at) code.old.items code.new.items) }

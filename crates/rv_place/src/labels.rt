@@ -3,9 +3,11 @@
 ghost use Rattle.std.specs.Prelude.{◌≡◌, ℕ, ◌+◌, ◌*◌, ◌≤◌, Some, None, cond, nat_eq, IfOk, OnOk, length, map};
 ghost use Rattle.std.specs.Ordering.{nat_cmp};
 ghost use Rattle.std.specs.BTreeMap.{get};
+ghost use Rattle.rv_isa.specs.Costs.{placed_code_length};
 ghost use Rattle.rv_isa.specs.PlacedCode.{placed_line_of};
 ghost use Rattle.rv_isa.specs.PlacedMachine.{is_label_line};
 ghost use Rattle.rv_place.specs.Emitted.{HasLabels, or_next};
+ghost use Rattle.rv_place.specs.Texts.{greatest_address};
 
 use crate::reach::Forms;
 use crate::sizes::words_of_item;
@@ -24,8 +26,7 @@ pub struct Labels {
 impl Labels {
     /// The labels of items of these forms that stand at `start`.
     pub fn of(alloc: Global, forms: Forms, start: u32, items: &[Item]) -> Result<Labels, NoMemory>
-        requires start { start ≤ 268435456 }
-        requires items { length items.now ≤ 8388608 }
+        requires fits { start + 4 * placed_code_length (map placed_line_of items.now) ≤ greatest_address }
         ensures forms { IfOk result (λ labels. labels.forms ≡ forms) }
         ensures labels { IfOk result (λ labels. HasLabels labels start (map placed_line_of items.now)) }
     {

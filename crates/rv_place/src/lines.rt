@@ -1,10 +1,11 @@
 // Lines and functions as instructions.
 
 ghost use Rattle.std.specs.Prelude.{◌≡◌, ℕ, ◌+◌, ◌*◌, ◌^◌, ◌<◌, ◌≤◌, Some, OnOk, length, map, slice_get};
+ghost use Rattle.rv_isa.specs.Costs.{placed_code_length, placed_functions_length};
 ghost use Rattle.rv_isa.specs.PlacedCode.{placed_line_of, placed_lines_of};
 ghost use Rattle.rv_isa.specs.PlacedMachine.{is_label_line};
 ghost use Rattle.rv_place.specs.Addresses.{words_of_action, words_of_line, words_of_lines, words_of_function, words_of_functions, label_address, slots_of_operands, slots_of_line, slots_of_lines, slots_of_functions};
-ghost use Rattle.rv_place.specs.Texts.{all_items};
+ghost use Rattle.rv_place.specs.Texts.{most_text_length, most_functions, greatest_address};
 ghost use Rattle.rv_place.specs.Emitted.{Grew, ActionBy, LineBy, LinesBy, FunctionBy, FunctionsBy};
 
 use crate::cells::emit_token;
@@ -28,7 +29,7 @@ fn emit_action(
     args: &[Operand],
     into: Option<Operand>,
 ) -> Result<(), NoMemory>
-    requires at { at ≤ 536870912 }
+    requires at { at ≤ greatest_address }
     requires frame { chart.now.frame ≤ 2044 }
     requires slots { 4 * slots_of_operands args.now + 4 ≤ chart.now.frame }
     ensures { OnOk result (Grew (words_of_action labels.now.forms action) (ActionBy chart.now labels.now at action args.now into) code.old.items code.new.items) }
@@ -67,7 +68,7 @@ fn emit_item(
     labels: &Labels,
     item: &Item,
 ) -> Result<(), NoMemory>
-    requires at { at ≤ 536870912 }
+    requires at { at ≤ greatest_address }
     requires frame { chart.now.frame ≤ 2044 }
     requires slots { 4 * slots_of_line (placed_line_of item.now) + 4 ≤ chart.now.frame }
     ensures { OnOk result (Grew (words_of_line labels.now.forms (placed_line_of item.now)) (LineBy chart.now labels.now at (placed_line_of item.now)) code.old.items code.new.items) }
@@ -91,8 +92,7 @@ fn emit_items(
     labels: &Labels,
     items: &[Item],
 ) -> Result<(), NoMemory>
-    requires start { start ≤ 268435456 }
-    requires items { length items.now ≤ 8388608 }
+    requires fits { start + 4 * placed_code_length (map placed_line_of items.now) ≤ greatest_address }
     requires frame { chart.now.frame ≤ 2044 }
     requires slots { 4 * slots_of_lines (map placed_line_of items.now) + 4 ≤ chart.now.frame }
     ensures { OnOk result (Grew (words_of_lines labels.now.forms (map placed_line_of items.now)) (LinesBy chart.now labels.now start (map placed_line_of items.now)) code.old.items code.new.items) }
@@ -113,8 +113,8 @@ fn emit_function(
     entry: u32,
     function: &PlacedFunction,
 ) -> Result<(), NoMemory>
-    requires entry { entry + 28 ≤ 268435456 }
-    requires items { length function.now.code.items ≤ 8388608 }
+    requires fits { entry + 4 * (6 + placed_code_length (map placed_line_of function.now.code.items)) ≤ greatest_address }
+    requires short { placed_code_length (map placed_line_of function.now.code.items) ≤ most_text_length }
     requires some_frame { 1 ≤ chart.now.frame }
     requires frame { chart.now.frame ≤ 2044 }
     requires slots { 4 * slots_of_lines (map placed_line_of function.now.code.items) + 4 ≤ chart.now.frame }
@@ -137,8 +137,8 @@ pub fn emit_functions(
     functions: &[PlacedFunction],
 ) -> Result<(), NoMemory>
     requires entry { entry ≤ 1048576 }
-    requires few { length functions.now ≤ 1024 }
-    requires items { all_items (map placed_lines_of functions.now) ≤ 8388608 }
+    requires few { length functions.now ≤ most_functions }
+    requires short { placed_functions_length (map placed_lines_of functions.now) ≤ most_text_length }
     requires some_frame { 1 ≤ chart.now.frame }
     requires frame { chart.now.frame ≤ 2044 }
     requires slots { 4 * slots_of_functions (map placed_lines_of functions.now) + 4 ≤ chart.now.frame }

@@ -1,12 +1,13 @@
 // How many instructions code is, how many bytes constants, and how large frames are.
 
 ghost use Rattle.std.specs.Prelude.{◌≡◌, ◌+◌, ◌*◌, ◌≤◌, length, map, max};
+ghost use Rattle.rv_isa.specs.Costs.{operation_instructions, action_instructions, placed_line_length, placed_code_length, placed_functions_length};
 ghost use Rattle.rv_isa.specs.PlacedCode.{placed_line_of, placed_lines_of, placed_functions, from_of, to_of};
 ghost use Rattle.rv_world.specs.Operations.{all_bytes};
 ghost use Rattle.cell_runtime.specs.Lines.{words_of};
 ghost use Rattle.rv_place.specs.Instructions.{words_of_operation};
 ghost use Rattle.rv_place.specs.Addresses.{words_of_action, words_of_line, words_of_lines, words_of_function, words_of_functions, forms_of, slots_of_place, slots_of_operands, slots_of_line, slots_of_lines, slots_of_functions, frame_size};
-ghost use Rattle.rv_place.specs.Texts.{all_items};
+ghost use Rattle.rv_place.specs.Texts.{most_text_length, most_functions, most_runtime_words, most_constant_bytes};
 
 use crate::reach::{Forms, Reach};
 use crate::symbols::words_of_native;
@@ -15,7 +16,8 @@ use rv_isa::{Action, Item, Native, Operand, Operation, Place, Placed, PlacedFunc
 
 /// How many instructions an operation is.
 fn words_of_operation(operation: Operation) -> u32
-    ensures { result ≡ words_of_operation operation }
+    ensures words { result ≡ words_of_operation operation }
+    ensures few { result ≤ operation_instructions operation }
 {
     match operation {
         Operation::Li(_) | Operation::La(_) => 2,
@@ -28,7 +30,7 @@ fn words_of_operation(operation: Operation) -> u32
 /// How many instructions an action is.
 fn words_of_action(forms: Forms, action: Action) -> u32
     ensures words { result ≡ words_of_action forms action }
-    ensures few { result ≤ 5 }
+    ensures few { result ≤ action_instructions action }
 {
     let jump = forms.jumps.words_of_jump();
     match action {
@@ -44,7 +46,7 @@ fn words_of_action(forms: Forms, action: Action) -> u32
 /// How many instructions an item is.
 pub fn words_of_item(forms: Forms, item: &Item) -> u32
     ensures words { result ≡ words_of_line forms (placed_line_of item.now) }
-    ensures few { result ≤ 5 }
+    ensures few { result ≤ placed_line_length (placed_line_of item.now) }
 {
     match item {
         Item::Does { action, .. } => words_of_action(forms, *action),
@@ -53,9 +55,9 @@ pub fn words_of_item(forms: Forms, item: &Item) -> u32
 }
 
 fn words_of_items(forms: Forms, items: &[Item]) -> u32
-    requires { length items.now ≤ 8388608 }
+    requires { placed_code_length (map placed_line_of items.now) ≤ most_text_length }
     ensures words { result ≡ words_of_lines forms (map placed_line_of items.now) }
-    ensures few { result ≤ 5 * length items.now }
+    ensures few { result ≤ placed_code_length (map placed_line_of items.now) }
 {
     let mut words = 0;
     for item in items {
@@ -66,7 +68,7 @@ fn words_of_items(forms: Forms, items: &[Item]) -> u32
 
 /// The forms of a function in a text whose jumps lead so far: where its code is short with near branches, they are near.
 pub fn forms_of(jumps: Reach, items: &[Item]) -> Forms
-    requires { length items.now ≤ 8388608 }
+    requires { placed_code_length (map placed_line_of items.now) ≤ most_text_length }
     ensures { result ≡ forms_of jumps (map placed_line_of items.now) }
 {
     let branches = Reach::Near;
@@ -85,9 +87,9 @@ pub const JUMP_WORDS: u32 = 262_144;
 
 /// How many instructions a function is, its entry included.
 pub fn words_of_function(jumps: Reach, function: &PlacedFunction) -> u32
-    requires { length function.now.code.items ≤ 8388608 }
+    requires { placed_code_length (map placed_line_of function.now.code.items) ≤ most_text_length }
     ensures words { result ≡ words_of_function jumps (placed_lines_of function.now) }
-    ensures few { result ≤ 6 + 5 * length function.now.code.items }
+    ensures few { result ≤ 6 + placed_code_length (map placed_line_of function.now.code.items) }
 {
     let forms = forms_of(jumps, &function.code);
     jumps.entry_words() + words_of_items(forms, &function.code)
@@ -95,10 +97,10 @@ pub fn words_of_function(jumps: Reach, function: &PlacedFunction) -> u32
 
 /// How many instructions functions are.
 pub fn words_of_functions(jumps: Reach, functions: &[PlacedFunction]) -> u32
-    requires functions { length functions.now ≤ 1024 }
-    requires items { all_items (map placed_lines_of functions.now) ≤ 8388608 }
+    requires functions { length functions.now ≤ most_functions }
+    requires short { placed_functions_length (map placed_lines_of functions.now) ≤ most_text_length }
     ensures words { result ≡ words_of_functions jumps (map placed_lines_of functions.now) }
-    ensures few { result ≤ 6 * length functions.now + 5 * all_items (map placed_lines_of functions.now) }
+    ensures few { result ≤ 6 * length functions.now + placed_functions_length (map placed_lines_of functions.now) }
 {
     let mut words = 0;
     for function in functions {
@@ -109,7 +111,7 @@ pub fn words_of_functions(jumps: Reach, functions: &[PlacedFunction]) -> u32
 
 /// How many instructions the lines of a runtime are.
 pub fn words_of_natives(natives: &[Native]) -> u32
-    requires { words_of natives.now ≤ 1024 }
+    requires { words_of natives.now ≤ most_runtime_words }
     ensures { result ≡ words_of natives.now }
 {
     let mut words = 0;
@@ -121,7 +123,7 @@ pub fn words_of_natives(natives: &[Native]) -> u32
 
 /// How many bytes constants are.
 pub fn bytes_of_constants(constants: &[Text]) -> u32
-    requires { length (all_bytes constants.now) ≤ 8388608 }
+    requires { length (all_bytes constants.now) ≤ most_constant_bytes }
     ensures { result ≡ length (all_bytes constants.now) }
 {
     let mut bytes = 0;

@@ -4,6 +4,7 @@ ghost use Rattle.std.specs.Prelude.{◌≡◌, ◌↔◌, ℕ, ◌+◌, ◌*◌,
 ghost use Rattle.elf_image.specs.Program.{text_start};
 ghost use Rattle.rv_isa.specs.declared.placed.Symbol.TheVariants as symbol;
 ghost use Rattle.cell_runtime.specs.Lines.{words_of, words_of_line, labels_of};
+ghost use Rattle.rv_place.specs.Texts.{most_runtime_words};
 ghost use Rattle.rv_place.specs.Emitted.{IsAddressOf, AreSymbols};
 
 use elf_image::TEXT_START;
@@ -25,7 +26,7 @@ pub struct Symbols {
 impl Symbols {
     /// The addresses in a runtime at the text's begin.
     pub fn of(natives: &[Native]) -> Symbols
-        requires { words_of natives.now ≤ 1024 }
+        requires { words_of natives.now ≤ most_runtime_words }
         ensures { AreSymbols text_start (labels_of 0 natives.now) result }
     {
         Symbols {
@@ -98,7 +99,7 @@ fn is_label_of(line: &Native, symbol: Symbol) -> bool
 
 /// The address of a symbol, where its label comes first.
 fn address_of(natives: &[Native], symbol: Symbol) -> u32
-    requires { words_of natives.now ≤ 1024 }
+    requires { words_of natives.now ≤ most_runtime_words }
     ensures { IsAddressOf text_start (labels_of 0 natives.now) symbol result }
 {
     let mut before = 0;

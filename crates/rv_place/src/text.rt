@@ -2,13 +2,14 @@
 
 ghost use Rattle.std.specs.Prelude.{◌≡◌, ◌+◌, ◌*◌, ◌^◌, ◌<◌, ◌≤◌, [], ◌∷◌, IfOk, OnOk, length, map};
 ghost use Rattle.elf_image.specs.Program.{text_start};
+ghost use Rattle.rv_isa.specs.Costs.{placed_functions_length};
 ghost use Rattle.rv_isa.specs.PlacedCode.{placed_lines_of, placed_functions};
 ghost use Rattle.rv_world.specs.Operations.{all_bytes};
 ghost use Rattle.cell_runtime.specs.Lines.{Spells, words_of};
 ghost use Rattle.rv_place.specs.Addresses.{entries_from};
 ghost use Rattle.cell_runtime.specs.Lines.{AreWithin};
 ghost use Rattle.cell_runtime.specs.Texts.{greatest_reach};
-ghost use Rattle.rv_place.specs.Texts.{ArePlaceable, ArePlacedWords, all_items, jumps_of, text_words, memory_of, map_of};
+ghost use Rattle.rv_place.specs.Texts.{ArePlaceable, ArePlacedWords, most_text_length, most_functions, most_runtime_words, most_text_words, most_constant_bytes, greatest_address, jumps_of, text_words, memory_of, map_of};
 ghost use Rattle.rv_place.specs.Emitted.{Charts, NativeGrew, addresses_from};
 
 use crate::chart::Chart;
@@ -40,7 +41,7 @@ fn jumps_of(runtime: &Placed, program: &Placed) -> Reach
 fn text_words(runtime: &Placed, program: &Placed) -> u32
     requires { ArePlaceable runtime.now program.now }
     ensures words { result ≡ text_words runtime.now program.now }
-    ensures few { result ≤ 41951232 }
+    ensures few { result ≤ most_text_words }
 {
     let jumps = jumps_of(runtime, program);
     words_of_natives(&runtime.natives) + words_of_functions(jumps, &program.functions)
@@ -50,7 +51,7 @@ fn text_words(runtime: &Placed, program: &Placed) -> u32
 fn memory_of(runtime: &Placed, program: &Placed) -> u32
     requires { ArePlaceable runtime.now program.now }
     ensures address { result ≡ memory_of runtime.now program.now }
-    ensures low { result ≤ 268435456 }
+    ensures low { result ≤ greatest_address }
 {
     let bytes = 4 * text_words(runtime, program) + bytes_of_constants(&program.constants);
     (TEXT_START + bytes).next_multiple_of(PAGE_SIZE)
@@ -58,7 +59,7 @@ fn memory_of(runtime: &Placed, program: &Placed) -> u32
 
 /// The address of the first function of a program, behind the runtime.
 fn first_entry(runtime: &Placed) -> u32
-    requires { words_of runtime.now.natives.items ≤ 1024 }
+    requires { words_of runtime.now.natives.items ≤ most_runtime_words }
     ensures { result ≡ text_start + 4 * words_of runtime.now.natives.items }
 {
     TEXT_START + 4 * words_of_natives(&runtime.natives)
@@ -71,9 +72,9 @@ fn entries(
     first: u32,
     functions: &[PlacedFunction],
 ) -> Result<Vec<u32>, NoMemory>
-    requires first { first ≤ 134217728 }
-    requires few { length functions.now ≤ 1024 }
-    requires items { all_items (map placed_lines_of functions.now) ≤ 8388608 }
+    requires first { first ≤ greatest_address }
+    requires few { length functions.now ≤ most_functions }
+    requires short { placed_functions_length (map placed_lines_of functions.now) ≤ most_text_length }
     ensures { IfOk result (λ entries. entries.items ≡ entries_from jumps first (map placed_lines_of functions.now)) }
 {
     let mut entries = Vec::new(alloc);
@@ -87,8 +88,8 @@ fn entries(
 
 /// The addresses of constants that stand one behind the other.
 fn constant_addresses(alloc: Global, first: u32, constants: &[Text]) -> Result<Vec<u32>, NoMemory>
-    requires first { first ≤ 268435456 }
-    requires few { length (all_bytes constants.now) ≤ 8388608 }
+    requires first { first ≤ greatest_address }
+    requires few { length (all_bytes constants.now) ≤ most_constant_bytes }
     ensures { IfOk result (λ addresses. addresses.items ≡ addresses_from first constants.now) }
 {
     let mut addresses = Vec::new(alloc);
@@ -132,7 +133,7 @@ fn chart_of(alloc: Global, runtime: &Placed, program: &Placed) -> Result<Chart, 
 
 /// A line of a runtime, where the memory that it may write begins at an address.
 fn emit_native(code: &mut Vec<Instr>, memory: u32, line: &Native) -> Result<(), NoMemory>
-    requires memory { memory ≤ 268435456 }
+    requires memory { memory ≤ greatest_address }
     requires line { AreWithin greatest_reach (line.now ∷ []) }
     ensures { OnOk result (NativeGrew memory line.now code.old.items code.new.items) }
 {
@@ -145,7 +146,7 @@ fn emit_native(code: &mut Vec<Instr>, memory: u32, line: &Native) -> Result<(), 
 
 /// The lines of a runtime.
 fn natives_code(alloc: Global, memory: u32, natives: &[Native]) -> Result<Vec<Instr>, NoMemory>
-    requires memory { memory ≤ 268435456 }
+    requires memory { memory ≤ greatest_address }
     requires lines { AreWithin greatest_reach natives.now }
     ensures spelled { IfOk result (λ code. Spells memory natives.now code.items) }
     ensures size { IfOk result (λ code. length code.items ≡ words_of natives.now) }

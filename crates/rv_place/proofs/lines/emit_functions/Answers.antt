@@ -1,8 +1,7 @@
 use Rattle.std.proofs.Common.{List, map, sym, ap, subst, arith}
-use Rattle.std.proofs.lemmas.List.{length-map}
-use Rattle.rv_isa.specs.PlacedCode.{PlacedLines, placed_line_of, placed_lines_of}
+use Rattle.rv_isa.specs.Costs.{placed_functions_length}
+use Rattle.rv_isa.specs.PlacedCode.{PlacedLines, placed_lines_of}
 use Rattle.rv_place.specs.Addresses.{words_of_functions, slots_of_functions}
-use Rattle.rv_place.specs.Texts.{all_items}
 use Rattle.rv_place.specs.Emitted.{Grew, FunctionsBy}
 use Rattle.rv_place.proofs.Emitting.{grew_nothing}
 use Rattle.rv_place.proofs.Rests.{rest_at, nothing_left}
@@ -13,14 +12,14 @@ pub loop-function-preserved : goal.loop-function-preserved
 loop-function-preserved c =
     let here = ap (map placed_lines_of) (rest_at c.args.functions.now c.loop-function.function-index c.function-item.result c.loop-function-test.true c.function-item.is) in
     let slots = ap slots_of_functions here in
-    let items = ap all_items here in
+    let lengths = ap placed_functions_length here in
     record {
       grows = λ new more. c.loop-function.invariant.grows new
           (subst (λ (functions : List PlacedLines). Grew (words_of_functions c.args.chart.now.jumps functions) (FunctionsBy c.args.chart.now c.loop-function.at functions) c.loop-function.code.items new) (sym here)
           (function_then c.args.chart.now c.loop-function.at c.words_of_function.result _ _ c.words_of_function.ensures.words c.in_ok-emit_function.ensures more));
       slots = omega (arith, slots, c.loop-function.invariant.slots);
-      items = omega (arith, items, c.loop-function.invariant.items);
-      low = omega (arith, items, length-map c.function-item.result.code.items placed_line_of, c.words_of_function.ensures.few, c.loop-function.invariant.low);
+      short = omega (arith, lengths, c.loop-function.invariant.short);
+      low = omega (arith, lengths, c.words_of_function.ensures.few, c.loop-function.invariant.low);
     }
 
 pub returns : goal.returns

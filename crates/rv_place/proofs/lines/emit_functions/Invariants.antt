@@ -1,8 +1,8 @@
 use Rattle.std.proofs.Common.{◌+◌, ◌*◌, ◌≤◌, List, map, drop}
 use Rattle.rv_isa.specs.declared.instr.Instr.{Instr}
+use Rattle.rv_isa.specs.Costs.{placed_functions_length}
 use Rattle.rv_isa.specs.PlacedCode.{placed_lines_of}
 use Rattle.rv_place.specs.Addresses.{words_of_functions, slots_of_functions}
-use Rattle.rv_place.specs.Texts.{all_items}
 use Rattle.rv_place.specs.Emitted.{Grew, FunctionsBy}
 use Rattle.rv_place.proofs.lines.emit_functions.Given as goal
 
@@ -15,6 +15,6 @@ invariant-loop-function l =
       grows : (new : List Instr) → Grew (words_of_functions l.chart.jumps rest) (FunctionsBy l.chart l.at rest) l.code.items new
           → Grew (words_of_functions l.chart.jumps whole) (FunctionsBy l.chart l.entry whole) l.fn.code.items new;
       slots : slots_of_functions rest ≤ slots_of_functions whole;
-      items : all_items rest ≤ all_items whole;
-      low : l.at + 20 * all_items rest ≤ l.entry + 28 * l.function-index + 20 * all_items whole;
+      short : placed_functions_length rest ≤ placed_functions_length whole;
+      low : l.at + 4 * placed_functions_length rest ≤ l.entry + 24 * l.function-index + 4 * placed_functions_length whole;
     }

@@ -1,4 +1,5 @@
 use Rattle.std.proofs.Common.{List, map, sym, ap, subst, arith}
+use Rattle.rv_isa.specs.Costs.{placed_code_length}
 use Rattle.rv_isa.specs.PlacedCode.{PlacedLine, placed_line_of}
 use Rattle.rv_place.specs.Addresses.{words_of_lines, slots_of_lines}
 use Rattle.rv_place.specs.Emitted.{Grew, LinesBy}
@@ -12,12 +13,13 @@ loop-item-preserved c =
     let items = c.args.items.now in
     let here = ap (map placed_line_of) (rest_at items c.loop-item.item-index c.item-item.result c.loop-item-test.true c.item-item.is) in
     let slots = ap slots_of_lines here in
+    let lengths = ap placed_code_length here in
     record {
       grows = λ new more. c.loop-item.invariant.grows new
           (subst (λ (lines : List PlacedLine). Grew (words_of_lines c.args.labels.now.forms lines) (LinesBy c.args.chart.now c.args.labels.now c.loop-item.at lines) c.loop-item.code.items new) (sym here)
           (line_then c.args.chart.now c.args.labels.now c.loop-item.at c.words_of_item.result _ _ c.words_of_item.ensures.words c.in_ok-emit_item.ensures more));
       slots = omega (arith, slots, c.loop-item.invariant.slots);
-      low = omega (arith, c.words_of_item.ensures.few, c.loop-item.invariant.low);
+      low = omega (arith, lengths, c.words_of_item.ensures.few, c.loop-item.invariant.low);
     }
 
 pub returns : goal.returns

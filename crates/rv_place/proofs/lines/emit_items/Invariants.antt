@@ -1,5 +1,6 @@
 use Rattle.std.proofs.Common.{◌≤◌, List, map, drop, ◌+◌, ◌*◌}
 use Rattle.rv_isa.specs.declared.instr.Instr.{Instr}
+use Rattle.rv_isa.specs.Costs.{placed_code_length}
 use Rattle.rv_isa.specs.PlacedCode.{placed_line_of}
 use Rattle.rv_place.specs.Addresses.{words_of_lines, slots_of_lines}
 use Rattle.rv_place.specs.Emitted.{Grew, LinesBy}
@@ -14,5 +15,5 @@ invariant-loop-item l =
       grows : (new : List Instr) → Grew (words_of_lines l.labels.forms rest) (LinesBy l.chart l.labels l.at rest) l.code.items new
           → Grew (words_of_lines l.labels.forms whole) (LinesBy l.chart l.labels l.start whole) l.fn.code.items new;
       slots : slots_of_lines rest ≤ slots_of_lines whole;
-      low : l.at ≤ l.start + 20 * l.item-index;
+      low : l.at + 4 * placed_code_length rest ≤ l.start + 4 * placed_code_length whole;
     }

@@ -1,7 +1,7 @@
 use Rattle.std.proofs.Common.{◌≡◌, ◌+◌, ◌*◌, ◌≤◌, ◌++◌, map, drop}
+use Rattle.rv_isa.specs.Costs.{placed_functions_length}
 use Rattle.rv_isa.specs.PlacedCode.{placed_lines_of}
 use Rattle.rv_place.specs.Addresses.{entries_from}
-use Rattle.rv_place.specs.Texts.{all_items}
 use Rattle.rv_place.proofs.text.entries.Given as goal
 
 abbrev pub invariant-loop-function : goal.invariant-loop-function
@@ -10,6 +10,6 @@ invariant-loop-function l =
     let whole = map placed_lines_of l.functions in
     record {
       same : l.entries.items ++ entries_from l.jumps l.at rest ≡ entries_from l.jumps l.first whole;
-      items : all_items rest ≤ all_items whole;
-      low : l.at + 20 * all_items rest ≤ l.first + 28 * l.function-index + 20 * all_items whole;
+      short : placed_functions_length rest ≤ placed_functions_length whole;
+      low : l.at + 4 * placed_functions_length rest ≤ l.first + 24 * l.function-index + 4 * placed_functions_length whole;
     }
