@@ -49,7 +49,7 @@ HasRequestedText (sim image steps) text store = ⊥
 HasRequestedText (eval file cells depth steps) text store = HasText file text store
 HasRequestedText (bench seed size cells depth steps) text store = text ≡ generated seed size
 
--- A file's image: no more than its first 268,435,457 bytes are read, which tell whether there are more than 268,435,456.
+-- A file's image: no more than its first 2,147,483,649 bytes are read, which tell whether there are more than 2,147,483,648.
 abbrev pub HasImage : List ℕ → List ℕ → StoreState → Type 0
 HasImage file image store = BeginsFile (greatest_file + 1) file image store
 

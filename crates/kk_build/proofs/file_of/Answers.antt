@@ -27,7 +27,7 @@ image-requires-clause-runnable c =
     (instance_positions given compiled.table) (greatest_nodes (ground_program given)) (store_steps (ground_program given))
     c.requires.sizes
     (c.compiled_programs_can_be_lowered.ensures typed given made checked c.requires.given compiled lent)
-    (c.compiled_programs_are_short.ensures typed given made checked c.requires.given compiled lent)
+    (c.compiled_programs_are_short.ensures typed given made checked c.requires.given compiled)
     (c.compiled_programs_are_marked.ensures typed given made checked c.requires.given compiled) compiled.numbers
     (c.compiled_programs_keep_meaning.ensures typed given made checked c.requires.given compiled lent cells depth)
     (c.compiled_programs_have_their_kinds.ensures typed given made checked c.requires.given compiled lent cells depth))

@@ -38,7 +38,7 @@ image-requires-clause-runnable c =
     (instance_positions given compiled.table) (greatest_nodes (ground_program given)) (store_steps (ground_program given))
     record { few_cells = omega arith; some_depth = omega arith; small_depth = omega arith }
     (c.compiled_programs_can_be_lowered.ensures typed given made checked is_given compiled lent)
-    (c.compiled_programs_are_short.ensures typed given made checked is_given compiled lent)
+    (c.compiled_programs_are_short.ensures typed given made checked is_given compiled)
     (c.compiled_programs_are_marked.ensures typed given made checked is_given compiled) compiled.numbers
     (c.compiled_programs_keep_meaning.ensures typed given made checked is_given compiled lent 65536 4096)
     (c.compiled_programs_have_their_kinds.ensures typed given made checked is_given compiled lent 65536 4096))
