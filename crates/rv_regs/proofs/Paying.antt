@@ -1,5 +1,5 @@
 -- What a statement pays in the assembler form's machine: its own instructions and loads, and the stores that follow from it.
-use Rattle.std.proofs.Common.{◌≡◌, ◌≢◌, ◌≤◌, ◌+◌, ◌*◌, ℕ, List, [], ◌∷◌, Option, Some, None, slice_get, length, nat_le, refl, sym, ◌∙◌, ap, subst, arith, map, option_map, cond}
+use Rattle.std.proofs.Common.{◌≡◌, ◌≢◌, ◌≤◌, ◌*◌, ℕ, List, [], ◌∷◌, Option, Some, None, slice_get, length, nat_le, refl, sym, ◌∙◌, ap, subst, arith, map, option_map, cond}
 use Rattle.std.proofs.lemmas.List.{length-map}
 use Rattle.rv_isa.specs.declared.asm.Action.{Action}
 use Rattle.rv_isa.specs.declared.asm.Action.TheVariants.{Call, TailCall}
@@ -7,8 +7,8 @@ use Rattle.rv_isa.specs.declared.placed.Operand.{Operand}
 use Rattle.rv_isa.specs.AsmCode.{Line, Lines}
 use Rattle.rv_isa.specs.PlacedCode.{PlacedLine, does, moves, PlacedLines}
 use Rattle.rv_isa.specs.Primitives.{Turn, Primitives, ended, stuck, or_stuck}
-use Rattle.rv_isa.specs.Costs.{argument_moves, result_moves, move_instructions}
-use Rattle.rv_isa.specs.Frames.{Frame, empty, put, all_of}
+use Rattle.rv_isa.specs.Costs.{result_moves, move_instructions}
+use Rattle.rv_isa.specs.Frames.{Frame, put, all_of}
 use Rattle.rv_isa.specs.AsmMachine.{AsmTurn, asm_acts, asm_line, asm_line_weight, asm_goes, asm_entered, bound, unless_held}
 use Rattle.rv_regs.specs.Conditions.{value_of, without_moves, ArePlacings}
 use Rattle.rv_regs.specs.Relation.{first_args}

@@ -131,7 +131,7 @@ HasFewMoves credit (go t) = FramesFewMoves t.frames × (stores_before t.frames *
 HasFewMoves credit (ended how shared) = ⊤
 HasFewMoves credit stuck = ⊤
 
--- what the simulation keeps; each step is paid for at once
+-- what the simulation keeps; the weight that it saves is for the stores to come
 abbrev pub Related : {H E W : Type 0} → Primitives H E W → ℕ → List Lines → ℕ → ℕ → AsmTurn H W → PlacedTurn H W → Type 0
 Related m depth asm credit idle s t = NeverStuck m depth asm s × (StandsFor s t × HasFewMoves credit t)
 
