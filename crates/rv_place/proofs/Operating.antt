@@ -77,60 +77,52 @@ module _ (constants : Constants) (code : Code) (at : ℕ) where
   computes_free (a ∷ more ∷ rest) rd here = tt
 
 module _ (chart : Chart) (args : List Operand) (into : Option Operand) {old new : List Instr} {operation : Operation} where
-  pub on_two : {of : RegisterOperation} {rd a b : Register} {i : Instr} → operation ≡ Operation.Register of
-      → rd ≡ register_or_zero into → a ≡ register_or_zero (slice_get args 0) → b ≡ register_or_zero (slice_get args 1) → i ≡ register_instruction of rd a b
-      → Grew 1 (λ code at. code at ≡ Some i) old new → Grew (words_of_operation operation) (OperationBy chart operation args into) old new
-  on_two {of} {rd} {a} {b} {i} is rd_is a_is b_is i_is emitted =
+  -- an operation that is one instruction, on the registers of its result and of its arguments
+  on_row : (of : Operation) (make : Register → Register → Register → Instr) {rd a b : Register} {i : Instr} → words_of_operation of ≡ 1
+      → ((constants : Constants) (code : Code) (at : ℕ) (registers : List Register) (goal : Register)
+      → code at ≡ Some (make goal (register_in registers 0) (register_in registers 1)) → Computes constants code at of registers goal)
+      → operation ≡ of → rd ≡ register_or_zero into → a ≡ register_or_zero (slice_get args 0) → b ≡ register_or_zero (slice_get args 1)
+      → i ≡ make rd a b → Grew 1 (λ code at. code at ≡ Some i) old new
+      → Grew (words_of_operation operation) (OperationBy chart operation args into) old new
+  on_row of make {rd} {a} {b} size computes is rd_is a_is b_is i_is emitted =
       subst (λ o. Grew (words_of_operation o) (OperationBy chart o args into) old new) (sym is)
-      (grew_so refl
+      (grew_so (sym size)
       (λ code at here map charts registers goal are goes.
       let to : rd ≡ goal = rd_is ∙ register_of_into into goal goes in
       let first : a ≡ register_in registers 0 = a_is ∙ operand_register args registers 0 are in
       let second : b ≡ register_in registers 1 = b_is ∙ operand_register args registers 1 are in
-      let named : i ≡ register_instruction of goal (register_in registers 0) (register_in registers 1) =
-      i_is ∙ ap (λ r. register_instruction of r a b) to ∙ ap (λ r. register_instruction of goal r b) first ∙ ap (register_instruction of goal (register_in registers 0)) second in
-      computes_two map.constants code at of registers goal (here ∙ ap Some named))
+      let made : make rd a b ≡ make goal (register_in registers 0) (register_in registers 1) =
+      ap (λ r. make r a b) to ∙ ap (λ r. make goal r b) first ∙ ap (make goal (register_in registers 0)) second in
+      computes map.constants code at registers goal (here ∙ ap Some (i_is ∙ made)))
       emitted)
+
+  pub on_two : {of : RegisterOperation} {rd a b : Register} {i : Instr} → operation ≡ Operation.Register of
+      → rd ≡ register_or_zero into → a ≡ register_or_zero (slice_get args 0) → b ≡ register_or_zero (slice_get args 1) → i ≡ register_instruction of rd a b
+      → Grew 1 (λ code at. code at ≡ Some i) old new → Grew (words_of_operation operation) (OperationBy chart operation args into) old new
+  on_two {of} is rd_is a_is b_is i_is emitted =
+      on_row (Operation.Register of) (register_instruction of) refl
+      (λ constants code at registers goal here. computes_two constants code at of registers goal here) is rd_is a_is b_is i_is emitted
 
   pub on_immediate : {of : ImmediateOperation} {imm : Immediate} {rd a : Register} {i : Instr} → operation ≡ Operation.Immediate of imm
       → rd ≡ register_or_zero into → a ≡ register_or_zero (slice_get args 0) → i ≡ immediate_instruction of rd a imm
       → Grew 1 (λ code at. code at ≡ Some i) old new → Grew (words_of_operation operation) (OperationBy chart operation args into) old new
-  on_immediate {of} {imm} {rd} {a} {i} is rd_is a_is i_is emitted =
-      subst (λ o. Grew (words_of_operation o) (OperationBy chart o args into) old new) (sym is)
-      (grew_so refl
-      (λ code at here map charts registers goal are goes.
-      let to : rd ≡ goal = rd_is ∙ register_of_into into goal goes in
-      let first : a ≡ register_in registers 0 = a_is ∙ operand_register args registers 0 are in
-      let named : i ≡ immediate_instruction of goal (register_in registers 0) imm =
-      i_is ∙ ap (λ r. immediate_instruction of r a imm) to ∙ ap (λ r. immediate_instruction of goal r imm) first in
-      computes_immediate map.constants code at of imm registers goal (here ∙ ap Some named))
-      emitted)
+  on_immediate {of} {imm} is rd_is a_is i_is emitted =
+      on_row (Operation.Immediate of imm) (λ rd a b. immediate_instruction of rd a imm) refl
+      (λ constants code at registers goal here. computes_immediate constants code at of imm registers goal here) is rd_is a_is refl i_is emitted
 
   pub on_shift : {of : ShiftOperation} {amount : ShiftAmount} {rd a : Register} {i : Instr} → operation ≡ Operation.Shift of amount
       → rd ≡ register_or_zero into → a ≡ register_or_zero (slice_get args 0) → i ≡ shift_instruction of rd a amount
       → Grew 1 (λ code at. code at ≡ Some i) old new → Grew (words_of_operation operation) (OperationBy chart operation args into) old new
-  on_shift {of} {amount} {rd} {a} {i} is rd_is a_is i_is emitted =
-      subst (λ o. Grew (words_of_operation o) (OperationBy chart o args into) old new) (sym is)
-      (grew_so refl
-      (λ code at here map charts registers goal are goes.
-      let to : rd ≡ goal = rd_is ∙ register_of_into into goal goes in
-      let first : a ≡ register_in registers 0 = a_is ∙ operand_register args registers 0 are in
-      let named : i ≡ shift_instruction of goal (register_in registers 0) amount =
-      i_is ∙ ap (λ r. shift_instruction of r a amount) to ∙ ap (λ r. shift_instruction of goal r amount) first in
-      computes_shift map.constants code at of amount registers goal (here ∙ ap Some named))
-      emitted)
+  on_shift {of} {amount} is rd_is a_is i_is emitted =
+      on_row (Operation.Shift of amount) (λ rd a b. shift_instruction of rd a amount) refl
+      (λ constants code at registers goal here. computes_shift constants code at of amount registers goal here) is rd_is a_is refl i_is emitted
 
   pub on_copy : {imm : Immediate} {rd a : Register} → operation ≡ Operation.Mv
       → rd ≡ register_or_zero into → a ≡ register_or_zero (slice_get args 0) → Zero imm
       → Grew 1 (λ code at. code at ≡ Some (Addi rd a imm)) old new → Grew (words_of_operation operation) (OperationBy chart operation args into) old new
-  on_copy {imm} {rd} {a} is rd_is a_is zero emitted =
-      subst (λ o. Grew (words_of_operation o) (OperationBy chart o args into) old new) (sym is)
-      (grew_so refl
-      (λ code at here map charts registers goal are goes.
-      let to : rd ≡ goal = rd_is ∙ register_of_into into goal goes in
-      let first : a ≡ register_in registers 0 = a_is ∙ operand_register args registers 0 are in
-      computes_copy map.constants code at imm registers goal zero (here ∙ ap Some (ap (λ r. Addi r a imm) to ∙ ap (λ r. Addi goal r imm) first)))
-      emitted)
+  on_copy {imm} is rd_is a_is zero emitted =
+      on_row Operation.Mv (λ rd a b. Addi rd a imm) refl
+      (λ constants code at registers goal here. computes_copy constants code at imm registers goal zero here) is rd_is a_is refl refl emitted
 
   pub on_word : {word : ℕ} {rd : Register} → operation ≡ Operation.Li word → rd ≡ register_or_zero into
       → Grew 2 (λ code at. LoadsWord code at rd word) old new → Grew (words_of_operation operation) (OperationBy chart operation args into) old new
@@ -156,26 +148,16 @@ module _ (chart : Chart) (args : List Operand) (into : Option Operand) {old new 
   pub on_load : {offset : Immediate} {rd a : Register} → operation ≡ Operation.Lw offset
       → rd ≡ register_or_zero into → a ≡ register_or_zero (slice_get args 0)
       → Grew 1 (λ code at. code at ≡ Some (Lw rd a offset)) old new → Grew (words_of_operation operation) (OperationBy chart operation args into) old new
-  on_load {offset} {rd} {a} is rd_is a_is emitted =
-      subst (λ o. Grew (words_of_operation o) (OperationBy chart o args into) old new) (sym is)
-      (grew_so refl
-      (λ code at here map charts registers goal are goes.
-      let to : rd ≡ goal = rd_is ∙ register_of_into into goal goes in
-      let first : a ≡ register_in registers 0 = a_is ∙ operand_register args registers 0 are in
-      computes_load map.constants code at offset registers goal (here ∙ ap Some (ap (λ r. Lw r a offset) to ∙ ap (λ r. Lw goal r offset) first)))
-      emitted)
+  on_load {offset} is rd_is a_is emitted =
+      on_row (Operation.Lw offset) (λ rd a b. Lw rd a offset) refl
+      (λ constants code at registers goal here. computes_load constants code at offset registers goal here) is rd_is a_is refl refl emitted
 
   pub on_store : {offset : Immediate} {a b : Register} → operation ≡ Operation.Sw offset
       → a ≡ register_or_zero (slice_get args 0) → b ≡ register_or_zero (slice_get args 1)
       → Grew 1 (λ code at. code at ≡ Some (Sw a b offset)) old new → Grew (words_of_operation operation) (OperationBy chart operation args into) old new
-  on_store {offset} {a} {b} is a_is b_is emitted =
-      subst (λ o. Grew (words_of_operation o) (OperationBy chart o args into) old new) (sym is)
-      (grew_so refl
-      (λ code at here map charts registers goal are goes.
-      let first : a ≡ register_in registers 0 = a_is ∙ operand_register args registers 0 are in
-      let second : b ≡ register_in registers 1 = b_is ∙ operand_register args registers 1 are in
-      computes_store map.constants code at offset registers goal (here ∙ ap Some (ap (λ r. Sw r b offset) first ∙ ap (λ r. Sw (register_in registers 0) r offset) second)))
-      emitted)
+  on_store {offset} is a_is b_is emitted =
+      on_row (Operation.Sw offset) (λ rd a b. Sw a b offset) refl
+      (λ constants code at registers goal here. computes_store constants code at offset registers goal here) is refl a_is b_is refl emitted
 
   pub on_dup : {a : Register} → operation ≡ Operation.Dup → a ≡ register_or_zero (slice_get args 0)
       → Grew 5 (λ code at. RaisesCount code at a) old new → Grew (words_of_operation operation) (OperationBy chart operation args into) old new

@@ -1,10 +1,10 @@
 -- Operations on the program's own blocks, followed by the processor: loads and stores, counts that are raised, and tokens that are
 -- freed.
-use Rattle.std.proofs.Common.{◌≡◌, ◌≢◌, ◌==◌, ◌≤◌, ◌<◌, ◌⊎◌, inl, inr, ℕ, ◌+◌, ◌*◌, ◌%◌, ◌^◌, List, [], ◌∷◌, length, Option, Some}
+use Rattle.std.proofs.Common.{◌≡◌, ◌≢◌, ◌==◌, ◌≤◌, ◌<◌, ◌⊎◌, inl, inr, ℕ, ◌+◌, ◌*◌, ◌%◌, ◌^◌, List, [], ◌∷◌, Option, Some}
 use Rattle.std.proofs.Common.{None, Bool, true, false, cond, if◌then◌else◌, nat_eq, bit_and, map, option_map, refl, sym, ap, ◌∙◌}
-use Rattle.std.proofs.Common.{subst, arith, lit<}
+use Rattle.std.proofs.Common.{subst, arith}
 use Rattle.std.specs.List.{list_any}
-use Rattle.std.proofs.lemmas.Bool.{and_parts, or_from, eqb-true, eqb-false, false≢true}
+use Rattle.std.proofs.lemmas.Bool.{and_parts, eqb-true, eqb-false, false≢true}
 use Rattle.std.proofs.lemmas.Bool.Decides.{nat_tests}
 use Rattle.kk_base.specs.Memory.{Part}
 use Rattle.rv_isa.specs.declared.register.Register.{Register}
@@ -23,7 +23,7 @@ use Rattle.rv_isa.specs.Conventions.{is_handed_out, computes_at, conforms, gives
 use Rattle.rv_isa.specs.Costs.{operation_instructions}
 use Rattle.rv_isa.specs.Primitives.{stuck, or_stuck, by_token}
 use Rattle.rv_isa.specs.Frames.{Frame, all_of}
-use Rattle.rv_isa.specs.PlacedMachine.{PlacedState, PlacedTurn, read_at, placed_goes, placed_gives, placed_acts}
+use Rattle.rv_isa.specs.PlacedMachine.{PlacedTurn, read_at, placed_goes, placed_gives, placed_acts}
 use Rattle.rv_isa.specs.Bytes.{number_at, with_number}
 use Rattle.rv_isa.specs.Processor.{Processor, Ending, value, can_load, can_store}
 use Rattle.rv_isa.specs.Standing.{Code}
@@ -31,7 +31,7 @@ use Rattle.rv_isa.proofs.Memory.{word-apart}
 use Rattle.cell_heap.specs.Pool.{Pool, end_of}
 use Rattle.cell_heap.specs.Blocks.{Block, no_block, unused, own, kept, Cells, load, store, raised, dup, release, freed_as}
 use Rattle.cell_heap.specs.Blocks.{with_block}
-use Rattle.cell_heap.specs.Known.{HoldsCells, SameRoots}
+use Rattle.cell_heap.specs.Known.{HoldsCells}
 use Rattle.cell_heap.proofs.Blocks.{mapped, own-inside, own-usable, loaded-block, stored-block, load-shows, store-shows}
 use Rattle.cell_heap.proofs.Blocks.{store-holds, release-holds}
 use Rattle.cell_runtime.specs.Registers.{IsOutside}
@@ -43,15 +43,15 @@ use Rattle.rv_place.specs.Instructions.{words_of_operation, RaisesCount, FreesTo
 use Rattle.rv_place.specs.Lines.{Map, register_into, ActsAt}
 use Rattle.rv_place.specs.declared.reach.Forms.{Forms}
 use Rattle.rv_place.specs.Grounds.{Ground, stack_end}
-use Rattle.rv_place.specs.Running.{GivesHandedOut, most_lines, IsIn, FramesAt, links_of, Agrees, Running}
+use Rattle.rv_place.specs.Running.{GivesHandedOut, most_lines, IsIn, FramesAt, links_of, Running}
 use Rattle.rv_place.specs.declared.reach.Reach.TheVariants.{Near}
 use Rattle.rv_place.proofs.RunningRows.{branch_taken, branch_passed}
-use Rattle.rv_place.proofs.RunningExecuting.{Done, Gets, Goes, immediate_row, addi_row, done_then, done_on, done_as, target_of}
-use Rattle.rv_place.proofs.RunningExecuting.{next_is, plain_gets, load_gets, store_goes, branch_goes}
-use Rattle.rv_place.proofs.RunningFrames.{handed_apart, agrees_kept, frames_kept}
-use Rattle.rv_place.proofs.RunningLinks.{is_own, handed_own, roots_done}
+use Rattle.rv_place.proofs.RunningExecuting.{Done, Gets, immediate_row, addi_row, done_then, done_on, done_as}
+use Rattle.rv_place.proofs.RunningExecuting.{plain_gets, load_gets, store_goes}
+use Rattle.rv_place.proofs.RunningFrames.{handed_apart, frames_kept}
+use Rattle.rv_place.proofs.RunningLinks.{is_own, roots_done}
 use Rattle.rv_place.proofs.RunningWords.{words_in, AllFit, AllHanded, InRegisters, in_registers, Computed}
-use Rattle.rv_place.proofs.RunningComes.{NoneHanded, or_stuck_some, mapped_some, Comes, comes_go, runs_on, agrees_done, sp_low}
+use Rattle.rv_place.proofs.RunningComes.{NoneHanded, or_stuck_some, Comes, comes_go, runs_on, agrees_done, sp_low}
 use Rattle.rv_place.proofs.RunningComes.{constants_kept, stays}
 use Rattle.rv_place.proofs.RunningMoves.{gives_word, follow_words}
 
@@ -353,7 +353,7 @@ module _ {map_of : Map} {pool : Pool} {functions : List PlacedLines} {depth buff
       → (next : Cells) × (o ≡ Some next) × (placed_goes behind fs known (with_cells world next) ≡ turn)
   settled into o turn none is good =
       let result = or_stuck_some (changes world o) (λ r. placed_gives into r.0 behind fs known r.1) turn is good in
-      let next = mapped_some (λ (c : Cells). (0, with_cells world c)) o result.0 result.1 in
+      let next = mapped (λ (c : Cells). (0, with_cells world c)) o result.0 result.1 in
       let gives : placed_gives into 0 behind fs known (with_cells world next.0) ≡ turn = subst (λ (r : ℕ
       × World). placed_gives into r.0 behind fs known r.1 ≡ turn) (sym next.2) result.2 in
       (next.0, next.1, subst (λ i. placed_gives i 0 behind fs known (with_cells world next.0) ≡ turn) none gives)
@@ -373,7 +373,7 @@ module _ {map_of : Map} {pool : Pool} {functions : List PlacedLines} {depth buff
         let loaded : Option ℕ = load (value s.registers a.number) offset.word world.cells in
         let result = or_stuck_some (option_map (λ (word : ℕ). (word, world)) loaded)
         (λ r. placed_gives into r.0 behind fs known r.1) turn is good in
-        let word = mapped_some (λ (word : ℕ). (word, world)) loaded result.0 result.1 in
+        let word = mapped (λ (word : ℕ). (word, world)) loaded result.0 result.1 in
         let gives_it : placed_gives into word.0 behind fs known world ≡ turn = subst (λ (r : ℕ
         × World). placed_gives into r.0 behind fs known r.1 ≡ turn) (sym word.2) result.2 in
         subst (λ t. Comes map_of pool functions depth stop code parts 1 old t s) gives_it

@@ -33,10 +33,6 @@ pub or_stuck_some : {A S H W : Type 0} (o : Option A) (next : A → Turn S H W) 
 or_stuck_some None next turn is good = absurd (good (sym is))
 or_stuck_some (Some a) next turn is good = (a, refl, is)
 
-pub mapped_some : {A B : Type 0} (f : A → B) (o : Option A) (b : B) → option_map f o ≡ Some b → (a : A) × (o ≡ Some a) × (f a ≡ b)
-mapped_some f None b is = cc
-mapped_some f (Some a) b is = (a, refl, cc)
-
 -- the lines that are left where a run goes on
 abbrev pub left_in : PlacedTurn World Ending → ℕ
 left_in (go t) = lines_left t.frames

@@ -1,29 +1,28 @@
 -- The held tokens that frames tell of: where their slots lie, and what changes them.
-use Rattle.std.proofs.Common.{◌≡◌, ◌≢◌, ◌==◌, ◌||◌, ◌≤◌, ◌<◌, ◌⊎◌, inl, inr, ℕ, suc, ◌+◌, ◌*◌, ◌%◌, ◌^◌, List, [], ◌∷◌, length, map}
+use Rattle.std.proofs.Common.{◌≡◌, ◌≢◌, ◌==◌, ◌||◌, ◌≤◌, ◌<◌, ◌⊎◌, inl, inr, ℕ, suc, ◌+◌, ◌^◌, List, [], ◌∷◌, length, map}
 use Rattle.std.proofs.Common.{Option, Some, None, Bool, true, false, option_map, refl, sym, ap, ◌∙◌, subst, arith, lit<, eq-eqb}
 use Rattle.std.specs.List.{list_any}
 use Rattle.std.proofs.lemmas.Bool.{or_parts, or_from, or_left, or_right, ne_eqb, cond-false, false≢true}
 use Rattle.rv_isa.specs.PlacedCode.{PlacedLine}
 use Rattle.rv_isa.specs.Conventions.{is_handed_out}
 use Rattle.rv_isa.specs.Frames.{Frame, put, top, top_in, top_taken, taken_in, is_among}
-use Rattle.rv_isa.specs.Bytes.{number_at, with_number}
-use Rattle.rv_isa.specs.Processor.{Processor, value}
+use Rattle.rv_isa.specs.Bytes.{number_at}
+use Rattle.rv_isa.specs.Processor.{Processor}
 use Rattle.rv_isa.specs.Standing.{Code}
-use Rattle.rv_isa.proofs.Memory.{word-apart}
 use Rattle.cell_heap.specs.Cells.{occurs}
-use Rattle.cell_heap.specs.Pool.{Pool, end_of}
+use Rattle.cell_heap.specs.Pool.{Pool}
 use Rattle.cell_heap.specs.View.{Link}
 use Rattle.cell_heap.specs.Blocks.{Cells}
 use Rattle.cell_heap.specs.Known.{HoldsCells, SameRoots}
 use Rattle.cell_heap.proofs.Sums.{occurs-none, occurs-first, occurs-by}
-use Rattle.cell_heap.proofs.Frames.{SameInside, SameSlots}
+use Rattle.cell_heap.proofs.Frames.{SameSlots}
 use Rattle.cell_heap.proofs.Blocks.{outside-holds}
 use Rattle.cell_runtime.specs.Registers.{IsOutside}
 use Rattle.cell_runtime.specs.Calls.{KeepsOutside, Exits}
 use Rattle.cell_runtime.proofs.Blocks.{word_kept}
 use Rattle.rv_place.specs.Addresses.{slot_offset}
 use Rattle.rv_place.specs.Lines.{Map}
-use Rattle.rv_place.specs.Running.{IsIn, Slots, AwaitsFirst, FramesAt, word_of, links_in, links_of}
+use Rattle.rv_place.specs.Running.{IsIn, Slots, FramesAt, word_of, links_in, links_of}
 use Rattle.rv_place.proofs.RunningExecuting.{Done}
 use Rattle.rv_place.proofs.RunningFrames.{handed_apart, known_put, slots_kept, frames_kept}
 

@@ -1,5 +1,5 @@
 -- Labels, moves and operations of the machine of the placed form, followed by the processor.
-use Rattle.std.proofs.Common.{◌≡◌, ◌≢◌, ◌≤◌, ◌<◌, inl, inr, ℕ, ◌+◌, ◌*◌, ◌%◌, ◌^◌, List, [], ◌∷◌, length, Option, Some, None, true, false, map, option_map, refl, sym, ap, ◌∙◌, subst, arith}
+use Rattle.std.proofs.Common.{◌≡◌, ◌≢◌, ◌≤◌, ◌<◌, inr, ℕ, ◌+◌, ◌*◌, ◌%◌, ◌^◌, List, [], ◌∷◌, length, Option, Some, None, true, false, map, option_map, refl, sym, ap, ◌∙◌, subst, arith}
 use Rattle.std.proofs.lemmas.Bool.{and_parts, or_from}
 use Rattle.kk_base.specs.Memory.{Part}
 use Rattle.rv_isa.specs.declared.register.Register.{Register}
@@ -28,6 +28,7 @@ use Rattle.cell_heap.proofs.Frames.{SameInside, SameInside-store}
 use Rattle.cell_heap.proofs.Blocks.{outside-holds}
 use Rattle.rv_world.specs.Operations.{computed}
 use Rattle.cell_heap.specs.Pool.{Pool}
+use Rattle.cell_heap.proofs.Blocks.{mapped}
 use Rattle.rv_world.specs.World.{World, computed_in, primitives}
 use Rattle.rv_place.specs.Registers.{zero_register, sp}
 use Rattle.rv_place.specs.Addresses.{slot_offset}
@@ -40,7 +41,7 @@ use Rattle.rv_place.proofs.RunningExecuting.{Gets, addi_row, plain_gets, load_ge
 use Rattle.rv_place.proofs.RunningFrames.{handed_apart, agrees_kept, frames_put}
 use Rattle.rv_place.proofs.RunningLinks.{is_own, handed_own, roots_done, links_put, slots_apart}
 use Rattle.rv_place.proofs.RunningWords.{words_in, in_registers, Computed, computes}
-use Rattle.rv_place.proofs.RunningComes.{or_stuck_some, mapped_some, Comes, comes_go, comes_idle, runs_on, agrees_got, sp_low, sp_word, sp_high, constants_kept, stays}
+use Rattle.rv_place.proofs.RunningComes.{or_stuck_some, Comes, comes_go, comes_idle, runs_on, agrees_got, sp_low, sp_word, sp_high, constants_kept, stays}
 
 -- a slot is a word of the stack
 slot_word : (base k : ℕ) → base % 4 ≡ 0 → (base + slot_offset k) % 4 ≡ 0
@@ -205,7 +206,7 @@ module _ {map_of : Map} {pool : Pool} {functions : List PlacedLines} {depth buff
         let fit = and_parts (take_from (Compute operation) 0 args) (gives_into (Compute operation) into) conform in
         let values = in_registers known f.cells s.registers running.registers (Compute operation) 0 args words (λ k place is_one. is_one) fit.0 words_are in
         let result = or_stuck_some (computed_in map_of.constants operation words world) (λ r. placed_gives into r.0 behind fs known r.1) turn is good in
-        let word = mapped_some (λ (word : ℕ). (word, world)) (computed map_of.constants operation words) result.0 (sym (alone words) ∙ result.1) in
+        let word = mapped (λ (word : ℕ). (word, world)) (computed map_of.constants operation words) result.0 (sym (alone words) ∙ result.1) in
         let gives : placed_gives into word.0 behind fs known world ≡ turn = subst (λ (r : ℕ × World). placed_gives into r.0 behind fs known r.1 ≡ turn) (sym word.2) result.2 in
         let word_is : computed map_of.constants operation (words_in s.registers values.rs) ≡ Some word.0 = ap (computed map_of.constants operation) (sym values.words_are) ∙ word.1 in
         subst (λ t. Comes map_of pool functions depth stop code parts (operation_instructions operation) old t s) gives

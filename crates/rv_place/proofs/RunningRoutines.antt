@@ -63,7 +63,7 @@ use Rattle.rv_place.proofs.RunningExecuting.{Gets}
 use Rattle.rv_place.proofs.RunningLines.{jump_some, jump_most}
 use Rattle.rv_place.proofs.RunningRows.{jump_to, jump_last}
 use Rattle.rv_place.proofs.RunningFrames.{handed_apart, agrees_put, frames_kept}
-use Rattle.rv_place.proofs.RunningLinks.{is_own, outside_own, handed_own, roots_done, cells_done, cells_ended, slots_below, TakenFrames, frames_taken, top_none}
+use Rattle.rv_place.proofs.RunningLinks.{is_own, outside_own, handed_own, roots_done, cells_done, cells_ended, slots_below, frames_taken, top_none}
 use Rattle.rv_place.proofs.RunningJumps.{exit_runs}
 use Rattle.rv_place.proofs.RunningWords.{passed_known}
 use Rattle.rv_place.proofs.RunningComes.{Comes, comes_go, comes_ended, sp_low}

@@ -1,6 +1,6 @@
 -- Tokens that are held and taken back by the machine of the placed form, followed by the processor.
 use Rattle.std.proofs.Common.{◌≡◌, ◌≢◌, ◌==◌, ◌||◌, ◌≤◌, ◌<◌, ◌⊎◌, inl, inr, ℕ, zero, suc, ◌+◌, ◌*◌, ◌%◌, ◌^◌, List, [], ◌∷◌}
-use Rattle.std.proofs.Common.{length, map, Option, Some, None, Bool, true, false, All, cond, option_map, refl, sym, ap, ◌∙◌, subst}
+use Rattle.std.proofs.Common.{map, Option, Some, None, Bool, true, false, All, cond, option_map, refl, sym, ap, ◌∙◌, subst}
 use Rattle.std.proofs.Common.{arith, lit<}
 use Rattle.std.proofs.lemmas.Bool.{or_parts, eqb-true, eqb-false}
 use Rattle.kk_base.specs.Memory.{Part}
@@ -14,11 +14,11 @@ use Rattle.rv_isa.specs.declared.placed.Symbol.{Symbol}
 use Rattle.rv_isa.specs.declared.placed.Symbol.TheVariants as symbol
 use Rattle.rv_isa.specs.PlacedCode.{PlacedLine, PlacedLines}
 use Rattle.rv_isa.specs.Arithmetic.{sum_word}
-use Rattle.rv_isa.specs.Primitives.{go, stuck, or_stuck, by_token}
+use Rattle.rv_isa.specs.Primitives.{stuck, or_stuck, by_token}
 use Rattle.rv_isa.specs.Frames.{Frame, all_of, only_of, holding, unholding, off_top, is_among}
-use Rattle.rv_isa.specs.PlacedMachine.{PlacedState, PlacedTurn, read_at, kept_by, only_slot, slot_of, placed_goes, placed_acts}
-use Rattle.rv_isa.specs.Bytes.{bytes_at, number_at}
-use Rattle.rv_isa.specs.Processor.{Processor, Ending, value, can_load, can_store}
+use Rattle.rv_isa.specs.PlacedMachine.{PlacedTurn, read_at, kept_by, only_slot, slot_of, placed_goes, placed_acts}
+use Rattle.rv_isa.specs.Bytes.{number_at}
+use Rattle.rv_isa.specs.Processor.{Processor, Ending, value, can_store}
 use Rattle.rv_isa.specs.Execution.{Leads}
 use Rattle.rv_isa.specs.Standing.{Code}
 use Rattle.rv_isa.proofs.Bytes.{bytes_at-same}
@@ -30,11 +30,10 @@ use Rattle.cell_heap.specs.View.{Link, View}
 use Rattle.cell_heap.specs.Memory.{IsSlot}
 use Rattle.cell_heap.specs.Blocks.{Block, no_block, unused, own, kept, Cells, with_block, past_links, fields_of, held_as, unheld_as}
 use Rattle.cell_heap.specs.Blocks.{seen_cells, view_of}
-use Rattle.cell_heap.specs.Blocks as OfBlocks
 use Rattle.cell_heap.specs.Known.{IsOwnBlock, HoldsCells}
 use Rattle.cell_heap.proofs.Frames.{changed-same}
 use Rattle.cell_heap.proofs.Blocks.{mapped, own-cell, own-inside}
-use Rattle.cell_runtime.specs.Calls.{IsAt, HasWayBack, Returns, KeepsOutside}
+use Rattle.cell_runtime.specs.Calls.{IsAt, HasWayBack, KeepsOutside}
 use Rattle.cell_runtime.specs.Tokens.{Held, no_token, newest, IsHold, IsUnhold}
 use Rattle.cell_runtime.proofs.Blocks.{word_kept, token_view, held_holds, unheld_holds, again_holds}
 use Rattle.rv_world.specs.World.{World, with_cells, on_cells, primitives}
@@ -44,8 +43,8 @@ use Rattle.rv_place.specs.Instructions.{words_of_jump, CallsTo}
 use Rattle.rv_place.specs.declared.reach.Forms.{Forms}
 use Rattle.rv_place.specs.Lines.{Map, IsSymbolAt, CallsForToken}
 use Rattle.rv_place.specs.Grounds.{Ground, stack_end, constant_bytes}
-use Rattle.rv_place.specs.Running.{most_lines, IsIn, FramesAt, word_of, links_in, links_of, Agrees, Running}
-use Rattle.rv_place.proofs.RunningExecuting.{Done, Gets, addi_row, done_on, plain_gets}
+use Rattle.rv_place.specs.Running.{most_lines, IsIn, FramesAt, word_of, links_in, links_of, Running}
+use Rattle.rv_place.proofs.RunningExecuting.{Done, addi_row, done_on, plain_gets}
 use Rattle.rv_place.proofs.RunningLines.{jump_some, jump_most}
 use Rattle.rv_place.proofs.RunningRows.{jump_to, jump_last}
 use Rattle.rv_place.proofs.RunningFrames.{handed_apart, frames_kept}
@@ -409,91 +408,122 @@ module _ {map_of : Map} {pool : Pool} {functions : List PlacedLines} {depth buff
 
   -- ---- both
 
+  -- what holding a token or taking one back does to the block of its cell
+  abbrev on_block : (Block → Option Block) → ℕ → World → Option World
+  on_block change = on_cells (λ word cells. option_map (λ b. with_block word b cells) (change (cells.blocks word)))
+
+  -- the turn of a line that holds a token or takes one back, by what it does to the chain and to the world
+  abbrev token_turn : (ℕ → ℕ → List ℕ → Option (List ℕ)) → (ℕ → World → Option World) → List Operand → List ℕ
+      → PlacedTurn World Ending
+  token_turn keeping act args words =
+      or_stuck (only_slot args) (λ k. or_stuck (only_of words) (λ word. or_stuck (keeping k word f.held) (λ held.
+      or_stuck (by_token act word world) (λ next. placed_goes (record behind { held = held }) fs after_known next))))
+
   module _ (args : List Operand) (into : Option Operand) (words : List ℕ) (turn : PlacedTurn World Ending) (good : turn ≢ stuck)
       (words_are : all_of (map (λ (arg : Operand). read_at known f.cells arg.place) args) ≡ Some words) where
+    -- what is found on the way of a line that is not stuck
+    record TokenLine (keeping : ℕ → ℕ → List ℕ → Option (List ℕ)) (act : ℕ → World → Option World) (target : ℕ) : Type 0 where
+      k : ℕ
+      word : ℕ
+      held : List ℕ
+      next : World
+      call : Called k target
+      word_is : f.cells k ≡ Some word
+      held_is : keeping k word f.held ≡ Some held
+      next_is : by_token act word world ≡ Some next
+      turn_is : placed_goes (record behind { held = held }) fs after_known next ≡ turn
+
+    token_line : (keeping : ℕ → ℕ → List ℕ → Option (List ℕ)) (act : ℕ → World → Option World) (name : Symbol) (target : ℕ)
+        → IsSymbolAt map_of name target → CallsForToken map_of forms code s.pc name args
+        → token_turn keeping act args words ≡ turn → TokenLine keeping act target
+    token_line keeping act name target place here is =
+        let on : ℕ → List ℕ → PlacedTurn World Ending = λ word held. or_stuck (by_token act word world)
+        (λ next. placed_goes (record behind { held = held }) fs after_known next) in
+        let at_slot = or_stuck_some (only_slot args)
+        (λ k. or_stuck (only_of words) (λ word. or_stuck (keeping k word f.held) (on word))) turn is good in
+        let at_word = or_stuck_some (only_of words)
+        (λ word. or_stuck (keeping at_slot.0 word f.held) (on word)) turn at_slot.2 good in
+        let at_held = or_stuck_some (keeping at_slot.0 at_word.0 f.held) (on at_word.0) turn at_word.2 good in
+        let at_next = or_stuck_some (by_token act at_word.0 world)
+        (λ next. placed_goes (record behind { held = at_held.0 }) fs after_known next) turn at_held.2 good in
+        let word_is = slot_word_is known f.cells args words at_slot.0 at_word.0 at_slot.1 words_are at_word.1 in
+        let inside = (running.frames.1 at_slot.0 at_word.0 word_is).0 in
+        let row = here at_slot.0 at_slot.1 target place in
+        record {
+          k = at_slot.0;
+          word = at_word.0;
+          held = at_held.0;
+          next = at_next.0;
+          call = called name at_slot.0 target place inside row.0.0 row.0.1.0 row.0.2 row.1;
+          word_is = word_is;
+          held_is = at_held.1;
+          next_is = at_next.1;
+          turn_is = at_next.2;
+        }
+
+    -- the null token changes nothing
+    null_turn : {keeping : ℕ → ℕ → List ℕ → Option (List ℕ)} {act : ℕ → World → Option World} {target : ℕ}
+        (line : TokenLine keeping act target) → line.word ≡ 0 → line.held ≡ f.held → placed_goes behind fs after_known world ≡ turn
+    null_turn {act = act} line null same =
+        ap (λ (w : World). placed_goes behind fs after_known w) (sym (null_token act line.word world line.next null line.next_is))
+        ∙ ap (λ h. placed_goes (record behind { held = h }) fs after_known line.next) (sym same) ∙ line.turn_is
+
+    null_word : {keeping : ℕ → ℕ → List ℕ → Option (List ℕ)} {act : ℕ → World → Option World} {target : ℕ}
+        (line : TokenLine keeping act target) → line.word ≡ 0 → f.cells line.k ≡ Some 0
+    null_word line null = line.word_is ∙ ap (λ w. Some w) null
+
+    -- another one changes the block of its cell
+    some_turn : {keeping : ℕ → ℕ → List ℕ → Option (List ℕ)} {target : ℕ} (change : Block → Option Block)
+        (line : TokenLine keeping (on_block change) target) → line.word ≢ 0
+        → (block : Block) × (change (world.cells.blocks line.word) ≡ Some block)
+        × (placed_goes (record behind { held = line.held }) fs after_known (with_cells world (with_block line.word block world.cells)) ≡ turn)
+    some_turn change line some =
+        let changing : Block → Cells = λ b. with_block line.word b world.cells in
+        let blocks : Option Block = change (world.cells.blocks line.word) in
+        let done = mapped (with_cells world) (option_map changing blocks) line.next
+        (some_token (on_block change) line.word world line.next some line.next_is) in
+        let block = mapped changing blocks done.0 done.1 in (
+          block.0,
+          block.1,
+          ap (λ c. placed_goes (record behind { held = line.held }) fs after_known (with_cells world c)) block.2
+              ∙ ap (λ (w : World). placed_goes (record behind { held = line.held }) fs after_known w) done.2 ∙ line.turn_is,
+        )
+
     pub follow_hold : CallsForToken map_of forms code s.pc symbol.Hold args
         → placed_acts (primitives map_of.constants pool) depth functions behind fs known world Hold args into words ≡ turn
         → Comes map_of pool functions depth stop code parts 9 old turn s
     follow_hold here is =
-        let on : ℕ → List ℕ → PlacedTurn World Ending = λ word held. or_stuck (by_token (on_cells OfBlocks.hold) word world)
-        (λ next. placed_goes (record behind { held = held }) fs (kept_by Hold known) next) in
-        let at_slot = or_stuck_some (only_slot args)
-        (λ k. or_stuck (only_of words) (λ word. or_stuck (holding k word f.held) (on word))) turn is good in
-        let at_word = or_stuck_some (only_of words)
-        (λ word. or_stuck (holding at_slot.0 word f.held) (on word)) turn at_slot.2 good in
-        let at_held = or_stuck_some (holding at_slot.0 at_word.0 f.held) (on at_word.0) turn at_word.2 good in
-        let at_next = or_stuck_some (by_token (on_cells OfBlocks.hold) at_word.0 world)
-        (λ next. placed_goes (record behind { held = at_held.0 }) fs (kept_by Hold known) next) turn at_held.2 good in
-        let word_is = slot_word_is known f.cells args words at_slot.0 at_word.0 at_slot.1 words_are at_word.1 in
-        let inside = (running.frames.1 at_slot.0 at_word.0 word_is).0 in
-        let row = here at_slot.0 at_slot.1 ground.hold.0 ground.hold.1 in
-        let call = called symbol.Hold at_slot.0 ground.hold.0 ground.hold.1 inside row.0.0 row.0.1.0 row.0.2 row.1 in
-        by at_slot.0 at_word.0 at_held.0 at_next.0 call word_is
-        (holding_by at_slot.0 at_word.0 f.held at_held.0 at_held.1) at_next.1 at_next.2
+        let line = token_line holding (on_block held_as) symbol.Hold ground.hold.0 ground.hold.1 here is in
+        let kept_free = holding_by line.k line.word f.held line.held line.held_is in by line kept_free.0 kept_free.1
       where
-        by : (k word : ℕ) (held : List ℕ) (next : World) → Called k ground.hold.0 → f.cells k ≡ Some word
-            → (is_among k f.held ≡ false) × (((word ≡ 0) × (held ≡ f.held)) ⊎ ((word ≢ 0) × (held ≡ k ∷ f.held)))
-            → by_token (on_cells OfBlocks.hold) word world ≡ Some next
-            → placed_goes (record behind { held = held }) fs (kept_by Hold known) next ≡ turn
+        by : (line : TokenLine holding (on_block held_as) ground.hold.0) → is_among line.k f.held ≡ false
+            → ((line.word ≡ 0) × (line.held ≡ f.held)) ⊎ ((line.word ≢ 0) × (line.held ≡ line.k ∷ f.held))
             → Comes map_of pool functions depth stop code parts 9 old turn s
-        by k word held next call word_is (free, inl null) next_is is =
-            let same = null_token (on_cells OfBlocks.hold) word world next null.0 next_is in
+        by line free (inl null) = subst (λ t. Comes map_of pool functions depth stop code parts 9 old t s)
+            (null_turn line null.0 null.1) (hold_null line.k ground.hold.0 line.call (null_word line null.0) ground.hold.2)
+        by line free (inr some) =
+            let done = some_turn held_as line some.0 in
+            let found = held_own (world.cells.blocks line.word) done.0 done.1 in
             subst (λ t. Comes map_of pool functions depth stop code parts 9 old t s)
-            (ap (λ (w : World). placed_goes behind fs after_known w) (sym same)
-            ∙ ap (λ h. placed_goes (record behind { held = h }) fs after_known next) (sym null.1) ∙ is)
-            (hold_null k ground.hold.0 call (word_is ∙ ap (λ w. Some w) null.0) ground.hold.2)
-        by k word held next call word_is (free, inr some) next_is is =
-            let done = mapped (with_cells world) (OfBlocks.hold word world.cells) next
-            (some_token (on_cells OfBlocks.hold) word world next some.0 next_is) in
-            let block = mapped (λ b. with_block word b world.cells) (held_as (world.cells.blocks word)) done.0 done.1 in
-            let found = held_own (world.cells.blocks word) block.0 block.1 in
-            let cells_are : with_block word (kept found.0) world.cells ≡ done.0 = ap (λ b. with_block word b world.cells)
-            (sym found.2) ∙ block.2 in
-            subst (λ t. Comes map_of pool functions depth stop code parts 9 old t s)
-            (ap (λ c. placed_goes (record behind { held = k ∷ f.held }) fs after_known (with_cells world c)) cells_are
-            ∙ ap (λ (w : World). placed_goes (record behind { held = k ∷ f.held }) fs after_known w) done.2
-            ∙ ap (λ h. placed_goes (record behind { held = h }) fs after_known next) (sym some.1) ∙ is)
-            (hold_token k ground.hold.0 word call word_is ground.hold.2 free found.0 found.1)
+            (ap (λ b. placed_goes (record behind { held = line.k ∷ f.held }) fs after_known (with_cells world (with_block line.word b world.cells))) (sym found.2)
+            ∙ ap (λ h. placed_goes (record behind { held = h }) fs after_known (with_cells world (with_block line.word done.0 world.cells))) (sym some.1) ∙ done.2)
+            (hold_token line.k ground.hold.0 line.word line.call line.word_is ground.hold.2 free found.0 found.1)
 
     pub follow_unhold : CallsForToken map_of forms code s.pc symbol.Unhold args
         → placed_acts (primitives map_of.constants pool) depth functions behind fs known world Unhold args into words ≡ turn
         → Comes map_of pool functions depth stop code parts 7 old turn s
     follow_unhold here is =
-        let on : ℕ → List ℕ → PlacedTurn World Ending = λ word held. or_stuck (by_token (on_cells OfBlocks.unhold) word world)
-        (λ next. placed_goes (record behind { held = held }) fs (kept_by Unhold known) next) in
-        let at_slot = or_stuck_some (only_slot args)
-        (λ k. or_stuck (only_of words) (λ word. or_stuck (unholding k word f.held) (on word))) turn is good in
-        let at_word = or_stuck_some (only_of words)
-        (λ word. or_stuck (unholding at_slot.0 word f.held) (on word)) turn at_slot.2 good in
-        let at_held = or_stuck_some (unholding at_slot.0 at_word.0 f.held) (on at_word.0) turn at_word.2 good in
-        let at_next = or_stuck_some (by_token (on_cells OfBlocks.unhold) at_word.0 world)
-        (λ next. placed_goes (record behind { held = at_held.0 }) fs (kept_by Unhold known) next) turn at_held.2 good in
-        let word_is = slot_word_is known f.cells args words at_slot.0 at_word.0 at_slot.1 words_are at_word.1 in
-        let inside = (running.frames.1 at_slot.0 at_word.0 word_is).0 in
-        let row = here at_slot.0 at_slot.1 ground.unhold.0 ground.unhold.1 in
-        let call = called symbol.Unhold at_slot.0 ground.unhold.0 ground.unhold.1 inside row.0.0 row.0.1.0 row.0.2 row.1 in
-        by at_slot.0 at_word.0 at_held.0 at_next.0 call word_is
-        (unholding_by at_slot.0 at_word.0 f.held at_held.0 at_held.1) at_next.1 at_next.2
+        let line = token_line unholding (on_block unheld_as) symbol.Unhold ground.unhold.0 ground.unhold.1 here is in
+        by line (unholding_by line.k line.word f.held line.held line.held_is)
       where
-        by : (k word : ℕ) (held : List ℕ) (next : World) → Called k ground.unhold.0 → f.cells k ≡ Some word
-            → ((word ≡ 0) × (held ≡ f.held)) ⊎ ((word ≢ 0) × (f.held ≡ k ∷ held))
-            → by_token (on_cells OfBlocks.unhold) word world ≡ Some next
-            → placed_goes (record behind { held = held }) fs (kept_by Unhold known) next ≡ turn
+        by : (line : TokenLine unholding (on_block unheld_as) ground.unhold.0)
+            → ((line.word ≡ 0) × (line.held ≡ f.held)) ⊎ ((line.word ≢ 0) × (f.held ≡ line.k ∷ line.held))
             → Comes map_of pool functions depth stop code parts 7 old turn s
-        by k word held next call word_is (inl null) next_is is =
-            let same = null_token (on_cells OfBlocks.unhold) word world next null.0 next_is in
+        by line (inl null) = subst (λ t. Comes map_of pool functions depth stop code parts 7 old t s)
+            (null_turn line null.0 null.1) (unhold_null line.k ground.unhold.0 line.call (null_word line null.0) ground.unhold.2)
+        by line (inr some) =
+            let done = some_turn unheld_as line some.0 in
+            let found = unheld_kept (world.cells.blocks line.word) done.0 done.1 in
             subst (λ t. Comes map_of pool functions depth stop code parts 7 old t s)
-            (ap (λ (w : World). placed_goes behind fs after_known w) (sym same)
-            ∙ ap (λ h. placed_goes (record behind { held = h }) fs after_known next) (sym null.1) ∙ is)
-            (unhold_null k ground.unhold.0 call (word_is ∙ ap (λ w. Some w) null.0) ground.unhold.2)
-        by k word held next call word_is (inr some) next_is is =
-            let done = mapped (with_cells world) (OfBlocks.unhold word world.cells) next
-            (some_token (on_cells OfBlocks.unhold) word world next some.0 next_is) in
-            let block = mapped (λ b. with_block word b world.cells) (unheld_as (world.cells.blocks word)) done.0 done.1 in
-            let found = unheld_kept (world.cells.blocks word) block.0 block.1 in
-            let cells_are : with_block word (own (past_links found.0)) world.cells ≡ done.0 = ap
-            (λ b. with_block word b world.cells) (sym found.2) ∙ block.2 in
-            subst (λ t. Comes map_of pool functions depth stop code parts 7 old t s)
-            (ap (λ c. placed_goes (record behind { held = held }) fs after_known (with_cells world c)) cells_are
-            ∙ ap (λ (w : World). placed_goes (record behind { held = held }) fs after_known w) done.2 ∙ is)
-            (unhold_token k ground.unhold.0 word call word_is ground.unhold.2 held some.1 found.0 found.1)
+            (ap (λ b. placed_goes (record behind { held = line.held }) fs after_known (with_cells world (with_block line.word b world.cells))) (sym found.2) ∙ done.2)
+            (unhold_token line.k ground.unhold.0 line.word line.call line.word_is ground.unhold.2 line.held some.1 found.0 found.1)

@@ -1,5 +1,5 @@
 -- The image of a placed text, and the processor that begins with it.
-use Rattle.std.specs.Prelude.{◌≡◌, ℕ, ◌+◌, ◌*◌, List, [], Some, map, slice_get}
+use Rattle.std.specs.Prelude.{◌≡◌, ℕ, ◌+◌, ◌*◌, List, Some, map, slice_get}
 use Rattle.kk_base.specs.Memory.{Part}
 use Rattle.kk_base.specs.Sizes.{AreSizes}
 use Rattle.elf_image.specs.Parts as image

@@ -1,5 +1,5 @@
 -- What a text is made of: the runtime's instructions, those of the functions behind them, and the constants behind these.
-use Rattle.std.specs.Prelude.{◌≡◌, ℕ, ◌+◌, ◌*◌, ◌%◌, ◌≤◌, List, [], ◌∷◌, ◌++◌, length}
+use Rattle.std.specs.Prelude.{◌≡◌, ℕ, ◌+◌, ◌*◌, ◌%◌, ◌≤◌, List, ◌++◌, length}
 use Rattle.elf_image.specs.Program.{text_start, memory_start}
 use Rattle.rv_isa.specs.declared.instr.Instr.{Instr}
 use Rattle.rv_isa.specs.declared.placed.Placed.{Placed}

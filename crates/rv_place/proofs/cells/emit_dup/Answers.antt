@@ -1,6 +1,6 @@
 use Rattle.std.proofs.Common.{Some, refl, ap, ◌∙◌}
 use Rattle.rv_isa.proofs.Same.{same_register}
-use Rattle.rv_isa.specs.declared.instr.Instr.TheVariants.{Andi, Addi, Bne, Lw, Sw}
+use Rattle.rv_isa.specs.declared.instr.Instr.TheVariants.{Andi}
 use Rattle.cell_runtime.proofs.Operands.{imm_0}
 use Rattle.cell_runtime.proofs.SameLines.{same_addi, same_bne, same_lw, same_sw}
 use Rattle.rv_place.specs.Registers.{ra}
