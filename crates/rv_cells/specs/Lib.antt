@@ -6,7 +6,6 @@ pub mod CountedLines
 pub mod Sizes
 pub mod Written
 pub mod Marked
-pub mod Costs
 pub mod Fitting
 pub mod Meaning
 pub mod Marking
