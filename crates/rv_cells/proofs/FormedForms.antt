@@ -13,7 +13,7 @@ use Rattle.rv_lower.proofs.Operations.{Leads, HasArguments, form_serves, call_li
 use Rattle.rv_lower.proofs.Codes.{Fits}
 use Rattle.rv_cells.specs.Layout.{header_of}
 use Rattle.rv_cells.specs.CountedLines.{Setting, ComputeLines}
-use Rattle.rv_cells.proofs.FormedSteps.{FitsWhole, fits_step, fits_construct}
+use Rattle.rv_cells.proofs.FormedSteps.{all_bound, FitsWhole, fits_step, fits_construct}
 
 module _ (setting : Setting) (bound : List ℕ) (has : HasRoom setting.base bound) (x : ℕ) (less : x < setting.base) (goal : Goal)
     (low high n : ℕ) (more : List Line) (fits : Fits setting.base (x ∷ bound) goal low high n more) where
@@ -33,7 +33,7 @@ module _ (setting : Setting) (bound : List ℕ) (has : HasRoom setting.base boun
       → FormLines setting.base setting.texts x of arguments lines → FitsWhole setting.base bound goal low high (lines ++ more)
   typed_fits of arguments lines as_many are is =
       leads_fit 9 lines
-      (form_serves setting.base bound has x less setting.texts of arguments lines as_many are is)
+      (form_serves setting.base bound has x less setting.texts of arguments lines as_many (all_bound bound arguments are) is)
 
   -- a constructor without fields
   word_leads : (word : ℕ) → Leads Before Behind 1 (sets word x ∷ [])
@@ -65,4 +65,4 @@ module _ (setting : Setting) (bound : List ℕ) (has : HasRoom setting.base boun
       fits
   fits_form (Call f) arguments lines arity are is =
       subst (λ (own : List Line). FitsWhole setting.base bound goal low high (own ++ more)) (sym is)
-      (leads_fit 9 _ (call_lines setting.base bound has x less f arguments arity are))
+      (leads_fit 9 _ (call_lines setting.base bound has x less f arguments arity (all_bound bound arguments are)))
