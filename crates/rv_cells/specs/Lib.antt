@@ -5,7 +5,6 @@ pub mod CellLines
 pub mod CountedLines
 pub mod Written
 pub mod Marked
-pub mod Costs
 pub mod Fitting
 pub mod Meaning
 pub mod Marking

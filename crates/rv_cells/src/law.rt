@@ -23,7 +23,7 @@ ghost use Rattle.rv_cells.specs.Follows.{IsBlockOf, Owner, nobody, cell_of, in_h
 ghost use Rattle.rv_isa.specs.AsmCode.{Lines};
 ghost use Rattle.rv_isa.specs.Costs.{functions_length};
 ghost use Rattle.rv_world.specs.Operations.{all_bytes};
-ghost use Rattle.rv_cells.specs.Costs.{counted_instructions};
+ghost use Rattle.kk_counted.specs.CountedCosts.{counted_cost};
 ghost use Rattle.rv_cells.specs.Fitting.{AreTagged, count_of_fields, IsFit};
 ghost use Rattle.rv_cells.specs.Meaning.{setting_on, IsProgramLowered, RunsTheSame};
 ghost use Rattle.rv_cells.specs.Steps.{Served, Dupped, Dropped, IsPaid, Released};
@@ -126,15 +126,14 @@ pub fn lowered_programs_are_short()
 
 /// A program in counted form whose functions are all lowered runs the same as its assembler code, where each state of its run is not
 /// stuck, has a sound heap with counts that are words, and takes values of the types of its code: the same events, the same end, no
-/// more instructions than its steps weigh, where at most 16 moves stand before a line, and all cells free where the heap is empty
-/// at the end. It is a law, and does nothing.
+/// more instructions than its steps weigh by the table of costs, and all cells free where the heap is empty at the end. It is a law, and does nothing.
 pub fn lowered_counted_programs_run_the_same()
     ensures { (layout : Layout) (marks : CellMarks) (code : CountedProgram) (constants : List (List ℕ)) (functions : List Lines)
         → (lowered : IsProgramLowered layout marks code constants functions)
-        → (pool : Pool) (depth first moves : ℕ) (input : List ℕ) → moves ≤ 16 → pool.first % 32 ≡ 0 → 0 < pool.first
+        → (pool : Pool) (depth first : ℕ) (input : List ℕ) → pool.first % 32 ≡ 0 → 0 < pool.first
         → All (λ byte. byte < 256) input
-        → ((n : ℕ) → IsFit layout (counted_after counted_instructions (setting_on code pool depth) input n))
-        → RunsTheSame code constants functions lowered.main_lines pool depth first moves input }
+        → ((n : ℕ) → IsFit layout (counted_after counted_cost (setting_on code pool depth) input n))
+        → RunsTheSame code constants functions lowered.main_lines pool depth first input }
 {}
 
 /// Code that spends its references and is marked by types is fit in each state of its run, within the limits of cells, call frames

@@ -1,9 +1,8 @@
 -- The lines of a code are well formed, few, and have only its own labels.
-use Rattle.std.proofs.Common.{◌≡◌, ℕ, suc, ◌+◌, ◌*◌, ◌<◌, ◌≤◌, ◌==◌, ◌⊎◌, inl, inr, Bool, true, false, List, [], ◌∷◌, ◌++◌, length, None, IsSome, refl, sym, subst, ◌∙◌, arith, append_assoc, length-append}
+use Rattle.std.proofs.Common.{◌≡◌, ℕ, suc, ◌+◌, ◌*◌, ◌<◌, ◌≤◌, ◌==◌, ◌⊎◌, inl, inr, true, List, [], ◌∷◌, ◌++◌, length, None, IsSome, refl, sym, subst, ◌∙◌, arith, append_assoc, length-append}
 use Rattle.std.proofs.lemmas.Bool.{or_cases, or_left, or_right, false≢true}
 use Rattle.std.proofs.lemmas.List.Elements.{All-nil, All-cons}
 use Rattle.kk_syntax.specs.Shapes.{is_among as is_bound}
-use Rattle.kk_core.specs.Sizes.{AreBound}
 use Rattle.rv_isa.specs.declared.asm.Action.{Action}
 use Rattle.rv_isa.specs.declared.asm.Action.TheVariants.{Label, Jump, Branch, TailCall, Return}
 use Rattle.rv_isa.specs.declared.asm.Condition.TheVariants.{NotEqual}
@@ -12,7 +11,7 @@ use Rattle.rv_isa.specs.AsmCode.{Line}
 use Rattle.rv_isa.specs.WellFormed.{is_alive, is_alive_at, most_values, IsSpent, AreLinesFormed, AreLabelsAhead, HoldsNone, is_alive_behind}
 use Rattle.rv_lower.specs.Lines.{sets, copies_to, acts, copies, temporaries, constant_word}
 use Rattle.rv_lower.specs.Lowered.{Goal, returns, joins, goal_lines, test_lines}
-use Rattle.rv_lower.proofs.Formed.{none_some, Readable, Good, HasRoom, weaker, room_more, alive_line, to_variable, good_hands, readable_more}
+use Rattle.rv_lower.proofs.Formed.{AllBound, none_some, Readable, Good, HasRoom, weaker, alive_line, to_variable, good_hands, readable_more}
 use Rattle.rv_lower.proofs.AbsentLabels.{HasNo, has_no_append, found_none, found_past, found_here, alive_at_past, alive_at_here, other_label}
 use Rattle.rv_lower.proofs.Labels.{found_label}
 use Rattle.rv_lower.proofs.Operations.{Leads, copied, next_temporary, only_bound}
@@ -135,7 +134,7 @@ module _ (base : ℕ) (bound : List ℕ) (has : HasRoom base bound) where
         (good_alone (Readable base base (y ∷ bound)) (Jump label) tail ahead.goal_ahead.2 tt ahead.goal_ahead.3 ahead.formed);
   }
 
-  pub fits_tail_call : (f : ℕ) (arguments : List ℕ) (goal : Goal) (low : ℕ) → length arguments ≤ 8 → AreBound bound arguments
+  pub fits_tail_call : (f : ℕ) (arguments : List ℕ) (goal : Goal) (low : ℕ) → length arguments ≤ 8 → AllBound bound arguments
       → Fits base bound goal low low 1 (copies base arguments ++ acts (TailCall f) (temporaries base arguments) ∷ [])
   fits_tail_call f arguments goal low few each = record {
     up = omega arith;

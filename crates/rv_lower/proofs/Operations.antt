@@ -9,7 +9,6 @@ use Rattle.kk_syntax.specs.declared.program.Form.TheVariants.{Number, Unit as No
 use Rattle.kk_syntax.specs.Programs.{text_at}
 use Rattle.kk_syntax.specs.Shapes.{is_among as is_bound}
 use Rattle.kk_source.specs.FormEffects.{piece_of}
-use Rattle.kk_core.specs.Sizes.{AreBound}
 use Rattle.rv_isa.specs.declared.asm.Action.{Action}
 use Rattle.rv_isa.specs.declared.asm.Action.TheVariants as OfAction
 use Rattle.rv_isa.specs.declared.asm.Operation.{Operation as AsmOperation}
@@ -22,7 +21,7 @@ use Rattle.rv_isa.specs.Routines.{taken_by}
 use Rattle.rv_isa.specs.AsmMachine.{is_label}
 use Rattle.rv_isa.specs.WellFormed.{is_written, is_alive, is_alive_behind, most_values, AreLabelsAhead, most_args, has_value, may_give, HoldsNone}
 use Rattle.rv_lower.specs.Lines.{Texts, computes, sets, copies_to, acts, unit_word, constant_word, choice_of, copies, temporaries, MakesTruth, Compares, ComparesNot, BinaryLines, PrintLines, FormLines}
-use Rattle.rv_lower.proofs.Formed.{Each, Readable, Good, HasRoom, weaker, room_more, to_variable, to_temporary, good_computes, readable_small, readable_more, readable_bound, readable_here, good_copies, good_hands, none_some, some_same}
+use Rattle.rv_lower.proofs.Formed.{AllBound, Each, Readable, Good, HasRoom, weaker, room_more, to_variable, to_temporary, good_computes, readable_small, readable_more, readable_bound, readable_here, good_copies, good_hands, none_some, some_same}
 use Rattle.rv_lower.proofs.AbsentLabels.{HasNo, has_no_append}
 
 -- Lines lead from code before which C is alive to code before which B is alive: there are at most n of them.
@@ -89,7 +88,7 @@ module _ (base : ℕ) (bound : List ℕ) (has : HasRoom base bound) where
     good = λ rest good. good_hands base bound xs action into rest has (labels rest) none few eight gives small (λ v other is. behind rest v good other is) good.formed;
   }
 
-  pub copied : (xs : List ℕ) → length xs ≤ 8 → AreBound bound xs → Leads (With base) (With (base + length xs)) (length xs) (copies base xs)
+  pub copied : (xs : List ℕ) → length xs ≤ 8 → AllBound bound xs → Leads (With base) (With (base + length xs)) (length xs) (copies base xs)
   copied xs few each = record {
     no_label = λ l. no_copy l base xs;
     few = let size = same base xs in omega (arith, size);
@@ -250,7 +249,7 @@ module _ (base : ℕ) (bound : List ℕ) (has : HasRoom base bound) (x : ℕ) (l
       left v other (inr is) = is
 
   -- the lines of a call
-  pub call_lines : (f : ℕ) (arguments : List ℕ) → length arguments ≤ 8 → AreBound bound arguments
+  pub call_lines : (f : ℕ) (arguments : List ℕ) → length arguments ≤ 8 → AllBound bound arguments
       → Serves (copies base arguments ++ record { action = OfAction.Call f; args = temporaries base arguments; into = Some x } ∷ [])
   call_lines f arguments few each =
       serves (length arguments + 1) _ (omega (arith, few)) (leads_then (Before base) (Before (base + length arguments)) (Behind base) (length arguments) 1 (copies base arguments) _ (copied base bound has arguments few each)
@@ -263,7 +262,7 @@ module _ (base : ℕ) (bound : List ℕ) (has : HasRoom base bound) (x : ℕ) (l
         subst (Leads (Before base) (Before base) 3) (sym is.2) (serves_two Routine.PrintText (Op.La is.0) (Op.Li (length (byte ∷ bytes))) [] refl refl refl (omega arith) tt)
 
     -- a form on as many variables as it takes
-    pub form_serves : (of : Form) (arguments : List ℕ) (lines : List Line) → HasArguments of arguments → AreBound bound arguments
+    pub form_serves : (of : Form) (arguments : List ℕ) (lines : List Line) → HasArguments of arguments → AllBound bound arguments
         → FormLines base texts x of arguments lines → Serves lines
     form_serves (Number value) arguments lines as_many each is = subst Serves (sym is.3) (serves 1 _ (omega arith) (sets_only is.0))
     form_serves Nothing arguments lines as_many each is = subst Serves (sym is) (serves 1 _ (omega arith) (sets_only unit_word))
