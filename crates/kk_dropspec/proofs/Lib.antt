@@ -5,4 +5,5 @@ pub mod Tokens
 pub mod Forms
 pub mod SpecialKinds
 pub mod Lowered
+pub mod SpecialLengths
 pub mod NumberForms

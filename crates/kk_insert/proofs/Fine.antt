@@ -36,7 +36,7 @@ module _ (lent : List ℕ) where
 abbrev pub AreBelow : List ℕ → ℕ → Type 0
 AreBelow xs n = (y : ℕ) → is_among xs y ≡ true → y < n
 
-one_below : (x n y : ℕ) (xs : List ℕ) → AreBelow xs n → n ≤ x → is_among (x ∷ xs) y ≡ true → y < x + 1
+pub one_below : (x n y : ℕ) (xs : List ℕ) → AreBelow xs n → n ≤ x → is_among (x ∷ xs) y ≡ true → y < x + 1
 one_below x n y xs below le is = either (or_cases (x == y) (is_among xs y) is)
   where
     either : ((x == y) ≡ true) ⊎ (is_among xs y ≡ true) → y < x + 1
@@ -159,7 +159,7 @@ mutual
 
 -- ---- code in order is fine
 
-bound_part : (bound arguments : List ℕ) → AreBound bound arguments → Part arguments bound
+pub bound_part : (bound arguments : List ℕ) → AreBound bound arguments → Part arguments bound
 bound_part bound [] all y is = absurd (cc)
 bound_part bound (x ∷ xs) all y is = either (or_cases (x == y) (is_among xs y) is) (bound_part bound xs all.1 y)
   where

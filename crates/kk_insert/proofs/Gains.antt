@@ -5,7 +5,7 @@ use Rattle.std.proofs.lemmas.List.{length-append}
 use Rattle.kk_syntax.specs.Shapes.{is_among, without}
 use Rattle.kk_syntax.specs.GroundTyping.{Signature, Table, IsFormTyped}
 use Rattle.kk_syntax.specs.OfType.{field_types}
-use Rattle.kk_syntax.specs.PositionsOf.{PositionTable}
+use Rattle.kk_syntax.specs.PositionsOf.{PositionTable, is_lent}
 use Rattle.kk_syntax.specs.Types.{TypeTree}
 use Rattle.kk_syntax.specs.declared.program.Form.{Form}
 use Rattle.kk_syntax.specs.declared.program.Form.TheVariants.{Number, Unit as Nothing, ReadByte, PrintText, Unary, Binary, Print, Construct, Call}
@@ -16,44 +16,12 @@ use Rattle.kk_counted.specs.CountedCodes as Counted
 use Rattle.kk_counted.specs.CountBounds.{gains, gains_in}
 use Rattle.kk_counted.specs.Spending.{at_positions, numbers_from, is_owned}
 use Rattle.kk_insert.specs.Insertion.{dups, drops, dropping, before, extra, common, used, lends, owns, wants, back, opening, lent_of, own, insert, insert_arms, inserted_function}
+use Rattle.kk_insert.proofs.Lengths.{filter_few, positions_few, wants_few}
 use Rattle.kk_insert.proofs.Typed.{same_length}
 
--- ---- lists
+-- ---- arguments
 
-filter_few : (test : ℕ → Bool) (xs : List ℕ) → length (filter test xs) ≤ length xs
-filter_few test [] = omega arith
-filter_few test (x ∷ xs) = by_test (test x) (filter_few test xs)
-  where
-    by_test : (t : Bool) → length (filter test xs) ≤ length xs → length (if t then x ∷ filter test xs else filter test xs) ≤ suc (length xs)
-    by_test true later = omega (arith, later)
-    by_test false later = omega (arith, later)
-
-extra_few : (xs after : List ℕ) → length (extra xs after) ≤ length xs
-extra_few [] after = omega arith
-extra_few (x ∷ xs) after = by_test (is_among (before xs after) x) (extra_few xs after)
-  where
-    by_test : (t : Bool) → length (extra xs after) ≤ length xs → length (if t then x ∷ extra xs after else extra xs after) ≤ suc (length xs)
-    by_test true later = omega (arith, later)
-    by_test false later = omega (arith, later)
-
-positions_few : (takes : ℕ → Bool) (next : ℕ) (xs : List ℕ) → length (at_positions takes next xs) ≤ length xs
-positions_few takes next [] = omega arith
-positions_few takes next (x ∷ xs) = by_test (takes next) (positions_few takes (suc next) xs)
-  where
-    by_test : (t : Bool) → length (at_positions takes (suc next) xs) ≤ length xs
-        → length (if t then x ∷ at_positions takes (suc next) xs else at_positions takes (suc next) xs) ≤ suc (length xs)
-    by_test true later = omega (arith, later)
-    by_test false later = omega (arith, later)
-
-wants_few : (lent xs after : List ℕ) → length (wants lent xs after) ≤ 2 * length xs
-wants_few lent xs after =
-    let shared = filter_few (is_among lent) xs in
-    let rest = extra_few (without lent xs) after in
-    let own = filter_few (λ x. not (is_among lent x)) xs in
-    let both = length-append (common lent xs) (extra (without lent xs) after) in
-    omega (arith, shared, rest, own, both)
-
-used_few : (positions : PositionTable) (form : Form) (arguments : List ℕ) → length (used positions form arguments) ≤ length arguments
+pub used_few : (positions : PositionTable) (form : Form) (arguments : List ℕ) → length (used positions form arguments) ≤ length arguments
 used_few positions (Call f) arguments = positions_few (is_owned positions [] f) 0 arguments
 used_few positions (Number n) arguments = omega arith
 used_few positions Nothing arguments = omega arith
@@ -63,6 +31,17 @@ used_few positions (Unary operator) arguments = omega arith
 used_few positions (Binary operator) arguments = omega arith
 used_few positions (Print form) arguments = omega arith
 used_few positions (Construct c) arguments = omega arith
+
+pub lends_few : (positions : PositionTable) (form : Form) (arguments : List ℕ) → length (lends positions form arguments) ≤ length arguments
+lends_few positions (Call f) arguments = positions_few (is_lent positions f) 0 arguments
+lends_few positions (Number n) arguments = omega arith
+lends_few positions Nothing arguments = omega arith
+lends_few positions ReadByte arguments = omega arith
+lends_few positions (PrintText form text) arguments = omega arith
+lends_few positions (Unary operator) arguments = omega arith
+lends_few positions (Binary operator) arguments = omega arith
+lends_few positions (Print form) arguments = omega arith
+lends_few positions (Construct c) arguments = omega arith
 
 -- ---- dups and drops
 

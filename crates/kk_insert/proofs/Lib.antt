@@ -30,3 +30,5 @@ pub mod Numbered
 pub mod Giving
 pub mod Gains
 pub mod Lowering
+pub mod Below
+pub mod Short

@@ -12,6 +12,7 @@ use Rattle.kk_core.specs.CoreTyping.{IsCoreTyped, IsFunctionSmall, AreSmall, IsS
 use Rattle.kk_core.specs.Sizes.{most_variables}
 use Rattle.kk_counted.specs.CountBounds.{SpendsAtMost, gains, AllSpendAtMost}
 use Rattle.kk_counted.specs.CountedCodes.{CountedFunction}
+use Rattle.kk_counted.specs.Lengths.{AreShort}
 use Rattle.kk_counted.specs.Lowerable.{IsLowerable, AreLowerable}
 use Rattle.kk_counted.specs.Marks.{CellMarks, IsMarked, AreMarked}
 use Rattle.kk_counted.specs.Spending.{SpendsParameters, IsSpent}
@@ -25,6 +26,7 @@ use Rattle.kk_insert.proofs.Giving.{function_well}
 use Rattle.kk_insert.proofs.MarkedPrograms.{typed_is_marked}
 use Rattle.kk_insert.proofs.Numbered.{function_numbered}
 use Rattle.kk_insert.proofs.Rows.{function_has_arms}
+use Rattle.kk_insert.proofs.Short.{inserted_short}
 use Rattle.kk_insert.proofs.Typed.{signature_there, function_there}
 
 -- ---- limits
@@ -145,3 +147,8 @@ pub typed_can_be_lowered : (positions : PositionTable) (table : Table) (code : P
 typed_can_be_lowered positions table code typed small rows ground fields =
     let marked = typed_is_marked positions table ground typed.truths code typed in
     can_be_lowered positions table code typed small (marks_of_types table) marked.0 marked.1 rows fields
+
+pub typed_is_short : (positions : PositionTable) (table : Table) (code : ProgramCode) → IsCoreTyped table code → IsSmall code
+    → HaveFewFields table.constructors → AreShort (inserted positions code).functions
+typed_is_short positions table code typed small fields =
+    inserted_short positions table code typed small (has_few table code typed small fields)

@@ -16,6 +16,7 @@ ghost use Rattle.kk_counted.specs.CountedStates.{CountedState};
 ghost use Rattle.kk_counted.specs.Keeping.{FitsAlways, HasShapeAlways};
 ghost use Rattle.kk_counted.specs.Kinds.{HasKindsAlways};
 ghost use Rattle.kk_counted.specs.CountBounds.{AllSpendAtMost};
+ghost use Rattle.kk_counted.specs.Lengths.{AreShort};
 ghost use Rattle.kk_counted.specs.Lowerable.{AreLowerable};
 ghost use Rattle.kk_counted.specs.Marks.{AreMarked};
 ghost use Rattle.kk_counted.specs.Spending.{IsSpent};
@@ -50,7 +51,7 @@ pub fn inserted_code_keeps_meaning()
 
 /// The code of an inserted program has the shape of a typed program in each state, its operators and prints take values without cells,
 /// and it takes values of the kinds that it asks for where core code does: a branch finds a truth, operators and prints find numbers and
-/// truths, and each test of a case finds an answer of the type of its edges. The core program must never be stuck. It is a law, and does
+/// truths, and each answer that a test of a case finds is of the type of its edges. The core program must never be stuck. It is a law, and does
 /// nothing.
 pub fn inserted_code_has_its_kinds()
     ensures shape { (setting : CoreSetting) (constructors : List ConstructorTree) (weight : CoreState → ℕ) (weights : CountedState → ℕ)
@@ -99,4 +100,11 @@ pub fn inserted_code_can_be_lowered()
     ensures little { (positions : PositionTable) (table : Table) (code : ProgramCode) → IsCoreTyped table code → IsSmall code
         → HaveFewFields table.constructors → IsSpent positions (inserted positions code)
         → AllSpendAtMost (inserted positions code) most_spent }
+{}
+
+/// The insertion of a typed program within the limits is short, and has few forms on values: before and behind each form of the core
+/// form there are no more dups and drops than there are variables, and some for the form's arguments. It is a law, and does nothing.
+pub fn inserted_code_is_short()
+    ensures { (positions : PositionTable) (table : Table) (code : ProgramCode) → IsCoreTyped table code → IsSmall code
+        → HaveFewFields table.constructors → AreShort (inserted positions code).functions }
 {}

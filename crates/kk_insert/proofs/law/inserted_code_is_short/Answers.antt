@@ -1,0 +1,5 @@
+use Rattle.kk_insert.proofs.Lowering.{typed_is_short}
+use Rattle.kk_insert.proofs.law.inserted_code_is_short.Goals as goal
+
+pub returns : goal.returns
+returns c = typed_is_short
