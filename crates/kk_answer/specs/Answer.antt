@@ -8,7 +8,7 @@ use Rattle.kk_front.specs.Judgement.{wants_memory}
 use Rattle.rv_sim.specs.declared.halt.Halt.{Halt}
 use Rattle.rv_sim.specs.declared.halt.Halt.TheVariants as OfHalt
 use Rattle.kk_answer.specs.declared.answer.Answer.{Answer}
-use Rattle.kk_answer.specs.declared.answer.Answer.TheVariants.{Done, Usage, Refused, NotBuilt, NoMemory, FileFault, Ran, Measured, BadImage, Simulated}
+use Rattle.kk_answer.specs.declared.answer.Answer.TheVariants.{Done, Usage, Refused, NoMemory, FileFault, Ran, Measured, BadImage, Simulated}
 use Rattle.kk_answer.specs.declared.answer.RunEnd.{RunEnd}
 use Rattle.kk_answer.specs.declared.answer.RunEnd.TheVariants as OfRun
 
@@ -41,7 +41,6 @@ abbrev pub status_of : Answer → Status
 status_of Done = OfStatus.Done
 status_of Usage = OfStatus.Usage
 status_of (Refused refusal) = refusal_status refusal
-status_of NotBuilt = OfStatus.Refused
 status_of NoMemory = OfStatus.NoMemory
 status_of (FileFault name) = OfStatus.FileFault
 status_of (Ran end cells depth steps) = run_status end

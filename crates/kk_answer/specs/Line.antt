@@ -15,7 +15,7 @@ use Rattle.kk_base.specs.declared.refusal.Refusal.TheVariants as OfText
 use Rattle.rv_sim.specs.declared.halt.Halt.{Halt}
 use Rattle.rv_sim.specs.declared.halt.Halt.TheVariants as OfHalt
 use Rattle.kk_answer.specs.declared.answer.Answer.{Answer}
-use Rattle.kk_answer.specs.declared.answer.Answer.TheVariants.{Done, Usage, Refused, NotBuilt, NoMemory, FileFault, Ran, Measured, BadImage, Simulated}
+use Rattle.kk_answer.specs.declared.answer.Answer.TheVariants.{Done, Usage, Refused, NoMemory, FileFault, Ran, Measured, BadImage, Simulated}
 use Rattle.kk_answer.specs.declared.answer.RunEnd.{RunEnd}
 use Rattle.kk_answer.specs.declared.answer.RunEnd.TheVariants as OfRun
 
@@ -101,10 +101,6 @@ refusal_line (OfText.NotCovered function example) = not_covered_line function ex
 refusal_line (OfText.Over limit) = limit_line limit
 refusal_line OfText.NoMemory = no_memory_line
 
--- the text is accepted, and the code of its program is too large for an image
-abbrev pub not_built_line : List ℕ
-not_built_line = codes "refused: the code of this program is too large for an image" ++ line_feed
-
 -- a budget of instructions is spent; a device of the image failed
 abbrev pub steps_spent_line : ℕ → List ℕ
 steps_spent_line steps = codes "steps spent: " ++ (decimal steps ++ line_feed)
@@ -154,7 +150,6 @@ abbrev pub line_of : Answer → Option (List ℕ)
 line_of Done = None
 line_of Usage = Some (codes "usage: kokarv check FILE, build FILE -o OUT, run FILE, sim IMAGE, eval FILE, bench SEED SIZE" ++ line_feed)
 line_of (Refused refusal) = Some (refusal_line refusal)
-line_of NotBuilt = Some not_built_line
 line_of NoMemory = Some no_memory_line
 line_of (FileFault name) = Some (codes "file fault: " ++ (name.now ++ line_feed))
 line_of (Ran end cells depth steps) = run_line end cells depth steps

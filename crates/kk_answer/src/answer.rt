@@ -14,8 +14,6 @@ pub enum Answer<'a> {
     Usage,
     /// The text is not accepted.
     Refused(Refusal),
-    /// The text is accepted, and the code of its program is too large for an image.
-    NotBuilt,
     /// Memory was refused.
     NoMemory,
     /// The file of this name could not be read or written.
@@ -73,7 +71,6 @@ impl Answer<'_> {
             Answer::Done => Status::Done,
             Answer::Usage => Status::Usage,
             Answer::Refused(refusal) => refusal_status(refusal),
-            Answer::NotBuilt => Status::Refused,
             Answer::NoMemory => Status::NoMemory,
             Answer::FileFault { .. } => Status::FileFault,
             Answer::Ran { end, .. } => end.status(),

@@ -13,7 +13,6 @@ use rv_sim::Halt;
 const USAGE: &str =
     "usage: kokarv check FILE, build FILE -o OUT, run FILE, sim IMAGE, eval FILE, bench SEED SIZE\n";
 
-const NOT_BUILT: &str = "refused: the code of this program is too large for an image\n";
 
 /// A part of a line.
 #[derive(Clone, Copy)]
@@ -75,7 +74,6 @@ impl Answer<'_> {
             Answer::Done => None,
             Answer::Usage => Some(Line::text(USAGE)),
             Answer::Refused(refusal) => Some(refusal_line(refusal)),
-            Answer::NotBuilt => Some(Line::text(NOT_BUILT)),
             Answer::NoMemory => Some(no_memory_line()),
             Answer::FileFault { name } => Some(Line::new(&[
                 Piece::Text("file fault: "),

@@ -16,7 +16,7 @@ use Rattle.rv_isa.specs.Primitives.{go, ended, stuck}
 use Rattle.rv_isa.specs.Processor.{Ending, start, goes}
 use Rattle.rv_isa.specs.Execution.{rv32im, run}
 use Rattle.rv_isa.specs.ProcessorMachine.{processor_machine}
-use Rattle.rv_isa.specs.WellFormed.{all_lines}
+use Rattle.rv_isa.specs.Costs.{functions_length, placed_functions_length}
 use Rattle.elf_image.specs.Parts.{memory_of}
 use Rattle.elf_image.specs.Program.{IsProgramImage, program_parts, text_start, memory_start}
 use Rattle.elf_image.specs.declared.part.Part.{Part}
@@ -26,15 +26,14 @@ use Rattle.cell_runtime.specs.Texts.{IsText}
 use Rattle.rv_world.specs.Operations.{Constants, all_bytes}
 use Rattle.rv_world.specs.World.{World, first_world, primitives}
 use Rattle.rv_regs.specs.Valid.{IsValid}
-use Rattle.rv_regs.specs.Shape as Shape
-use Rattle.rv_regs.specs.Shape.{IsPlainlyPlaced, most_moves}
+use Rattle.rv_regs.specs.Shape.{IsPlainlyPlaced}
 use Rattle.rv_regs.specs.Relation.{NeverStuck as RegsNeverStuck, StandsFor as RegsStandsFor, Related as RegsRelated, IsNotStuck}
 use Rattle.rv_regs.proofs.Simulating.{agrees, starts, simulates, never_stuck}
 use Rattle.rv_place.specs.Addresses.{frame_size}
 use Rattle.rv_place.specs.Bytes.{IsTextOf}
 use Rattle.rv_place.specs.Images.{IsPlacedImage, EndsWithCells, first_processor, outside_lines}
 use Rattle.rv_place.specs.Running.{NeverStuck}
-use Rattle.rv_place.specs.Texts.{ArePlaceable, ArePlacedWords, map_of, pool_in, constants_of, text_bytes, all_items}
+use Rattle.rv_place.specs.Texts.{ArePlaceable, ArePlacedWords, map_of, pool_in, constants_of, text_bytes, most_text_words, most_constant_bytes}
 use Rattle.rv_place.proofs.BootFits.{FitsImage, fits-image}
 use Rattle.rv_place.proofs.BootSizes.{bytes_most, page_multiple}
 use Rattle.rv_place.specs.declared.words.Words.{Words}
@@ -43,10 +42,6 @@ use Rattle.kk_back.proofs.Placeable.{frame_most, as_many}
 use Rattle.kk_back.proofs.Plain.{placed_is_plain}
 
 -- ---- a runtime and a program that can be placed
-
-same_items : (functions : List PlacedLines) → all_items functions ≡ Shape.all_items functions
-same_items [] = refl
-same_items (function ∷ functions) = ap (λ n. length function.code + n) (same_items functions)
 
 -- what the layers before the placing promise can be placed behind the runtime
 pub placeable : (cells depth : ℕ) (asm : Asm) (placed runtime : Placed) → IsPlaceable (asm_functions asm) (asm_constants asm)
@@ -58,8 +53,8 @@ placeable cells depth asm placed runtime made valid plain runtime_is sizes =
     let same : length placed_are ≡ length functions = as_many functions placed_are valid.functions in
     let frame : frame_size placed_are ≤ 2044 = frame_most placed_are plain.slots in
     let few : length functions < 1025 = made.few in
-    let lines : all_lines functions ≤ 698000 = made.fits.lines in
-    let items : Shape.all_items placed_are ≤ 12 * all_lines functions + 8 * length functions = plain.few_items in
+    let fits : functions_length functions ≤ 400000000 = made.fits.instructions in
+    let shorter : placed_functions_length placed_are ≤ functions_length functions = plain.short in
     let bytes : length (all_bytes (placed_constants placed)) ≡ length (all_bytes (asm_constants asm)) = ap (λ (texts : List (List ℕ)). length (all_bytes texts)) valid.constants in
     let most : length (all_bytes (asm_constants asm)) ≤ 8388608 = made.fits.bytes in
     let bottom_is : runtime.memory.stack_bottom ≡ next_page (32 + 32 * cells + 4) = ap (λ (memory : DataSection). memory.stack_bottom) runtime_is.memory in
@@ -70,7 +65,7 @@ placeable cells depth asm placed runtime made valid plain runtime_is sizes =
       bottom_page = omega (arith, bottom_is, page_multiple (32 + 32 * cells + 4));
       frames = frame;
       few_functions = omega (arith, same, few);
-      few_items = omega (arith, same_items placed_are, lines, items, few);
+      short = omega (arith, fits, shorter);
       few_bytes = omega (arith, bytes, most);
     }
 
@@ -154,7 +149,7 @@ module _ {cells depth : ℕ} {asm : Asm} {placed runtime : Placed} {words : Word
 
   constants_fit : first + length (all_bytes (asm_constants asm)) < 2 ^ 32
   constants_fit =
-      let most : text_bytes runtime placed ≤ 176193536 = bytes_most can_be_placed in
+      let most : text_bytes runtime placed ≤ 4 * most_text_words + most_constant_bytes = bytes_most can_be_placed in
       let bytes : length (all_bytes (placed_constants placed)) ≡ length (all_bytes (asm_constants asm)) = ap (λ (texts : List (List ℕ)). length (all_bytes texts)) makes.valid.constants in
       omega (arith, most, bytes)
 
@@ -162,12 +157,12 @@ module _ {cells depth : ℕ} {asm : Asm} {placed runtime : Placed} {words : Word
       (never : RegsNeverStuck (primitives constants pool) depth (asm_functions asm) (asm_start main (first_world pool input))) where
     -- the assembler code agrees with the placed code from its first function on, which never is at a loss
     placed_agrees : (placed_main : PlacedLines) × (slice_get (placed_functions placed) 0 ≡ Some placed_main)
-        × Agree (asm_machine (primitives constants pool) most_moves depth (asm_functions asm)) (placed_machine (primitives constants pool) depth (placed_functions placed)) 0 (λ steps. steps * 1 + 0 + 1) (asm_start main (first_world pool input)) (placed_start placed_main (first_world pool input))
-    placed_agrees = agrees (primitives constants pool) depth (asm_functions asm) (placed_functions placed) makes.valid.functions most_moves 0 main (first_world pool input) makes.plain.few_moves makes.made.main_is makes.made.main_params never
+        × Agree (asm_machine (primitives constants pool) depth (asm_functions asm)) (placed_machine (primitives constants pool) depth (placed_functions placed)) 0 (λ steps. steps * 1 + 0 + 1) (asm_start main (first_world pool input)) (placed_start placed_main (first_world pool input))
+    placed_agrees = agrees (primitives constants pool) depth (asm_functions asm) (placed_functions placed) makes.valid.functions 0 main (first_world pool input) makes.plain.few_moves makes.made.main_is makes.made.main_params never
 
     goes_on : (placed_main : PlacedLines) × (slice_get (placed_functions placed) 0 ≡ Some placed_main)
         × ((steps : ℕ) → state (placed_machine (primitives constants pool) depth (placed_functions placed)) steps (placed_start placed_main (first_world pool input)) ≢ stuck)
-    goes_on = never_stuck (primitives constants pool) depth (asm_functions asm) (placed_functions placed) makes.valid.functions most_moves 0 main (first_world pool input) makes.plain.few_moves makes.made.main_is makes.made.main_params never
+    goes_on = never_stuck (primitives constants pool) depth (asm_functions asm) (placed_functions placed) makes.valid.functions 0 main (first_world pool input) makes.plain.few_moves makes.made.main_is makes.made.main_params never
 
     same_main : placed_agrees.0 ≡ goes_on.0
     same_main = same_some placed_agrees.0 goes_on.0 (sym placed_agrees.1 ∙ goes_on.1)
@@ -190,26 +185,26 @@ module _ {cells depth : ℕ} {asm : Asm} {placed runtime : Placed} {words : Word
         (subst (λ (placed_main : PlacedLines). (steps : ℕ) → state (placed_machine (primitives constants pool) depth (placed_functions placed)) steps (placed_start placed_main (first_world pool input)) ≢ stuck) (sym same_main) goes_on.2)
 
     pub does : PlacedTextAgrees
-        → (up : ℕ → ℕ) × Agree (asm_machine (primitives constants pool) most_moves depth (asm_functions asm)) (processor_machine rv32im) outside_lines up
+        → (up : ℕ → ℕ) × Agree (asm_machine (primitives constants pool) depth (asm_functions asm)) (processor_machine rv32im) outside_lines up
         (asm_start main (first_world pool input)) (goes (first_processor text runtime.memory.size input))
     does text_agrees =
         let image = text_agrees cells depth runtime placed words text input placed_agrees.0 placed_image bytes placed_never in
         let whole : PlacedTurn World Ending = placed_start placed_agrees.0 (first_world pool input) in
         let low = subst (λ (c : Constants). Agree (placed_machine (primitives c pool) depth (placed_functions placed)) (processor_machine rv32im) outside_lines image.0 whole (goes (first_processor text runtime.memory.size input))) same_constants image.1 in (
           (λ m. image.0 m * 1 + 0 + 1),
-          agree_through (asm_machine (primitives constants pool) most_moves depth (asm_functions asm)) (placed_machine (primitives constants pool) depth (placed_functions placed)) (processor_machine rv32im)
+          agree_through (asm_machine (primitives constants pool) depth (asm_functions asm)) (placed_machine (primitives constants pool) depth (placed_functions placed)) (processor_machine rv32im)
               0 outside_lines (λ steps. steps * 1 + 0 + 1) image.0 (asm_start main (first_world pool input)) whole (goes (first_processor text runtime.memory.size input)) placed_agrees.2 low,
         )
 
     -- where the assembler code has ended, so has the placed code
     placed_ends : (n : ℕ) (how : Ending) (world : World)
-        → state (asm_machine (primitives constants pool) most_moves depth (asm_functions asm)) n (asm_start main (first_world pool input)) ≡ ended how world
+        → state (asm_machine (primitives constants pool) depth (asm_functions asm)) n (asm_start main (first_world pool input)) ≡ ended how world
         → (steps : ℕ) × (state (placed_machine (primitives constants pool) depth (placed_functions placed)) steps (placed_start placed_agrees.0 (first_world pool input)) ≡ ended how world)
     placed_ends n how world is =
-        let begins = starts (primitives constants pool) depth (asm_functions asm) (placed_functions placed) makes.valid.functions most_moves 0 main (first_world pool input) makes.plain.few_moves makes.made.main_is makes.made.main_params never in
+        let begins = starts (primitives constants pool) depth (asm_functions asm) (placed_functions placed) makes.valid.functions 0 main (first_world pool input) makes.plain.few_moves makes.made.main_is makes.made.main_params never in
         let same : begins.0 ≡ placed_agrees.0 = same_some begins.0 placed_agrees.0 (sym begins.1 ∙ placed_agrees.1) in
-        let reaches = simulates_many (asm_machine (primitives constants pool) most_moves depth (asm_functions asm)) (placed_machine (primitives constants pool) depth (placed_functions placed))
-        (RegsRelated (primitives constants pool) most_moves depth (asm_functions asm)) IsNotStuck 1 (simulates (primitives constants pool) depth (asm_functions asm) (placed_functions placed) makes.valid.functions most_moves makes.plain.few_moves)
+        let reaches = simulates_many (asm_machine (primitives constants pool) depth (asm_functions asm)) (placed_machine (primitives constants pool) depth (placed_functions placed))
+        (RegsRelated (primitives constants pool) depth (asm_functions asm)) IsNotStuck 1 (simulates (primitives constants pool) depth (asm_functions asm) (placed_functions placed) makes.valid.functions makes.plain.few_moves)
         n 0 0 (asm_start main (first_world pool input)) (placed_start begins.0 (first_world pool input)) begins.2 in
         let last = state (placed_machine (primitives constants pool) depth (placed_functions placed)) reaches.steps (placed_start begins.0 (first_world pool input)) in
         let stands = subst (λ (t : AsmTurn World Ending). RegsStandsFor t last) is reaches.related.1.0 in (
@@ -218,7 +213,7 @@ module _ {cells depth : ℕ} {asm : Asm} {placed runtime : Placed} {words : Word
         )
 
     pub ends : PlacedTextEnds → (n : ℕ) (how : Ending) (world : World)
-        → state (asm_machine (primitives constants pool) most_moves depth (asm_functions asm)) n (asm_start main (first_world pool input)) ≡ ended how world
+        → state (asm_machine (primitives constants pool) depth (asm_functions asm)) n (asm_start main (first_world pool input)) ≡ ended how world
         → (count : ℕ) × EndsWithCells pool how world (run count (first_processor text runtime.memory.size input))
     ends text_ends n how world is =
         let there = placed_ends n how world is in
@@ -247,7 +242,7 @@ image_of {cells} {depth} {asm} {placed} {runtime} {words} {text} makes text_agre
       does = λ input bytes never.
           let whole = does makes input bytes never text_agrees in (
             whole.0,
-            subst (λ (s : _). Agree (asm_machine (primitives (constants makes) (pool makes)) most_moves depth (asm_functions asm)) (processor_machine rv32im) outside_lines whole.0 (asm_start makes.made.main (first_world (pool makes) input)) (goes (s input))) (sym there)
+            subst (λ (s : _). Agree (asm_machine (primitives (constants makes) (pool makes)) depth (asm_functions asm)) (processor_machine rv32im) outside_lines whole.0 (asm_start makes.made.main (first_world (pool makes) input)) (goes (s input))) (sym there)
                 whole.1,
           );
       ends = λ input bytes never steps how world is.

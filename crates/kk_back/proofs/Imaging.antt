@@ -1,105 +1,169 @@
--- The image of a program in core form does what the program does: its assembler code does, and the image does what that does.
-use Rattle.std.proofs.Common.{◌≡◌, ◌≢◌, ◌*◌, ◌<◌, ◌≤◌, ℕ, List, All, length, ap, subst, ◌∙◌, arith}
+-- The image of a program in counted form does what the program does: its assembler code does, and the image does what that does.
+use Rattle.std.proofs.Common.{◌≡◌, ◌≢◌, ◌*◌, ◌%◌, ◌<◌, ◌≤◌, ℕ, List, [], All, Some, length, slice_get, sym, ap, subst, ◌∙◌, arith}
+use Rattle.kk_base.specs.Agreements.{Agree}
 use Rattle.kk_base.specs.Machines.{state}
-use Rattle.kk_base.specs.Sizes.{AreSizes}
 use Rattle.kk_base.proofs.Agreements.{agree_through}
-use Rattle.kk_syntax.specs.PositionsOf.{PositionTable}
-use Rattle.kk_core.specs.Codes.{ProgramCode}
-use Rattle.kk_core.specs.CoreTyping.{IsSmall, all_forms}
-use Rattle.kk_core.specs.CoreStates.{core_first_state}
-use Rattle.rv_isa.specs.AsmCode.{Lines}
-use Rattle.rv_isa.specs.AsmMachine.{asm_machine, asm_start}
-use Rattle.rv_isa.specs.Execution.{rv32im, run}
-use Rattle.rv_isa.specs.FreeCells.{cells_from, free_list}
-use Rattle.rv_isa.specs.Primitives.{stuck}
-use Rattle.rv_isa.specs.Processor.{Processor, start, goes}
-use Rattle.rv_isa.specs.ProcessorMachine.{processor_machine}
-use Rattle.rv_isa.specs.WellFormed.{all_lines}
+use Rattle.kk_counted.specs.CountedCodes.{CountedFunction, CountedProgram}
+use Rattle.kk_counted.specs.CountedCosts.{counted_cost}
+use Rattle.kk_counted.specs.CountedStates.{CountedSetting, stopped, counted_first_state}
+use Rattle.kk_counted.specs.Heaps.{busy}
+use Rattle.kk_counted.specs.Keeping.{counted_after}
+use Rattle.kk_counted.specs.Lengths.{functions_length, all_computes}
+use Rattle.kk_counted.specs.Lowerable.{AreLowerable}
+use Rattle.kk_counted.specs.Marks.{CellMarks}
+use Rattle.kk_counted.specs.declared.shape.Shape.{Shape}
+use Rattle.cell_heap.specs.Pool.{Pool}
 use Rattle.elf_image.specs.Parts.{memory_of}
 use Rattle.elf_image.specs.declared.part.Part.{Part}
-use Rattle.cell_heap.specs.Blocks.{Cells, unused_cells}
-use Rattle.cell_heap.specs.Cells.{occurs}
-use Rattle.cell_heap.specs.Pool.{Pool}
-use Rattle.cell_heap.proofs.Counted.{length-cells_from}
-use Rattle.cell_heap.proofs.FreeCells.{free_list-is}
-use Rattle.rv_lower.specs.Meaning.{IsAsmOf, core_outside, setting_of_core}
+use Rattle.rv_isa.specs.AsmCode.{Lines}
+use Rattle.rv_isa.specs.AsmMachine.{asm_machine, asm_start}
+use Rattle.rv_isa.specs.Costs as Costs
+use Rattle.rv_isa.specs.Execution.{rv32im, run}
+use Rattle.rv_isa.specs.Primitives.{stuck}
+use Rattle.rv_isa.specs.Processor.{start, goes}
+use Rattle.rv_isa.specs.ProcessorMachine.{processor_machine}
+use Rattle.rv_lower.specs.Lowered.{from_to}
+use Rattle.rv_cells.specs.Fitting.{IsFit}
+use Rattle.rv_cells.specs.Layout.{Layout, IsNarrow}
+use Rattle.rv_cells.specs.Lowered.{IsLoweredForm}
+use Rattle.rv_cells.specs.Meaning.{counted_outside, setting_on, IsProgramLowered, RunsTheSame}
+use Rattle.rv_cells.specs.Tables.{table_of, layout_in}
 use Rattle.rv_place.specs.Images.{outside_lines}
-use Rattle.rv_place.specs.Running.{HasCells}
-use Rattle.rv_regs.specs.Shape.{most_moves}
 use Rattle.rv_world.specs.Operations.{Constants, all_bytes}
 use Rattle.rv_world.specs.World.{first_world, primitives}
-use Rattle.kk_back.specs.Assembled.{IsPlaceable, IsAsmImage}
+use Rattle.kk_back.specs.Assembled.{IsPlaceable, IsAsmImage, IsImageOfAsm}
+use Rattle.kk_back.specs.Images.{counted_setting, IsRunnable, IsImageOf}
 use Rattle.kk_back.specs.FreeCells.{AreAllFree}
-use Rattle.kk_back.specs.Images.{IsImageOf, step_instructions}
+use Rattle.kk_back.specs.Sizes.{FitsText}
+use Rattle.kk_back.proofs.Assembling.{same_some}
+use Rattle.kk_back.proofs.FreeCells.{all_are_free}
 
-sizes_of : (forms lines functions bytes : ℕ) → forms ≤ 17408 → functions ≤ 1024 → lines ≤ 12 * forms → bytes ≤ 256 * forms
-    → (lines ≤ 698000) × (bytes ≤ 8388608)
-sizes_of forms lines functions bytes few_forms few_functions few_lines few_bytes =
-    (omega (arith, few_forms, few_lines), omega (arith, few_forms, few_bytes))
+-- the law that assembler code does what a program in counted form does
+abbrev pub RunTheSame : Type 0
+RunTheSame =
+    (layout : Layout) (marks : CellMarks) (code : CountedProgram) (constants : List (List ℕ)) (functions : List Lines)
+    → (lowered : IsProgramLowered layout marks code constants functions)
+    → (pool : Pool) (depth first : ℕ) (input : List ℕ) → pool.first % 32 ≡ 0 → 0 < pool.first
+    → All (λ byte. byte < 256) input
+    → ((n : ℕ) → IsFit layout (counted_after counted_cost (setting_on code pool depth) input n))
+    → RunsTheSame code constants functions lowered.main_lines pool depth first input
 
--- the assembler code of a small program can be placed
-pub placeable_of : (code : ProgramCode) (functions : List Lines) (texts : List (List ℕ)) → IsSmall code → IsAsmOf code functions texts
-    → IsPlaceable functions texts
-placeable_of code functions texts small made =
-    let few : length code.functions ≤ 1024 = small.few in
-    let both = sizes_of (all_forms code.functions) (all_lines functions) (length code.functions) (length (all_bytes texts)) small.all few
-    made.few_lines made.few_bytes in
-    record {
-      formed = made.formed;
-      fits = record { lines = both.0; bytes = both.1 };
-      few = omega (arith, made.as_many, few);
-      main = made.main;
-      main_is = made.main_is;
-      main_params = made.main_params;
+-- the law that a program that can be lowered, and is so, is one whose assembler code is well formed
+abbrev pub AreWellLowered : Type 0
+AreWellLowered =
+    (shape : Shape) (code : CountedProgram) (texts : List (List ℕ)) (each : List Lines)
+    → AreLowerable (table_of shape) code.functions → IsLoweredForm shape code.texts code.functions each texts
+    → IsNarrow (layout_in shape) → (layout_in shape).tag 0 ≡ 0 → (layout_in shape).tag 1 ≡ 1
+    → (main : CountedFunction) → slice_get code.functions code.main ≡ Some main → main.parameters ≡ 0
+    → IsProgramLowered (layout_in shape) (table_of shape) code texts each
+
+-- the law that the assembler code of a program in counted form is no longer than that form tells
+abbrev pub AreShortLowered : Type 0
+AreShortLowered =
+    (shape : Shape) (functions : List CountedFunction) (literals texts : List (List ℕ)) (each : List Lines)
+    → AreLowerable (table_of shape) functions → IsNarrow (layout_in shape) → IsLoweredForm shape literals functions each texts
+    → (Costs.functions_length each ≤ functions_length functions) × (length (all_bytes texts) ≤ 256 * all_computes functions)
+
+no_params : (names : List ℕ) (n : ℕ) → names ≡ from_to 0 n → n ≡ 0 → names ≡ []
+no_params names n are none = are ∙ ap (from_to 0) none
+
+module _ (shape : Shape) (code : CountedProgram) (functions : List Lines) (texts : List (List ℕ)) (cells depth : ℕ)
+    (runnable : IsRunnable shape code cells depth)
+    (form : IsLoweredForm shape code.texts code.functions functions texts) (are_well_lowered : AreWellLowered) where
+  -- its assembler code is well formed, and its first function is that of `main`
+  lowered : IsProgramLowered (layout_in shape) (table_of shape) code texts functions
+  lowered =
+      are_well_lowered shape code texts functions runnable.lowerable form runnable.narrow runnable.falsity runnable.truth_is
+      runnable.main runnable.main_is runnable.main_alone
+
+  main_there : slice_get functions 0 ≡ Some lowered.main_lines
+  main_there = sym (ap (slice_get functions) runnable.main_first) ∙ lowered.lines_are
+
+  -- it is short, and so fits a text
+  fits : AreShortLowered → FitsText functions texts
+  fits are_short_lowered =
+      let short =
+      are_short_lowered shape code.functions code.texts texts functions runnable.lowerable runnable.narrow form in
+      let code_length = short.0 in
+      let bytes = short.1 in
+      let most_length = runnable.short.length in
+      let most_computes = runnable.short.computes in
+      record { instructions = omega (arith, code_length, most_length); bytes = omega (arith, bytes, most_computes) }
+
+  -- so it can be placed
+  pub placeable_of : AreShortLowered → IsPlaceable functions texts
+  placeable_of are_short_lowered =
+      let there = lowered.each code.main lowered.main lowered.main_is in
+      let same : there.0 ≡ lowered.main_lines = same_some there.0 lowered.main_lines (sym there.1 ∙ lowered.lines_are) in
+      let params : there.0.params ≡ [] = no_params there.0.params lowered.main.parameters there.2.lowered.params lowered.main_alone in
+      let many = form.as_many in
+      let few = runnable.few in
+      record {
+        formed = lowered.formed;
+        fits = fits are_short_lowered;
+        few = omega (arith, many, few);
+        main = lowered.main_lines;
+        main_is = main_there;
+        main_params = sym (ap (λ (lines : Lines). lines.params) same) ∙ params;
+      }
+
+  module _ (run_the_same : RunTheSame) (entry : ℕ) (parts : List Part)
+      (of_asm : IsImageOfAsm functions texts cells depth entry parts) where
+    image : IsAsmImage functions texts lowered.main_lines cells depth entry parts
+    image = of_asm lowered.main_lines main_there
+
+    abbrev constants : Constants
+    constants = record { first = image.first; texts = texts }
+
+    abbrev setting : CountedSetting
+    setting = counted_setting code cells depth
+
+    same_setting : setting_on code image.pool depth ≡ setting
+    same_setting = ap (λ n. counted_setting code n depth) image.cells_are
+
+    runs : (input : List ℕ) → All (λ byte. byte < 256) input
+        → RunsTheSame code texts functions lowered.main_lines image.pool depth image.first input
+    runs input bytes =
+        run_the_same (layout_in shape) (table_of shape) code texts functions lowered image.pool depth image.first input
+        image.aligned image.behind bytes
+        (λ n. subst (λ (s : CountedSetting). IsFit (layout_in shape) (counted_after counted_cost s input n))
+        (sym same_setting) (runnable.fit counted_cost input bytes n))
+
+    never : (input : List ℕ) → All (λ byte. byte < 256) input → (n : ℕ)
+        → state (asm_machine (primitives constants image.pool) depth functions) n (asm_start lowered.main_lines (first_world image.pool input))
+        ≢ stuck
+    never input bytes n = (runs input bytes).never_stuck n
+
+    -- the image does what the program does
+    pub image_is : IsImageOf code cells depth entry parts
+    image_is = record {
+      program = image.program;
+      does = λ input bytes.
+          let upper = (runs input bytes).agrees in
+          let low = image.does input bytes (never input bytes) in (
+            (λ m. upper.0 (low.0 m)),
+            subst (λ (s : CountedSetting). Agree (counted_outside s) (processor_machine rv32im) outside_lines
+                (λ m. upper.0 (low.0 m)) (counted_first_state s input) (goes (start (memory_of parts) entry input))) same_setting
+                (agree_through (counted_outside (setting_on code image.pool depth))
+                (asm_machine (primitives constants image.pool) depth functions) (processor_machine rv32im) 0
+                outside_lines upper.0 low.0
+                (counted_first_state (setting_on code image.pool depth) input)
+                (asm_start lowered.main_lines (first_world image.pool input))
+                (goes (start (memory_of parts) entry input)) upper.1 low.1),
+          );
+      leaves_cells = λ input bytes n by stops empty.
+          let ends = (runs input bytes).ends n by
+          (subst (λ (s : CountedSetting). (counted_after counted_cost s input n).control ≡ stopped by) (sym same_setting)
+          stops) in
+          let last = image.ends input bytes (never input bytes) ends.0 _ ends.1 ends.2 in
+          let all = ends.3 (subst (λ (s : CountedSetting). busy (counted_after counted_cost s input n).heap ≡ 0)
+          (sym same_setting) empty) in (
+            last.0,
+            (
+              last.1.ending,
+              subst (λ n. AreAllFree n (run last.0 (start (memory_of parts) entry input)).processor) image.cells_are
+                  (all_are_free image.pool ends.1.cells (run last.0 (start (memory_of parts) entry input)).processor all
+                  last.1.memory),
+            ),
+          );
     }
-
--- where no cell was used all are free
-all_free_cells : (pool : Pool) (cells : Cells) (s : Processor) → cells ≡ unused_cells pool → HasCells pool cells s
-    → AreAllFree pool.cells s
-all_free_cells pool cells s none has =
-    let fresh = subst (λ c. HasCells pool c s) none has in
-    let is : free_list pool.cells s ≡ cells_from pool.first pool.cells =
-    free_list-is fresh.1.memory ∙ ap (cells_from pool.first) (omega arith) in
-    record {
-      first = pool.first;
-      aligned = has.1.memory.usable.aligned;
-      stores = has.1.memory.usable.stores;
-      each_once = λ x. ap (occurs x) is;
-      number = ap length is ∙ length-cells_from pool.first pool.cells;
-    }
-
-module _ (code : ProgramCode) (functions : List Lines) (texts : List (List ℕ)) (small : IsSmall code) (made : IsAsmOf code functions texts)
-    (cells depth entry : ℕ) (parts : List Part) (sizes : AreSizes cells depth)
-    (image : IsAsmImage functions texts made.main cells depth entry parts) where
-  abbrev constants : Constants
-  constants = record { first = image.first; texts = texts }
-
-  never : (positions : PositionTable) (input : List ℕ) → All (λ byte. byte < 256) input → (n : ℕ)
-      → state (asm_machine (primitives constants image.pool) 0 depth functions) n (asm_start made.main (first_world image.pool input)) ≢ stuck
-  never positions input bytes n is =
-      made.does.never_stuck positions image.pool cells depth image.first n input sizes.some_depth bytes image.constants_fit is
-
-  pub image_is : IsImageOf code cells depth entry parts
-  image_is = record {
-    program = image.program;
-    does = λ positions input bytes.
-        let core = made.does.agrees positions image.pool cells depth image.first most_moves input sizes.some_depth bytes image.constants_fit in
-        let low = image.does input bytes (never positions input bytes) in (
-          (λ m. core.0 (low.0 m)),
-          agree_through (core_outside step_instructions (setting_of_core code positions cells depth))
-              (asm_machine (primitives constants image.pool) most_moves depth functions) (processor_machine rv32im) 0 outside_lines core.0 low.0
-              (core_first_state (setting_of_core code positions cells depth) input) (asm_start made.main (first_world image.pool input))
-              (goes (start (memory_of parts) entry input)) core.1 low.1,
-        );
-    leaves_cells = λ positions input bytes n by stops.
-        let ends = made.does.leaves_cells positions image.pool cells depth image.first most_moves n input by sizes.some_depth bytes
-        image.constants_fit stops in
-        let last = image.ends input bytes (never positions input bytes) ends.0 _ ends.1 ends.2 in (
-          last.0,
-          (
-            last.1.ending,
-            subst (λ n. AreAllFree n (run last.0 (start (memory_of parts) entry input)).processor) image.cells_are
-                (all_free_cells image.pool ends.1.cells (run last.0 (start (memory_of parts) entry input)).processor ends.3 last.1.memory),
-          ),
-        );
-  }

@@ -1,6 +1,5 @@
 pub mod Placeable
 pub mod Plain
 pub mod Assembling
-pub mod Imaging
 pub mod FreeCells
-pub mod CountedImaging
+pub mod Imaging

@@ -1,4 +1,4 @@
--- What the assignment of registers gives can be placed: its frames are small, and its lines are few.
+-- What the assignment of registers gives can be placed: its frames are small.
 use Rattle.std.proofs.Common.{◌≡◌, ◌≤◌, suc, List, [], ◌∷◌, All, length, refl, ap, arith}
 use Rattle.std.specs.List.{AllByRecursion}
 use Rattle.std.proofs.lemmas.List.Elements.{All-head}

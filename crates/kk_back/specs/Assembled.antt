@@ -14,7 +14,6 @@ use Rattle.rv_isa.specs.Processor.{Ending, start, goes}
 use Rattle.rv_isa.specs.ProcessorMachine.{processor_machine}
 use Rattle.rv_isa.specs.WellFormed.{AreWellFormed}
 use Rattle.rv_place.specs.Images.{EndsWithCells, outside_lines}
-use Rattle.rv_regs.specs.Shape.{most_moves}
 use Rattle.rv_world.specs.Operations.{all_bytes}
 use Rattle.rv_world.specs.World.{World, first_world, primitives}
 use Rattle.kk_back.specs.Sizes.{FitsText}
@@ -41,16 +40,16 @@ pub record IsAsmImage (functions : List Lines) (texts : List (List ℕ)) (main :
   pub first : ℕ
   pub constants_fit : first + length (all_bytes texts) < 2 ^ 32
   pub does : (input : List ℕ) → All (λ byte. byte < 256) input
-      → ((n : ℕ) → state (asm_machine (primitives (record { first = first; texts = texts }) pool) 0 depth functions) n
+      → ((n : ℕ) → state (asm_machine (primitives (record { first = first; texts = texts }) pool) depth functions) n
       (asm_start main (first_world pool input)) ≢ stuck)
-      → (up : ℕ → ℕ) × Agree (asm_machine (primitives (record { first = first; texts = texts }) pool) most_moves depth functions)
+      → (up : ℕ → ℕ) × Agree (asm_machine (primitives (record { first = first; texts = texts }) pool) depth functions)
       (processor_machine rv32im) outside_lines up (asm_start main (first_world pool input))
       (goes (start (memory_of parts) entry input))
   pub ends : (input : List ℕ) → All (λ byte. byte < 256) input
-      → ((n : ℕ) → state (asm_machine (primitives (record { first = first; texts = texts }) pool) 0 depth functions) n
+      → ((n : ℕ) → state (asm_machine (primitives (record { first = first; texts = texts }) pool) depth functions) n
       (asm_start main (first_world pool input)) ≢ stuck)
       → (steps : ℕ) (how : Ending) (world : World)
-      → state (asm_machine (primitives (record { first = first; texts = texts }) pool) most_moves depth functions) steps
+      → state (asm_machine (primitives (record { first = first; texts = texts }) pool) depth functions) steps
       (asm_start main (first_world pool input)) ≡ ended how world
       → (count : ℕ) × EndsWithCells pool how world (run count (start (memory_of parts) entry input))
 

@@ -2,4 +2,3 @@ pub mod Sizes
 pub mod Assembled
 pub mod FreeCells
 pub mod Images
-pub mod CountedImages

@@ -1,12 +1,12 @@
 -- How much assembler code can be placed.
 use Rattle.std.specs.Prelude.{ℕ, ◌≤◌, List, length}
 use Rattle.rv_isa.specs.AsmCode.{Lines}
-use Rattle.rv_isa.specs.WellFormed.{all_lines}
+use Rattle.rv_isa.specs.Costs.{functions_length}
 use Rattle.rv_world.specs.Operations.{all_bytes}
 
--- The lines of all functions. With its moves a line is placed as at most 12, and 8,388,608 are placed at most.
-abbrev pub most_lines : ℕ
-most_lines = 698000
+-- the instructions of all functions, with their moves
+abbrev pub most_instructions : ℕ
+most_instructions = 400000000
 
 -- the constant bytes
 abbrev pub most_bytes : ℕ
@@ -14,5 +14,5 @@ most_bytes = 8388608
 
 -- assembler code is within these
 pub record FitsText (functions : List Lines) (constants : List (List ℕ)) : Type 0 where
-  pub lines : all_lines functions ≤ most_lines
+  pub instructions : functions_length functions ≤ most_instructions
   pub bytes : length (all_bytes constants) ≤ most_bytes

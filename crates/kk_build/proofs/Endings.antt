@@ -1,29 +1,34 @@
 -- What a run has come to where it has ended.
-use Rattle.std.proofs.Common.{◌≡◌, ℕ, zero, suc, Option, Some, None, refl, ap}
-use Rattle.kk_base.specs.Machines.{Machine, state, mapped}
-use Rattle.kk_core.specs.CoreStates.{CoreControl, running, stopped, core_end_at}
-use Rattle.kk_counted.specs.CountedStates as Counted
-use Rattle.kk_counted.specs.CountedStates.{CountedControl}
-use Rattle.kk_source.specs.State.{End}
+use Rattle.std.proofs.Common.{◌≡◌, ℕ, nat_eq, true, false, Option, Some, refl, arith, subst}
+use Rattle.std.proofs.lemmas.Bool.Decides.{nat_tests}
+use Rattle.kk_counted.specs.CountedStates.{CountedControl, running, stopped, stuck, counted_end_at}
+use Rattle.kk_source.specs.Ends.{exit_of}
+use Rattle.kk_source.specs.State.{End, ended, heap_full, stack_full}
 use Rattle.rv_isa.specs.Processor.{Ending, going, exited, trapped}
-use Rattle.rv_isa.specs.ProcessorMachine.{ended}
+use Rattle.rv_isa.specs.ProcessorMachine as Machine
 
--- a machine of which less is seen comes to the same states
-pub state_mapped : {S E F W V : Type 0} (events : E → _) (seen : W → V) (machine : Machine S E W) (n : ℕ) (s : S)
-    → state (mapped {F = F} events seen machine) n s ≡ state machine n s
-state_mapped events seen machine zero s = refl
-state_mapped events seen machine (suc n) s = state_mapped events seen machine n (machine.step s).1
-
-pub exited_is : (ending : Ending) (number : ℕ) → ended ending ≡ Some (exited number) → ending ≡ exited number
+pub exited_is : (ending : Ending) (number : ℕ) → Machine.ended ending ≡ Some (exited number) → ending ≡ exited number
 exited_is going number is = absurd (cc)
 exited_is (exited other) number is = cc
 exited_is (trapped cause pc word) number is = absurd (cc)
 
-pub counted_stopped : (control : CountedControl) (by : End) → Counted.counted_end_at control ≡ Some by → control ≡ Counted.stopped by
-counted_stopped (Counted.running code environment joins) by is = absurd (cc)
-counted_stopped (Counted.stopped other) by is = cc
-counted_stopped Counted.stuck by is = absurd (cc)
+pub counted_stopped : (control : CountedControl) (by : End) → counted_end_at control ≡ Some by → control ≡ stopped by
+counted_stopped (running code environment joins) by is = absurd (cc)
+counted_stopped (stopped other) by is = cc
+counted_stopped stuck by is = absurd (cc)
 
-pub core_stopped : (control : CoreControl) (by : End) → core_end_at control ≡ Some by → control ≡ stopped by
-core_stopped (running code environment joins) by is = absurd (cc)
-core_stopped (stopped other) by is = cc
+-- numbers that are told apart are not the same
+apart : (n m : ℕ) → nat_eq n m ≡ false → n ≡ m → ⊥
+apart n m differs same = let equal : nat_eq n m ≡ true = subst (λ (k : ℕ). nat_eq n k ≡ true) same (grind (arith, nat_tests)) in cc
+
+-- no two ends have the same exit number
+pub differ : (a b : End) → exit_of a ≡ exit_of b → a ≡ b
+differ ended ended same = refl
+differ ended heap_full same = absurd (apart 0 101 refl same)
+differ ended stack_full same = absurd (apart 0 102 refl same)
+differ heap_full ended same = absurd (apart 101 0 refl same)
+differ heap_full heap_full same = refl
+differ heap_full stack_full same = absurd (apart 101 102 refl same)
+differ stack_full ended same = absurd (apart 102 0 refl same)
+differ stack_full heap_full same = absurd (apart 102 101 refl same)
+differ stack_full stack_full same = refl

@@ -1,14 +1,11 @@
-pub mod Agreeing
 pub mod Alike
-pub mod CountedBuilding
+pub mod Building
 pub mod Endings
 pub mod FileSteps
-pub mod Instances
 pub mod LentNames
 pub mod Loading
 pub mod Nodes
 pub mod Numbers
 pub mod Runnable
 pub mod Runs
-pub mod Scaled
 pub mod Weighed

@@ -15,7 +15,7 @@ use Rattle.rv_isa.specs.InstructionSet.{run_over}
 use Rattle.rv_isa.specs.Processor.{Ending, Progress, exited, start}
 use Rattle.rv_isa.specs.ProcessorMachine.{ImageAgrees, ImageKeepsUp}
 use Rattle.kk_back.specs.FreeCells.{AreAllFree}
-use Rattle.kk_build.specs.Agreement.{Agrees, KeepsWithin, LeavesNoCell}
+use Rattle.kk_build.specs.Agreement.{Agrees, instructions_within, IsBounded, LeavesNoCell}
 
 -- a machine of a program as the world sees it: the events, and the number of the exit
 abbrev pub outside : {S : Type 0} → Machine S Note End → Machine S Event Ending
@@ -30,9 +30,10 @@ abbrev pub RunAgrees : Setting → List Part → ℕ → List ℕ → Type 0
 RunAgrees setting parts entry input =
     ImageAgrees (store_machine setting) events_of exit_of (first_state setting input) (run_of parts entry input)
 
-abbrev pub RunKeepsUp : (ℕ → ℕ) → Setting → List Part → ℕ → List ℕ → Type 0
-RunKeepsUp within setting parts entry input =
-    ImageKeepsUp (store_machine setting) events_of exit_of within (first_state setting input) (run_of parts entry input)
+abbrev pub RunKeepsUp : ℕ → Setting → List Part → ℕ → List ℕ → Type 0
+RunKeepsUp nodes setting parts entry input =
+    ImageKeepsUp (store_machine setting) events_of exit_of (instructions_within nodes) (first_state setting input)
+    (run_of parts entry input)
 
 abbrev pub RunLeavesNone : Setting → List Part → ℕ → List ℕ → Type 0
 RunLeavesNone setting parts entry input =
@@ -55,11 +56,11 @@ module _ {file : List ℕ} {entry : ℕ} {parts : List Part} (loaded : IsLoaded 
         agrees = λ input bytes. of_file (λ p e. RunAgrees setting p e input) (agrees input bytes);
       }
 
-  pub keeps_as_loaded : (within : ℕ → ℕ)
-      → ((input : List ℕ) → All (λ byte. byte < 256) input → RunKeepsUp within setting parts entry input)
-      → KeepsWithin within file setting
-  keeps_as_loaded within keeps input bytes =
-      of_file (λ p e. RunKeepsUp within setting p e input) (keeps input bytes)
+  pub keeps_as_loaded : (nodes : ℕ)
+      → ((input : List ℕ) → All (λ byte. byte < 256) input → RunKeepsUp nodes setting parts entry input)
+      → IsBounded nodes file setting
+  keeps_as_loaded nodes keeps input bytes =
+      of_file (λ p e. RunKeepsUp nodes setting p e input) (keeps input bytes)
 
   pub leaves_as_loaded : ((input : List ℕ) → All (λ byte. byte < 256) input → RunLeavesNone setting parts entry input)
       → LeavesNoCell file setting

@@ -9,6 +9,7 @@ use Rattle.kk_counted.specs.CountedStates.{CountedSetting, CountedState}
 use Rattle.kk_counted.specs.Int32.{AllHaveInt32}
 use Rattle.kk_counted.specs.Keeping.{FitsAlways, HasShapeAlways, counted_after}
 use Rattle.kk_counted.specs.Kinds.{HasKindsAlways}
+use Rattle.kk_counted.specs.Lengths.{AreShort}
 use Rattle.kk_counted.specs.Marks.{CellMarks, field_marks, AreMarked}
 use Rattle.kk_counted.specs.Programs.{function_of, program_of}
 use Rattle.kk_counted.specs.Spending.{IsSpent}
@@ -19,7 +20,7 @@ use Rattle.kk_middle.specs.MarkedPrograms.{IsMarkedByShape}
 use Rattle.kk_middle.specs.Meaning.{counted_setting, KeepsMeaning}
 use Rattle.kk_middle.specs.ShapeKinds.{HasKindsByShape}
 use Rattle.kk_source.specs.State.{Setting}
-use Rattle.kk_back.specs.CountedImages.{IsRunnable}
+use Rattle.kk_back.specs.Images.{IsRunnable}
 use Rattle.rv_cells.specs.Fitting.{AreTagged, count_of_fields, IsFit}
 use Rattle.rv_cells.specs.Layout.{Layout}
 use Rattle.rv_cells.specs.Tables.{table_of, layout_in}
@@ -37,17 +38,19 @@ AreFit =
 
 pub runnable : AreFit → (made : Counted) (given : Ground) (cells depth : ℕ) (setting : Setting) (positions : PositionTable)
     (greatest : ℕ) (up : ℕ → ℕ)
-    → AreSizes cells depth → CanBeLowered made given → IsMarkedByShape made given
+    → AreSizes cells depth → CanBeLowered made given
+    → AreShort (program_of made.functions.items given.texts.items).functions → IsMarkedByShape made given
     → AllHaveInt32 (map function_of made.functions.items)
     → ((input : List ℕ) → KeepsMeaning setting positions (counted_setting made given cells depth) greatest up input)
     → ((input : List ℕ) → HasKindsByShape made.shape.constructors.items (counted_setting made given cells depth) input)
     → IsRunnable made.shape (program_of made.functions.items given.texts.items) cells depth
-runnable are_fit made given cells depth setting positions greatest up sizes can marked numbers keeps kinds =
+runnable are_fit made given cells depth setting positions greatest up sizes can short marked numbers keeps kinds =
     let spent = (keeps []).spent in
     let some = sizes.some_depth in
     record {
       lowerable = can.lowerable;
       few = can.few;
+      short = short;
       narrow = record { tags = can.tags; few = can.few_fields };
       falsity = can.falsity;
       truth_is = can.truth_is;

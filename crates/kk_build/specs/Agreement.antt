@@ -25,23 +25,14 @@ pub record Agrees (file : List ℕ) (setting : Setting) : Type 0 where
 -- Within how many instructions the image does what the program does in n steps, by a number of nodes that no body passes: so many
 -- for each step, and once more as many for the code before and behind that of `main`.
 abbrev pub instructions_within : ℕ → ℕ → ℕ
-instructions_within nodes n = 2304 * (nodes * nodes) * (n + 1)
-
--- the same, whatever the nodes, where the program has no matches and no cells
-abbrev pub plain_instructions_within : ℕ → ℕ
-plain_instructions_within n = 2120 * n + 17
+instructions_within nodes n = 256 * (nodes * nodes) * (n + 1)
 
 -- the image in a file does so on every input of bytes
-abbrev pub KeepsWithin : (ℕ → ℕ) → List ℕ → Setting → Type 0
-KeepsWithin within file setting =
-    (input : List ℕ) → All (λ byte. byte < 256) input
-    → ImageKeepsUp (store_machine setting) events_of exit_of within (first_state setting input) (file_after file input)
-
 abbrev pub IsBounded : ℕ → List ℕ → Setting → Type 0
-IsBounded nodes file setting = KeepsWithin (instructions_within nodes) file setting
-
-abbrev pub IsPlainlyBounded : List ℕ → Setting → Type 0
-IsPlainlyBounded file setting = KeepsWithin plain_instructions_within file setting
+IsBounded nodes file setting =
+    (input : List ℕ) → All (λ byte. byte < 256) input
+    → ImageKeepsUp (store_machine setting) events_of exit_of (instructions_within nodes) (first_state setting input)
+    (file_after file input)
 
 -- Where the program ends by itself on an input of bytes, the image in a file exits with 0, and each of its cells is free then, once.
 abbrev pub LeavesNoCell : List ℕ → Setting → Type 0

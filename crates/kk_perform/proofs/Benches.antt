@@ -4,8 +4,9 @@ use Rattle.kk_base.specs.Sink.{SinkState}
 use Rattle.kk_base.specs.Source.{SourceState}
 use Rattle.kk_base.specs.Store.{StoreState}
 use Rattle.kk_gen.specs.Generated.{generated}
-use Rattle.kk_build.specs.Built.{IsBuilt, RefusesToBuild}
-use Rattle.kk_build.specs.declared.error.BuildError.{BuildError}
+use Rattle.kk_build.specs.Built.{IsBuilt}
+use Rattle.kk_base.specs.declared.refusal.Refusal.{Refusal}
+use Rattle.kk_front.specs.Judgement.{Refuses}
 use Rattle.kk_build.specs.ImageAfter.{free_cells}
 use Rattle.rv_sim.specs.Simulation.{Simulation, processor_of}
 use Rattle.rv_sim.specs.declared.halt.Halt.{Halt}
@@ -18,11 +19,11 @@ use Rattle.kk_answer.specs.declared.answer.RunEnd.TheVariants as OfRun
 use Rattle.kk_command.specs.Requests.{Request, bench}
 use Rattle.kk_perform.specs.Answers.{Answers, no_memory, bench_stopped, bench_ended, tells_statistics, told_end}
 use Rattle.kk_perform.specs.ImageRuns.{IsMeasured}
-use Rattle.kk_perform.specs.Internal.{answer_of_cause, HasStopped, AnswersBench, without_line, with_line}
+use Rattle.kk_perform.specs.Internal.{answer_of_refusal, HasStopped, AnswersBench, without_line, with_line}
 use Rattle.kk_perform.specs.Outside.{KeepsFiles, outside}
 use Rattle.kk_perform.specs.SourceRuns.{halt_for}
 use Rattle.kk_perform.proofs.ImageRuns.{stops_alike}
-use Rattle.kk_perform.proofs.Rows.{text_unbuilt, never}
+use Rattle.kk_perform.proofs.Rows.{text_refused, never}
 use Rattle.kk_perform.proofs.SourceRuns.{means_run}
 use Rattle.kk_perform.proofs.Stores.{same_files}
 
@@ -62,12 +63,12 @@ module _ (store : StoreState) (seed size cells depth steps : ℕ) where
   untouched : KeepsFiles store store
   untouched = record { files = same_files store.files; last_failed = refl; faults = refl }
 
-  -- a generated text of which nothing is built
-  pub generated_unbuilt : (input : SourceState) (out : SinkState) (image text slice : List ℕ) (cause : BuildError) (answer : Answer)
-      → text ≡ generated seed size → slice ≡ text → answer ≡ answer_of_cause cause → RefusesToBuild slice cause
+  -- a generated text that is refused
+  pub generated_refused : (input : SourceState) (out : SinkState) (image text slice : List ℕ) (refusal : Refusal) (answer : Answer)
+      → text ≡ generated seed size → slice ≡ text → answer ≡ answer_of_refusal refusal → Refuses slice refusal
       → Answers (outside store input out image) (outside store input out image) (Some request) answer
-  generated_unbuilt input out image text slice cause answer is same told refuses =
-      text_unbuilt store store input out image text slice cause answer request refl same told is untouched refuses
+  generated_refused input out image text slice refusal answer is same told refuses =
+      text_refused store store input out image text slice refusal answer request same told is untouched refuses
 
   -- what becomes of its image
   module _ (image image' : List ℕ) (made : IsBuilt (generated seed size) cells depth image') (input input' : SourceState)
@@ -82,7 +83,7 @@ module _ (store : StoreState) (seed size cells depth steps : ℕ) where
         let S : SinkState → Type 0 = λ out. HasStopped image' steps (halt_for end) machine input input' output out in
         let now = subst S (sym same) has in
         bench_stopped seed size cells depth steps end quiet made now.runs
-        (means_run made.program image' cells depth made.setting made.is_run made.agrees end now.runs.count now.runs.events
+        (means_run made.program image' cells depth made.is_file.setting made.is_file.is_run made.is_file.agrees end now.runs.count now.runs.events
         now.runs.done) untouched
 
     ended_so : (machine : Simulation) (whole : Bool) (instructions free : ℕ) → instructions ≡ machine.executed
@@ -94,7 +95,7 @@ module _ (store : StoreState) (seed size cells depth steps : ℕ) where
         let is : IsMeasured image' has.runs.count has.runs.events cells instructions free =
         λ input rest takes. let both = has.measured cells input rest takes in (both.0 ∙ sym executed, both.1 ∙ sym left) in
         bench_ended seed size cells depth steps instructions free whole middle made has.runs
-        (means_run made.program image' cells depth made.setting made.is_run made.agrees OfRun.Ended has.runs.count has.runs.events
+        (means_run made.program image' cells depth made.is_file.setting made.is_file.is_run made.is_file.agrees OfRun.Ended has.runs.count has.runs.events
         has.runs.done) is puts untouched
 
     by_answer : (halt : Halt) (machine : Simulation) (answer : Answer)

@@ -15,7 +15,7 @@ use Rattle.rv_sim.specs.declared.halt.Halt.TheVariants as OfHalt
 use Rattle.kk_answer.specs.Ending.{EndsWith}
 use Rattle.kk_answer.specs.Puts.{Puts}
 use Rattle.kk_answer.specs.Answer.{fault_status, run_status, halt_status, status_of}
-use Rattle.kk_perform.specs.Answers.{Answers, usage, no_memory, unread, refused, not_built, checked, built, unwritten, ran, measured, bad_image, simulated, evaluated, cut_short, bench_stopped, bench_ended, told_end, Faultless, is_fault_status}
+use Rattle.kk_perform.specs.Answers.{Answers, usage, no_memory, unread, refused, checked, built, unwritten, ran, measured, bad_image, simulated, evaluated, cut_short, bench_stopped, bench_ended, told_end, Faultless, is_fault_status}
 use Rattle.kk_source.specs.State.{Setting}
 use Rattle.kk_eval.specs.Evaluations.{RunsSource}
 use Rattle.kk_perform.specs.ImageRuns.{RunsImage}
@@ -84,7 +84,6 @@ module _ (before after : Outside) (err err' : SinkState) (faultless : Faultless 
   no_answer_fault _ _ (no_memory request files streams image) = refl
   no_answer_fault _ _ (unread request name is fails streams image) = absurd (faultless.files fails.fails.faults)
   no_answer_fault _ _ (refused request text refusal has is kept) = by_want refusal (wants_memory refusal)
-  no_answer_fault _ _ (not_built request text asked has is kept) = refl
   no_answer_fault _ _ (checked file text program has is kept) = refl
   no_answer_fault _ _ (built file out cells depth made written streams) = refl
   no_answer_fault _ _ (unwritten file out cells depth name is made fails streams) = absurd (faultless.files fails.fails.faults)

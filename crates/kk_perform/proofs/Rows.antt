@@ -13,9 +13,7 @@ use Rattle.kk_base.specs.declared.outside.StoreCall.{StoreCall}
 use Rattle.kk_base.specs.declared.outside.StoreCall.TheVariants.{Reading, Writing}
 use Rattle.kk_base.specs.declared.refusal.Refusal.{Refusal}
 use Rattle.kk_front.specs.Judgement.{IsProgramOf, Refuses, wants_memory}
-use Rattle.kk_build.specs.Built.{ProgramTree, IsBuilt, RefusesToBuild}
-use Rattle.kk_build.specs.declared.error.BuildError.{BuildError}
-use Rattle.kk_build.specs.declared.error.BuildError.TheVariants as OfBuild
+use Rattle.kk_build.specs.Built.{ProgramTree, IsBuilt}
 use Rattle.kk_build.specs.ImageAfter.{free_cells}
 use Rattle.rv_sim.specs.Simulation.{Simulation, processor_of}
 use Rattle.rv_sim.specs.declared.halt.Halt.{Halt}
@@ -23,10 +21,10 @@ use Rattle.kk_answer.specs.declared.answer.Answer.{Answer}
 use Rattle.kk_answer.specs.declared.answer.Answer.TheVariants.{Done, Usage, Refused, NoMemory, FileFault, Ran, Measured, Simulated}
 use Rattle.kk_answer.specs.declared.answer.RunEnd.{RunEnd}
 use Rattle.kk_answer.specs.declared.answer.RunEnd.TheVariants as OfRun
-use Rattle.kk_perform.specs.Answers.{HasText, HasRequestedText, HasImage, IsImageOfFile, Answers, usage, no_memory, unread, refused, not_built, builds, checked, built, unwritten, ran, measured, bad_image, simulated, evaluated, cut_short, tells_statistics}
+use Rattle.kk_perform.specs.Answers.{HasText, HasRequestedText, HasImage, IsImageOfFile, Answers, usage, no_memory, unread, refused, checked, built, unwritten, ran, measured, bad_image, simulated, evaluated, cut_short, tells_statistics}
 use Rattle.kk_base.specs.declared.error.NoMemory.{NoMemory as OutOfMemory}
 use Rattle.kk_eval.specs.Evaluating.{HasRun}
-use Rattle.kk_perform.specs.Internal.{answer_of_refusal, answer_of_cause, answer_of_condition, HasStopped, AnswersRun, without_statistics, with_statistics}
+use Rattle.kk_perform.specs.Internal.{answer_of_refusal, answer_of_condition, builds, HasStopped, AnswersRun, without_statistics, with_statistics}
 use Rattle.kk_perform.specs.ImageRuns.{IsMeasured}
 use Rattle.kk_command.specs.Requests.{Request, check, build, run, sim, eval, bench, file_of}
 use Rattle.kk_perform.specs.Outside.{Outside, KeepsFiles, KeepsStreams, KeepsAll}
@@ -75,21 +73,6 @@ module _ (store store' : StoreState) (input : SourceState) (out : SinkState) (im
       let A : Answer → Type 0 = λ a. Answers (outside store input out image) (outside store' input out image) (Some request) a in
       let R : List ℕ → Type 0 = λ t. Refuses t refusal in
       subst A (sym told) (by_want request text refusal (wants_memory refusal) refl has kept (subst R same refuses))
-
-  by_cause : (request : Request) (text : List ℕ) (cause : BuildError) → builds request ≡ true → HasRequestedText request text store
-      → KeepsFiles store store'
-      → RefusesToBuild text cause → Answers (outside store input out image) (outside store' input out image) (Some request) (answer_of_cause cause)
-  by_cause request text (OfBuild.Refused refusal) asked has kept refuses = by_want request text refusal (wants_memory refusal) refl has kept refuses
-  by_cause request text OfBuild.NotBuilt asked has kept refuses = not_built request text asked has refuses (all_kept kept)
-
-  pub text_unbuilt : (text slice : List ℕ) (cause : BuildError) (answer : Answer) (request : Request) → builds request ≡ true
-      → slice ≡ text
-      → answer ≡ answer_of_cause cause → HasRequestedText request text store → KeepsFiles store store' → RefusesToBuild slice cause
-      → Answers (outside store input out image) (outside store' input out image) (Some request) answer
-  text_unbuilt text slice cause answer request asked same told has kept refuses =
-      let A : Answer → Type 0 = λ a. Answers (outside store input out image) (outside store' input out image) (Some request) a in
-      let R : List ℕ → Type 0 = λ t. RefusesToBuild t cause in
-      subst A (sym told) (by_cause request text cause asked has kept (subst R same refuses))
 
   pub text_accepted : (file text slice : List ℕ) (program : ProgramTree) → slice ≡ text → HasText file text store → KeepsFiles store store' → IsProgramOf slice program
       → Answers (outside store input out image) (outside store' input out image) (Some (check file)) Done
@@ -162,7 +145,7 @@ module _ (first second : StoreState) (kept : KeepsFiles first second) (image ima
         → Comes (Ran end cells depth steps)
     ran_so machine end quiet has =
         ran file cells depth steps stats end quiet made has.runs
-        (means_run made.built.program image' cells depth made.built.setting made.built.is_run made.built.agrees end has.runs.count has.runs.events has.runs.done) kept
+        (means_run made.built.program image' cells depth made.built.is_file.setting made.built.is_file.is_run made.built.is_file.agrees end has.runs.count has.runs.events has.runs.done) kept
 
     measured_so : (machine : Simulation) (end : RunEnd) (instructions free : ℕ) → tells_statistics stats end ≡ true → HasStopped image' steps (halt_for end) machine input input' output output'
         → instructions ≡ machine.executed → free ≡ free_cells cells (processor_of machine [] []) → Comes (Measured instructions free cells)
@@ -170,7 +153,7 @@ module _ (first second : StoreState) (kept : KeepsFiles first second) (image ima
         let is : IsMeasured image' has.runs.count has.runs.events cells instructions free =
         λ input rest takes. let both = has.measured cells input rest takes in (both.0 ∙ sym executed, both.1 ∙ sym left) in
         measured file cells depth steps stats instructions free asked made has.runs
-        (means_run made.built.program image' cells depth made.built.setting made.built.is_run made.built.agrees OfRun.Ended has.runs.count has.runs.events has.runs.done) is kept
+        (means_run made.built.program image' cells depth made.built.is_file.setting made.built.is_file.is_run made.built.is_file.agrees OfRun.Ended has.runs.count has.runs.events has.runs.done) is kept
     measured_so machine OfRun.HeapFull instructions free asked has executed left = absurd (never asked)
     measured_so machine OfRun.StackFull instructions free asked has executed left = absurd (never asked)
     measured_so machine OfRun.StepsSpent instructions free asked has executed left = absurd (never asked)

@@ -13,11 +13,11 @@ use Rattle.kk_base.specs.declared.refusal.Refusal.{Refusal}
 use Rattle.kk_base.specs.declared.status.Status.{Status}
 use Rattle.kk_base.specs.declared.status.Status.TheVariants as OfStatus
 use Rattle.kk_front.specs.Judgement.{IsProgramOf, IsRefusalOf}
-use Rattle.kk_build.specs.Built.{ProgramTree, IsBuilt, IsNotBuilt}
+use Rattle.kk_build.specs.Built.{ProgramTree, IsBuilt}
 use Rattle.kk_gen.specs.Generated.{generated}
 use Rattle.rv_sim.specs.declared.halt.Halt.{Halt}
 use Rattle.kk_answer.specs.declared.answer.Answer.{Answer}
-use Rattle.kk_answer.specs.declared.answer.Answer.TheVariants.{Done, Usage, Refused, NotBuilt, NoMemory, FileFault, Ran, Measured, BadImage, Simulated}
+use Rattle.kk_answer.specs.declared.answer.Answer.TheVariants.{Done, Usage, Refused, NoMemory, FileFault, Ran, Measured, BadImage, Simulated}
 use Rattle.kk_answer.specs.declared.answer.RunEnd.{RunEnd}
 use Rattle.kk_answer.specs.declared.answer.RunEnd.TheVariants as OfRun
 use Rattle.kk_source.specs.Settings.{IsRun}
@@ -49,7 +49,7 @@ HasRequestedText (sim image steps) text store = ⊥
 HasRequestedText (eval file cells depth steps) text store = HasText file text store
 HasRequestedText (bench seed size cells depth steps) text store = text ≡ generated seed size
 
--- A file's image: no more than its first 268,435,457 bytes are read, which tell whether there are more than 268,435,456.
+-- A file's image: no more than its first 2,147,483,649 bytes are read, which tell whether there are more than 2,147,483,648.
 abbrev pub HasImage : List ℕ → List ℕ → StoreState → Type 0
 HasImage file image store = BeginsFile (greatest_file + 1) file image store
 
@@ -78,13 +78,6 @@ abbrev pub told_end : Bool → RunEnd
 told_end true = OfRun.Ended
 told_end false = OfRun.OutputFault
 
--- what is asked for needs an image of a text
-abbrev pub builds : Request → Bool
-builds (build file out cells depth) = true
-builds (run file cells depth steps stats) = true
-builds (bench seed size cells depth steps) = true
-builds _ = false
-
 -- The answers that the words of a line may have, with what each does to the outside. There is no other.
 pub data Answers (before after : Outside) : Option Request → Answer → Type 0 where
   -- the words are no command
@@ -100,10 +93,6 @@ pub data Answers (before after : Outside) : Option Request → Answer → Type 0
   refused : (request : Request) (text : List ℕ) (refusal : Refusal) → HasRequestedText request text before.files
       → IsRefusalOf text refusal
       → KeepsAll before after → Answers before after (Some request) (Refused refusal)
-  -- build, run, bench: the text is accepted, and the code of its program is too large for an image
-  not_built : (request : Request) (text : List ℕ) → builds request ≡ true → HasRequestedText request text before.files
-      → IsNotBuilt text
-      → KeepsAll before after → Answers before after (Some request) NotBuilt
   -- check: the text is accepted
   checked : (file text : List ℕ) (program : ProgramTree) → HasText file text before.files → IsProgramOf text program
       → KeepsAll before after → Answers before after (Some (check file)) Done

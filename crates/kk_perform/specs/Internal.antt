@@ -8,14 +8,13 @@ use Rattle.kk_front.specs.Judgement.{wants_memory}
 use Rattle.kk_build.specs.ImageAfter.{ExitsWell, file_after, free_cells}
 use Rattle.rv_sim.specs.declared.halt.Halt.{Halt}
 use Rattle.rv_sim.specs.Simulation.{Simulation, processor_of}
-use Rattle.kk_build.specs.declared.error.BuildError.{BuildError}
-use Rattle.kk_build.specs.declared.error.BuildError.TheVariants as OfBuild
 use Rattle.kk_answer.specs.declared.answer.Answer.{Answer}
-use Rattle.kk_answer.specs.declared.answer.Answer.TheVariants.{Refused, NotBuilt, NoMemory, Ran, Measured, BadImage}
+use Rattle.kk_answer.specs.declared.answer.Answer.TheVariants.{Refused, NoMemory, Ran, Measured, BadImage}
 use Rattle.kk_answer.specs.declared.answer.RunEnd.{RunEnd}
 use Rattle.kk_answer.specs.declared.answer.RunEnd.TheVariants as OfRun
 use Rattle.kk_answer.specs.Line.{summary_line}
 use Rattle.kk_answer.specs.Puts.{Puts}
+use Rattle.kk_command.specs.Requests.{Request, build, run, bench}
 use Rattle.kk_perform.specs.Answers.{tells_statistics, told_end}
 use Rattle.kk_perform.specs.ImageRuns.{RunsImage, IsMeasured}
 use Rattle.kk_perform.specs.SourceRuns.{halt_for}
@@ -24,10 +23,12 @@ use Rattle.kk_perform.specs.SourceRuns.{halt_for}
 abbrev pub answer_of_refusal : Refusal → Answer
 answer_of_refusal refusal = if wants_memory refusal then NoMemory else Refused refusal
 
--- so to a text of which nothing is built
-abbrev pub answer_of_cause : BuildError → Answer
-answer_of_cause (OfBuild.Refused refusal) = answer_of_refusal refusal
-answer_of_cause OfBuild.NotBuilt = NotBuilt
+-- what is asked for needs an image of a text
+abbrev pub builds : Request → Bool
+builds (build file out cells depth) = true
+builds (run file cells depth steps stats) = true
+builds (bench seed size cells depth steps) = true
+builds _ = false
 
 -- the answer to a file that is no image, by the number of the condition that it fails; or that was not judged for want of memory
 abbrev pub answer_of_condition : Option ℕ → Answer

@@ -11,7 +11,7 @@ ghost use Rattle.kk_perform.specs.Internal.{AnswersBench};
 ghost use Rattle.kk_perform.specs.Outside.{outside};
 ghost use Rattle.rv_sim.specs.Devices.{ending_at};
 
-use crate::perform::{Stopped, run_built, run_end, tells_statistics, unbuilt_answer};
+use crate::perform::{Stopped, refusal_answer, run_built, run_end, tells_statistics};
 use kk_answer::{Answer, RunEnd, put_summary};
 use kk_base::{Bytes, NoMemory, Sink, Source};
 use kk_build::build;
@@ -40,7 +40,7 @@ pub fn bench_program<'a, I: Source, O: Sink>(
     };
     match build(alloc, text.as_slice(), sizes.cells, sizes.depth) {
         Ok(bytes) => *image = bytes,
-        Err(cause) => return unbuilt_answer(cause),
+        Err(refusal) => return refusal_answer(refusal),
     }
     match run_built(alloc, image.as_slice(), steps, input, out) {
         Ok(stopped) => {

@@ -9,9 +9,9 @@ ghost use Rattle.kk_build.specs.ImageAfter.{exited, ExitsWell};
 ghost use Rattle.kk_syntax.specs.Programs.{program_tree};
 ghost use Rattle.rv_sim.specs.Devices.{ending_at};
 ghost use Rattle.rv_sim.specs.declared.halt.Halt.TheVariants.{Exit};
-ghost use Rattle.kk_perform.specs.Answers.{Answers, BeginsFile, HasText, HasImage, IsImageOfFile, builds, tells_statistics};
+ghost use Rattle.kk_perform.specs.Answers.{Answers, BeginsFile, HasText, HasImage, IsImageOfFile, tells_statistics};
 ghost use Rattle.kk_eval.specs.Evaluating.{HasRun};
-ghost use Rattle.kk_perform.specs.Internal.{answer_of_refusal, answer_of_cause, answer_of_condition, AnswersRun, HasStopped};
+ghost use Rattle.kk_perform.specs.Internal.{answer_of_refusal, answer_of_condition, builds, AnswersRun, HasStopped};
 ghost use Rattle.kk_command.specs.Requests.{Request, check, build, run, sim, eval, file_of};
 ghost use Rattle.kk_command.specs.Commands.{request_read};
 ghost use Rattle.kk_perform.specs.SourceRuns.{halt_for};
@@ -21,7 +21,7 @@ use crate::bench::bench_program;
 use elf_image::{BadImage, Image};
 use kk_answer::{Answer, RunEnd, wants_memory};
 use kk_base::{Bytes, NoMemory, Read, Refusal, Sink, Source, Store, Wrote};
-use kk_build::{BuildError, Ending, build};
+use kk_build::{Ending, build};
 use kk_command::{Command, RunOptions, Sizes};
 use kk_eval::evaluate;
 use kk_front::read;
@@ -268,22 +268,12 @@ fn build_image<'a, F: Store>(
             *image = bytes;
             Ok(())
         }
-        Err(cause) => Err(unbuilt_answer(cause)),
-    }
-}
-
-/// The answer to a text of which nothing is built.
-pub fn unbuilt_answer<'a>(cause: BuildError) -> Answer<'a>
-    ensures { result ≡ answer_of_cause cause }
-{
-    match cause {
-        BuildError::Refused(refusal) => refusal_answer(refusal),
-        BuildError::NotBuilt => Answer::NotBuilt,
+        Err(refusal) => Err(refusal_answer(refusal)),
     }
 }
 
 /// The answer to a text that is refused, or that was not judged for want of memory.
-fn refusal_answer<'a>(refusal: Refusal) -> Answer<'a>
+pub fn refusal_answer<'a>(refusal: Refusal) -> Answer<'a>
     ensures { result ≡ answer_of_refusal refusal }
 {
     if wants_memory(&refusal) {

@@ -26,7 +26,7 @@ use Rattle.rv_lower.proofs.Performing.{put_same, put_other}
 use Rattle.rv_lower.proofs.Orders.{split_at}
 use Rattle.rv_cells.specs.Layout.{word_in, FitsField}
 use Rattle.rv_cells.specs.Follows.{NoneInHand}
-use Rattle.rv_cells.proofs.LineCosts.{forms}
+use Rattle.rv_cells.proofs.LineCosts.{most_moves, forms}
 use Rattle.rv_cells.proofs.Values.{HasValues, has_bound, has_temporary}
 use Rattle.rv_cells.proofs.Runs.{turn_of, Runs, runs_none, runs_then}
 use Rattle.rv_cells.proofs.Acting.{put_in, copy_runs, sets_runs, label_runs, jump_runs, falls_runs, branch_runs}
@@ -80,7 +80,7 @@ module _ (program : Lowering) where
         → IsFitFrom program (counted_at (give x) s.environment (join ∷ outer) frames s.heap input)
         → Does idle (counted_at (give x) s.environment (join ∷ outer) frames s.heap input) (turn_of left s.frame fs s.world)
     joined y l join outer frames fs placed goes waits fit =
-        let m = program.moves in
+        let m = most_moves in
         let j = goes.0 in
         let bound = placed.marked.0 in
         let f = put_in y given_word s.frame in
@@ -148,7 +148,7 @@ module _ (program : Lowering) where
         → IsFitFrom program (counted_at (give x) s.environment [] frames s.heap input)
         → Does idle (counted_at (give x) s.environment [] frames s.heap input) (turn_of left s.frame fs s.world)
     returned [] [] placed same waits fit =
-        let m = program.moves in
+        let m = most_moves in
         let is : left ≡ acts Return (x ∷ []) ∷ placed.after
         = placed.left_is ∙ ap (λ own. own ++ placed.after) placed.lines.0 in
         let t0 = turn_of (acts Return (x ∷ []) ∷ placed.after) s.frame [] s.world in
@@ -168,7 +168,7 @@ module _ (program : Lowering) where
     returned [] (f ∷ fs) placed same waits fit = absurd waits
     returned (waiting ∷ frames) [] placed same waits fit = absurd waits
     returned (waiting ∷ frames) (f ∷ fs) placed same waits fit =
-        let m = program.moves in
+        let m = most_moves in
         let w = waits.1 in
         let bound = placed.marked.0 in
         let is : left ≡ acts Return (x ∷ []) ∷ placed.after
@@ -374,12 +374,12 @@ module _ (program : Lowering) where
     abbrev branching : List Line
     branching = acts (Branch NotEqual at.placed.low) (at.base ∷ (at.base + 1) ∷ []) ∷ behind
 
-    copied : Runs (target program) ((program.moves + 2) + (program.moves + 2)) (1 + 1) (turn_of (test ++ behind) s.frame fs s.world)
+    copied : Runs (target program) ((most_moves + 2) + (most_moves + 2)) (1 + 1) (turn_of (test ++ behind) s.frame fs s.world)
         (turn_of branching tested fs s.world)
     copied =
         let f = put_in base word s.frame in
         let second = sets (constant_word 1) (base + 1) ∷ branching in
-        runs_then (target program) (program.moves + 2) (program.moves + 2) 1 1 (turn_of (test ++ behind) s.frame fs s.world)
+        runs_then (target program) (most_moves + 2) (most_moves + 2) 1 1 (turn_of (test ++ behind) s.frame fs s.world)
         (turn_of second f fs s.world) (turn_of branching tested fs s.world)
         (copy_runs (target program) second s.frame fs s.world x base word (at.here.values.words x at.placed.marked.0))
         (sets_runs (target program) branching f fs s.world (constant_word 1) (base + 1))
@@ -401,7 +401,7 @@ module _ (program : Lowering) where
     side : (code : Counted) (there : List Line) (n cost : ℕ)
         → Placed program at.holds at.base at.result at.goal at.given s.bound s.frame.whole code there
         → Runs (target program) cost n (turn_of left s.frame fs s.world) (turn_of there tested fs s.world)
-        → cost ≤ 4 * program.moves + 7 → suc (forms code) ≤ idle
+        → cost ≤ 4 * most_moves + 7 → suc (forms code) ≤ idle
         → (upper program).step (counted_at (branch x positive negative) s.environment inner frames s.heap input)
         ≡ ([], counted_at code s.environment inner frames s.heap input)
         → Does idle (counted_at (branch x positive negative) s.environment inner frames s.heap input)
@@ -409,7 +409,7 @@ module _ (program : Lowering) where
     side code there n cost placed runs cheap few is =
         does_by idle (counted_at (branch x positive negative) s.environment inner frames s.heap input)
         (counted_at code s.environment inner frames s.heap input) [] (turn_of left s.frame fs s.world) is fit
-        (λ later. by_lines program n cost (4 * program.moves + 7) (saved s.heap) idle
+        (λ later. by_lines program n cost (4 * most_moves + 7) (saved s.heap) idle
         (counted_at code s.environment inner frames s.heap input) (turn_of left s.frame fs s.world)
         (turn_of there tested fs s.world)
         runs (omega (arith, cheap)) (omega (arith, few)) later
@@ -442,7 +442,7 @@ module _ (program : Lowering) where
         → Does idle (counted_at (branch x positive negative) s.environment inner frames s.heap input)
         (turn_of left s.frame fs s.world)
     by_truth true is =
-        let m = program.moves in
+        let m = most_moves in
         let few = at.placed.short in
         let word_is : word ≡ 3
         = ap (word_in program.layout s.address) is ∙ ap (λ t. 2 * t + 1) program.truth_is in
@@ -470,7 +470,7 @@ module _ (program : Lowering) where
         (omega arith) (omega (arith, idle_is))
         (ap (λ (v : Value). ([], counted_at (if is_true v then positive else negative) s.environment inner frames s.heap input)) is)
     by_truth false is =
-        let m = program.moves in
+        let m = most_moves in
         let few = at.placed.short in
         let word_is : word ≡ 1
         = ap (word_in program.layout s.address) is ∙ ap (λ t. 2 * t + 1) program.falsity in

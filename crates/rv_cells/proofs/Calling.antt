@@ -1,5 +1,5 @@
 -- Calls and returns as lines, over frames with the words of their variables.
-use Rattle.std.proofs.Common.{◌≡◌, ◌<◌, ◌≤◌, ℕ, zero, suc, ◌+◌, Bool, true, false, cond, inl, inr, List, [], ◌∷◌, ◌++◌, length, map, Option, Some, option_map, nat_le, refl, sym, ◌∙◌, ap, subst, arith}
+use Rattle.std.proofs.Common.{◌≡◌, ◌<◌, ◌≤◌, ℕ, zero, suc, ◌+◌, ◌*◌, Bool, true, false, cond, inl, inr, List, [], ◌∷◌, ◌++◌, length, map, Option, Some, option_map, nat_le, refl, sym, ◌∙◌, ap, subst, arith}
 use Rattle.std.specs.Prelude.{slice_get}
 use Rattle.kk_syntax.specs.Shapes.{is_among}
 use Rattle.kk_source.specs.State.{Value, Environment}
@@ -25,7 +25,7 @@ use Rattle.rv_cells.proofs.Held.{some-is}
 use Rattle.rv_cells.proofs.Values.{HasValues, among_by, value_same, value_other}
 use Rattle.rv_cells.proofs.Runs.{Target, left_at, turn_of, Runs, runs_none, runs_then, world_primitives, line_runs, silent}
 use Rattle.rv_cells.proofs.Acting.{put_in, copy_runs}
-use Rattle.rv_cells.proofs.LineCosts.{row_cost}
+use Rattle.rv_cells.proofs.LineCosts.{most_moves, row_cost}
 
 -- ---- arguments, which are copied to temporaries
 
@@ -60,10 +60,14 @@ less_more : (t : ℕ) (xs : List ℕ) → AreLess xs t → AreLess xs (t + 1)
 less_more t [] less = tt
 less_more t (x ∷ xs) less = (let low = less.0 in omega arith, less_more t xs less.1)
 
+pub temporaries_many : (t : ℕ) (xs : List ℕ) → length (temporaries t xs) ≡ length xs
+temporaries_many t [] = refl
+temporaries_many t (x ∷ xs) = ap suc (temporaries_many (t + 1) xs)
+
 pub copies_run : (target : Target) (rest : List Line) (fs : List (Frame Line)) (world : World) (xs ws : List ℕ) (t : ℕ)
     (f : Frame Line)
     → AreLess xs t → HaveWords f.cells xs ws
-    → Runs target (row_cost xs (target.moves + 2)) (length xs) (turn_of (copies t xs ++ rest) f fs world)
+    → Runs target (row_cost xs (most_moves + 2)) (length xs) (turn_of (copies t xs ++ rest) f fs world)
     (turn_of rest (record f { cells = put_row t ws f.cells }) fs world)
 copies_run target rest fs world [] [] t f less have = runs_none target (turn_of rest f fs world)
 copies_run target rest fs world [] (w ∷ ws) t f less have = absurd have
@@ -76,8 +80,8 @@ copies_run target rest fs world (x ∷ xs) (w ∷ ws) t f less have =
     let t0 = turn_of (copies t (x ∷ xs) ++ rest) f fs world in
     let t2 = turn_of rest (record f { cells = put_row t (w ∷ ws) f.cells }) fs world in
     let one_more : 1 + length xs ≡ suc (length xs) = omega arith in
-    subst (λ n. Runs target (row_cost (x ∷ xs) (target.moves + 2)) n t0 t2) one_more
-    (runs_then target (target.moves + 2) (row_cost xs (target.moves + 2)) 1 (length xs) t0
+    subst (λ n. Runs target (row_cost (x ∷ xs) (most_moves + 2)) n t0 t2) one_more
+    (runs_then target (most_moves + 2) (row_cost xs (most_moves + 2)) 1 (length xs) t0
     (turn_of (copies (t + 1) xs ++ rest) g fs world) t2
     first later)
 
@@ -198,27 +202,27 @@ module _ (target : Target) (f : Frame Line) (fs : List (Frame Line)) (world : Wo
 
     -- the callee runs, and the caller waits
     pub call_runs : (x : ℕ) → nat_le target.depth (length (f ∷ fs)) ≡ false
-        → Runs target (target.moves + 7) 1 (turn_of (record { action = Call g; args = args; into = Some x } ∷ rest) f fs world)
+        → Runs target (2 * length args + 8) 1 (turn_of (record { action = Call g; args = args; into = Some x } ∷ rest) f fs world)
         (turn_of callee.code entered (record (left_at rest f) { into = Some x } ∷ fs) world)
     call_runs x room =
-        line_runs target 7 (record { action = Call g; args = args; into = Some x }) rest f fs world words
+        line_runs target (2 * length args + 8) (record { action = Call g; args = args; into = Some x }) rest f fs world words
         (turn_of callee.code entered (record (left_at rest f) { into = Some x } ∷ fs) world) reads (called x false room)
         (λ held. omega arith) (silent target world)
 
     -- the stack is full
     pub full_call_runs : (x : ℕ) → nat_le target.depth (length (f ∷ fs)) ≡ true
-        → Runs target (target.moves + 7) 1 (turn_of (record { action = Call g; args = args; into = Some x } ∷ rest) f fs world)
+        → Runs target (2 * length args + 8) 1 (turn_of (record { action = Call g; args = args; into = Some x } ∷ rest) f fs world)
         (ended (exited (number_of OfEnding.StackFull)) world)
     full_call_runs x full =
-        line_runs target 7 (record { action = Call g; args = args; into = Some x }) rest f fs world words
+        line_runs target (2 * length args + 8) (record { action = Call g; args = args; into = Some x }) rest f fs world words
         (ended (exited (number_of OfEnding.StackFull)) world) reads (called x true full) (λ held. omega arith) (silent target world)
 
     -- the callee runs in place of a frame that holds no token
     pub tail_call_runs : f.held ≡ []
-        → Runs target (target.moves + 2) 1 (turn_of (acts (TailCall g) args ∷ rest) f fs world)
+        → Runs target (2 * length args + 2) 1 (turn_of (acts (TailCall g) args ∷ rest) f fs world)
         (turn_of callee.code entered fs world)
     tail_call_runs none =
-        line_runs target 2 (acts (TailCall g) args) rest f fs world words (turn_of callee.code entered fs world) reads
+        line_runs target (2 * length args + 2) (acts (TailCall g) args) rest f fs world words (turn_of callee.code entered fs world) reads
         (ap (λ h. unless_held h (or_stuck (slice_get target.functions g) (λ (c : Lines). or_stuck (bound c.params words)
         (λ values. asm_goes (asm_entered c values) fs world)))) none
         ∙ ap (λ o. or_stuck o (λ (c : Lines). or_stuck (bound c.params words) (λ values. asm_goes (asm_entered c values) fs world)))
@@ -230,10 +234,10 @@ module _ (target : Target) (f : Frame Line) (fs : List (Frame Line)) (world : Wo
 pub return_runs : (target : Target) (f waiting : Frame Line) (fs : List (Frame Line)) (world : World) (rest : List Line)
     (x word : ℕ)
     (values : ℕ → Option ℕ) → f.cells x ≡ Some word → f.held ≡ [] → received waiting.into (Some word) waiting.cells ≡ Some values
-    → Runs target (target.moves + 3) 1 (turn_of (acts Return (x ∷ []) ∷ rest) f (waiting ∷ fs) world)
+    → Runs target (most_moves + 3) 1 (turn_of (acts Return (x ∷ []) ∷ rest) f (waiting ∷ fs) world)
     (turn_of waiting.code (record waiting { cells = values }) fs world)
 return_runs target f waiting fs world rest x word values is none gets =
-    line_runs target 3 (acts Return (x ∷ [])) rest f (waiting ∷ fs) world (word ∷ [])
+    line_runs target (most_moves + 3) (acts Return (x ∷ [])) rest f (waiting ∷ fs) world (word ∷ [])
     (turn_of waiting.code (record waiting { cells = values }) fs world) (reads_one f.cells x word is)
     (ap (λ h. unless_held h (asm_returns (world_primitives target) (waiting ∷ fs) world (Some word))) none
     ∙ ap (λ o. or_stuck o (λ cells. asm_goes (record waiting { cells = cells }) fs world)) gets)
@@ -241,10 +245,10 @@ return_runs target f waiting fs world rest x word values is none gets =
 
 pub last_return_runs : (target : Target) (f : Frame Line) (world : World) (rest : List Line) (x word : ℕ) → f.cells x ≡ Some word
     → f.held ≡ []
-    → Runs target (target.moves + 3) 1 (turn_of (acts Return (x ∷ []) ∷ rest) f [] world)
+    → Runs target (most_moves + 3) 1 (turn_of (acts Return (x ∷ []) ∷ rest) f [] world)
     (ended (exited (number_of OfEnding.Ended)) world)
 last_return_runs target f world rest x word is none =
-    line_runs target 3 (acts Return (x ∷ [])) rest f [] world (word ∷ []) (ended (exited (number_of OfEnding.Ended)) world)
+    line_runs target (most_moves + 3) (acts Return (x ∷ [])) rest f [] world (word ∷ []) (ended (exited (number_of OfEnding.Ended)) world)
     (reads_one f.cells x word is)
     (ap (λ h. unless_held h (asm_returns (world_primitives target) [] world (Some word))) none)
     (λ held. omega arith) (silent target world)

@@ -27,7 +27,7 @@ use Rattle.rv_isa.specs.WellFormed.{AreLinesFormed}
 use Rattle.rv_lower.specs.Lines.{acts}
 use Rattle.rv_lower.proofs.Orders.{split_at}
 use Rattle.rv_cells.specs.Layout.{FitsField, FitFields}
-use Rattle.rv_cells.proofs.LineCosts.{row_cost, forms, code_cost}
+use Rattle.rv_cells.proofs.LineCosts.{most_moves, row_cost, forms, code_cost}
 use Rattle.rv_cells.proofs.Values.{among_by}
 use Rattle.rv_cells.proofs.Runs.{turn_of, Runs}
 use Rattle.rv_cells.proofs.Spots.{Spot, Here, saved}
@@ -259,7 +259,7 @@ module _ (program : Lowering) where
       let steps = dup_steps (known_of program at.holds at.base) (setting program)
       (texts program) at.goal p.low p.high x rest inner c
       p.own p.after fs s at.here p.marked.0 p.lines (λ name. let small = counts name in omega arith) (fit 1).going in
-      goes_on (dup x rest) rest idle inner frames input s fs left at fit (program.moves + 5) goes s.bound s.bound steps quiet_goes
+      goes_on (dup x rest) rest idle inner frames input s fs left at fit (most_moves + 5) goes s.bound s.bound steps quiet_goes
       (omega arith) (ap (λ action. seen_action action input) steps.steps) (omega (arith, idle_is)) (omega arith)
       (within_itself s.bound) (within_itself s.bound) p.marked.1 p.numbered
 
@@ -277,7 +277,7 @@ module _ (program : Lowering) where
       (texts program) at.goal p.low p.high x rest inner c
       p.own p.after fs s at.here p.marked.0 p.lines (fit 1).going in
       goes_on (drop x rest) rest idle inner frames input s fs left at fit
-      (2 * program.moves + 17) goes s.bound s.bound steps quiet_goes
+      (2 * most_moves + 16) goes s.bound s.bound steps quiet_goes
       (omega arith) (ap (λ action. seen_action action input) steps.steps) (omega (arith, idle_is)) (omega arith)
       (within_itself s.bound) (within_itself s.bound) p.marked.1 p.numbered
 
@@ -323,7 +323,7 @@ module _ (program : Lowering) where
       (fit 0).sound.older named.1 in
       let steps = read_steps (known_of program at.holds at.base) (setting program) (texts program) at.goal p.low p.high x c fields
       named.0 rest inner m p.own p.after fs s at.here reads p.lines in
-      goes_on (read x c fields rest) rest idle inner frames input s fs left at fit (row_cost fields (program.moves + 2)) goes
+      goes_on (read x c fields rest) rest idle inner frames input s fs left at fit (row_cost fields (most_moves + 2)) goes
       (bound_list fields s.bound) (fields ++ s.bound) steps quiet_goes
       (omega arith) (ap (λ action. seen_action action input) steps.steps) (omega (arith, idle_is)) (omega arith)
       (within_fields fields s.bound) (within_front fields s.bound) p.marked.1 p.numbered.1
@@ -354,7 +354,7 @@ module _ (program : Lowering) where
       named.0 rest inner m p.own p.after fs s at.here reads used p.lines p.numbered.0.1.1
       (λ name. let small = counts name in omega arith) next.0 next.1 in
       goes_on (open_cell x c fields used rest) rest idle inner frames input s fs left at fit
-      (code_cost program.moves (open_cell x c fields used rest) s.environment s.heap) goes
+      (code_cost (open_cell x c fields used rest) s.environment s.heap) goes
       (bound_list fields s.bound) (fields ++ s.bound) steps quiet_goes
       (omega arith) (ap (λ action. seen_action action input) steps.steps) (omega (arith, idle_is)) (omega arith)
       (within_fields fields s.bound) (within_front fields s.bound) p.marked.1 p.numbered.1
@@ -407,7 +407,7 @@ module _ (program : Lowering) where
       (finds program p.low s.frame.whole (p.before ++ first) (shared_rest ++ behind) at.formed shared_at)
       (finds program (p.low + 1) s.frame.whole ((p.before ++ first) ++ shared) after at.formed behind_at) in
       goes_on (if_unique x c fields used rest) rest idle inner frames input s fs left at fit
-      (code_cost program.moves (if_unique x c fields used rest) s.environment s.heap) goes
+      (code_cost (if_unique x c fields used rest) s.environment s.heap) goes
       (bound_list fields s.bound) (fields ++ s.bound) steps quiet_goes
       (omega arith) (ap (λ action. seen_action action input) steps.steps) (omega (arith, idle_is)) (omega arith)
       (within_fields fields s.bound) (within_front fields s.bound) p.marked.1 p.numbered.1

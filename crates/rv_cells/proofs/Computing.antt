@@ -1,5 +1,5 @@
 -- The lines of forms that call no function do the steps of the counted machine: constructions, numbers, prints and reads.
-use Rattle.std.proofs.Common.{◌≡◌, ℕ, ◌+◌, ◌*◌, ◌^◌, ◌<◌, ◌≤◌, inl, inr, ℤ, pos, negsuc, w32, Bool, true, false, not, List, [], ◌∷◌, ◌++◌, length, Option, Some, nat_le, All, refl, sym, ◌∙◌, ap, subst, arith, append_assoc, mul-le-mul_right}
+use Rattle.std.proofs.Common.{◌≡◌, ℕ, ◌+◌, ◌*◌, ◌^◌, ◌<◌, ◌≤◌, inl, inr, ℤ, pos, negsuc, w32, Bool, true, false, not, List, [], ◌∷◌, ◌++◌, length, Option, Some, nat_le, All, refl, sym, ◌∙◌, ap, subst, arith, append_assoc}
 use Rattle.std.specs.Prelude.{if◌then◌else◌}
 use Rattle.std.specs.Fmt.{signed_decimal}
 use Rattle.std.specs.Int.{int_wrap}
@@ -43,11 +43,11 @@ use Rattle.rv_lower.proofs.Printing.{some_digits, some_piece}
 use Rattle.rv_lower.proofs.Following.{IsWordOf, turn_at}
 use Rattle.rv_lower.proofs.Performing.{put_same, put_other}
 use Rattle.rv_lower.proofs.Performing as Performing
-use Rattle.rv_lower.proofs.Runs.{Target as NumberTarget, line_cost}
+use Rattle.rv_lower.proofs.Runs.{Target as NumberTarget, word_cost, most_cost}
 use Rattle.rv_lower.proofs.Runs as NumberRuns
 use Rattle.rv_cells.specs.Layout.{Layout, word_in, FitsField, FitFields}
 use Rattle.rv_cells.specs.Follows.{Follows}
-use Rattle.rv_cells.proofs.LineCosts.{row_cost, forms}
+use Rattle.rv_cells.proofs.LineCosts.{most_moves, row_cost, forms}
 use Rattle.rv_cells.specs.Fitting.{IsInt32}
 use Rattle.rv_cells.proofs.Values.{HasValues, among_by, has_bound}
 use Rattle.rv_cells.proofs.Runs.{turn_of, Runs}
@@ -137,7 +137,7 @@ module _ (program : Lowering) where
           (texts program) at.goal p.low p.high x c a
           more rest inner m p.own p.after fs s at.here making p.lines refl test in
           goes_on program (compute x (Construct c) (a ∷ more) rest) rest idle inner frames input s fs left at fit
-          (5 * program.moves + 18 + row_cost (a ∷ more) (program.moves + 2) + (52 + 8 * length (a ∷ more))) (builds (busy s.heap))
+          (5 * most_moves + 18 + row_cost (a ∷ more) (most_moves + 2) + (52 + 8 * length (a ∷ more))) (builds (busy s.heap))
           (x ∷ s.bound) (x ∷ s.bound) steps (quiet_builds program (busy s.heap))
           (omega arith) (ap (λ action. seen_action program action input) steps.steps) (omega (arith, idle_is)) (omega arith)
           (within_itself (x ∷ s.bound)) (within_one x s.bound) p.marked.1.1 p.numbered.1.1
@@ -160,8 +160,8 @@ module _ (program : Lowering) where
           ∙ none_top program s.address (length s.heap) frames fs at.result at.waits) in
           does_by program idle st next [] t0
           (ap (λ b. seen_action program (builds (busy s.heap) (if b then at_end heap_full m else made)) input) test) fit
-          (λ later. by_lines program 1 (program.moves + 10) ((upper program).weight st) (saved s.heap) idle next t0 t1
-          (subst (λ ls. Runs (target program) (program.moves + 10) 1 (turn_of ls s.frame fs s.world) t1) (sym is) ran)
+          (λ later. by_lines program 1 (most_moves + 10) ((upper program).weight st) (saved s.heap) idle next t0 t1
+          (subst (λ ls. Runs (target program) (most_moves + 10) 1 (turn_of ls s.frame fs s.world) t1) (sym is) ran)
           (omega arith) (omega arith) later
           (record {
             world = s.world;
@@ -178,7 +178,6 @@ module _ (program : Lowering) where
   numbers_target = record {
     constants = record { first = program.first; texts = program.constants };
     pool = program.pool;
-    moves = program.moves;
     depth = program.depth;
     functions = program.functions;
   }
@@ -237,8 +236,8 @@ module _ (program : Lowering) where
     abbrev pub form_rest : List Line
     form_rest = at.placed.lines.1 ++ at.placed.after
 
-    pub at_value : (v : Value) (n : ℕ) (events : List Event) (cells : ℕ → Option ℕ) (world : World) (input_left : List ℕ) → n ≤ 8
-        → NumberRuns.Runs numbers_target n events
+    pub at_value : (v : Value) (n : ℕ) (events : List Event) (cells : ℕ → Option ℕ) (world : World) (input_left : List ℕ) (cost : ℕ) → cost ≤ most_cost
+        → NumberRuns.Runs numbers_target cost n events
         (turn_at s.frame.whole (form_own ++ form_rest) s.frame.cells s.frame.into fs s.world)
         (turn_at s.frame.whole form_rest cells s.frame.into fs world)
         → ((z : ℕ) → z < x → cells z ≡ s.frame.cells z) → cells x ≡ Some (word_in program.layout s.address v)
@@ -247,7 +246,7 @@ module _ (program : Lowering) where
         ≡ (events, counted_at program rest (record { variable = x; value = v } ∷ s.environment) inner frames s.heap input_left)
         → world.left ≡ input_left → world.cells ≡ s.world.cells → All (λ byte. byte < 256) input_left
         → Does program idle form_state (turn_of left s.frame fs s.world)
-    at_value v n events cells world input_left few run kept there fits within is left_is cells_are bytes =
+    at_value v n events cells world input_left cost cheap run kept there fits within is left_is cells_are bytes =
         let p = at.placed in
         let short = p.short in
         let w = word_in program.layout s.address v in
@@ -261,9 +260,9 @@ module _ (program : Lowering) where
         = turns_are (form_own ++ form_rest) s.frame fs s.world at.held ∙ ap (λ ls. turn_of ls s.frame fs s.world) (sym parts) in
         let last : turn_at s.frame.whole form_rest cells s.frame.into fs world ≡ turn_of form_rest f fs world
         = turns_are form_rest f fs world at.held in
-        let ran : NumberRuns.Runs numbers_target n events (turn_of left s.frame fs s.world) (turn_of form_rest f fs world)
-        = subst (λ u. NumberRuns.Runs numbers_target n events (turn_of left s.frame fs s.world) u) last
-        (subst (λ t. NumberRuns.Runs numbers_target n events t (turn_at s.frame.whole form_rest cells s.frame.into fs world)) first
+        let ran : NumberRuns.Runs numbers_target cost n events (turn_of left s.frame fs s.world) (turn_of form_rest f fs world)
+        = subst (λ u. NumberRuns.Runs numbers_target cost n events (turn_of left s.frame fs s.world) u) last
+        (subst (λ t. NumberRuns.Runs numbers_target cost n events t (turn_at s.frame.whole form_rest cells s.frame.into fs world)) first
         run) in
         let place : s.frame.whole ≡ (p.before ++ form_own) ++ form_rest
         = p.place ∙ ap (λ ls. p.before ++ ls) parts ∙ sym (append_assoc p.before form_own form_rest) in
@@ -275,10 +274,10 @@ module _ (program : Lowering) where
               kept z low ∙ sym (put_other x z w s.frame.cells (λ e. omega (arith, e, low)))
         ]) in
         does_by program idle form_state next events (turn_of left s.frame fs s.world) is fit
-        (λ later. arrives program n (8 * line_cost program.moves) ((upper program).weight form_state)
+        (λ later. arrives program n cost ((upper program).weight form_state)
         (saved s.heap) idle events next
         (turn_of left s.frame fs s.world) (turn_of form_rest f fs world)
-        (omega (arith, ran.within, mul-le-mul_right (line_cost program.moves) few)) ran.events_are ran.passes ran.arrives
+        ran.within ran.events_are ran.passes ran.arrives
         (omega arith) (omega (arith, idle_is)) later
         (record {
           spot = record s {
@@ -337,7 +336,7 @@ module _ (program : Lowering) where
         → Does program idle form_state (turn_of left s.frame fs s.world)
     performed_value t v events world input_left performs plain is left_is cells_are bytes =
         let shown = word_follows s.address (length s.heap) t v performs.word performs.is in
-        at_value v performs.steps events performs.cells' world input_left performs.few
+        at_value v performs.steps events performs.cells' world input_left performs.cost performs.cheap
         (performs.runs s.frame.whole form_rest s.frame.into fs) performs.kept (performs.there ∙ ap (λ w. Some w) (sym shown.0))
         (subst (λ b. FitsField b v) (sym plain) shown.1) shown.2 is left_is cells_are bytes
 
@@ -496,13 +495,13 @@ module _ (program : Lowering) where
       let p = at.placed in
       let word = 2 * program.layout.tag c + 1 in
       at_value x idle (Construct c) [] rest inner frames input s fs left idle_is at fit (constant c) 1 []
-      (put x (Some word) s.frame.cells) s.world input (omega arith)
-      (subst (λ own. NumberRuns.Runs numbers_target 1 []
+      (put x (Some word) s.frame.cells) s.world input word_cost (omega arith)
+      (subst (λ own. NumberRuns.Runs numbers_target word_cost 1 []
       (turn_at s.frame.whole (own ++ (p.lines.1 ++ p.after)) s.frame.cells s.frame.into fs s.world)
       (turn_at s.frame.whole (p.lines.1 ++ p.after) (put x (Some word) s.frame.cells) s.frame.into fs s.world)) (sym p.lines.2)
       (NumberRuns.compute_runs numbers_target s.frame.whole (Op.Li word) [] x
       (p.lines.1 ++ p.after) s.frame.cells s.frame.into fs s.world
-      [] word refl refl))
+      [] word (omega arith) refl refl))
       (λ z less. put_other x z word s.frame.cells (λ e. omega (arith, e, less))) (put_same x word s.frame.cells)
       (fits_constant (at.holds x) c) tt refl at.input_is refl at.bytes
   at_plain x (Call f) arguments plain idle rest inner frames input s fs left idle_is at fit = absurd plain

@@ -34,7 +34,7 @@ use Rattle.rv_cells.proofs.Values.{HasValues, among_none, has_bound, has_tempora
 use Rattle.rv_cells.proofs.Runs.{Target, left_at, turn_of, Runs, runs_none, runs_then}
 use Rattle.rv_cells.proofs.Acting.{put_in, take_runs, full_runs, sets_runs, store_runs}
 use Rattle.rv_cells.proofs.Spots.{Spot, Known, Here, Did}
-use Rattle.rv_cells.proofs.LineCosts.{row_cost}
+use Rattle.rv_cells.proofs.LineCosts.{most_moves, row_cost}
 
 -- ---- words one behind the other
 
@@ -82,7 +82,7 @@ module _ (target : Target) (layout : Layout) (address : ℕ → ℕ) (owners : �
 
   store_hand : (rest : List Line) (world : World) (i from w : ℕ) (words : ℕ → Option ℕ) (line : Line) → Stores x i from line
       → f.cells from ≡ Some w → i < 8 → Holds words world.cells
-      → Runs target (target.moves + 2) 1 (turn_of (line ∷ rest) f fs world)
+      → Runs target (most_moves + 2) 1 (turn_of (line ∷ rest) f fs world)
       (turn_of rest f fs (with_cells world (with_block at (own (with_word i w words)) world.cells)))
   store_hand rest world i from w words line stores has low holds =
       let stands = hand_owned holds at words (chosen_same at at (in_hand words) owners refl) in
@@ -91,7 +91,7 @@ module _ (target : Target) (layout : Layout) (address : ℕ → ℕ) (owners : �
 
   stores_run : (rest : List Line) (xs ws : List ℕ) (i : ℕ) (lines : List Line) (words : ℕ → Option ℕ) (world : World)
       → AllStores x i xs lines → HaveWords f.cells xs ws → i + length xs ≤ 8 → Holds words world.cells
-      → (cells : Cells) × Runs target (row_cost xs (target.moves + 2)) (length xs) (turn_of (lines ++ rest) f fs world)
+      → (cells : Cells) × Runs target (row_cost xs (most_moves + 2)) (length xs) (turn_of (lines ++ rest) f fs world)
       (turn_of rest f fs (with_cells world cells)) × Holds (with_words i ws words) cells
   stores_run rest [] [] i lines words world stores has few holds = (
     world.cells,
@@ -108,11 +108,11 @@ module _ (target : Target) (layout : Layout) (address : ℕ → ℕ) (owners : �
       (omega (arith, few)) (stored i w words world.cells holds) in
       let one_more : 1 + length ys ≡ suc (length ys) = omega arith in (
         later.0,
-        subst (λ ls. Runs target (row_cost (y ∷ ys) (target.moves + 2)) (suc (length ys)) (turn_of (ls ++ rest) f fs world)
+        subst (λ ls. Runs target (row_cost (y ∷ ys) (most_moves + 2)) (suc (length ys)) (turn_of (ls ++ rest) f fs world)
             (turn_of rest f fs (with_cells world later.0))) (sym stores.4)
-            (subst (λ n. Runs target (row_cost (y ∷ ys) (target.moves + 2)) n (turn_of ((stores.0 ∷ stores.1) ++ rest) f fs world)
+            (subst (λ n. Runs target (row_cost (y ∷ ys) (most_moves + 2)) n (turn_of ((stores.0 ∷ stores.1) ++ rest) f fs world)
             (turn_of rest f fs (with_cells world later.0))) one_more
-            (runs_then target (target.moves + 2) (row_cost ys (target.moves + 2)) 1 (length ys)
+            (runs_then target (most_moves + 2) (row_cost ys (most_moves + 2)) 1 (length ys)
             (turn_of (stores.0 ∷ (stores.1 ++ rest)) f fs world) (turn_of (stores.1 ++ rest) f fs (with_cells world next))
             (turn_of rest f fs (with_cells world later.0)) first later.1)),
         later.2,
@@ -160,7 +160,7 @@ made_spot s x c vs at frame cells =
 
 -- a construction costs its lines, and what is saved for the drop of its cell
 abbrev pub construct_cost : Known → List ℕ → ℕ
-construct_cost known arguments = 5 * known.target.moves + 18 + row_cost arguments (known.target.moves + 2) +
+construct_cost known arguments = 5 * most_moves + 18 + row_cost arguments (most_moves + 2) +
     (52 + 8 * length arguments)
 
 args_words : (known : Known) (s : Spot) (here : Here known s) (x at word : ℕ) (xs : List ℕ) → AllAmong xs s.bound
@@ -229,12 +229,12 @@ module _ (known : Known) (rest : List Line) (fs : List (Frame Line)) (s : Spot) 
 
   -- from the cell that was taken to the whole cell
   fills : (at : ℕ) (world : World) → Hands known.target.pool known.layout s.address s.owners s.heap at nothing world.cells
-      → (cells : Cells) × Runs known.target (4 * known.target.moves + 8 + row_cost arguments (known.target.moves + 2))
+      → (cells : Cells) × Runs known.target (4 * most_moves + 8 + row_cost arguments (most_moves + 2))
       (1 + (1 + (length arguments + (1 + 1))))
       (turn_of behind_take (put_in x at s.frame) fs world) (turn_of rest (ended_frame at) fs (with_cells world cells))
       × Hands known.target.pool known.layout s.address s.owners s.heap at last_words cells
   fills at world holds =
-      let moves = known.target.moves in
+      let moves = most_moves in
       let target = known.target in
       let f1 = put_in x at s.frame in
       let f2 = headed at in
@@ -292,7 +292,7 @@ module _ (known : Known) (rest : List Line) (fs : List (Frame Line)) (s : Spot) 
       × Did known (construct_cost known arguments) lines rest fs s
       (made_spot s x c (values_of s.environment arguments) at frame cells)
   construct_did room =
-      let moves = known.target.moves in
+      let moves = most_moves in
       let row = row_cost arguments (moves + 2) in
       let took = served here.follows known.aligned making.none (top (left_at behind_take s.frame ∷ fs)) room in
       let first = take_runs known.target behind_take s.frame fs s.world x took.at took.next took.is in
@@ -342,11 +342,11 @@ module _ (known : Known) (rest : List Line) (fs : List (Frame Line)) (s : Spot) 
 
   -- the heap is full, where no token is held
   pub full_did : known.target.pool.cells ≤ busy s.heap → top (s.frame ∷ fs) ≡ None
-      → Runs known.target (known.target.moves + 10) 1 (turn_of (lines ++ rest) s.frame fs s.world)
+      → Runs known.target (most_moves + 10) 1 (turn_of (lines ++ rest) s.frame fs s.world)
       (ended (exited (number_of OfEnding.HeapFull)) s.world)
   full_did full no_token =
       let none = is_full here.follows known.aligned making.none full in
-      subst (λ ls. Runs known.target (known.target.moves + 10) 1 (turn_of (ls ++ rest) s.frame fs s.world)
+      subst (λ ls. Runs known.target (most_moves + 10) 1 (turn_of (ls ++ rest) s.frame fs s.world)
       (ended (exited (number_of OfEnding.HeapFull)) s.world)) (sym constructs.6)
       (full_runs known.target behind_take s.frame fs s.world x
       (ap (λ t. request known.target.pool t s.world.cells) no_token ∙ none))

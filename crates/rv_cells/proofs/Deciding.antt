@@ -23,7 +23,7 @@ use Rattle.rv_lower.specs.Lowered.{Goal}
 use Rattle.rv_lower.proofs.Labels.{found_label}
 use Rattle.rv_cells.specs.Layout.{Layout, word_in}
 use Rattle.rv_cells.specs.CountedLines.{Setting, CodeLines, ArmsLines, NodeLines, NodesLines}
-use Rattle.rv_cells.proofs.LineCosts.{row_cost, forms, arms_forms, edges_cost, look_cost, test_within}
+use Rattle.rv_cells.proofs.LineCosts.{most_moves, row_cost, forms, arms_forms, edges_cost, look_cost, test_within}
 use Rattle.rv_cells.specs.Fitting.{FitsNode, FitsFrom}
 use Rattle.rv_cells.proofs.Held.{some-is}
 use Rattle.rv_cells.proofs.Runs.{turn_of, Runs, runs_then}
@@ -219,8 +219,8 @@ module _ (program : Lowering) (x idle : ℕ) (decisions : List NodeTree) (arms :
 
   -- what the lines of these nodes weigh: the last one jumps to its arm
   abbrev walk_cost : ℕ → ℕ → ℕ
-  walk_cost steps k = look_cost program.moves * looks_from (cell_at s.heap) (value_of s.environment x) decisions steps k
-      + (2 * program.moves + 2)
+  walk_cost steps k = look_cost * looks_from (cell_at s.heap) (value_of s.environment x) decisions steps k
+      + (2 * most_moves + 2)
 
   -- a test looks at its own, and then come the looks of the node to which it leads
   test_looks : (steps k next : ℕ) (way : List ℕ) (edges : List Edge) (otherwise : Option ℕ) (found : Answer)
@@ -240,7 +240,7 @@ module _ (program : Lowering) (x idle : ℕ) (decisions : List NodeTree) (arms :
       → Goes (walk_cost steps k) (node_from k node stands) there values
   node_leads zero k row node stands there values is row_is fits found_arm has = cc
   node_leads (suc steps) k row (chooses chosen_row) stands there values is row_is fits found_arm has =
-      let m = program.moves in
+      let m = most_moves in
       let rest = stands.rest ++ tail in
       let same : chosen_row ≡ row
       = some-is (sym (ap (row_at (cell_at s.heap) v (chosen_from (cell_at s.heap) v decisions steps)) is) ∙ row_is) in
@@ -262,7 +262,7 @@ module _ (program : Lowering) (x idle : ℕ) (decisions : List NodeTree) (arms :
         kept = λ z less. refl;
       }))
   node_leads (suc steps) k row (tests way edges otherwise) stands there values is row_is fits found_arm has =
-      let m = program.moves in
+      let m = most_moves in
       let behind = chosen_from (cell_at s.heap) v decisions steps in
       let row_by = sym (ap (row_at (cell_at s.heap) v behind) is) ∙ row_is in
       let first = then_some (found_at (cell_at s.heap) way v)
@@ -280,7 +280,7 @@ module _ (program : Lowering) (x idle : ℕ) (decisions : List NodeTree) (arms :
       let rest = stands.rest ++ tail in
       let from = acts (Label (nodes + k)) [] ∷ (stands.first ++ rest) in
       let f = record s.frame { cells = values } in
-      let cost = 6 * m + 14 + row_cost way (m + 2) + edges_cost m edges in
+      let cost = 6 * m + 14 + row_cost way (m + 2) + edges_cost edges in
       let label : Leads known s fs at.here at.base (m + 0) from (stands.first ++ rest) values = record {
         steps = 1;
         later = values;
@@ -297,7 +297,7 @@ module _ (program : Lowering) (x idle : ℕ) (decisions : List NodeTree) (arms :
       let seen = test_looks steps k next.0 way edges otherwise found is first.1 next.1 in
       let rest_cost = walk_cost steps next.0 in
       leads_more known s fs at.here at.base at.base ((m + 0) + (cost + rest_cost)) (walk_cost (suc steps) k) from there values
-      (test_within m (looks steps next.0) (looks (suc steps) k) way edges seen) (omega arith)
+      (test_within (looks steps next.0) (looks (suc steps) k) way edges seen) (omega arith)
       (leads_then known s fs at.here at.base (m + 0) (cost + rest_cost) from (stands.first ++ rest) there values label
       (leads_then known s fs at.here at.base cost rest_cost (stands.first ++ rest) goal there values test onward))
 
@@ -338,7 +338,7 @@ module _ (program : Lowering) (x idle : ℕ) (decisions : List NodeTree) (arms :
       (turn_of left s.frame fs s.world)
   at_case =
       let p = at.placed in
-      let m = program.moves in
+      let m = most_moves in
       let st : CountedState = counted_at program (case x decisions arms) s.environment inner frames s.heap input in
       let there = case_there (and_then (chosen (cell_at s.heap) v decisions) (arm_at arms)) s.environment inner st.machine input
       (fit 1).going in

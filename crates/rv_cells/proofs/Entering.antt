@@ -29,11 +29,11 @@ use Rattle.rv_lower.proofs.Calls.{HaveWords, AreLess, words_read}
 use Rattle.rv_lower.proofs.Orders.{split_at}
 use Rattle.rv_cells.specs.Layout.{Layout, word_in, words_in, FitsField, FitFields}
 use Rattle.rv_cells.specs.Follows.{NoneInHand}
-use Rattle.rv_cells.proofs.LineCosts.{row_cost, forms}
+use Rattle.rv_cells.proofs.LineCosts.{most_moves, row_cost, forms}
 use Rattle.rv_cells.specs.Marked.{IsFunctionOf}
 use Rattle.rv_cells.proofs.Values.{HasValues}
 use Rattle.rv_cells.proofs.Runs.{left_at, turn_of, Runs, runs_then}
-use Rattle.rv_cells.proofs.Calling.{put_row, row_below, row_has, copies_run, has_parameters, call_runs, full_call_runs, tail_call_runs}
+use Rattle.rv_cells.proofs.Calling.{temporaries_many, put_row, row_below, row_has, copies_run, has_parameters, call_runs, full_call_runs, tail_call_runs}
 use Rattle.rv_cells.proofs.Spots.{Spot, Here, saved}
 use Rattle.rv_cells.proofs.Constructing.{args_older}
 use Rattle.rv_cells.proofs.Standing.{Lowering, target, texts, setting, upper, pace, known_of, continues_more, AllWait, as_many_wait, At, IsFitFrom, by_lines}
@@ -211,7 +211,7 @@ module _ (program : Lowering) where
       (turn_of left s.frame fs s.world)
   at_tail f idle arguments inner frames input s fs left some at fit =
       let p = at.placed in
-      let m = program.moves in
+      let m = most_moves in
       let vs : List Value = values_of s.environment arguments in
       let ws = words_in program.layout s.address vs in
       let st : CountedState = counted_at program (tail_call f arguments) s.environment inner frames s.heap input in
@@ -238,17 +238,19 @@ module _ (program : Lowering) where
       at.held in
       let is : left ≡ copies at.base arguments ++ (line ∷ p.after)
       = p.left_is ∙ ap (λ own. own ++ p.after) p.lines.0 ∙ append_assoc (copies at.base arguments) (line ∷ []) p.after in
-      let runs : Runs (target program) (row_cost arguments (m + 2) + (m + 2)) (length arguments + 1) t0 t2
-      = subst (λ ls. Runs (target program) (row_cost arguments (m + 2) + (m + 2)) (length arguments + 1)
+      let last_cost = 2 * length (temporaries at.base arguments) + 2 in
+      let runs : Runs (target program) (row_cost arguments (m + 2) + last_cost) (length arguments + 1) t0 t2
+      = subst (λ ls. Runs (target program) (row_cost arguments (m + 2) + last_cost) (length arguments + 1)
       (turn_of ls s.frame fs s.world) t2)
       (sym is)
-      (runs_then (target program) (row_cost arguments (m + 2)) (m + 2) (length arguments) 1
+      (runs_then (target program) (row_cost arguments (m + 2)) last_cost (length arguments) 1
       (turn_of (copies at.base arguments ++ (line ∷ p.after)) s.frame fs s.world) t1 t2 copied called) in
       let few = program.short f function there.1 in
+      let handed = temporaries_many at.base arguments in
       let paces : 1 * pace program ≤ (length arguments + 1) * pace program = mul-le-mul_right (pace program) (omega arith) in
       does_by program idle st next [] t0
       (ap (λ o. seen_action program (tail_step o vs st.machine) input) there.1) fit
-      (λ later. by_lines program (length arguments + 1) (row_cost arguments (m + 2) + (m + 2)) ((upper program).weight st)
+      (λ later. by_lines program (length arguments + 1) (row_cost arguments (m + 2) + last_cost) ((upper program).weight st)
       (saved s.heap)
       idle next t0 t2 runs (omega arith) (omega (arith, some, few, paces)) later
       (record {
@@ -278,7 +280,7 @@ module _ (program : Lowering) where
           (turn_of left s.frame fs s.world)
       by_depth full test =
           let p = at.placed in
-          let m = program.moves in
+          let m = most_moves in
           let args : List Value = values_of s.environment arguments in
           let ws = words_in program.layout s.address args in
           let start : CountedState = counted_at program (compute x (Call f) arguments rest) s.environment inner frames s.heap input
@@ -358,11 +360,13 @@ module _ (program : Lowering) where
           = λ b e. ap (λ o. seen_action program (call_step (setting program) o args waiting start.machine) input) there.1
           ∙ ap (λ c. seen_action program (calls (suc (length frames)) (if c then at_end stack_full start.machine else entered))
           input) e in
-          let cost = row_cost arguments (m + 2) + (m + 7) in
-          let whole_run : (u : AsmTurn World Ending) → Runs (target program) (m + 7) 1 t1 u
+          let handed = temporaries_many at.base arguments in
+          let last_cost = 2 * length (temporaries at.base arguments) + 8 in
+          let cost = row_cost arguments (m + 2) + last_cost in
+          let whole_run : (u : AsmTurn World Ending) → Runs (target program) last_cost 1 t1 u
           → Runs (target program) cost (length arguments + 1) t0 u
           = λ u called. subst (λ ls. Runs (target program) cost (length arguments + 1) (turn_of ls s.frame fs s.world) u) (sym is)
-          (runs_then (target program) (row_cost arguments (m + 2)) (m + 7) (length arguments) 1
+          (runs_then (target program) (row_cost arguments (m + 2)) last_cost (length arguments) 1
           (turn_of (copies at.base arguments ++ (line ∷ behind)) s.frame fs s.world) t1 u copied called) in
           elim full as (λ b. nat_le program.depth (suc (length frames)) ≡ b → nat_le program.depth (length (f1 ∷ fs)) ≡ b
           → Does program idle start t0) [

@@ -16,7 +16,7 @@ use Rattle.rv_cells.specs.CountedLines.{Setting, CodeLines, ArmsLines}
 use Rattle.rv_cells.proofs.CellForms.{room_list}
 use Rattle.rv_cells.proofs.FormedCases.{ArmsFit, arms_none, arms_more, fits_case}
 use Rattle.rv_cells.proofs.FormedForms.{fits_form}
-use Rattle.rv_cells.proofs.FormedSteps.{FitsWhole, fits_whole, fits_dup, fits_drop, fits_read, fits_open}
+use Rattle.rv_cells.proofs.FormedSteps.{all_bound, FitsWhole, fits_whole, fits_dup, fits_drop, fits_read, fits_open}
 use Rattle.rv_cells.proofs.FormedUniques.{fits_unique}
 
 -- ---- the same variables are bound, in another order
@@ -99,7 +99,7 @@ module _ (setting : Setting) (marks : CellMarks) (result : Bool) where
         subst (FitsLines bound goal low high) (sym is.0)
         (subst (λ (high : ℕ). FitsLines bound goal low high (tail_lines setting.base f arguments)) is.1
         (fits_whole setting.base bound goal low low 1 (tail_lines setting.base f arguments)
-        (fits_tail_call setting.base bound has f arguments goal low arities marked.0)))
+        (fits_tail_call setting.base bound has f arguments goal low arities (all_bound bound arguments marked.0))))
     code_fits (branch x positive negative) bound given goal low high lines has marked numbered arms some arities is =
         subst (FitsLines bound goal low high) (sym is.5)
         (fits_whole setting.base bound goal low high (length is.0 + length is.1 + 1) _

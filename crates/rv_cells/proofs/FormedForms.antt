@@ -1,11 +1,7 @@
 -- The lines of a form that has as many arguments as it takes, before those of the code that follows it.
 use Rattle.std.proofs.Common.{◌≡◌, ℕ, ◌+◌, ◌*◌, ◌<◌, List, [], ◌∷◌, ◌++◌, length, Some, refl, sym, subst, arith}
-use Rattle.std.specs.Prelude.{slice_get}
 use Rattle.kk_syntax.specs.declared.program.Form.{Form}
 use Rattle.kk_syntax.specs.declared.program.Form.TheVariants.{Number, Unit as Nothing, ReadByte, PrintText, Unary, Binary, Print, Construct, Call}
-use Rattle.kk_syntax.specs.PlainTyping.{IsFormTyped}
-use Rattle.kk_syntax.specs.Types.{TypeTree, int32, unit_type}
-use Rattle.kk_syntax.specs.Typing.{unary_type, binary_type}
 use Rattle.kk_core.specs.Sizes.{AreBound}
 use Rattle.kk_counted.specs.Lowerable.{HasArity}
 use Rattle.rv_isa.specs.declared.asm.Operation.TheVariants as Op
@@ -13,17 +9,11 @@ use Rattle.rv_isa.specs.AsmCode.{Line}
 use Rattle.rv_lower.specs.Lines.{sets, FormLines}
 use Rattle.rv_lower.specs.Lowered.{Goal}
 use Rattle.rv_lower.proofs.Formed.{Readable, HasRoom, to_variable}
-use Rattle.rv_lower.proofs.Operations.{Leads, AreFew, form_serves, call_lines}
+use Rattle.rv_lower.proofs.Operations.{Leads, HasArguments, form_serves, call_lines}
 use Rattle.rv_lower.proofs.Codes.{Fits}
 use Rattle.rv_cells.specs.Layout.{header_of}
 use Rattle.rv_cells.specs.CountedLines.{Setting, ComputeLines}
-use Rattle.rv_cells.proofs.FormedSteps.{FitsWhole, fits_step, fits_construct}
-
-no_signature : AreFew []
-no_signature f signature is = absurd (nothing is)
-  where
-    nothing : slice_get [] f ≡ Some signature → ⊥
-    nothing is = grind (arith, is)
+use Rattle.rv_cells.proofs.FormedSteps.{all_bound, FitsWhole, fits_step, fits_construct}
 
 module _ (setting : Setting) (bound : List ℕ) (has : HasRoom setting.base bound) (x : ℕ) (less : x < setting.base) (goal : Goal)
     (low high n : ℕ) (more : List Line) (fits : Fits setting.base (x ∷ bound) goal low high n more) where
@@ -37,13 +27,13 @@ module _ (setting : Setting) (bound : List ℕ) (has : HasRoom setting.base boun
       → FitsWhole setting.base bound goal low high (lines ++ more)
   leads_fit m lines leads = fits_step setting.base bound (x ∷ []) goal low high n m lines more leads fits
 
-  -- a form that calls and constructs nothing, on operands of any types that it takes
-  typed_fits : (of : Form) (arguments : List ℕ) (ts : List TypeTree) (t : TypeTree) (lines : List Line)
-      → length arguments ≡ length ts → IsFormTyped [] of ts t → AreBound bound arguments
+  -- a form that calls and constructs nothing
+  typed_fits : (of : Form) (arguments : List ℕ) (lines : List Line)
+      → HasArguments of arguments → AreBound bound arguments
       → FormLines setting.base setting.texts x of arguments lines → FitsWhole setting.base bound goal low high (lines ++ more)
-  typed_fits of arguments ts t lines same typed are is =
+  typed_fits of arguments lines as_many are is =
       leads_fit 9 lines
-      (form_serves setting.base bound has x less [] no_signature setting.texts of arguments ts t lines same typed are is)
+      (form_serves setting.base bound has x less setting.texts of arguments lines as_many (all_bound bound arguments are) is)
 
   -- a constructor without fields
   word_leads : (word : ℕ) → Leads Before Behind 1 (sets word x ∷ [])
@@ -56,17 +46,17 @@ module _ (setting : Setting) (bound : List ℕ) (has : HasRoom setting.base boun
 
   pub fits_form : (of : Form) (arguments : List ℕ) (lines : List Line) → HasArity of arguments → AreBound bound arguments
       → ComputeLines setting x of arguments lines → FitsWhole setting.base bound goal low high (lines ++ more)
-  fits_form (Number value) arguments lines arity are is = typed_fits (Number value) [] [] int32 lines refl (refl, refl) tt is
-  fits_form Nothing arguments lines arity are is = typed_fits Nothing [] [] unit_type lines refl (refl, refl) tt is
-  fits_form ReadByte arguments lines arity are is = typed_fits ReadByte [] [] int32 lines refl (refl, refl) tt is
+  fits_form (Number value) arguments lines arity are is = typed_fits (Number value) [] lines tt tt is
+  fits_form Nothing arguments lines arity are is = typed_fits Nothing [] lines tt tt is
+  fits_form ReadByte arguments lines arity are is = typed_fits ReadByte [] lines tt tt is
   fits_form (PrintText how text) arguments lines arity are is =
-      typed_fits (PrintText how text) [] [] unit_type lines refl (refl, refl) tt is
+      typed_fits (PrintText how text) [] lines tt tt is
   fits_form (Unary operator) arguments lines arity are is =
-      typed_fits (Unary operator) arguments (unary_type operator ∷ []) (unary_type operator) lines arity (refl, refl) are is
+      typed_fits (Unary operator) arguments lines arity are is
   fits_form (Binary operator) arguments lines arity are is =
-      typed_fits (Binary operator) arguments (int32 ∷ int32 ∷ []) (binary_type operator) lines arity (refl, refl) are is
+      typed_fits (Binary operator) arguments lines arity are is
   fits_form (Print how) arguments lines arity are is =
-      typed_fits (Print how) arguments (int32 ∷ []) unit_type lines arity (refl, refl) are is
+      typed_fits (Print how) arguments lines arity are is
   fits_form (Construct c) [] lines arity are is =
       subst (λ (own : List Line). FitsWhole setting.base bound goal low high (own ++ more)) (sym is)
       (leads_fit 1 (sets (2 * setting.layout.tag c + 1) x ∷ []) (word_leads (2 * setting.layout.tag c + 1)))
@@ -75,4 +65,4 @@ module _ (setting : Setting) (bound : List ℕ) (has : HasRoom setting.base boun
       fits
   fits_form (Call f) arguments lines arity are is =
       subst (λ (own : List Line). FitsWhole setting.base bound goal low high (own ++ more)) (sym is)
-      (leads_fit 9 _ (call_lines setting.base bound has x less f arguments arity are))
+      (leads_fit 9 _ (call_lines setting.base bound has x less f arguments arity (all_bound bound arguments are)))

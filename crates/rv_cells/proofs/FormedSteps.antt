@@ -5,12 +5,17 @@ use Rattle.kk_core.specs.Sizes.{AreBound}
 use Rattle.kk_syntax.specs.Shapes.{is_among as is_bound}
 use Rattle.rv_isa.specs.AsmCode.{Line}
 use Rattle.rv_lower.specs.Lowered.{Goal}
-use Rattle.rv_lower.proofs.Formed.{Readable, Good, HasRoom}
+use Rattle.rv_lower.proofs.Formed.{AllBound, Readable, Good, HasRoom}
 use Rattle.rv_lower.proofs.AbsentLabels.{has_no_append}
 use Rattle.rv_lower.proofs.Operations.{Leads}
 use Rattle.rv_lower.proofs.Codes.{IsGoalAhead, Ahead, Fits, goal_more}
 use Rattle.rv_cells.specs.CellLines.{dup_lines, drop_lines, ConstructLines, ReadLines, OpenLines}
 use Rattle.rv_cells.proofs.CellForms.{loads_lead, dup_leads, drop_leads, construct_leads, open_leads}
+
+-- variables that are bound are so for the lines of forms
+pub all_bound : (bound xs : List ℕ) → AreBound bound xs → AllBound bound xs
+all_bound bound [] are = tt
+all_bound bound (x ∷ xs) are = (are.0, all_bound bound xs are.1)
 
 -- the goal is as well ahead where a list of variables more is bound
 pub goal_list : (base : ℕ) (bound xs : List ℕ) (goal : Goal) (low : ℕ) (tail : List Line) → IsGoalAhead base bound goal low tail

@@ -44,6 +44,7 @@ use Rattle.kk_core.specs.declared.decisions.Node.TheVariants.{Test}
 use Rattle.kk_counted.proofs.FormViews as Views
 use Rattle.kk_counted.specs.Arms.{arm_count}
 use Rattle.kk_counted.specs.CountedCodes.{Counted, give, tail_call, branch, case, inside, CountedArms}
+use Rattle.kk_counted.specs.Lengths as Lengths
 use Rattle.kk_counted.specs.CountedForms.{
   Move,
   computes,
@@ -80,7 +81,6 @@ use Rattle.rv_lower.proofs.Grown.{grows_of, grows_took, grows_none, grows_then, 
 use Rattle.rv_cells.specs.declared.decide.Targets.{Targets}
 use Rattle.rv_cells.specs.CellLines.{ReadLines, OpenLines, dup_lines, drop_lines}
 use Rattle.rv_cells.specs.CountedLines.{Setting, CodeLines, ArmsLines, NodesLines}
-use Rattle.rv_cells.specs.Sizes.{forms, forms_of_arms}
 use Rattle.rv_cells.specs.Written.{Facts, setting_in, TookTargets, WroteUnique, WroteValue, WroteCode, WroteArms, WroteSteps}
 
 -- the lines of a code at equal places
@@ -104,18 +104,18 @@ arms_same facts {base} {base_too} {texts} {texts_too} {low} {low_too} goal label
 
 -- ---- steps
 
+zero_plus : (n : ℕ) → n ≡ 0 + n
+zero_plus n = omega arith
+
 pub steps_none : (facts : Facts) (a : Lowering) → WroteSteps facts [] a a
 steps_none facts a = record {
   lines = [];
   n = 0;
   grows = grows_none a;
-  counted = λ rest. zero_plus (forms rest);
+  counted = λ rest. zero_plus (Lengths.computes rest);
   are = λ later goal
       rest more high is. is;
 }
-  where
-    zero_plus : (n : ℕ) → n ≡ 0 + n
-    zero_plus n = omega arith
 
 plug_more : (moves : List Move) (move : Move) (rest : Counted) → plug (moves ++ move ∷ []) rest ≡ plug moves (put move rest)
 plug_more [] move rest = refl
@@ -128,7 +128,7 @@ steps_then {a} {b} {c} facts moves move wrote one = record {
   lines = wrote.lines ++ one.lines;
   n = wrote.n + one.n;
   grows = grows_then wrote.grows one.grows;
-  counted = λ rest. ap forms (plug_more moves move rest) ∙ counts _ _ wrote.n one.n (forms rest) (wrote.counted (put move rest))
+  counted = λ rest. ap Lengths.computes (plug_more moves move rest) ∙ counts _ _ wrote.n one.n (Lengths.computes rest) (wrote.counted (put move rest))
       (one.counted rest);
   are = λ later goal rest more high is.
       subst (λ (code : Counted). CodeLines (setting_in facts a.base (texts_written c ++ later)) goal a.next_label code
@@ -145,7 +145,7 @@ steps_then {a} {b} {c} facts moves move wrote one = record {
     counts : (x y n m k : ℕ) → x ≡ n + y → y ≡ m + k → x ≡ n + m + k
     counts x y n m k e f = omega (arith, e, f)
 
-one_form : (n : ℕ) → n + 1 ≡ 1 + n
+one_form : (n : ℕ) → suc n ≡ 1 + n
 one_form n = omega arith
 
 pub step_computes : {a b : Lowering} (facts : Facts) (x : ℕ) (form : Form) (arguments : List ℕ)
@@ -155,7 +155,7 @@ step_computes {a} {b} facts x form arguments wrote = record {
   lines = wrote.lines;
   n = 1;
   grows = wrote.grows;
-  counted = λ rest. one_form (forms rest);
+  counted = λ rest. one_form (Lengths.computes rest);
   are = λ later goal rest more high is. (
     wrote.lines,
     more,
@@ -172,9 +172,9 @@ pub step_runs : {a b c d : Lowering} {label : ℕ} (facts : Facts) (x : ℕ) (bl
     → Wrote (acts (Label label) [] ∷ []) c d → WroteSteps facts (runs x block ∷ []) a d
 step_runs {a} {b} {c} {d} {label} facts x block took part labelled = record {
   lines = part.lines ++ (acts (Label label) [] ∷ []);
-  n = forms block + 1;
+  n = Lengths.computes block;
   grows = grows_more (omega arith) (grows_then (grows_took took) (grows_then part.grows (grows_of labelled)));
-  counted = λ rest. plus (forms block) (forms rest);
+  counted = λ rest. refl;
   are = λ later goal rest more high is. subst (λ (low : ℕ). CodeLines (setting_in facts a.base (texts_written d ++ later)) goal low
       (inside x block rest) ((part.lines ++ (acts (Label label) [] ∷ [])) ++ more) high) took.is (
         part.lines,
@@ -187,17 +187,14 @@ step_runs {a} {b} {c} {d} {label} facts x block took part labelled = record {
         append_assoc part.lines (acts (Label label) [] ∷ []) more,
       );
 }
-  where
-    plus : (n m : ℕ) → n + m + 1 ≡ n + 1 + m
-    plus n m = omega arith
 
 pub step_reads : {a b : Lowering} (facts : Facts) (x c : ℕ) (fields : List ℕ) → WroteLines (ReadLines x fields) a b
     → WroteSteps facts (reads x c fields ∷ []) a b
 step_reads {a} {b} facts x c fields wrote = record {
   lines = wrote.lines;
-  n = 1;
-  grows = grows_more (omega arith) (grows_of wrote.wrote);
-  counted = λ rest. one_form (forms rest);
+  n = 0;
+  grows = (grows_of wrote.wrote);
+  counted = λ rest. zero_plus (Lengths.computes rest);
   are = λ later goal rest more high is. (
     wrote.lines,
     more,
@@ -213,9 +210,9 @@ pub step_opens : {a b : Lowering} (facts : Facts) (x c : ℕ) (fields used : Lis
     → WroteSteps facts (opens x c fields used ∷ []) a b
 step_opens {a} {b} facts x c fields used wrote = record {
   lines = wrote.lines;
-  n = 1;
-  grows = grows_more (omega arith) (grows_of wrote.wrote);
-  counted = λ rest. one_form (forms rest);
+  n = 0;
+  grows = (grows_of wrote.wrote);
+  counted = λ rest. zero_plus (Lengths.computes rest);
   are = λ later goal rest more high is. (
     wrote.lines,
     more,
@@ -231,9 +228,9 @@ pub step_opens_unique : {a b : Lowering} (facts : Facts) (x c : ℕ) (fields use
     → WroteSteps facts (opens_unique x c fields used ∷ []) a b
 step_opens_unique {a} {b} facts x c fields used wrote = record {
   lines = wrote.lines;
-  n = 1;
-  grows = grows_more (omega arith) wrote.grows;
-  counted = λ rest. one_form (forms rest);
+  n = 0;
+  grows = wrote.grows;
+  counted = λ rest. zero_plus (Lengths.computes rest);
   are = λ later goal rest more high is. (
     wrote.lines,
     more,
@@ -247,9 +244,9 @@ step_opens_unique {a} {b} facts x c fields used wrote = record {
 pub step_dups : {a b : Lowering} (facts : Facts) (x : ℕ) → Wrote (dup_lines facts.holds x) a b → WroteSteps facts (dups x ∷ []) a b
 step_dups {a} {b} facts x wrote = record {
   lines = dup_lines facts.holds x;
-  n = 1;
-  grows = grows_more (omega arith) (grows_of wrote);
-  counted = λ rest. one_form (forms rest);
+  n = 0;
+  grows = (grows_of wrote);
+  counted = λ rest. zero_plus (Lengths.computes rest);
   are = λ later goal rest more high is. (more, code_same facts goal rest more high refl refl wrote.label is, refl);
 }
 
@@ -257,9 +254,9 @@ pub step_drops : {a b : Lowering} (facts : Facts) (x : ℕ) → Wrote (drop_line
     → WroteSteps facts (drops x ∷ []) a b
 step_drops {a} {b} facts x wrote = record {
   lines = drop_lines a.base facts.holds x;
-  n = 1;
-  grows = grows_more (omega arith) (grows_of wrote);
-  counted = λ rest. one_form (forms rest);
+  n = 0;
+  grows = (grows_of wrote);
+  counted = λ rest. zero_plus (Lengths.computes rest);
   are = λ later goal rest more high is. (more, code_same facts goal rest more high refl refl wrote.label is, refl);
 }
 
@@ -302,8 +299,7 @@ pub code_gives : {facts : Facts} {goal : Goal} {x : ℕ} {a b : Lowering} → Wr
     → WroteCode facts goal (give x) a b
 code_gives {facts} {goal} {x} {a} {b} wrote = record {
   lines = goal_lines goal x;
-  grows = grows_more (omega arith)
-      (grows_of wrote);
+  grows = grows_of wrote;
   are = λ later. (refl, sym wrote.label);
 }
 
@@ -312,7 +308,7 @@ pub code_tail_calls : {facts : Facts} {goal : Goal} {f : ℕ} {arguments : List 
     → WroteCode facts goal (tail_call f arguments) a b
 code_tail_calls {facts} {goal} {f} {arguments} {a} {b} wrote = record {
   lines = tail_lines a.base f arguments;
-  grows = grows_more (omega arith) (grows_of wrote);
+  grows = grows_of wrote;
   are = λ later. (refl, sym wrote.label);
 }
 
@@ -380,10 +376,10 @@ more_arms setting goal label low middle high (other ∷ each) body lines first a
     one_more : (n m : ℕ) → n + suc m ≡ n + 1 + m
     one_more n m = omega arith
 
-forms_of_more : (each : List Counted) (body : Counted) → forms_of_arms (arms_of (each ++ body ∷ [])) ≡ forms_of_arms
-    (arms_of each) + (forms body + 1)
-forms_of_more [] body = omega arith
-forms_of_more (other ∷ each) body = omega (arith, forms_of_more each body)
+computes_of_more : (each : List Counted) (body : Counted) → Lengths.arms_computes (arms_of (each ++ body ∷ [])) ≡ Lengths.arms_computes
+    (arms_of each) + Lengths.computes body
+computes_of_more [] body = omega arith
+computes_of_more (other ∷ each) body = omega (arith, computes_of_more each body)
 
 pub arms_then : {a b c d : Lowering} {here : ℕ} (facts : Facts) (goal : Goal) (label : ℕ) (each : List Counted) (body : Counted)
     → here ≡ label + length each
@@ -392,7 +388,7 @@ pub arms_then : {a b c d : Lowering} {here : ℕ} (facts : Facts) (goal : Goal) 
 arms_then {a} {b} {c} {d} {here} facts goal label each body is wrote labelled one = record {
   lines = wrote.lines ++ (acts (Label (label + length each)) [] ∷ one.lines);
   grows = subst (λ n. Grows n (wrote.lines ++ (acts (Label (label + length each)) [] ∷ one.lines)) a d)
-      (sym (forms_of_more each body))
+      (sym (computes_of_more each body))
       (grows_more (omega arith) (grows_then wrote.grows (grows_then
       (grows_of (subst (λ n. Wrote (acts (Label n) [] ∷ []) b c) is labelled)) one.grows)));
   are = λ later. more_arms (setting_in facts a.base (texts_written d ++ later)) goal label a.next_label b.next_label d.next_label

@@ -46,3 +46,6 @@ pub mod FormedForms
 pub mod FormedCases
 pub mod FormedCodes
 pub mod FormedFunctions
+pub mod FormLengths
+pub mod TestLengths
+pub mod CodeLengths

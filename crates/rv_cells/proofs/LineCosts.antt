@@ -1,16 +1,15 @@
--- What the steps of counted code weigh in assembler code, each of whose lines may have so many moves before it. Where these are 16
--- at most, that is no more than the instructions that a step may execute.
+-- What the steps of counted code weigh in assembler code: no more than the table of costs says.
 use Rattle.std.proofs.Common.{◌≡◌, ◌≤◌, ℕ, suc, ◌+◌, ◌*◌, not, List, [], ◌∷◌, length, filter, sym, subst, arith, mul-le-mul_right}
 use Rattle.kk_syntax.specs.Shapes.{is_among}
 use Rattle.kk_source.specs.Live.{value_of}
 use Rattle.kk_source.specs.State.{Environment}
+use Rattle.kk_core.specs.Costs.{part_cost}
 use Rattle.kk_core.specs.Looks.{looks_taken}
 use Rattle.kk_core.specs.declared.decisions.Edge.{Edge}
 use Rattle.kk_counted.specs.CountedCodes.{Counted, give, tail_call, branch, case, compute, inside, read, open_cell, if_unique, dup, drop, CountedArms, no_arm, arm}
-use Rattle.kk_counted.specs.CountedCosts.{code_cost as counted_code_cost, control_cost as counted_control_cost}
+use Rattle.kk_counted.specs.CountedCosts.{form_cost, code_cost as counted_code_cost, control_cost as counted_control_cost, counted_cost}
 use Rattle.kk_counted.specs.CountedStates.{CountedControl, running, stopped, stuck, CountedState}
 use Rattle.kk_counted.specs.Heaps.{Heap, cell_at}
-use Rattle.rv_cells.specs.Costs.{instructions_each, counted_instructions}
 
 -- so much for each
 abbrev pub row_cost : List ℕ → ℕ → ℕ
@@ -36,42 +35,45 @@ abbrev mutual
   arms_forms no_arm = 0
   arms_forms (arm body rest) = forms body + arms_forms rest
 
-module _ (moves : ℕ) where
-  -- the tests of a node: three lines an edge
-  abbrev pub edges_cost : List Edge → ℕ
-  edges_cost [] = 0
-  edges_cost (edge ∷ edges) = (3 * moves + 7) + edges_cost edges
+-- The most moves that a line has that is no call: two arguments, or an argument and a result.
+abbrev pub most_moves : ℕ
+most_moves = 2
 
-  -- the most that the lines of a test weigh, for each of what it looks at
-  abbrev pub look_cost : ℕ
-  look_cost = 7 * moves + 14
+-- the tests of a node: three lines an edge
+abbrev pub edges_cost : List Edge → ℕ
+edges_cost [] = 0
+edges_cost (edge ∷ edges) = (3 * most_moves + 7) + edges_cost edges
 
-  -- The lines of a form, and what its heap saves for drops that come later.
-  abbrev pub code_cost : Counted → Environment → Heap → ℕ
-  code_cost (give x) environment heap = 3 * moves + 4
-  code_cost (tail_call f arguments) environment heap = row_cost arguments (moves + 2) + (moves + 2)
-  code_cost (branch x positive negative) environment heap = 4 * moves + 7
-  code_cost (case x decisions arms) environment heap =
-      look_cost * looks_taken (cell_at heap) (value_of environment x) decisions + (3 * moves + 2)
-  code_cost (compute x form arguments rest) environment heap =
-      8 * (moves + 90) + row_cost arguments (moves + 2) + 8 * length arguments
-  code_cost (inside x block rest) environment heap = 0
-  code_cost (read x c fields rest) environment heap = row_cost fields (moves + 2)
-  code_cost (open_cell x c fields used rest) environment heap =
-      row_cost fields (moves + 2) + (row_cost (filter (is_among used) fields) (moves + 5) + (2 * moves + 17))
-  code_cost (if_unique x c fields used rest) environment heap =
-      8 * moves + 20 + row_cost fields (moves + 2) + row_cost (filter (is_among used) fields) (moves + 5)
-      + row_cost (filter (λ y. not (is_among used y)) fields) (2 * moves + 17)
-  code_cost (dup x rest) environment heap = moves + 5
-  code_cost (drop x rest) environment heap = 2 * moves + 17
+-- the most that the lines of a test weigh, for each of what it looks at
+abbrev pub look_cost : ℕ
+look_cost = 7 * most_moves + 14
 
-  abbrev pub control_cost : CountedControl → Heap → ℕ
-  control_cost (running code environment joins) heap = code_cost code environment heap
-  control_cost (stopped by) heap = 0
-  control_cost stuck heap = 0
+-- The lines of a form, and what its heap saves for drops that come later.
+abbrev pub code_cost : Counted → Environment → Heap → ℕ
+code_cost (give x) environment heap = 3 * most_moves + 4
+code_cost (tail_call f arguments) environment heap = row_cost arguments (most_moves + 2) + (2 * length arguments + 2)
+code_cost (branch x positive negative) environment heap = 4 * most_moves + 7
+code_cost (case x decisions arms) environment heap =
+    look_cost * looks_taken (cell_at heap) (value_of environment x) decisions + (3 * most_moves + 2)
+code_cost (compute x form arguments rest) environment heap =
+    form_cost + row_cost arguments (most_moves + 2) + 8 * length arguments
+code_cost (inside x block rest) environment heap = 0
+code_cost (read x c fields rest) environment heap = row_cost fields (most_moves + 2)
+code_cost (open_cell x c fields used rest) environment heap =
+    row_cost fields (most_moves + 2) + (row_cost (filter (is_among used) fields) (most_moves + 5) + (2 * most_moves + 16))
+code_cost (if_unique x c fields used rest) environment heap =
+    8 * most_moves + 20 + row_cost fields (most_moves + 2) + row_cost (filter (is_among used) fields) (most_moves + 5)
+    + row_cost (filter (λ y. not (is_among used y)) fields) (2 * most_moves + 16)
+code_cost (dup x rest) environment heap = most_moves + 5
+code_cost (drop x rest) environment heap = 2 * most_moves + 16
 
-  abbrev pub lines_cost : CountedState → ℕ
-  lines_cost s = control_cost s.machine.control s.machine.heap
+abbrev pub control_cost : CountedControl → Heap → ℕ
+control_cost (running code environment joins) heap = code_cost code environment heap
+control_cost (stopped by) heap = 0
+control_cost stuck heap = 0
+
+abbrev pub lines_cost : CountedState → ℕ
+lines_cost s = control_cost s.machine.control s.machine.heap
 
 -- a row, where each costs no more than this
 row_within : (xs : List ℕ) (cost most : ℕ) → cost ≤ most → row_cost xs cost ≤ most * length xs
@@ -79,59 +81,58 @@ row_within [] cost most cheap = omega arith
 row_within (x ∷ xs) cost most cheap = let later = row_within xs cost most cheap in omega (arith, cheap, later)
 
 -- edges, by how many they are
-edges_within : (moves : ℕ) (edges : List Edge) → edges_cost moves edges ≤ look_cost moves * length edges
-edges_within moves [] = omega arith
-edges_within moves (edge ∷ edges) = let later = edges_within moves edges in omega (arith, later)
+edges_within : (edges : List Edge) → edges_cost edges ≤ look_cost * length edges
+edges_within [] = omega arith
+edges_within (edge ∷ edges) = let later = edges_within edges in omega (arith, later)
 
 -- a test weighs no more than what it looks at, and the nodes behind it no more than what they look at and the last one's jump
-pub test_within : (moves behind seen : ℕ) (at : List ℕ) (edges : List Edge) → seen ≡ suc (length at + length edges) + behind
-    → (moves + 0) + ((6 * moves + 14 + row_cost at (moves + 2) + edges_cost moves edges)
-    + (look_cost moves * behind + (2 * moves + 2)))
-    ≤ look_cost moves * seen + (2 * moves + 2)
-test_within moves behind seen at edges is =
-    let row = row_within at (moves + 2) (look_cost moves) (omega arith) in
-    let all = edges_within moves edges in
-    subst (λ n. (moves + 0) + ((6 * moves + 14 + row_cost at (moves + 2) + edges_cost moves edges)
-    + (look_cost moves * behind + (2 * moves + 2)))
-    ≤ look_cost moves * n + (2 * moves + 2)) (sym is) (omega (arith, row, all))
+pub test_within : (behind seen : ℕ) (at : List ℕ) (edges : List Edge) → seen ≡ suc (length at + length edges) + behind
+    → (most_moves + 0) + ((6 * most_moves + 14 + row_cost at (most_moves + 2) + edges_cost edges)
+    + (look_cost * behind + (2 * most_moves + 2)))
+    ≤ look_cost * seen + (2 * most_moves + 2)
+test_within behind seen at edges is =
+    let row = row_within at (most_moves + 2) look_cost (omega arith) in
+    let all = edges_within edges in
+    subst (λ n. (most_moves + 0) + ((6 * most_moves + 14 + row_cost at (most_moves + 2) + edges_cost edges)
+    + (look_cost * behind + (2 * most_moves + 2)))
+    ≤ look_cost * n + (2 * most_moves + 2)) (sym is) (omega (arith, row, all))
 
-module _ (moves : ℕ) (few : moves ≤ 16) where
-  -- form by form
-  code_within : (code : Counted) (environment : Environment) (heap : Heap)
-      → code_cost moves code environment heap ≤ instructions_each * counted_code_cost code environment heap
-  code_within (give x) environment heap = omega (arith, few)
-  code_within (tail_call f arguments) environment heap =
-      let row = row_within arguments (moves + 2) 18 (omega (arith, few)) in omega (arith, few, row)
-  code_within (branch x positive negative) environment heap = omega (arith, few)
-  code_within (case x decisions arms) environment heap =
-      let looks = mul-le-mul_right (looks_taken (cell_at heap) (value_of environment x) decisions) (each few) in
-      omega (arith, few, looks)
-    where
-      each : moves ≤ 16 → 7 * moves + 14 ≤ 126
-      each few = omega (arith, few)
-  code_within (compute x form arguments rest) environment heap =
-      let row = row_within arguments (moves + 2) 18 (omega (arith, few)) in omega (arith, few, row)
-  code_within (inside x block rest) environment heap = omega arith
-  code_within (read x c fields rest) environment heap =
-      let row = row_within fields (moves + 2) 18 (omega (arith, few)) in omega (arith, few, row)
-  code_within (open_cell x c fields used rest) environment heap =
-      let row = row_within fields (moves + 2) 18 (omega (arith, few)) in
-      let kept = row_within (filter (is_among used) fields) (moves + 5) 21 (omega (arith, few)) in
-      omega (arith, few, row, kept)
-  code_within (if_unique x c fields used rest) environment heap =
-      let row = row_within fields (moves + 2) 18 (omega (arith, few)) in
-      let kept = row_within (filter (is_among used) fields) (moves + 5) 21 (omega (arith, few)) in
-      let dropped = row_within (filter (λ y. not (is_among used y)) fields) (2 * moves + 17) 49 (omega (arith, few)) in
-      omega (arith, few, row, kept, dropped)
-  code_within (dup x rest) environment heap = omega (arith, few)
-  code_within (drop x rest) environment heap = omega (arith, few)
+-- form by form
+code_within : (code : Counted) (environment : Environment) (heap : Heap)
+    → code_cost code environment heap ≤ counted_code_cost code environment heap
+code_within (give x) environment heap = omega arith
+code_within (tail_call f arguments) environment heap =
+    let row = row_within arguments (most_moves + 2) 4 (omega arith) in omega (arith, row)
+code_within (branch x positive negative) environment heap = omega arith
+code_within (case x decisions arms) environment heap =
+    let looks = mul-le-mul_right (looks_taken (cell_at heap) (value_of environment x) decisions) each in
+    omega (arith, looks)
+  where
+    each : look_cost ≤ part_cost
+    each = omega arith
+code_within (compute x form arguments rest) environment heap =
+    let row = row_within arguments (most_moves + 2) 4 (omega arith) in omega (arith, row)
+code_within (inside x block rest) environment heap = omega arith
+code_within (read x c fields rest) environment heap =
+    let row = row_within fields (most_moves + 2) 4 (omega arith) in omega (arith, row)
+code_within (open_cell x c fields used rest) environment heap =
+    let row = row_within fields (most_moves + 2) 4 (omega arith) in
+    let kept = row_within (filter (is_among used) fields) (most_moves + 5) 7 (omega arith) in
+    omega (arith, row, kept)
+code_within (if_unique x c fields used rest) environment heap =
+    let row = row_within fields (most_moves + 2) 4 (omega arith) in
+    let kept = row_within (filter (is_among used) fields) (most_moves + 5) 7 (omega arith) in
+    let dropped = row_within (filter (λ y. not (is_among used y)) fields) (2 * most_moves + 16) 20 (omega arith) in
+    omega (arith, row, kept, dropped)
+code_within (dup x rest) environment heap = omega arith
+code_within (drop x rest) environment heap = omega arith
 
-  -- what a step weighs in assembler code is no more than the instructions that it may execute
-  pub lines_within : (s : CountedState) → lines_cost moves s ≤ counted_instructions s
-  lines_within s = by s.machine.control
-    where
-      by : (control : CountedControl)
-          → control_cost moves control s.machine.heap ≤ instructions_each * counted_control_cost control s.machine.heap
-      by (running code environment joins) = code_within code environment s.machine.heap
-      by (stopped end) = omega arith
-      by stuck = omega arith
+-- what a step weighs in assembler code is no more than the table of costs says
+pub lines_within : (s : CountedState) → lines_cost s ≤ counted_cost s
+lines_within s = by s.machine.control
+  where
+    by : (control : CountedControl)
+        → control_cost control s.machine.heap ≤ counted_control_cost control s.machine.heap
+    by (running code environment joins) = code_within code environment s.machine.heap
+    by (stopped end) = omega arith
+    by stuck = omega arith

@@ -37,6 +37,7 @@ use Rattle.kk_counted.specs.CountedCodes.{Counted, CountedFunction}
 use Rattle.kk_counted.specs.declared.counted.CountedFun.{CountedFun}
 use Rattle.kk_counted.specs.declared.shape.Shape.{Shape}
 use Rattle.kk_counted.specs.Programs.{function_of}
+use Rattle.kk_counted.specs.Lengths.{computes, all_computes}
 use Rattle.kk_counted.specs.Lowerable.{AreLowerable}
 use Rattle.rv_isa.specs.AsmCode.{Line, Lines}
 use Rattle.rv_lower.specs.declared.lowering.Lowering.{Lowering}
@@ -48,7 +49,6 @@ use Rattle.rv_cells.specs.Layout.{layout_of}
 use Rattle.rv_cells.specs.CountedLines.{CodeLines}
 use Rattle.rv_cells.specs.Lowered.{facts_for, IsWritten, LoweredFunction, LoweredFunctions, IsLoweredForm}
 use Rattle.rv_cells.specs.Marking.{function_marks}
-use Rattle.rv_cells.specs.Sizes.{forms, all_forms}
 use Rattle.rv_cells.specs.Tables.{table_of, layout_in}
 use Rattle.rv_cells.specs.Written.{holds_in, setting_in, WroteCode}
 use Rattle.rv_cells.proofs.Marking.{known}
@@ -114,10 +114,10 @@ get_push (first ∷ xs) x y (suc k) is = by (get_push xs x y k is)
     by (inl there) = inl there
     by (inr last) = inr (ap suc last.0, last.1)
 
-all_forms_more : (functions : List CountedFunction) (function : CountedFunction)
-    → all_forms (functions ++ function ∷ []) ≡ all_forms functions + forms function.body
-all_forms_more [] function = omega arith
-all_forms_more (first ∷ functions) function = omega (arith, all_forms_more functions function)
+all_computes_more : (functions : List CountedFunction) (function : CountedFunction)
+    → all_computes (functions ++ function ∷ []) ≡ all_computes functions + computes function.body
+all_computes_more [] function = omega arith
+all_computes_more (first ∷ functions) function = omega (arith, all_computes_more functions function)
 
 pub functions_then : (shape : Shape) (literals : List (List ℕ)) (functions : List CountedFunction) (each : List Lines) (f : ℕ)
     (function : CountedFunction) (lines : Lines)
@@ -130,7 +130,7 @@ functions_then shape literals functions each f function lines old new f_is are o
     arith,
     ap (λ ts. length (all_bytes ts)) one.texts,
     all_bytes_append old one.more,
-    all_forms_more functions function,
+    all_computes_more functions function,
     are.few,
     one.few,
   );

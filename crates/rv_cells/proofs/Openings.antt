@@ -18,7 +18,7 @@ use Rattle.rv_cells.specs.Follows.{Owner}
 use Rattle.rv_cells.specs.CellLines.{OpenLines, drop_lines, dups_lines}
 use Rattle.rv_cells.proofs.Values.{value_same, named_made}
 use Rattle.rv_cells.proofs.Spots.{AreSmall, Spot, Known, Here, Did, did_then, with_heap, drop_did}
-use Rattle.rv_cells.proofs.LineCosts.{row_cost}
+use Rattle.rv_cells.proofs.LineCosts.{most_moves, row_cost}
 use Rattle.rv_cells.proofs.Rows.{then_some, with_fields, IsReading, read_did, dups_did}
 
 -- ---- which values the variables of fields have
@@ -76,8 +76,8 @@ opened_spot known s fields vs next frame owners cells = record (with_heap (with_
 
 abbrev pub open_cost : Known → List ℕ → List ℕ → ℕ
 open_cost known fields used =
-    row_cost fields (known.target.moves + 2) +
-    (row_cost (filter (is_among used) fields) (known.target.moves + 5) + (2 * known.target.moves + 17))
+    row_cost fields (most_moves + 2) +
+    (row_cost (filter (is_among used) fields) (most_moves + 5) + (2 * most_moves + 16))
 
 pub open_did : (known : Known) (rest : List Line) (fs : List (Frame Line)) (s : Spot) (x c : ℕ) (fields used : List ℕ)
     (lines : List Line) (named : Named) (next : Heap)
@@ -104,14 +104,14 @@ open_did known rest fs s x c fields used lines named next here reads apart opens
     let dropped = drop_did known rest fs two dupped.2.here x (bound_older fields s.bound x reads.bound) next
     (ap (λ v. drop_value v middle.0) same ∙ middle.2) in
     let three = opened_spot known s fields named.fields next dropped.0 dropped.1 dropped.2 in
-    let back : Did known (row_cost part (known.target.moves + 5) + (2 * known.target.moves + 17)) (dups ++ drop) rest fs one three =
-    did_then known (row_cost part (known.target.moves + 5)) (2 * known.target.moves + 17) dups drop rest fs one two three
+    let back : Did known (row_cost part (most_moves + 5) + (2 * most_moves + 16)) (dups ++ drop) rest fs one three =
+    did_then known (row_cost part (most_moves + 5)) (2 * most_moves + 16) dups drop rest fs one two three
     dupped.2 dropped.3 in (
       dropped.0,
       dropped.1,
       dropped.2,
       subst (λ ls. Did known (open_cost known fields used) ls rest fs s three) (sym opens.2)
-          (did_then known (row_cost fields (known.target.moves + 2))
-          (row_cost part (known.target.moves + 5) + (2 * known.target.moves + 17)) opens.0 (dups ++ drop) rest fs s one three read
+          (did_then known (row_cost fields (most_moves + 2))
+          (row_cost part (most_moves + 5) + (2 * most_moves + 16)) opens.0 (dups ++ drop) rest fs s one three read
           back),
     )

@@ -1,5 +1,5 @@
 -- Rows of loads, dups and drops; readings and openings.
-use Rattle.rv_cells.proofs.LineCosts.{row_cost}
+use Rattle.rv_cells.proofs.LineCosts.{most_moves, row_cost}
 use Rattle.std.proofs.Common.{◌≡◌, ◌≤◌, ℕ, zero, suc, ◌+◌, ◌*◌, true, false, inl, inr, List, [], ◌∷◌, ◌++◌, length, map, Option, Some, None, refl, sym, ◌∙◌, ap, subst, arith}
 use Rattle.std.proofs.lemmas.Bool.{cases_eq}
 use Rattle.std.proofs.lemmas.List.{length-map}
@@ -42,7 +42,7 @@ module _ (target : Target) (rest : List Line) (fs : List (Frame Line)) (world : 
     (is : world.cells.blocks at ≡ own words) where
   pub loads_run : (xs ws : List ℕ) (i : ℕ) (lines : List Line) (f : Frame Line) → AllLoads cell i xs lines → f.cells cell ≡ Some at
       → AreFrom words i ws → length xs ≡ length ws → i + length xs ≤ 8 → is_among xs cell ≡ false
-      → Runs target (row_cost xs (target.moves + 2)) (length xs) (turn_of (lines ++ rest) f fs world)
+      → Runs target (row_cost xs (most_moves + 2)) (length xs) (turn_of (lines ++ rest) f fs world)
       (turn_of rest (record f { cells = put_list xs ws f.cells }) fs world)
   loads_run [] ws i lines f loads there known many few apart =
       subst (λ ls. Runs target 0 0 (turn_of (ls ++ rest) f fs world) (turn_of rest f fs world)) (sym loads)
@@ -56,11 +56,11 @@ module _ (target : Target) (rest : List Line) (fs : List (Frame Line)) (world : 
       let later = loads_run xs ws (suc i) loads.1 next loads.3 (put_other x cell w f.cells beside.0 ∙ there) known.1
       (omega (arith, many)) (omega (arith, few)) beside.1 in
       let one_more : 1 + length xs ≡ suc (length xs) = omega arith in
-      subst (λ ls. Runs target (row_cost (x ∷ xs) (target.moves + 2)) (suc (length xs)) (turn_of (ls ++ rest) f fs world)
+      subst (λ ls. Runs target (row_cost (x ∷ xs) (most_moves + 2)) (suc (length xs)) (turn_of (ls ++ rest) f fs world)
       (turn_of rest (record f { cells = put_list (x ∷ xs) (w ∷ ws) f.cells }) fs world)) (sym loads.4)
-      (subst (λ n. Runs target (row_cost (x ∷ xs) (target.moves + 2)) n (turn_of ((loads.0 ∷ loads.1) ++ rest) f fs world)
+      (subst (λ n. Runs target (row_cost (x ∷ xs) (most_moves + 2)) n (turn_of ((loads.0 ∷ loads.1) ++ rest) f fs world)
       (turn_of rest (record f { cells = put_list (x ∷ xs) (w ∷ ws) f.cells }) fs world)) one_more
-      (runs_then target (target.moves + 2) (row_cost xs (target.moves + 2)) 1 (length xs)
+      (runs_then target (most_moves + 2) (row_cost xs (most_moves + 2)) 1 (length xs)
       (turn_of (loads.0 ∷ (loads.1 ++ rest)) f fs world) (turn_of (loads.1 ++ rest) next fs world)
       (turn_of rest (record next { cells = put_list xs ws next.cells }) fs world) first later))
 
@@ -88,7 +88,7 @@ within_all n m vs le within = all_within_more n m vs le within
 
 pub read_did : (known : Known) (rest : List Line) (fs : List (Frame Line)) (s : Spot) (x c : ℕ) (fields : List ℕ)
     (lines : List Line) (named : Named) → Here known s → IsReading known s x c fields named → ReadLines x fields lines
-    → Did known (row_cost fields (known.target.moves + 2)) lines rest fs s (with_fields known.layout s fields named.fields)
+    → Did known (row_cost fields (most_moves + 2)) lines rest fs s (with_fields known.layout s fields named.fields)
 read_did known rest fs s x c fields lines named here reads loads =
     let made = named_made c (length fields) s.heap (value_of s.environment x) named reads.is in
     let count = held_count s.heap named.at made.held made.there in
@@ -108,7 +108,7 @@ read_did known rest fs s x c fields lines named here reads loads =
     (word_in known.layout s.address) in
     let low = held_within s.heap named.at made.held made.there in
     record {
-      cost = row_cost fields (known.target.moves + 2);
+      cost = row_cost fields (most_moves + 2);
       steps = length fields;
       within = omega arith;
       runs = loads_run known.target rest fs s.world x (s.address named.at) stands.words stands.is fields
@@ -157,7 +157,7 @@ dup_count (place at) heap next name is = more_count at (count_at heap at) heap n
 module _ (known : Known) (rest : List Line) (fs : List (Frame Line)) where
   pub dups_did : (xs : List ℕ) (s : Spot) (next : Heap) → Here known s → AllAmong xs s.bound
       → dup_all (values_of s.environment xs) s.heap ≡ Some next → AreSmall (length xs) s.heap
-      → Changed known (row_cost xs (known.target.moves + 5)) (dups_lines known.holds xs) rest fs s next
+      → Changed known (row_cost xs (most_moves + 5)) (dups_lines known.holds xs) rest fs s next
   dups_did [] s next here bound is small = (
     s.owners,
     s.world.cells,
@@ -174,7 +174,7 @@ module _ (known : Known) (rest : List Line) (fs : List (Frame Line)) where
       arith) in (
         others.0,
         others.1,
-        did_then known (known.target.moves + 5) (row_cost xs (known.target.moves + 5)) (dup_lines known.holds x)
+        did_then known (most_moves + 5) (row_cost xs (most_moves + 5)) (dup_lines known.holds x)
             (dups_lines known.holds xs) rest fs s mid (with_heap s next others.0 others.1) one.2 others.2,
       )
 
@@ -185,7 +185,7 @@ module _ (known : Known) (rest : List Line) (fs : List (Frame Line)) where
 
   pub drops_did : (xs : List ℕ) (s : Spot) (next : Heap) → Here known s → AllAmong xs s.bound
       → drop_all (values_of s.environment xs) s.heap ≡ Some next
-      → ChangedFrame (row_cost xs (2 * known.target.moves + 17)) (drops_lines known.base known.holds xs) s next
+      → ChangedFrame (row_cost xs (2 * most_moves + 16)) (drops_lines known.base known.holds xs) s next
   drops_did [] s next here bound is = (
     s.frame,
     s.owners,
@@ -201,7 +201,7 @@ module _ (known : Known) (rest : List Line) (fs : List (Frame Line)) where
         others.0,
         others.1,
         others.2,
-        did_then known (2 * known.target.moves + 17) (row_cost xs (2 * known.target.moves + 17))
+        did_then known (2 * most_moves + 16) (row_cost xs (2 * most_moves + 16))
             (drop_lines known.base known.holds x) (drops_lines known.base known.holds xs) rest fs s mid
             (record (with_heap s next others.1 others.2) { frame = others.0 }) one.3 others.3,
       )

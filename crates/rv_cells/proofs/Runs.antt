@@ -9,19 +9,17 @@ use Rattle.kk_base.proofs.Machines.{state-add, trace-add, weight_of-add}
 use Rattle.rv_isa.specs.Processor.{Ending}
 use Rattle.rv_isa.specs.AsmCode.{Line, Lines}
 use Rattle.rv_isa.specs.AsmMachine.{AsmTurn, asm_acts, asm_next, asm_machine, asm_told}
-use Rattle.rv_isa.specs.Costs.{instructions_of}
+use Rattle.rv_isa.specs.Costs.{instructions_of, line_moves}
 use Rattle.rv_isa.specs.Frames.{Frame, all_of, top}
 use Rattle.rv_isa.specs.Primitives.{Primitives, go, ended, stuck, or_stuck}
 use Rattle.cell_heap.specs.Pool.{Pool}
 use Rattle.rv_world.specs.Operations.{Constants}
 use Rattle.rv_world.specs.World.{World, primitives}
 
--- the assembler's machine of a program: its constants, its cells, how many moves may stand before a line, the depth, and its
--- functions
+-- the assembler's machine of a program: its constants, its cells, the depth, and its functions
 pub record Target : Type 0 where
   pub constants : Constants
   pub pool : Pool
-  pub moves : ℕ
   pub depth : ℕ
   pub functions : List Lines
 
@@ -37,7 +35,7 @@ module _ (target : Target) where
   world_primitives = primitives target.constants target.pool
 
   abbrev pub machine : Machine (AsmTurn World Ending) Event Ending
-  machine = asm_machine (primitives target.constants target.pool) target.moves target.depth target.functions
+  machine = asm_machine (primitives target.constants target.pool) target.depth target.functions
 
   -- so many steps lead from a turn to another without an event, none of them is stuck, and they weigh no more than this
   pub record Runs (cost n : ℕ) (t u : AsmTurn World Ending) : Type 0 where
@@ -82,9 +80,9 @@ module _ (target : Target) where
       (words : List ℕ) (u : AsmTurn World Ending)
       → all_of (map f.cells line.args) ≡ Some words
       → asm_acts world_primitives target.depth target.functions (left_at rest f) fs world line.action line.args line.into words ≡ u
-      → ((held : Option ℕ) → instructions_of world_primitives line.action (Some words) held world ≤ cost)
+      → ((held : Option ℕ) → line_moves line + instructions_of world_primitives line.action (Some words) held world ≤ cost)
       → drop (length world.trace) (asm_told world_primitives u) ≡ []
-      → Runs (target.moves + cost) 1 (turn_of (line ∷ rest) f fs world) u
+      → Runs cost 1 (turn_of (line ∷ rest) f fs world) u
   line_runs cost line rest f fs world words u words_are acts light told_are =
       let t : AsmTurn World Ending = turn_of (line ∷ rest) f fs world in
       let next : asm_next world_primitives target.depth target.functions t ≡ u
@@ -95,8 +93,8 @@ module _ (target : Target) where
       ≡ []
       = ap (λ (s : AsmTurn World Ending). drop (length world.trace) (asm_told world_primitives s)) next ∙ told_are in
       let held : Option ℕ = top (left_at (line ∷ rest) f ∷ fs) in
-      let weighs : machine.weight t ≡ target.moves * 1 + instructions_of world_primitives line.action (Some words) held world
-      = ap (λ o. target.moves * 1 + instructions_of world_primitives line.action o held world) words_are in
+      let weighs : machine.weight t ≡ line_moves line * 1 + instructions_of world_primitives line.action (Some words) held world
+      = ap (λ o. line_moves line * 1 + instructions_of world_primitives line.action o held world) words_are in
       record {
         within = omega (arith, weighs, light held);
         silent = append-nil (drop (length world.trace)

@@ -34,7 +34,7 @@ use Rattle.rv_cells.specs.Layout.{Layout}
 use Rattle.rv_cells.specs.Follows.{Owner, nobody, cell_of, in_hand, BlockOf, Follows, NoneInHand}
 use Rattle.rv_cells.specs.Marked.{IsFunctionOf}
 use Rattle.rv_cells.proofs.LineCosts.{forms, lines_cost, lines_within}
-use Rattle.rv_cells.specs.Costs.{counted_instructions}
+use Rattle.kk_counted.specs.CountedCosts.{counted_cost}
 use Rattle.rv_cells.specs.Fitting.{IsFit}
 use Rattle.rv_cells.specs.Meaning.{setting_on, counted_outside, IsProgramLowered, AreFree, RunsTheSame}
 use Rattle.rv_cells.proofs.Starts.{starts as begins}
@@ -286,22 +286,22 @@ all_free pool layout address owners heap cells follows none empty_heap = λ at c
 -- what steps weigh, and how they are seen, makes no difference to the states of the counted machine
 state_mapped : (weights : CountedState → ℕ) (s : CountedSetting) (n : ℕ) (at : CountedState)
     → state (mapped events_of (λ end. exited (exit_of end)) (counted_machine weights s)) n at
-    ≡ state (counted_machine counted_instructions s) n at
+    ≡ state (counted_machine counted_cost s) n at
 state_mapped weights s zero at = refl
 state_mapped weights s (suc n) at = state_mapped weights s n ((counted_machine weights s).step at).1
 
--- The counted machine whose steps weigh what their lines do: where few moves stand before a line, what agrees with it agrees with
--- the one whose steps weigh the instructions that they may execute.
-module _ (s : CountedSetting) (moves : ℕ) (few : moves ≤ 16) where
+-- The counted machine whose steps weigh what their lines do: what agrees with it agrees with the one whose steps weigh what the
+-- table of costs says.
+module _ (s : CountedSetting) where
   abbrev by_lines_cost : Machine CountedState Event Ending
-  by_lines_cost = mapped events_of (λ end. exited (exit_of end)) (counted_machine (lines_cost moves) s)
+  by_lines_cost = mapped events_of (λ end. exited (exit_of end)) (counted_machine (lines_cost) s)
 
   -- so is each step
   step_within : (at : CountedState) → by_lines_cost.weight at ≤ (counted_outside s).weight at
   step_within at = by (counted_ending_of at)
     where
-      by : (how : Option End) → weight_unless how (lines_cost moves at) ≤ weight_unless how (counted_instructions at)
-      by None = lines_within moves few at
+      by : (how : Option End) → weight_unless how (lines_cost at) ≤ weight_unless how (counted_cost at)
+      by None = lines_within at
       by (Some end) = omega arith
 
   -- and so are many
@@ -351,9 +351,9 @@ lines_formed (one ∷ functions) formed zero lines is =
 lines_formed (one ∷ functions) formed (suc f) lines is = lines_formed functions formed.1 f lines is
 
 module _ (layout : Layout) (marks : CellMarks) (code : CountedProgram) (constants : List (List ℕ)) (functions : List Lines)
-    (lowered : IsProgramLowered layout marks code constants functions) (pool : Pool) (depth first moves : ℕ) (input : List ℕ)
-    (few : moves ≤ 16) (aligned : pool.first % 32 ≡ 0) (some : 0 < pool.first) (bytes : All (λ byte. byte < 256) input)
-    (fits : (n : ℕ) → IsFit layout (counted_after counted_instructions (setting_on code pool depth) input n)) where
+    (lowered : IsProgramLowered layout marks code constants functions) (pool : Pool) (depth first : ℕ) (input : List ℕ)
+    (aligned : pool.first % 32 ≡ 0) (some : 0 < pool.first) (bytes : All (λ byte. byte < 256) input)
+    (fits : (n : ℕ) → IsFit layout (counted_after counted_cost (setting_on code pool depth) input n)) where
   abbrev lowering : Lowering
   lowering = record {
     code = code;
@@ -364,7 +364,6 @@ module _ (layout : Layout) (marks : CellMarks) (code : CountedProgram) (constant
     first = first;
     pool = pool;
     depth = depth;
-    moves = moves;
     most = all_forms code.functions;
     aligned = aligned;
     some = some;
@@ -386,7 +385,7 @@ module _ (layout : Layout) (marks : CellMarks) (code : CountedProgram) (constant
   related : Related lowering 0 (forms lowered.main.body) start turn
   related = starts lowering lowered.main lowered.main_is lowered.main_alone lowered.main_lines lowered.lines_are input bytes
       (λ n. subst (λ (s : CountedState). IsFit layout s.machine)
-      (sym (state_mapped (lines_cost moves) (setting_on code pool depth) n start)) (fits n))
+      (sym (state_mapped (lines_cost) (setting_on code pool depth) n start)) (fits n))
 
   last_free : (n : ℕ) (by : End) (s : CountedState) (t : AsmTurn World Ending) → s.machine.control ≡ stopped by
       → StandsFor lowering s.machine.control s.machine.frames s.machine.heap s.input t
@@ -401,12 +400,12 @@ module _ (layout : Layout) (marks : CellMarks) (code : CountedProgram) (constant
       )
 
   -- the assembler's machine and the counted machine run the same
-  pub runs_the_same : RunsTheSame code constants functions lowered.main_lines pool depth first moves input
+  pub runs_the_same : RunsTheSame code constants functions lowered.main_lines pool depth first input
   runs_the_same =
       record {
         agrees = (
           (λ m. m * pace lowering + forms lowered.main.body + 1),
-          agrees_within (setting_on code pool depth) moves few (lower lowering) 0
+          agrees_within (setting_on code pool depth) (lower lowering) 0
               (λ m. m * pace lowering + forms lowered.main.body + 1) start turn
               (simulates_agree (upper lowering) (lower lowering) (Related lowering) (Passing lowering) (pace lowering)
               (simulates lowering) 0 (forms lowered.main.body) start turn related),
@@ -414,7 +413,7 @@ module _ (layout : Layout) (marks : CellMarks) (code : CountedProgram) (constant
         ends = λ n by stops.
             let reaches = simulates_many (upper lowering) (lower lowering) (Related lowering) (Passing lowering) (pace lowering)
             (simulates lowering) n 0 (forms lowered.main.body) start turn related in
-            let same = state_mapped (lines_cost moves) (setting_on code pool depth) n start in
+            let same = state_mapped (lines_cost) (setting_on code pool depth) n start in
             let s : CountedState = state (upper lowering) n start in
             let end = last_free n by s (state (lower lowering) reaches.steps turn)
             (ap (λ (u : CountedState). u.machine.control) same ∙ stops) reaches.related.stands in (

@@ -26,6 +26,7 @@ use Rattle.rv_cells.proofs.Counts.{dupped}
 use Rattle.rv_cells.proofs.Drops.{drops, drop_paid}
 use Rattle.rv_cells.proofs.Runs.{Target, turn_of, Runs, runs_none, runs_then}
 use Rattle.rv_cells.proofs.Acting.{put_in, copy_runs, dup_runs, drop_runs}
+use Rattle.rv_cells.proofs.LineCosts.{most_moves}
 
 pub record Spot : Type 0 where
   pub address : ℕ → ℕ
@@ -247,8 +248,8 @@ module _ (known : Known) (rest : List Line) (fs : List (Frame Line)) (s : Spot) 
     (bound : is_among s.bound x ≡ true) (next : Heap) where
   dup_by : (b : Bool) → FitsField b (value_of s.environment x) → dup_value (value_of s.environment x) s.heap ≡ Some next
       → AreSmall 1 s.heap
-      → Changed known (known.target.moves + 5) (if b then acts (Compute Op.Dup) (x ∷ []) ∷ [] else []) rest fs s next
-  dup_by false fits is small = same_did known (known.target.moves + 5) rest fs s next here
+      → Changed known (most_moves + 5) (if b then acts (Compute Op.Dup) (x ∷ []) ∷ [] else []) rest fs s next
+  dup_by false fits is small = same_did known (most_moves + 5) rest fs s next here
       (dup_plain (value_of s.environment x) s.heap next fits is)
   dup_by true fits is small =
       let done = dupped here.follows (value_of s.environment x) next fits is (λ name. let all = small name in omega arith) in
@@ -258,7 +259,7 @@ module _ (known : Known) (rest : List Line) (fs : List (Frame Line)) (s : Spot) 
         s.owners,
         done.now,
         record {
-          cost = known.target.moves + 5;
+          cost = most_moves + 5;
           steps = 1;
           within = omega arith;
           runs = dup_runs known.target rest s.frame fs s.world x (word_in known.layout s.address (value_of s.environment x))
@@ -275,7 +276,7 @@ module _ (known : Known) (rest : List Line) (fs : List (Frame Line)) (s : Spot) 
       )
 
   -- a dup
-  pub dup_did : dup_value (value_of s.environment x) s.heap ≡ Some next → AreSmall 1 s.heap → Changed known (known.target.moves + 5)
+  pub dup_did : dup_value (value_of s.environment x) s.heap ≡ Some next → AreSmall 1 s.heap → Changed known (most_moves + 5)
       (dup_lines known.holds x) rest fs s next
   dup_did is small = dup_by (known.holds x) (here.values.fits x bound) is small
 
@@ -284,11 +285,11 @@ module _ (known : Known) (rest : List Line) (fs : List (Frame Line)) (s : Spot) 
 
   drop_by : (b : Bool) → FitsField b (value_of s.environment x) → drop_value (value_of s.environment x) s.heap ≡ Some next
       → (frame : Frame Line) × (owners : ℕ → Owner) × (cells : Cells)
-      × Did known (2 * known.target.moves + 17)
+      × Did known (2 * most_moves + 16)
       (if b then copies_to x known.base ∷ acts (Calls Drop) (known.base ∷ []) ∷ [] else []) rest fs s
       (record (with_heap s next owners cells) { frame = frame })
   drop_by false fits is =
-      let same = same_did known (2 * known.target.moves + 17) rest fs s next here
+      let same = same_did known (2 * most_moves + 16) rest fs s next here
       (drop_plain (value_of s.environment x) s.heap next fits is) in
       (s.frame, same.0, same.1, same.2)
   drop_by true fits is =
@@ -305,11 +306,11 @@ module _ (known : Known) (rest : List Line) (fs : List (Frame Line)) (s : Spot) 
         (λ at. still next (s.owners at)),
         merged_cells done.work s.world.cells,
         record {
-          cost = (known.target.moves + 2) + (known.target.moves + (8 * done.work.gave + 52 * done.work.freed + 7));
+          cost = (most_moves + 2) + (8 * done.work.gave + 52 * done.work.freed + 8);
           steps = 2;
           within = omega arith;
-          runs = runs_then known.target (known.target.moves + 2)
-              (known.target.moves + (8 * done.work.gave + 52 * done.work.freed + 7)) 1 1
+          runs = runs_then known.target (most_moves + 2)
+              (8 * done.work.gave + 52 * done.work.freed + 8) 1 1
               (turn_of (copies_to x known.base ∷ acts (Calls Drop) (known.base ∷ []) ∷ rest) s.frame fs s.world)
               (turn_of (acts (Calls Drop) (known.base ∷ []) ∷ rest) copied fs s.world)
               (turn_of rest copied fs (with_cells s.world (merged_cells done.work s.world.cells))) first second;
@@ -331,6 +332,6 @@ module _ (known : Known) (rest : List Line) (fs : List (Frame Line)) (s : Spot) 
   -- a drop with all that it frees
   pub drop_did : drop_value (value_of s.environment x) s.heap ≡ Some next
       → (frame : Frame Line) × (owners : ℕ → Owner) × (cells : Cells)
-      × Did known (2 * known.target.moves + 17) (drop_lines known.base known.holds x) rest fs s
+      × Did known (2 * most_moves + 16) (drop_lines known.base known.holds x) rest fs s
       (record (with_heap s next owners cells) { frame = frame })
   drop_did is = drop_by (known.holds x) (here.values.fits x bound) is

@@ -47,7 +47,6 @@ pub record Lowering : Type 0 where
   pub first : ℕ
   pub pool : Pool
   pub depth : ℕ
-  pub moves : ℕ
   pub most : ℕ
   pub aligned : pool.first % 32 ≡ 0
   pub some : 0 < pool.first
@@ -68,7 +67,6 @@ module _ (program : Lowering) where
   target = record {
     constants = record { first = program.first; texts = program.constants };
     pool = program.pool;
-    moves = program.moves;
     depth = program.depth;
     functions = program.functions;
   }
@@ -81,7 +79,7 @@ module _ (program : Lowering) where
 
   -- the counted machine as an image tells it, whose steps weigh what their lines do
   abbrev pub upper : Machine CountedState Event Ending
-  upper = mapped events_of (λ end. exited (exit_of end)) (counted_machine (lines_cost program.moves) setting)
+  upper = mapped events_of (λ end. exited (exit_of end)) (counted_machine (lines_cost) setting)
 
   abbrev pub lower : Machine (AsmTurn World Ending) Event Ending
   lower = machine target

@@ -30,7 +30,7 @@ use Rattle.rv_lower.specs.Lowered.{Goal}
 use Rattle.rv_cells.specs.CellLines.{dup_lines, drop_lines}
 use Rattle.rv_cells.specs.CountedLines.{Setting, CodeLines}
 use Rattle.rv_cells.proofs.Spots.{with_heap as spot_with_heap, AreSmall, Spot, Known, Here, Did, dup_length, drop_length, dup_did, drop_did}
-use Rattle.rv_cells.proofs.LineCosts.{row_cost}
+use Rattle.rv_cells.proofs.LineCosts.{most_moves, row_cost}
 use Rattle.rv_cells.proofs.Rows.{then_some, with_fields, IsReading, read_did}
 use Rattle.rv_cells.proofs.Openings.{opened_spot, open_cost, open_did}
 
@@ -95,7 +95,7 @@ module _ (known : Known) (setting : CountedSetting) (texts : Texts) (goal : Goal
   pub dup_steps : CodeLines (setting_of known texts) goal low (dup x rest) lines high → AreSmall 1 s.heap
       → NotStuck (with_heap (dup_value (value_of s.environment x) s.heap) (at_spot (dup x rest) joins s c)
       (at_spot rest joins s c)).control
-      → Steps known setting texts goal high (known.target.moves + 5) goes (dup x rest) rest joins c lines after fs s s.bound
+      → Steps known setting texts goal high (most_moves + 5) goes (dup x rest) rest joins c lines after fs s s.bound
   dup_steps is small going =
       let next = there_is (dup_value (value_of s.environment x) s.heap) (at_spot (dup x rest) joins s c)
       (at_spot rest joins s c) going in
@@ -117,7 +117,7 @@ module _ (known : Known) (setting : CountedSetting) (texts : Texts) (goal : Goal
   pub drop_steps : CodeLines (setting_of known texts) goal low (drop x rest) lines high
       → NotStuck (with_heap (drop_value (value_of s.environment x) s.heap) (at_spot (drop x rest) joins s c)
       (at_spot rest joins s c)).control
-      → Steps known setting texts goal high (2 * known.target.moves + 17) goes (drop x rest) rest joins c lines after fs s s.bound
+      → Steps known setting texts goal high (2 * most_moves + 16) goes (drop x rest) rest joins c lines after fs s s.bound
   drop_steps is going =
       let next = there_is (drop_value (value_of s.environment x) s.heap) (at_spot (drop x rest) joins s c)
       (at_spot rest joins s c) going in
@@ -140,7 +140,7 @@ module _ (known : Known) (setting : CountedSetting) (texts : Texts) (goal : Goal
     (named : Named) (rest : Counted) (joins : List CountedJoin) (c : CountedConfiguration) (lines after : List Line)
     (fs : List (Frame Line)) (s : Spot) (here : Here known s) (reads : IsReading known s x k fields named) where
   pub read_steps : CodeLines (setting_of known texts) goal low (read x k fields rest) lines high
-      → Steps known setting texts goal high (row_cost fields (known.target.moves + 2)) goes
+      → Steps known setting texts goal high (row_cost fields (most_moves + 2)) goes
       (read x k fields rest) rest joins c lines
       after fs s (bound_list fields s.bound)
   read_steps is = record {

@@ -10,7 +10,7 @@ use Rattle.kk_core.specs.declared.decisions.Edge.{Edge}
 use Rattle.rv_isa.specs.Arithmetic.{signed, word_of}
 use Rattle.rv_cells.specs.Layout.{Layout, word_in}
 use Rattle.rv_cells.specs.CountedLines.{is_plain, answer_word, answer_tag}
-use Rattle.rv_cells.proofs.LineCosts.{edges_cost}
+use Rattle.rv_cells.proofs.LineCosts.{most_moves, edges_cost}
 use Rattle.rv_cells.specs.Fitting.{IsInt32, AreAlike, AllAlike, ShowsIts}
 use Rattle.rv_cells.proofs.Computing.{word_signed}
 
@@ -89,17 +89,17 @@ next_none keeps (edge ∷ edges) found none =
         ∙ ap (λ t. if t then Some edge.next else next_by (filter keeps edges) None found) is ∙ later
 
 -- both parts of the edges cost no more than all
-pub split_cost : (moves : ℕ) (keeps : Edge → Bool) (edges : List Edge)
-    → edges_cost moves (filter keeps edges) + edges_cost moves (filter (λ edge. not (keeps edge)) edges) ≤ edges_cost moves edges
-split_cost moves keeps [] = omega arith
-split_cost moves keeps (edge ∷ edges) = by (keeps edge) (split_cost moves keeps edges)
+pub split_cost : (keeps : Edge → Bool) (edges : List Edge)
+    → edges_cost (filter keeps edges) + edges_cost (filter (λ edge. not (keeps edge)) edges) ≤ edges_cost edges
+split_cost keeps [] = omega arith
+split_cost keeps (edge ∷ edges) = by (keeps edge) (split_cost keeps edges)
   where
     by : (b : Bool)
-        → edges_cost moves (filter keeps edges) + edges_cost moves
-        (filter (λ edge. not (keeps edge)) edges) ≤ edges_cost moves edges
-        → edges_cost moves (cond b (edge ∷ filter keeps edges) (filter keeps edges))
-        + edges_cost moves (cond (not b) (edge ∷ filter (λ edge. not (keeps edge)) edges) (filter (λ edge. not (keeps edge)) edges))
-        ≤ (3 * moves + 7) + edges_cost moves edges
+        → edges_cost (filter keeps edges) + edges_cost
+        (filter (λ edge. not (keeps edge)) edges) ≤ edges_cost edges
+        → edges_cost (cond b (edge ∷ filter keeps edges) (filter keeps edges))
+        + edges_cost (cond (not b) (edge ∷ filter (λ edge. not (keeps edge)) edges) (filter (λ edge. not (keeps edge)) edges))
+        ≤ (3 * most_moves + 7) + edges_cost edges
     by true few = omega (arith, few)
     by false few = omega (arith, few)
 

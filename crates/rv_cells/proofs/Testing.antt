@@ -23,7 +23,7 @@ use Rattle.rv_lower.proofs.Labels.{found_label}
 use Rattle.rv_lower.proofs.Performing.{put_same, put_other}
 use Rattle.rv_cells.specs.Layout.{word_in, header_of}
 use Rattle.rv_cells.specs.CountedLines.{is_plain, answer_word, answer_tag, number_tests, otherwise_lines, OddLines, TagLines, NodeLines}
-use Rattle.rv_cells.proofs.LineCosts.{row_cost, edges_cost}
+use Rattle.rv_cells.proofs.LineCosts.{most_moves, row_cost, edges_cost}
 use Rattle.rv_cells.specs.Fitting.{AreAlike, AllAlike, ShowsIts}
 use Rattle.rv_cells.proofs.Held.{some-is, held_count}
 use Rattle.rv_cells.proofs.Words.{load_own, cell_named}
@@ -42,7 +42,7 @@ AllTell number v found (edge ∷ edges) =
 
 module _ (known : Known) (s : Spot) (fs : List (Frame Line)) (here : Here known s) where
   abbrev moves : ℕ
-  moves = known.target.moves
+  moves = most_moves
 
   -- at lines that are left, with these values
   abbrev turn_with : List Line → (ℕ → Option ℕ) → AsmTurn World Ending
@@ -111,27 +111,27 @@ module _ (known : Known) (s : Spot) (fs : List (Frame Line)) (here : Here known 
   abbrev Tested : (Answer → ℕ) → ℕ → ℕ → Answer → List Edge → List Line → (ℕ → Option ℕ) → Type 0
   Tested number value nodes found edges rest values =
       ((next_by edges None found ≡ None)
-      × Leads (value + 1) (edges_cost known.target.moves edges) (number_tests number value nodes edges ++ rest) rest values)
+      × Leads (value + 1) (edges_cost edges) (number_tests number value nodes edges ++ rest) rest values)
       ⊎ ((k : ℕ) × (next_by edges None found ≡ Some k)
       × ((there : List Line) → found_label (nodes + k) s.frame.whole ≡ Some there
-      → Leads (value + 1) (edges_cost known.target.moves edges) (number_tests number value nodes edges ++ rest) there values))
+      → Leads (value + 1) (edges_cost edges) (number_tests number value nodes edges ++ rest) there values))
 
   after_falls : (number : Answer → ℕ) (value nodes v : ℕ) (found : Answer) (edge : Edge) (edges : List Edge) (rest : List Line)
       (values : ℕ → Option ℕ) → is_answer edge.found found ≡ false
-      → (first : Leads (value + 1) (3 * known.target.moves + 7) (number_tests number value nodes (edge ∷ edges) ++ rest)
+      → (first : Leads (value + 1) (3 * most_moves + 7) (number_tests number value nodes (edge ∷ edges) ++ rest)
       (number_tests number value nodes edges ++ rest) values)
       → Tested number value nodes found edges rest first.later → Tested number value nodes found (edge ∷ edges) rest values
   after_falls number value nodes v found edge edges rest values not first (inl none) =
       inl (
         ap (λ b. if b then Some edge.next else next_by edges None found) not ∙ none.0,
-        leads_then (value + 1) (3 * moves + 7) (edges_cost moves edges) (number_tests number value nodes (edge ∷ edges) ++ rest)
+        leads_then (value + 1) (3 * moves + 7) (edges_cost edges) (number_tests number value nodes (edge ∷ edges) ++ rest)
             (number_tests number value nodes edges ++ rest) rest values first none.1,
       )
   after_falls number value nodes v found edge edges rest values not first (inr taken) =
       inr (
         taken.0,
         ap (λ b. if b then Some edge.next else next_by edges None found) not ∙ taken.1,
-        λ there finds. leads_then (value + 1) (3 * moves + 7) (edges_cost moves edges)
+        λ there finds. leads_then (value + 1) (3 * moves + 7) (edges_cost edges)
             (number_tests number value nodes (edge ∷ edges) ++ rest)
             (number_tests number value nodes edges ++ rest) there values first (taken.2 there finds),
       )
@@ -158,8 +158,8 @@ module _ (known : Known) (s : Spot) (fs : List (Frame Line)) (here : Here known 
             edge.next,
             ap (λ b. if b then Some edge.next else next_by edges None found) (sym tell.0 ∙ same),
             λ there finds. leads_more (value + 1) (value + 1)
-                ((known.target.moves + 2) + (known.target.moves + 2) + (known.target.moves + 3))
-                (edges_cost known.target.moves (edge ∷ edges)) (number_tests number value nodes (edge ∷ edges) ++ rest) there values
+                ((most_moves + 2) + (most_moves + 2) + (most_moves + 3))
+                (edges_cost (edge ∷ edges)) (number_tests number value nodes (edge ∷ edges) ++ rest) there values
                 (omega arith) (omega arith)
                 (record {
                   steps = 3;
@@ -179,8 +179,8 @@ module _ (known : Known) (s : Spot) (fs : List (Frame Line)) (here : Here known 
           (λ e. omega (arith, e, less))
           ∙ put_other (value + 1) z v values (λ e. omega (arith, e, less)) in
           after_falls number value nodes v found edge edges rest values (sym tell.0 ∙ differ)
-          (leads_more (value + 1) (value + 1) ((known.target.moves + 2) + (known.target.moves + 2) + (known.target.moves + 3))
-          (3 * known.target.moves + 7) (number_tests number value nodes (edge ∷ edges) ++ rest)
+          (leads_more (value + 1) (value + 1) ((most_moves + 2) + (most_moves + 2) + (most_moves + 3))
+          (3 * most_moves + 7) (number_tests number value nodes (edge ∷ edges) ++ rest)
           (number_tests number value nodes edges ++ rest) values (omega arith) (omega arith)
           (record {
             steps = 3;
@@ -195,33 +195,33 @@ module _ (known : Known) (s : Spot) (fs : List (Frame Line)) (here : Here known 
 
   jumps_out : (nodes limit : ℕ) (otherwise : Option ℕ) (k : ℕ) (there rest : List Line) (values : ℕ → Option ℕ) → otherwise ≡ Some k
       → found_label (nodes + k) s.frame.whole ≡ Some there
-      → Leads limit (known.target.moves + 2) (otherwise_lines nodes otherwise ++ rest) there values
+      → Leads limit (most_moves + 2) (otherwise_lines nodes otherwise ++ rest) there values
   jumps_out nodes limit None k there rest values is finds = cc
   jumps_out nodes limit (Some j) k there rest values is finds =
       let same : j ≡ k = some-is is in
-      leads_same limit (known.target.moves + 2) (otherwise_lines nodes (Some j) ++ rest) there values
+      leads_same limit (most_moves + 2) (otherwise_lines nodes (Some j) ++ rest) there values
       (jump_runs known.target rest (record s.frame { cells = values }) fs s.world (nodes + j) there
       (ap (λ n. found_label (nodes + n) s.frame.whole) same ∙ finds))
 
   -- an address is even: the next lines come
   even_falls : (value nodes w : ℕ) (otherwise : Option ℕ) (odd rest : List Line) (values : ℕ → Option ℕ)
       → OddLines value nodes otherwise odd → values value ≡ Some w → w % 2 ≡ 0
-      → Leads (value + 1) (2 * known.target.moves + 5) (odd ++ rest) rest values
+      → Leads (value + 1) (2 * most_moves + 5) (odd ++ rest) rest values
   even_falls value nodes w None odd rest values lines has even =
-      subst (λ ls. Leads (value + 1) (2 * known.target.moves + 5) (ls ++ rest) rest values) (sym lines)
-      (leads_none (value + 1) (2 * known.target.moves + 5) rest values)
+      subst (λ ls. Leads (value + 1) (2 * most_moves + 5) (ls ++ rest) rest values) (sym lines)
+      (leads_none (value + 1) (2 * most_moves + 5) rest values)
   even_falls value nodes w (Some next) odd rest values lines has even =
       let f = record s.frame { cells = values } in
       let bit : bit_and w lines.0.word ≡ 0 = ap (bit_and w) lines.1 ∙ and_mask w 1 ∙ even in
       let values2 = put (value + 1) (Some (bit_and w lines.0.word)) values in
       let branch = acts (Branch NotEqual (nodes + next)) ((value + 1) ∷ []) ∷ rest in
-      subst (λ ls. Leads (value + 1) (2 * known.target.moves + 5) (ls ++ rest) rest values) (sym lines.2)
-      (leads_more (value + 1) (value + 1) ((known.target.moves + 2) + (known.target.moves + 3)) (2 * known.target.moves + 5)
+      subst (λ ls. Leads (value + 1) (2 * most_moves + 5) (ls ++ rest) rest values) (sym lines.2)
+      (leads_more (value + 1) (value + 1) ((most_moves + 2) + (most_moves + 3)) (2 * most_moves + 5)
       _ rest values (omega arith) (omega arith)
-      (leads_then (value + 1) (known.target.moves + 2) (known.target.moves + 3) _ branch rest values
-      (leads_put (value + 1) (known.target.moves + 2) (value + 1) (bit_and w lines.0.word) _ branch values (omega arith)
+      (leads_then (value + 1) (most_moves + 2) (most_moves + 3) _ branch rest values
+      (leads_put (value + 1) (most_moves + 2) (value + 1) (bit_and w lines.0.word) _ branch values (omega arith)
       (andi_runs known.target branch f fs s.world value (value + 1) w lines.0 has))
-      (leads_same (value + 1) (known.target.moves + 3) branch rest values2
+      (leads_same (value + 1) (most_moves + 3) branch rest values2
       (falls_one_runs known.target rest (record s.frame { cells = values2 }) fs s.world NotEqual (nodes + next) (value + 1)
       (bit_and w lines.0.word) (put_same (value + 1) (bit_and w lines.0.word) values) (ap (λ b. not (nat_eq b 0)) bit)))))
 
@@ -229,7 +229,7 @@ module _ (known : Known) (s : Spot) (fs : List (Frame Line)) (here : Here known 
   odd_jumps : (value nodes w : ℕ) (otherwise : Option ℕ) (k : ℕ) (odd rest there : List Line) (values : ℕ → Option ℕ)
       → OddLines value nodes otherwise odd → otherwise ≡ Some k → found_label (nodes + k) s.frame.whole ≡ Some there
       → values value ≡ Some w → w % 2 ≡ 1
-      → Leads (value + 1) (2 * known.target.moves + 5) (odd ++ rest) there values
+      → Leads (value + 1) (2 * most_moves + 5) (odd ++ rest) there values
   odd_jumps value nodes w None k odd rest there values lines is finds has odd_word = cc
   odd_jumps value nodes w (Some next) k odd rest there values lines is finds has odd_word =
       let f = record s.frame { cells = values } in
@@ -237,13 +237,13 @@ module _ (known : Known) (s : Spot) (fs : List (Frame Line)) (here : Here known 
       let bit : bit_and w lines.0.word ≡ 1 = ap (bit_and w) lines.1 ∙ and_mask w 1 ∙ odd_word in
       let values2 = put (value + 1) (Some (bit_and w lines.0.word)) values in
       let branch = acts (Branch NotEqual (nodes + next)) ((value + 1) ∷ []) ∷ rest in
-      subst (λ ls. Leads (value + 1) (2 * known.target.moves + 5) (ls ++ rest) there values) (sym lines.2)
-      (leads_more (value + 1) (value + 1) ((known.target.moves + 2) + (known.target.moves + 3)) (2 * known.target.moves + 5)
+      subst (λ ls. Leads (value + 1) (2 * most_moves + 5) (ls ++ rest) there values) (sym lines.2)
+      (leads_more (value + 1) (value + 1) ((most_moves + 2) + (most_moves + 3)) (2 * most_moves + 5)
       _ there values (omega arith) (omega arith)
-      (leads_then (value + 1) (known.target.moves + 2) (known.target.moves + 3) _ branch there values
-      (leads_put (value + 1) (known.target.moves + 2) (value + 1) (bit_and w lines.0.word) _ branch values (omega arith)
+      (leads_then (value + 1) (most_moves + 2) (most_moves + 3) _ branch there values
+      (leads_put (value + 1) (most_moves + 2) (value + 1) (bit_and w lines.0.word) _ branch values (omega arith)
       (andi_runs known.target branch f fs s.world value (value + 1) w lines.0 has))
-      (leads_same (value + 1) (known.target.moves + 3) branch there values2
+      (leads_same (value + 1) (most_moves + 3) branch there values2
       (branch_one_runs known.target rest (record s.frame { cells = values2 }) fs s.world NotEqual (nodes + next) (value + 1)
       (bit_and w lines.0.word) there (put_same (value + 1) (bit_and w lines.0.word) values) (ap (λ b. not (nat_eq b 0)) bit)
       (ap (λ n. found_label (nodes + n) s.frame.whole) same ∙ finds)))))
@@ -253,19 +253,19 @@ module _ (known : Known) (s : Spot) (fs : List (Frame Line)) (here : Here known 
       (rest there : List Line) (values : ℕ → Option ℕ) → limit ≤ value + 1
       → found_label (nodes + k) s.frame.whole ≡ Some there → next_by edges otherwise found ≡ Some k
       → Tested number value nodes found edges (otherwise_lines nodes otherwise ++ rest) values
-      → Leads limit (edges_cost known.target.moves edges + (known.target.moves + 2))
+      → Leads limit (edges_cost edges + (most_moves + 2))
       (number_tests number value nodes edges ++ (otherwise_lines nodes otherwise ++ rest)) there values
   finish number value nodes limit found edges otherwise k rest there values le finds next (inl none) =
       let from = number_tests number value nodes edges ++ (otherwise_lines nodes otherwise ++ rest) in
       let mid = otherwise_lines nodes otherwise ++ rest in
-      let first = leads_more (value + 1) limit (edges_cost moves edges) (edges_cost moves edges) from mid values
+      let first = leads_more (value + 1) limit (edges_cost edges) (edges_cost edges) from mid values
       (omega arith) le none.1 in
-      leads_then limit (edges_cost moves edges) (moves + 2) from mid there values first
+      leads_then limit (edges_cost edges) (moves + 2) from mid there values first
       (jumps_out nodes limit otherwise k there rest first.later (sym (next_other edges otherwise found none.0) ∙ next) finds)
   finish number value nodes limit found edges otherwise k rest there values le finds next (inr taken) =
       let from = number_tests number value nodes edges ++ (otherwise_lines nodes otherwise ++ rest) in
       let same : taken.0 ≡ k = some-is (sym (next_some edges otherwise found taken.0 taken.1) ∙ next) in
-      leads_more (value + 1) limit (edges_cost moves edges) (edges_cost moves edges + (moves + 2)) from there values
+      leads_more (value + 1) limit (edges_cost edges) (edges_cost edges + (moves + 2)) from there values
       (omega arith) le
       (taken.2 there (ap (λ n. found_label (nodes + n) s.frame.whole) same ∙ finds))
 
@@ -362,7 +362,7 @@ module _ (known : Known) (s : Spot) (fs : List (Frame Line)) (here : Here known 
     plain = filter (λ edge. is_plain known.layout edge.found) edges
 
     abbrev tags_cost : List Edge → ℕ
-    tags_cost some = 5 * known.target.moves + 11 + edges_cost known.target.moves some
+    tags_cost some = 5 * most_moves + 11 + edges_cost some
 
     -- a constructor without fields goes on otherwise
     odd_tags : (w : ℕ) (some : List Edge) (tags : List Line) (values : ℕ → Option ℕ) → otherwise ≡ Some k
@@ -393,7 +393,7 @@ module _ (known : Known) (s : Spot) (fs : List (Frame Line)) (here : Here known 
         (leads_more base base (moves + 2) (tags_cost []) (otherwise_lines nodes otherwise ++ rest) there values (omega arith)
         (omega arith) (jumps_out nodes base otherwise k there rest values by_tag finds))
     cell_tags name c (edge ∷ more) tags values shows found_is by_tag alike lines has =
-        let m = known.target.moves in
+        let m = most_moves in
         let out = otherwise_lines nodes otherwise ++ rest in
         let tests_lines = number_tests (answer_tag known.layout) (base + 1) nodes (edge ∷ more) in
         let andi = computes (Op.Immediate Andi lines.2) ((base + 1) ∷ []) (base + 1) in
@@ -426,7 +426,7 @@ module _ (known : Known) (s : Spot) (fs : List (Frame Line)) (here : Here known 
         (omega arith) finds by_tag
         (tests_run (answer_tag known.layout) (base + 1) nodes (known.layout.tag c) found (edge ∷ more) out v3
         (put_same (base + 1) word v2 ∙ ap (λ n. Some n) word_is) tell) in
-        let cost = edges_cost m (edge ∷ more) + (m + 2) in
+        let cost = edges_cost (edge ∷ more) + (m + 2) in
         let whole : Leads (base + 1) ((2 * m + 5) + ((m + 2) + ((m + 2) + cost))) (lines.0 ++ r1) there values
         = leads_then (base + 1) (2 * m + 5) ((m + 2) + ((m + 2) + cost)) (lines.0 ++ r1) r1 there values first
         (leads_then (base + 1) (m + 2) ((m + 2) + cost) r1 r2 there v1 second
@@ -481,22 +481,22 @@ module _ (known : Known) (s : Spot) (fs : List (Frame Line)) (here : Here known 
         → ShowsIts known.layout w found → TagLines known.layout base nodes tagged otherwise tags
         → values base ≡ Some (word_in known.layout s.address w)
         → Tested (answer_word known.layout) base nodes found plain (tags ++ (otherwise_lines nodes otherwise ++ rest)) values
-        → Leads base (edges_cost known.target.moves plain + tags_cost tagged)
+        → Leads base (edges_cost plain + tags_cost tagged)
         (number_tests (answer_word known.layout) base nodes plain ++ (tags ++ (otherwise_lines nodes otherwise ++ rest))) there
         values
     word_outcome w tags values answer shows lines has (inl none) =
         let from = number_tests (answer_word known.layout) base nodes plain ++
         (tags ++ (otherwise_lines nodes otherwise ++ rest)) in
         let mid = tags ++ (otherwise_lines nodes otherwise ++ rest) in
-        let first = leads_more (base + 1) base (edges_cost moves plain) (edges_cost moves plain) from mid values (omega arith)
+        let first = leads_more (base + 1) base (edges_cost plain) (edges_cost plain) from mid values (omega arith)
         (omega arith) none.1 in
-        leads_then base (edges_cost moves plain) (tags_cost tagged) from mid there values first
+        leads_then base (edges_cost plain) (tags_cost tagged) from mid there values first
         (tags_run w tags first.later answer shows none.0 lines (none.1.kept base (omega arith) ∙ has))
     word_outcome w tags values answer shows lines has (inr taken) =
         let from = number_tests (answer_word known.layout) base nodes plain ++
         (tags ++ (otherwise_lines nodes otherwise ++ rest)) in
         let same : taken.0 ≡ k = taken_is w answer shows in
-        leads_more (base + 1) base (edges_cost moves plain) (edges_cost moves plain + tags_cost tagged) from there values
+        leads_more (base + 1) base (edges_cost plain) (edges_cost plain + tags_cost tagged) from there values
         (omega arith)
         (omega arith) (taken.2 there (ap (λ n. found_label (nodes + n) s.frame.whole) same ∙ finds))
       where
@@ -520,10 +520,10 @@ module _ (known : Known) (s : Spot) (fs : List (Frame Line)) (here : Here known 
         → NodeLines known.layout base nodes arms x (tests at edges otherwise) lines
         → values x ≡ Some (word_in known.layout s.address v) → value_at (cell_at s.heap) at v ≡ Some w
         → answer_of (cell_at s.heap) w ≡ Some found → ShowsIts known.layout w found
-        → Leads base (6 * known.target.moves + 14 + row_cost at (known.target.moves + 2) + edges_cost known.target.moves edges)
+        → Leads base (6 * most_moves + 14 + row_cost at (most_moves + 2) + edges_cost edges)
         (lines ++ rest) there values
     tests_lead arms x at v w lines values node has walks answer shows =
-        let m = known.target.moves in
+        let m = most_moves in
         let word = word_in known.layout s.address v in
         let out = otherwise_lines nodes otherwise in
         let numbers = number_tests (answer_word known.layout) base nodes plain in
@@ -550,10 +550,10 @@ module _ (known : Known) (s : Spot) (fs : List (Frame Line)) (here : Here known 
         let third = word_outcome w node.1 walk.0 answer shows node.3 walk.2
         (tests_run (answer_word known.layout) base nodes (word_in known.layout s.address w) found plain r3 walk.0 walk.2
         (plain_tell w found edges answer shows (even_place w answer) all)) in
-        let split = split_cost m (λ edge. is_plain known.layout edge.found) edges in
-        let cost = edges_cost m plain + tags_cost tagged in
-        subst (λ ls. Leads base (6 * m + 14 + row_cost at (m + 2) + edges_cost m edges) ls there values) (sym is)
-        (leads_more base base ((m + 2) + (row_cost at (m + 2) + cost)) (6 * m + 14 + row_cost at (m + 2) + edges_cost m edges)
+        let split = split_cost (λ edge. is_plain known.layout edge.found) edges in
+        let cost = edges_cost plain + tags_cost tagged in
+        subst (λ ls. Leads base (6 * m + 14 + row_cost at (m + 2) + edges_cost edges) ls there values) (sym is)
+        (leads_more base base ((m + 2) + (row_cost at (m + 2) + cost)) (6 * m + 14 + row_cost at (m + 2) + edges_cost edges)
         (copies_to x base ∷ r1) there values (omega (arith, split)) (omega arith)
         (leads_then base (m + 2) (row_cost at (m + 2) + cost) (copies_to x base ∷ r1) r1 there values first
         (leads_then base (row_cost at (m + 2)) cost r1 r2 there v1 second third)))

@@ -36,7 +36,7 @@ use Rattle.rv_cells.proofs.Values.{HasValues, has_temporary, MadeBy, named_made}
 use Rattle.rv_cells.proofs.Runs.{turn_of, Runs, runs_then}
 use Rattle.rv_cells.proofs.Acting.{put_in, load_runs, sets_runs, store_runs, addi_runs, free_runs, label_runs, jump_runs, falls_runs, branch_runs}
 use Rattle.rv_cells.proofs.Spots.{AreSmall, Spot, Known, Here, Did}
-use Rattle.rv_cells.proofs.LineCosts.{row_cost}
+use Rattle.rv_cells.proofs.LineCosts.{most_moves, row_cost}
 use Rattle.rv_cells.proofs.Rows.{with_fields, IsReading, read_did, dups_did, drops_did}
 use Rattle.rv_cells.proofs.Openings.{where_values, bound_older, bound_fields, opened_spot}
 
@@ -45,9 +45,9 @@ others_of used fields = filter (λ y. not (is_among used y)) fields
 
 abbrev pub unique_cost : Known → List ℕ → List ℕ → ℕ
 unique_cost known fields used =
-    8 * known.target.moves + 20 + row_cost fields (known.target.moves + 2) + row_cost (filter (is_among used) fields)
-    (known.target.moves + 5)
-    + row_cost (others_of used fields) (2 * known.target.moves + 17)
+    8 * most_moves + 20 + row_cost fields (most_moves + 2) + row_cost (filter (is_among used) fields)
+    (most_moves + 5)
+    + row_cost (others_of used fields) (2 * most_moves + 16)
 
 -- a spot with temporaries written
 abbrev at_frame : Spot → Frame Line → Spot
@@ -150,10 +150,10 @@ module _ (known : Known) (rest : List Line) (fs : List (Frame Line)) (s : Spot) 
   same_x = field_past fields named.fields s.environment x reads.apart ∙ made.is
 
   -- the count is loaded, and 1 is set
-  loads_count : (there : List Line) → Runs known.target ((known.target.moves + 2) + (known.target.moves + 2)) (1 + 1)
+  loads_count : (there : List Line) → Runs known.target ((most_moves + 2) + (most_moves + 2)) (1 + 1)
       (turn_of (tested ∷ sets 1 (known.base + 1) ∷ there) s.frame fs s.world) (turn_of there tests fs s.world)
   loads_count there =
-      let moves = known.target.moves in
+      let moves = most_moves in
       let f1 = put_in known.base (count_at s.heap named.at) s.frame in
       runs_then known.target (moves + 2) (moves + 2) 1 1 (turn_of (tested ∷ sets 1 (known.base + 1) ∷ there) s.frame fs s.world)
       (turn_of (sets 1 (known.base + 1) ∷ there) f1 fs s.world) (turn_of there tests fs s.world)
@@ -189,7 +189,7 @@ module _ (known : Known) (rest : List Line) (fs : List (Frame Line)) (s : Spot) 
     is_owned : s.owners at ≡ cell_of named.at
     is_owned = here.follows.named named.at counted
 
-    read : Did known (row_cost fields (known.target.moves + 2)) loads ((drops ++ frees) ++ (for_shared ++ ending)) fs
+    read : Did known (row_cost fields (most_moves + 2)) loads ((drops ++ frees) ++ (for_shared ++ ending)) fs
         (at_frame s tests) one
     read = read_did known ((drops ++ frees) ++ (for_shared ++ ending)) fs (at_frame s tests) x c fields loads named here_tests
         (still_reads known s tests x c fields named reads) uniques.6
@@ -203,7 +203,7 @@ module _ (known : Known) (rest : List Line) (fs : List (Frame Line)) (s : Spot) 
 
     unique_did : Opened
     unique_did =
-        let moves = known.target.moves in
+        let moves = most_moves in
         let target = known.target in
         let others = others_of used fields in
         let values : values_of one.environment others ≡ other_values used fields named.fields = where_values
@@ -301,7 +301,7 @@ module _ (known : Known) (rest : List Line) (fs : List (Frame Line)) (s : Spot) 
       (given : dup_all (used_values used fields named.fields) (set_count named.at (suc n) s.heap) ≡ Some next)
       (small : AreSmall (length (filter (is_among used) fields)) s.heap)
       (finds : found (λ line. is_label shared line.action) s.frame.whole ≡ Some (for_shared ++ ending)) where
-    read_shared : Did known (row_cost fields (known.target.moves + 2)) loads (lowers ++ ending) fs (at_frame s tests) one
+    read_shared : Did known (row_cost fields (most_moves + 2)) loads (lowers ++ ending) fs (at_frame s tests) one
     read_shared = read_did known (lowers ++ ending) fs (at_frame s tests) x c fields loads named here_tests
         (still_reads known s tests x c fields named reads) uniques.6
 
@@ -335,11 +335,11 @@ module _ (known : Known) (rest : List Line) (fs : List (Frame Line)) (s : Spot) 
           (omega arith));
     }
 
-    lowers_run : Runs known.target ((known.target.moves + 2) + ((known.target.moves + 2) + (known.target.moves + 2))) (1 + (1 + 1))
+    lowers_run : Runs known.target ((most_moves + 2) + ((most_moves + 2) + (most_moves + 2))) (1 + (1 + 1))
         (turn_of (lowers ++ ending) one.frame fs s.world)
         (turn_of (dups ++ ending) counts fs (with_cells s.world stored))
     lowers_run =
-        let moves = known.target.moves in
+        let moves = most_moves in
         let target = known.target in
         let f1 = put_in known.base (suc (suc n)) one.frame in
         let low = below_base in
@@ -377,7 +377,7 @@ module _ (known : Known) (rest : List Line) (fs : List (Frame Line)) (s : Spot) 
 
     shared_did : Opened
     shared_did =
-        let moves = known.target.moves in
+        let moves = most_moves in
         let target = known.target in
         let part = filter (is_among used) fields in
         let values : values_of one.environment part ≡ used_values used fields named.fields = where_values

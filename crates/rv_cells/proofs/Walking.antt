@@ -22,7 +22,7 @@ use Rattle.rv_cells.proofs.Drops.{fits_length}
 use Rattle.rv_cells.proofs.Runs.{Target, turn_of, Runs, runs_none, runs_then}
 use Rattle.rv_cells.proofs.Acting.{put_in, load_runs, copy_runs, sets_runs, falls_runs, branch_runs}
 use Rattle.rv_cells.proofs.Spots.{Known}
-use Rattle.rv_cells.proofs.LineCosts.{row_cost}
+use Rattle.rv_cells.proofs.LineCosts.{most_moves, row_cost}
 use Rattle.rv_cells.proofs.Rows.{then_some}
 
 -- ---- the field of a counted cell
@@ -55,7 +55,7 @@ module _ (known : Known) (address : ℕ → ℕ) (owners : ℕ → Owner) (heap 
   field_runs : (rest : List Line) (f : Frame Line) (t field : ℕ) (v u : Value) (fields : List Value) (line : Line)
       → Loads t (2 + field) t line → f.cells t ≡ Some (word_in known.layout address v)
       → fields_shown (cell_at heap) v ≡ Some fields → slice_get fields field ≡ Some u
-      → Runs known.target (known.target.moves + 2) 1 (turn_of (line ∷ rest) f fs world)
+      → Runs known.target (most_moves + 2) 1 (turn_of (line ∷ rest) f fs world)
       (turn_of rest (put_in t (word_in known.layout address u) f) fs world)
   field_runs rest f t field (integer n) u fields line loads has shown is =
       let none : slice_get [] field ≡ Some u = ap (λ vs. slice_get vs field) (some-is shown) ∙ is in cc
@@ -84,7 +84,7 @@ module _ (known : Known) (address : ℕ → ℕ) (owners : ℕ → Owner) (heap 
   pub walk_runs : (rest : List Line) (t : ℕ) (way : List ℕ) (v w : Value) (lines : List Line) (f : Frame Line)
       → Walks t way lines → f.cells t ≡ Some (word_in known.layout address v) → value_at (cell_at heap) way v ≡ Some w
       → (values : ℕ → Option ℕ)
-      × Runs known.target (row_cost way (known.target.moves + 2)) (length way) (turn_of (lines ++ rest) f fs world)
+      × Runs known.target (row_cost way (most_moves + 2)) (length way) (turn_of (lines ++ rest) f fs world)
       (turn_of rest (record f { cells = values }) fs world)
       × (values t ≡ Some (word_in known.layout address w)) × ((z : ℕ) → z ≢ t → values z ≡ f.cells z)
   walk_runs rest t [] v w lines f walks has is = (
@@ -95,7 +95,7 @@ module _ (known : Known) (address : ℕ → ℕ) (owners : ℕ → Owner) (heap 
     λ z differ. refl,
   )
   walk_runs rest t (field ∷ way) v w lines f walks has is =
-      let moves = known.target.moves in
+      let moves = most_moves in
       let step = then_some (and_then (fields_shown (cell_at heap) v) (λ fields. slice_get fields field))
       (value_at (cell_at heap) way) w is in
       let shown = then_some (fields_shown (cell_at heap) v) (λ fields. slice_get fields field) step.0 step.1 in
@@ -128,25 +128,25 @@ module _ (target : Target) (rest : List Line) (f : Frame Line) (fs : List (Frame
   first_has : tested.cells t ≡ Some v
   first_has = put_other (t + 1) t word (put_in t v f).cells (λ e. omega arith) ∙ put_same t v f.cells
 
-  compared : Runs target ((target.moves + 2) + (target.moves + 2)) (1 + 1)
+  compared : Runs target ((most_moves + 2) + (most_moves + 2)) (1 + 1)
       (turn_of (equal_lines value word t label ++ rest) f fs world)
       (turn_of (acts (Branch Equal label) (t ∷ (t + 1) ∷ []) ∷ rest) tested fs world)
   compared =
       let branch = acts (Branch Equal label) (t ∷ (t + 1) ∷ []) ∷ rest in
-      runs_then target (target.moves + 2) (target.moves + 2) 1 1 (turn_of (equal_lines value word t label ++ rest) f fs world)
+      runs_then target (most_moves + 2) (most_moves + 2) 1 1 (turn_of (equal_lines value word t label ++ rest) f fs world)
       (turn_of (sets word (t + 1) ∷ branch) (put_in t v f) fs world) (turn_of branch tested fs world)
       (copy_runs target (sets word (t + 1) ∷ branch) f fs world value t v has)
       (sets_runs target branch (put_in t v f) fs world word (t + 1))
 
   abbrev test_cost : ℕ
-  test_cost = ((target.moves + 2) + (target.moves + 2)) + (target.moves + 3)
+  test_cost = ((most_moves + 2) + (most_moves + 2)) + (most_moves + 3)
 
   -- another word: the next line
   pub test_falls : nat_eq v word ≡ false
       → Runs target test_cost 3 (turn_of (equal_lines value word t label ++ rest) f fs world) (turn_of rest tested fs world)
   test_falls differ =
       let branch = acts (Branch Equal label) (t ∷ (t + 1) ∷ []) ∷ rest in
-      runs_then target ((target.moves + 2) + (target.moves + 2)) (target.moves + 3) (1 + 1) 1
+      runs_then target ((most_moves + 2) + (most_moves + 2)) (most_moves + 3) (1 + 1) 1
       (turn_of (equal_lines value word t label ++ rest) f fs world) (turn_of branch tested fs world) (turn_of rest tested fs world)
       compared (falls_runs target rest tested fs world Equal label t (t + 1) v word first_has
       (put_same (t + 1) word (put_in t v f).cells) differ)
@@ -156,7 +156,7 @@ module _ (target : Target) (rest : List Line) (f : Frame Line) (fs : List (Frame
       → Runs target test_cost 3 (turn_of (equal_lines value word t label ++ rest) f fs world) (turn_of there tested fs world)
   test_jumps there same finds =
       let branch = acts (Branch Equal label) (t ∷ (t + 1) ∷ []) ∷ rest in
-      runs_then target ((target.moves + 2) + (target.moves + 2)) (target.moves + 3) (1 + 1) 1
+      runs_then target ((most_moves + 2) + (most_moves + 2)) (most_moves + 3) (1 + 1) 1
       (turn_of (equal_lines value word t label ++ rest) f fs world) (turn_of branch tested fs world) (turn_of there tested fs world)
       compared (branch_runs target rest tested fs world Equal label t (t + 1) v word there first_has
       (put_same (t + 1) word (put_in t v f).cells) same finds)

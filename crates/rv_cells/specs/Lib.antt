@@ -3,10 +3,8 @@ pub mod Follows
 pub mod Steps
 pub mod CellLines
 pub mod CountedLines
-pub mod Sizes
 pub mod Written
 pub mod Marked
-pub mod Costs
 pub mod Fitting
 pub mod Meaning
 pub mod Marking

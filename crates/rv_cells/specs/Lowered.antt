@@ -1,6 +1,7 @@
 -- The form of the assembler code that a program in counted form is lowered to.
 use Rattle.std.specs.Prelude.{◌≡◌, ℕ, ◌*◌, ◌≤◌, List, ◌++◌, length, Some, slice_get}
 use Rattle.kk_counted.specs.CountedCodes.{CountedFunction}
+use Rattle.kk_counted.specs.Lengths as Lengths
 use Rattle.kk_counted.specs.declared.shape.Shape.{Shape}
 use Rattle.rv_isa.specs.AsmCode.{Lines}
 use Rattle.rv_lower.specs.Lowered.{returns, from_to}
@@ -9,7 +10,6 @@ use Rattle.rv_world.specs.Operations.{all_bytes}
 use Rattle.rv_cells.specs.CountedLines.{CodeLines}
 use Rattle.rv_cells.specs.Marked.{AreFunctionsOf}
 use Rattle.rv_cells.specs.Marking.{function_marks}
-use Rattle.rv_cells.specs.Sizes.{forms, all_forms}
 use Rattle.rv_cells.specs.Tables.{table_of, layout_in}
 use Rattle.rv_cells.specs.Written.{Facts, setting_in, holds_in}
 
@@ -35,14 +35,14 @@ pub record LoweredFunction (shape : Shape) (literals : List (List ℕ)) (f : ℕ
     (old new : List (List ℕ)) : Type 0 where
   pub more : List (List ℕ)
   pub texts : new ≡ old ++ more
-  pub few : length (all_bytes more) ≤ 256 * forms function.body
+  pub few : length (all_bytes more) ≤ 256 * Lengths.computes function.body
   pub is : (later : List (List ℕ)) → IsWritten shape literals (new ++ later) f function lines
 
 -- functions were lowered, and these are their texts: they are lowered however many texts come later
 pub record LoweredFunctions (shape : Shape) (literals : List (List ℕ)) (functions : List CountedFunction) (each : List Lines)
     (texts : List (List ℕ)) : Type 0 where
   pub as_many : length each ≡ length functions
-  pub few : length (all_bytes texts) ≤ 256 * all_forms functions
+  pub few : length (all_bytes texts) ≤ 256 * Lengths.all_computes functions
   pub are : (later : List (List ℕ)) (f : ℕ) (function : CountedFunction) → slice_get functions f ≡ Some function
       → (lines : Lines) × ((slice_get each f ≡ Some lines) × IsWritten shape literals (texts ++ later) f function lines)
 
@@ -51,4 +51,4 @@ pub record IsLoweredForm (shape : Shape) (literals : List (List ℕ)) (functions
     (texts : List (List ℕ)) : Type 0 where
   pub lowered : AreFunctionsOf (layout_in shape) (texts_of literals texts) (table_of shape) functions each
   pub as_many : length each ≡ length functions
-  pub few_bytes : length (all_bytes texts) ≤ 256 * all_forms functions
+  pub few_bytes : length (all_bytes texts) ≤ 256 * Lengths.all_computes functions

@@ -7,6 +7,7 @@ use Rattle.kk_source.specs.Ends.{exit_of}
 use Rattle.kk_source.specs.Notes.{events_of}
 use Rattle.kk_source.specs.State.{End}
 use Rattle.kk_counted.specs.CountedCodes.{CountedFunction, CountedProgram}
+use Rattle.kk_counted.specs.CountedCosts.{counted_cost}
 use Rattle.kk_counted.specs.CountedStates.{CountedSetting, CountedState, stopped, counted_first_state}
 use Rattle.kk_counted.specs.CountedMachine.{counted_machine}
 use Rattle.kk_counted.specs.Heaps.{busy}
@@ -22,12 +23,11 @@ use Rattle.cell_heap.specs.Blocks.{Cells, unused}
 use Rattle.rv_world.specs.World.{World, first_world, primitives}
 use Rattle.rv_cells.specs.Layout.{Layout, IsNarrow}
 use Rattle.rv_cells.specs.Marked.{AreFunctionsOf}
-use Rattle.rv_cells.specs.Costs.{counted_instructions}
 
--- The counted machine as an image tells it: the events that the world sees, and the number of the exit. A step weighs the most
--- instructions that it executes.
+-- The counted machine as an image tells it: the events that the world sees, and the number of the exit. A step weighs what
+-- the table of costs says.
 abbrev pub counted_outside : CountedSetting → Machine CountedState Event Ending
-counted_outside setting = mapped events_of (λ end. exited (exit_of end)) (counted_machine counted_instructions setting)
+counted_outside setting = mapped events_of (λ end. exited (exit_of end)) (counted_machine counted_cost setting)
 
 -- a program in counted form, on the cells of a pool and with such a depth
 abbrev pub setting_on : CountedProgram → Pool → ℕ → CountedSetting
@@ -52,19 +52,18 @@ pub record IsProgramLowered (layout : Layout) (marks : CellMarks) (code : Counte
 abbrev pub AreFree : Pool → Cells → Type 0
 AreFree pool cells = (at : ℕ) → IsCell pool at → cells.blocks at ≡ unused
 
--- On an input the assembler's machine, with so many moves before a line, agrees with the counted one: it tells the same events,
--- ends alike, and weighs no more. It comes to no state in which it can do nothing. Where the run ends with an empty heap, all cells
--- are free.
+-- On an input the assembler's machine agrees with the counted one: it tells the same events, ends alike, and weighs no more. It
+-- comes to no state in which it can do nothing. Where the run ends with an empty heap, all cells are free.
 pub record RunsTheSame (code : CountedProgram) (constants : List (List ℕ)) (functions : List Lines) (main : Lines) (pool : Pool)
-    (depth first moves : ℕ) (input : List ℕ) : Type 0 where
+    (depth first : ℕ) (input : List ℕ) : Type 0 where
   pub agrees : (up : ℕ → ℕ) × Agree (counted_outside (setting_on code pool depth))
-      (asm_machine (primitives (record { first = first; texts = constants }) pool) moves depth functions) 0 up
+      (asm_machine (primitives (record { first = first; texts = constants }) pool) depth functions) 0 up
       (counted_first_state (setting_on code pool depth) input) (asm_start main (first_world pool input))
-  pub ends : (n : ℕ) (by : End) → (counted_after counted_instructions (setting_on code pool depth) input n).control ≡ stopped by
+  pub ends : (n : ℕ) (by : End) → (counted_after counted_cost (setting_on code pool depth) input n).control ≡ stopped by
       → (steps : ℕ) × (world : World)
-      × (state (asm_machine (primitives (record { first = first; texts = constants }) pool) moves depth functions) steps
+      × (state (asm_machine (primitives (record { first = first; texts = constants }) pool) depth functions) steps
       (asm_start main (first_world pool input)) ≡ ended (exited (exit_of by)) world)
-      × (busy (counted_after counted_instructions (setting_on code pool depth) input n).heap ≡ 0 → AreFree pool world.cells)
+      × (busy (counted_after counted_cost (setting_on code pool depth) input n).heap ≡ 0 → AreFree pool world.cells)
   pub never_stuck : (n : ℕ)
-      → state (asm_machine (primitives (record { first = first; texts = constants }) pool) moves depth functions) n
+      → state (asm_machine (primitives (record { first = first; texts = constants }) pool) depth functions) n
       (asm_start main (first_world pool input)) ≢ stuck

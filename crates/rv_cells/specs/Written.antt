@@ -3,6 +3,7 @@ use Rattle.std.specs.Prelude.{◌≡◌, ℕ, ◌+◌, ◌-◌, ◌^◌, Bool, f
 use Rattle.kk_syntax.specs.declared.program.Form.{Form}
 use Rattle.kk_counted.specs.CountedCodes.{Counted}
 use Rattle.kk_counted.specs.CountedForms.{Move, plug, arms_of}
+use Rattle.kk_counted.specs.Lengths as Lengths
 use Rattle.rv_isa.specs.declared.asm.Action.TheVariants.{Compute, Jump, Branch}
 use Rattle.rv_isa.specs.declared.asm.Condition.TheVariants.{NotEqual}
 use Rattle.rv_isa.specs.declared.asm.Operation.TheVariants as Op
@@ -18,7 +19,6 @@ use Rattle.rv_cells.specs.declared.decide.Targets.{Targets}
 use Rattle.rv_cells.specs.Layout.{Layout, layout_of}
 use Rattle.rv_cells.specs.CellLines.{Loads, Stores, UniqueLines}
 use Rattle.rv_cells.specs.CountedLines.{Setting, ComputeLines, CodeLines, ArmsLines}
-use Rattle.rv_cells.specs.Sizes.{forms, forms_of_arms}
 
 -- ---- what is known
 
@@ -107,14 +107,14 @@ pub record WroteValue (facts : Facts) (x : ℕ) (form : Form) (arguments : List 
 -- the same of a code
 pub record WroteCode (facts : Facts) (goal : Goal) (code : Counted) (old new : Lowering) : Type 0 where
   pub lines : List Line
-  pub grows : Grows (forms code) lines old new
+  pub grows : Grows (Lengths.computes code) lines old new
   pub are : (later : List (List ℕ))
       → CodeLines (setting_in facts old.base (texts_written new ++ later)) goal old.next_label code lines new.next_label
 
 -- the same of the arms of a case, from a label on
 pub record WroteArms (facts : Facts) (goal : Goal) (label : ℕ) (arms : List Counted) (old new : Lowering) : Type 0 where
   pub lines : List Line
-  pub grows : Grows (forms_of_arms (arms_of arms)) lines old new
+  pub grows : Grows (Lengths.arms_computes (arms_of arms)) lines old new
   pub are : (later : List (List ℕ))
       → ArmsLines (setting_in facts old.base (texts_written new ++ later)) goal label old.next_label (arms_of arms) lines
       new.next_label
@@ -124,7 +124,7 @@ pub record WroteSteps (facts : Facts) (moves : List Move) (old new : Lowering) :
   pub lines : List Line
   pub n : ℕ
   pub grows : Grows n lines old new
-  pub counted : (rest : Counted) → forms (plug moves rest) ≡ n + forms rest
+  pub counted : (rest : Counted) → Lengths.computes (plug moves rest) ≡ n + Lengths.computes rest
   pub are : (later : List (List ℕ)) (goal : Goal) (rest : Counted) (more : List Line) (high : ℕ)
       → CodeLines (setting_in facts old.base (texts_written new ++ later)) goal new.next_label rest more high
       → CodeLines (setting_in facts old.base (texts_written new ++ later)) goal old.next_label (plug moves rest) (lines ++ more)

@@ -1,10 +1,11 @@
-ghost use Rattle.std.specs.Prelude.{◌≡◌, ◌<◌, ◌≤◌, ℕ, suc, ◌%◌, ◌^◌, Bool, List, [], ◌∷◌, length, All, Option, Some, None, true, slice_get};
+ghost use Rattle.std.specs.Prelude.{◌≡◌, ◌<◌, ◌≤◌, ℕ, suc, ◌%◌, ◌^◌, ◌*◌, Bool, List, [], ◌∷◌, length, All, Option, Some, None, true, slice_get};
 ghost use Rattle.cell_heap.specs.Pool.{Pool};
 ghost use Rattle.cell_heap.specs.Blocks.{Cells, own, with_block, with_word, request, unused_cells};
 ghost use Rattle.kk_source.specs.State.{Value, Cell};
 ghost use Rattle.kk_source.specs.Sound.{AllWithin};
 ghost use Rattle.kk_counted.specs.CountedCodes.{CountedFunction, CountedProgram};
 ghost use Rattle.kk_counted.specs.declared.shape.Shape.{Shape};
+ghost use Rattle.kk_counted.specs.Lengths.{all_computes, functions_length as counted_length};
 ghost use Rattle.kk_counted.specs.Lowerable.{AreLowerable};
 ghost use Rattle.kk_counted.specs.CountBounds.{AllSpendAtMost};
 ghost use Rattle.kk_counted.specs.CountedStates.{CountedSetting, CountedState};
@@ -20,7 +21,9 @@ ghost use Rattle.rv_cells.specs.Lowered.{IsLoweredForm};
 ghost use Rattle.rv_cells.specs.Tables.{table_of, layout_in};
 ghost use Rattle.rv_cells.specs.Follows.{IsBlockOf, Owner, nobody, cell_of, in_hand, Follows, with_owner, assign, NoneInHand};
 ghost use Rattle.rv_isa.specs.AsmCode.{Lines};
-ghost use Rattle.rv_cells.specs.Costs.{counted_instructions};
+ghost use Rattle.rv_isa.specs.Costs.{functions_length};
+ghost use Rattle.rv_world.specs.Operations.{all_bytes};
+ghost use Rattle.kk_counted.specs.CountedCosts.{counted_cost};
 ghost use Rattle.rv_cells.specs.Fitting.{AreTagged, count_of_fields, IsFit};
 ghost use Rattle.rv_cells.specs.Meaning.{setting_on, IsProgramLowered, RunsTheSame};
 ghost use Rattle.rv_cells.specs.Steps.{Served, Dupped, Dropped, IsPaid, Released};
@@ -112,17 +115,25 @@ pub fn lowered_programs_are_well_formed()
         → IsProgramLowered (layout_in shape) (table_of shape) code texts each }
 {}
 
+/// The assembler code of a program in counted form that can be lowered, and is so, is no longer than its counted form tells, and its
+/// constant bytes are no more than 256 for each form on values: where its constructors have six fields at most. It is a law, and does
+/// nothing.
+pub fn lowered_programs_are_short()
+    ensures { (shape : Shape) (functions : List CountedFunction) (literals texts : List (List ℕ)) (each : List Lines)
+        → AreLowerable (table_of shape) functions → IsNarrow (layout_in shape) → IsLoweredForm shape literals functions each texts
+        → (functions_length each ≤ counted_length functions) × (length (all_bytes texts) ≤ 256 * all_computes functions) }
+{}
+
 /// A program in counted form whose functions are all lowered runs the same as its assembler code, where each state of its run is not
 /// stuck, has a sound heap with counts that are words, and takes values of the types of its code: the same events, the same end, no
-/// more instructions than its steps weigh, where at most 16 moves stand before a line, and all cells free where the heap is empty
-/// at the end. It is a law, and does nothing.
+/// more instructions than its steps weigh by the table of costs, and all cells free where the heap is empty at the end. It is a law, and does nothing.
 pub fn lowered_counted_programs_run_the_same()
     ensures { (layout : Layout) (marks : CellMarks) (code : CountedProgram) (constants : List (List ℕ)) (functions : List Lines)
         → (lowered : IsProgramLowered layout marks code constants functions)
-        → (pool : Pool) (depth first moves : ℕ) (input : List ℕ) → moves ≤ 16 → pool.first % 32 ≡ 0 → 0 < pool.first
+        → (pool : Pool) (depth first : ℕ) (input : List ℕ) → pool.first % 32 ≡ 0 → 0 < pool.first
         → All (λ byte. byte < 256) input
-        → ((n : ℕ) → IsFit layout (counted_after counted_instructions (setting_on code pool depth) input n))
-        → RunsTheSame code constants functions lowered.main_lines pool depth first moves input }
+        → ((n : ℕ) → IsFit layout (counted_after counted_cost (setting_on code pool depth) input n))
+        → RunsTheSame code constants functions lowered.main_lines pool depth first input }
 {}
 
 /// Code that spends its references and is marked by types is fit in each state of its run, within the limits of cells, call frames

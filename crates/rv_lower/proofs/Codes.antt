@@ -1,25 +1,20 @@
 -- The lines of a code are well formed, few, and have only its own labels.
-use Rattle.std.proofs.Common.{◌≡◌, ℕ, suc, ◌+◌, ◌*◌, ◌<◌, ◌≤◌, ◌==◌, ◌⊎◌, inl, inr, Bool, true, false, List, [], ◌∷◌, ◌++◌, length, None, IsSome, refl, sym, subst, ◌∙◌, arith, append_assoc, length-append}
+use Rattle.std.proofs.Common.{◌≡◌, ℕ, suc, ◌+◌, ◌*◌, ◌<◌, ◌≤◌, ◌==◌, ◌⊎◌, inl, inr, true, List, [], ◌∷◌, ◌++◌, length, None, IsSome, refl, sym, subst, ◌∙◌, arith, append_assoc, length-append}
 use Rattle.std.proofs.lemmas.Bool.{or_cases, or_left, or_right, false≢true}
 use Rattle.std.proofs.lemmas.List.Elements.{All-nil, All-cons}
 use Rattle.kk_syntax.specs.Shapes.{is_among as is_bound}
-use Rattle.kk_syntax.specs.Types.{TypeTree}
-use Rattle.kk_syntax.specs.PlainTyping.{Signature, Scope}
-use Rattle.kk_core.specs.Codes.{Code, give, tail_call, branch, case, compute, use_of, unpack, inside}
-use Rattle.kk_core.specs.PlainCoreTyping.{HasCodeType}
-use Rattle.kk_core.specs.Sizes.{forms, AreBound, Ordered}
 use Rattle.rv_isa.specs.declared.asm.Action.{Action}
 use Rattle.rv_isa.specs.declared.asm.Action.TheVariants.{Label, Jump, Branch, TailCall, Return}
 use Rattle.rv_isa.specs.declared.asm.Condition.TheVariants.{NotEqual}
 use Rattle.rv_isa.specs.declared.asm.Operation.TheVariants as Op
 use Rattle.rv_isa.specs.AsmCode.{Line}
 use Rattle.rv_isa.specs.WellFormed.{is_alive, is_alive_at, most_values, IsSpent, AreLinesFormed, AreLabelsAhead, HoldsNone, is_alive_behind}
-use Rattle.rv_lower.specs.Lines.{Texts, sets, copies_to, acts, copies, temporaries, constant_word}
-use Rattle.rv_lower.specs.Lowered.{Goal, returns, joins, goal_lines, test_lines, CodeLines}
-use Rattle.rv_lower.proofs.Formed.{none_some, Readable, Good, HasRoom, weaker, room_more, alive_line, to_variable, good_hands, readable_more}
+use Rattle.rv_lower.specs.Lines.{sets, copies_to, acts, copies, temporaries, constant_word}
+use Rattle.rv_lower.specs.Lowered.{Goal, returns, joins, goal_lines, test_lines}
+use Rattle.rv_lower.proofs.Formed.{AllBound, none_some, Readable, Good, HasRoom, weaker, alive_line, to_variable, good_hands, readable_more}
 use Rattle.rv_lower.proofs.AbsentLabels.{HasNo, has_no_append, found_none, found_past, found_here, alive_at_past, alive_at_here, other_label}
 use Rattle.rv_lower.proofs.Labels.{found_label}
-use Rattle.rv_lower.proofs.Operations.{Leads, AreFew, copied, next_temporary, only_bound, form_serves, as_many}
+use Rattle.rv_lower.proofs.Operations.{Leads, copied, next_temporary, only_bound}
 
 -- the goal of a code stands ahead, in what follows: its label is none of the code's own, and there only variables that are bound, or the goal's, are alive
 abbrev pub IsGoalAhead : ℕ → List ℕ → Goal → ℕ → List Line → Type 0
@@ -139,7 +134,7 @@ module _ (base : ℕ) (bound : List ℕ) (has : HasRoom base bound) where
         (good_alone (Readable base base (y ∷ bound)) (Jump label) tail ahead.goal_ahead.2 tt ahead.goal_ahead.3 ahead.formed);
   }
 
-  pub fits_tail_call : (f : ℕ) (arguments : List ℕ) (goal : Goal) (low : ℕ) → length arguments ≤ 8 → AreBound bound arguments
+  pub fits_tail_call : (f : ℕ) (arguments : List ℕ) (goal : Goal) (low : ℕ) → length arguments ≤ 8 → AllBound bound arguments
       → Fits base bound goal low low 1 (copies base arguments ++ acts (TailCall f) (temporaries base arguments) ∷ [])
   fits_tail_call f arguments goal low few each = record {
     up = omega arith;
@@ -255,62 +250,3 @@ module _ (base : ℕ) (bound : List ℕ) (x : ℕ) (less_x : x < base) (goal : G
         let few_first = first.few in let few_second = second.few in omega (arith, size, few_first, few_second);
     good = λ tail ahead. subst (Good (Readable base base bound)) (sym (append_assoc part (acts (Label low) [] ∷ more) tail)) (inside_good tail ahead);
   }
-
--- an operation, before the code that follows
-fits_compute : (base : ℕ) (bound : List ℕ) (x : ℕ) (goal : Goal) (low high n : ℕ) (own more : List Line) → Leads (Readable base base bound) (Readable base base (x ∷ bound)) 9 own
-    → Fits base (x ∷ bound) goal low high n more → Fits base bound goal low high (n + 1) (own ++ more)
-fits_compute base bound x goal low high n own more leads fits = record {
-  up = fits.up;
-  none = λ l apart. has_no_append l own more (leads.no_label l) (fits.none l apart);
-  few = let size : length (own ++ more) ≡ length own + length more = length-append own more in let few_own = leads.few in let few_more = fits.few in omega (arith, size, few_own, few_more);
-  good = λ tail ahead. subst (Good (Readable base base bound)) (sym (append_assoc own more tail)) (leads.good (more ++ tail) (fits.good tail (record { formed = ahead.formed; fresh = ahead.fresh; goal_ahead = goal_more base bound x goal low tail ahead.goal_ahead })));
-}
-
--- a code that is in order binds upwards
-pub order_rises : (signatures : List Signature) (tail : Bool) (scope : Scope) (code : Code) (t : TypeTree) (bound : List ℕ) (low high : ℕ) → HasCodeType signatures tail scope code t → Ordered bound low code high → low ≤ high
-order_rises signatures tail scope (give x) t bound low high typed ordered = ordered.1
-order_rises signatures tail scope (tail_call f arguments) t bound low high typed ordered = ordered.1
-order_rises signatures tail scope (branch x positive negative) t bound low high typed ordered =
-    omega (arith, order_rises signatures tail scope positive t bound low ordered.0 typed.1 ordered.2, order_rises signatures tail scope negative t bound ordered.0 high typed.2 ordered.3)
-order_rises signatures tail scope (case x decisions arms) t bound low high typed ordered = absurd typed
-order_rises signatures tail scope (compute x form arguments rest) t bound low high typed ordered =
-    omega (arith, ordered.1, order_rises signatures tail _ rest t (x ∷ bound) (x + 1) high typed.4 ordered.2)
-order_rises signatures tail scope (use_of x rest) t bound low high typed ordered = order_rises signatures tail scope rest t bound low high typed.2 ordered.1
-order_rises signatures tail scope (unpack x c fields rest) t bound low high typed ordered = absurd typed
-order_rises signatures tail scope (inside x block rest) t bound low high typed ordered =
-    omega (arith, order_rises signatures false scope block typed.0 bound low x typed.1 ordered.0, order_rises signatures tail _ rest t (x ∷ bound) (x + 1) high typed.2 ordered.1)
-
-module _ (signatures : List Signature) (few_parameters : AreFew signatures) (base : ℕ) (texts : Texts) where
-  -- the lines of a typed code in order
-  pub code_fits : (tail_place : Bool) (scope : Scope) (c : Code) (t : TypeTree) (bound : List ℕ) (from to : ℕ) (goal : Goal) (low high : ℕ) (lines : List Line)
-      → HasRoom base bound → to ≤ base → HasCodeType signatures tail_place scope c t → Ordered bound from c to → CodeLines base texts goal low c lines high → Fits base bound goal low high (forms c) lines
-  code_fits place scope (give x) t bound from to goal low high lines has le typed ordered is =
-      subst (λ (lines : List Line). Fits base bound goal low high 1 lines) (sym is.0) (subst (λ (high : ℕ). Fits base bound goal low high 1 (goal_lines goal x)) is.1 (fits_give base bound has x goal low ordered.0))
-  code_fits place scope (tail_call f arguments) t bound from to goal low high lines has le typed ordered is =
-      subst (λ (lines : List Line). Fits base bound goal low high 1 lines) (sym is.0) (subst (λ (high : ℕ). Fits base bound goal low high 1 (copies base arguments ++ acts (TailCall f) (temporaries base arguments) ∷ [])) is.1
-      (fits_tail_call base bound has f arguments goal low (let same = as_many scope arguments typed.1 typed.2 in let few = few_parameters f _ typed.3 in omega (arith, same, few)) ordered.0))
-  code_fits place scope (branch x positive negative) t bound from to goal low high lines has le typed ordered is =
-      let up = order_rises signatures place scope negative t bound ordered.0 to typed.2 ordered.3 in
-      subst (λ (lines : List Line). Fits base bound goal low high (forms positive + forms negative + 1) lines) (sym is.5)
-      (fits_branch base bound has x ordered.1 goal low is.2 high (forms positive) (forms negative) is.0 is.1
-      (code_fits place scope positive t bound from ordered.0 goal (low + 1) is.2 is.0 has (omega (arith, le, up)) typed.1 ordered.2 is.3)
-      (code_fits place scope negative t bound ordered.0 to goal is.2 high is.1 has le typed.2 ordered.3 is.4))
-  code_fits place scope (case x decisions arms) t bound from to goal low high lines has le typed ordered is = absurd typed
-  code_fits place scope (compute x form arguments rest) t bound from to goal low high lines has le typed ordered is =
-      let up = order_rises signatures place _ rest t (x ∷ bound) (x + 1) to typed.4 ordered.2 in
-      let less : x < base = omega (arith, up, le) in
-      subst (λ (lines : List Line). Fits base bound goal low high (forms rest + 1) lines) (sym is.4)
-      (fits_compute base bound x goal low high (forms rest) is.0 is.1 (form_serves base bound has x less signatures few_parameters texts form arguments typed.1 typed.0 is.0 (as_many scope arguments typed.1 typed.2) typed.3 ordered.0 is.2)
-      (code_fits place _ rest t (x ∷ bound) (x + 1) to goal low high is.1 (room_more base bound x has less) le typed.4 ordered.2 is.3))
-  code_fits place scope (use_of x rest) t bound from to goal low high lines has le typed ordered is =
-      let fits = code_fits place scope rest t bound from to goal low high lines has le typed.2 ordered.1 is in
-      let few_rest = fits.few in
-      record { up = fits.up; none = fits.none; few = omega (arith, few_rest); good = fits.good }
-  code_fits place scope (unpack x c fields rest) t bound from to goal low high lines has le typed ordered is = absurd typed
-  code_fits place scope (inside x block rest) t bound from to goal low high lines has le typed ordered is =
-      let up = order_rises signatures place _ rest t (x ∷ bound) (x + 1) to typed.2 ordered.1 in
-      let less : x < base = omega (arith, up, le) in
-      subst (λ (lines : List Line). Fits base bound goal low high (forms block + forms rest + 1) lines) (sym is.5)
-      (fits_inside base bound x less goal low is.2 high (forms block) (forms rest) is.0 is.1
-      (code_fits false scope block typed.0 bound from x (joins x low) (low + 1) is.2 is.0 has (omega (arith, less)) typed.1 ordered.0 is.3)
-      (code_fits place _ rest t (x ∷ bound) (x + 1) to goal is.2 high is.1 (room_more base bound x has less) le typed.2 ordered.1 is.4))

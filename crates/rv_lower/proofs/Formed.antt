@@ -2,7 +2,6 @@
 use Rattle.std.proofs.Common.{◌≡◌, ◌≢◌, ℕ, suc, ◌+◌, ◌<◌, ◌≤◌, ◌==◌, ◌||◌, ◌&&◌, ◌⊎◌, inl, inr, Bool, true, false, not, List, [], ◌∷◌, ◌++◌, length, Option, Some, None, All, refl, sym, ap, subst, ◌∙◌, arith}
 use Rattle.std.proofs.lemmas.Bool.{or_cases, or_left, or_right, cases_eq, eq-eqb, eqb-true, false_from_ne_true, false≢true, ne_eqb}
 use Rattle.std.proofs.lemmas.List.Elements.{All-nil, All-cons}
-use Rattle.kk_core.specs.Sizes.{AreBound}
 use Rattle.kk_syntax.specs.Shapes.{is_among as is_bound}
 use Rattle.rv_isa.specs.declared.asm.Action.{Action}
 use Rattle.rv_isa.specs.declared.asm.Action.TheVariants.{Compute}
@@ -21,6 +20,10 @@ Readable base limit bound v = (is_bound bound v ≡ true) ⊎ ((base ≤ v) × (
 abbrev pub Each : (ℕ → Type 0) → List ℕ → Type 0
 Each B [] = Unit {0}
 Each B (x ∷ xs) = B x × Each B xs
+
+-- all of some values are bound
+abbrev pub AllBound : List ℕ → List ℕ → Type 0
+AllBound bound xs = Each (λ v. is_bound bound v ≡ true) xs
 
 -- well-formed code, before which only such values are alive
 pub record Good (B : ℕ → Type 0) (code : List Line) : Type 0 where
@@ -149,7 +152,7 @@ pub readable_here : (base limit : ℕ) (bound : List ℕ) (x : ℕ) → Readable
 readable_here base limit bound x = inl (or_left (x == x) (is_bound bound x) (eq-eqb x x refl))
 
 -- arguments are copied to the next temporaries
-pub good_copies : (base limit last : ℕ) (bound : List ℕ) (xs : List ℕ) (rest : List Line) → HasRoom base bound → limit + length xs ≡ last → last ≤ base + 8 → AreBound bound xs
+pub good_copies : (base limit last : ℕ) (bound : List ℕ) (xs : List ℕ) (rest : List Line) → HasRoom base bound → limit + length xs ≡ last → last ≤ base + 8 → AllBound bound xs
     → Good (Readable base last bound) rest → Good (Readable base limit bound) (copies limit xs ++ rest)
 good_copies base limit last bound [] rest has is le all good = subst (λ (n : ℕ). Good (Readable base n bound) rest) (omega (arith, is)) good
 good_copies base limit last bound (x ∷ xs) rest has is le all good =

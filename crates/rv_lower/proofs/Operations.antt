@@ -1,6 +1,5 @@
 -- The lines of a form: no label stands in them, they are few, and before well-formed code they are well formed.
 use Rattle.std.proofs.Common.{◌≡◌, ℕ, suc, ◌+◌, ◌<◌, ◌≤◌, ◌==◌, ◌⊎◌, inl, inr, true, false, List, [], ◌∷◌, ◌++◌, length, Option, Some, None, refl, sym, ap, subst, ◌∙◌, arith, append_assoc, length-append}
-use Rattle.std.specs.Prelude.{slice_get}
 use Rattle.std.proofs.lemmas.Bool.{false≢true, or_cases}
 use Rattle.kk_syntax.specs.declared.operator.UnaryOperator.TheVariants.{Negate, Not}
 use Rattle.kk_syntax.specs.declared.operator.BinaryOperator.{BinaryOperator}
@@ -9,11 +8,7 @@ use Rattle.kk_syntax.specs.declared.program.Form.{Form}
 use Rattle.kk_syntax.specs.declared.program.Form.TheVariants.{Number, Unit as Nothing, ReadByte, PrintText, Unary, Binary, Print, Construct, Call}
 use Rattle.kk_syntax.specs.Programs.{text_at}
 use Rattle.kk_syntax.specs.Shapes.{is_among as is_bound}
-use Rattle.kk_syntax.specs.Types.{TypeTree}
-use Rattle.kk_syntax.specs.PlainTyping.{Signature, Scope, IsFormTyped}
 use Rattle.kk_source.specs.FormEffects.{piece_of}
-use Rattle.kk_core.specs.PlainCoreTyping.{HaveTypes}
-use Rattle.kk_core.specs.Sizes.{AreBound, most_parameters}
 use Rattle.rv_isa.specs.declared.asm.Action.{Action}
 use Rattle.rv_isa.specs.declared.asm.Action.TheVariants as OfAction
 use Rattle.rv_isa.specs.declared.asm.Operation.{Operation as AsmOperation}
@@ -26,7 +21,7 @@ use Rattle.rv_isa.specs.Routines.{taken_by}
 use Rattle.rv_isa.specs.AsmMachine.{is_label}
 use Rattle.rv_isa.specs.WellFormed.{is_written, is_alive, is_alive_behind, most_values, AreLabelsAhead, most_args, has_value, may_give, HoldsNone}
 use Rattle.rv_lower.specs.Lines.{Texts, computes, sets, copies_to, acts, unit_word, constant_word, choice_of, copies, temporaries, MakesTruth, Compares, ComparesNot, BinaryLines, PrintLines, FormLines}
-use Rattle.rv_lower.proofs.Formed.{Each, Readable, Good, HasRoom, weaker, room_more, to_variable, to_temporary, good_computes, readable_small, readable_more, readable_bound, readable_here, good_copies, good_hands, none_some, some_same}
+use Rattle.rv_lower.proofs.Formed.{AllBound, Each, Readable, Good, HasRoom, weaker, room_more, to_variable, to_temporary, good_computes, readable_small, readable_more, readable_bound, readable_here, good_copies, good_hands, none_some, some_same}
 use Rattle.rv_lower.proofs.AbsentLabels.{HasNo, has_no_append}
 
 -- Lines lead from code before which C is alive to code before which B is alive: there are at most n of them.
@@ -49,15 +44,14 @@ leads_weaker B B_more C C_less n m own out into le leads = record {
   good = λ rest good. weaker out (leads.good rest (weaker into good));
 }
 
--- as many variables as types
-pub as_many : (scope : Scope) (xs : List ℕ) (ts : List TypeTree) → HaveTypes scope xs ts → length xs ≡ length ts
-as_many scope [] ts is = ap length (sym is)
-as_many scope (x ∷ xs) [] is = absurd is
-as_many scope (x ∷ xs) (t ∷ ts) is = ap suc (as_many scope xs ts is.1)
-
--- the functions have as few parameters as they may
-abbrev pub AreFew : List Signature → Type 0
-AreFew signatures = (f : ℕ) (signature : Signature) → slice_get signatures f ≡ Some signature → length signature.parameters ≤ most_parameters
+-- A form on as many variables as it takes. A construction takes none here, and a call as many as there are registers for them.
+abbrev pub HasArguments : Form → List ℕ → Type 0
+HasArguments (Unary operator) arguments = length arguments ≡ 1
+HasArguments (Binary operator) arguments = length arguments ≡ 2
+HasArguments (Print form) arguments = length arguments ≡ 1
+HasArguments (Construct c) arguments = length arguments ≡ 0
+HasArguments (Call f) arguments = length arguments ≤ 8
+HasArguments form arguments = Unit {0}
 
 module _ (base : ℕ) (bound : List ℕ) (has : HasRoom base bound) where
   -- what may be read with the temporaries below a limit
@@ -94,7 +88,7 @@ module _ (base : ℕ) (bound : List ℕ) (has : HasRoom base bound) where
     good = λ rest good. good_hands base bound xs action into rest has (labels rest) none few eight gives small (λ v other is. behind rest v good other is) good.formed;
   }
 
-  pub copied : (xs : List ℕ) → length xs ≤ 8 → AreBound bound xs → Leads (With base) (With (base + length xs)) (length xs) (copies base xs)
+  pub copied : (xs : List ℕ) → length xs ≤ 8 → AllBound bound xs → Leads (With base) (With (base + length xs)) (length xs) (copies base xs)
   copied xs few each = record {
     no_label = λ l. no_copy l base xs;
     few = let size = same base xs in omega (arith, size);
@@ -255,48 +249,48 @@ module _ (base : ℕ) (bound : List ℕ) (has : HasRoom base bound) (x : ℕ) (l
       left v other (inr is) = is
 
   -- the lines of a call
-  pub call_lines : (f : ℕ) (arguments : List ℕ) → length arguments ≤ 8 → AreBound bound arguments
+  pub call_lines : (f : ℕ) (arguments : List ℕ) → length arguments ≤ 8 → AllBound bound arguments
       → Serves (copies base arguments ++ record { action = OfAction.Call f; args = temporaries base arguments; into = Some x } ∷ [])
   call_lines f arguments few each =
       serves (length arguments + 1) _ (omega (arith, few)) (leads_then (Before base) (Before (base + length arguments)) (Behind base) (length arguments) 1 (copies base arguments) _ (copied base bound has arguments few each)
       (gives_variable arguments (OfAction.Call f) (λ l. refl) (λ rest. tt) tt few few refl (λ rest v is. is)))
 
-  module _ (signatures : List Signature) (few_parameters : AreFew signatures) (texts : Texts) where
+  module _ (texts : Texts) where
     prints : (bytes : List ℕ) (lines : List Line) → PrintLines base texts.constants bytes lines → Leads (Before base) (Before base) 3 lines
     prints [] lines is = subst (Leads (Before base) (Before base) 3) (sym is) (record { no_label = λ l. tt; few = omega arith; good = λ rest good. good })
     prints (byte ∷ bytes) lines is =
         subst (Leads (Before base) (Before base) 3) (sym is.2) (serves_two Routine.PrintText (Op.La is.0) (Op.Li (length (byte ∷ bytes))) [] refl refl refl (omega arith) tt)
 
     -- a form on as many variables as it takes
-    pub form_serves : (of : Form) (arguments : List ℕ) (ts : List TypeTree) (t : TypeTree) (lines : List Line) → length arguments ≡ length ts → IsFormTyped signatures of ts t → AreBound bound arguments
+    pub form_serves : (of : Form) (arguments : List ℕ) (lines : List Line) → HasArguments of arguments → AllBound bound arguments
         → FormLines base texts x of arguments lines → Serves lines
-    form_serves (Number value) arguments ts t lines same typed each is = subst Serves (sym is.3) (serves 1 _ (omega arith) (sets_only is.0))
-    form_serves Nothing arguments ts t lines same typed each is = subst Serves (sym is) (serves 1 _ (omega arith) (sets_only unit_word))
-    form_serves ReadByte arguments ts t lines same typed each is = subst Serves (sym is) (serves 1 _ (omega arith)
+    form_serves (Number value) arguments lines as_many each is = subst Serves (sym is.3) (serves 1 _ (omega arith) (sets_only is.0))
+    form_serves Nothing arguments lines as_many each is = subst Serves (sym is) (serves 1 _ (omega arith) (sets_only unit_word))
+    form_serves ReadByte arguments lines as_many each is = subst Serves (sym is) (serves 1 _ (omega arith)
         (leads_weaker (Before (base + 0)) (Before base) (Behind base) (Behind base) 1 1 _ (readable_more base (base + 0) base bound (omega arith)) (λ v is. is) (omega arith)
         (gives_variable [] (OfAction.Routine Routine.ReadByte) (λ l. refl) (λ rest. tt) tt (omega arith) (omega arith) refl (λ rest v is. is))))
-    form_serves (PrintText how text) arguments ts t lines same typed each is =
+    form_serves (PrintText how text) arguments lines as_many each is =
         subst Serves (sym is.2) (serves 4 _ (omega arith) (leads_then (Before base) (Before base) (Behind base) 3 1 is.0 _ (prints (piece_of how (text_at texts.literals text)) is.0 is.1) (sets_only unit_word)))
-    form_serves (Unary Negate) [] ts t lines same typed each is = let n = ap length typed.0 in absurd (omega (arith, same, n))
-    form_serves (Unary Negate) (a ∷ []) ts t lines same typed each is =
+    form_serves (Unary Negate) [] lines as_many each is = absurd (omega (arith, as_many))
+    form_serves (Unary Negate) (a ∷ []) lines as_many each is =
         subst Serves (sym is) (serves 2 _ (omega arith) (forgets (base + 1) 2 _ (omega arith)
         (leads_then (Before base) (Before (base + 1)) (Behind (base + 1)) 1 1 (sets 0 base ∷ []) _ (next_temporary base bound has base (Op.Li 0) [] (omega arith) refl (omega arith) tt)
         (writes (base + 1) _ (base ∷ a ∷ []) (omega arith) refl (omega arith) (inr (omega arith, omega arith), (inl each.0, tt))))))
-    form_serves (Unary Negate) (a ∷ b ∷ more) ts t lines same typed each is = let n = ap length typed.0 in absurd (omega (arith, same, n))
-    form_serves (Unary Not) [] ts t lines same typed each is = let n = ap length typed.0 in absurd (omega (arith, same, n))
-    form_serves (Unary Not) (a ∷ []) ts t lines same typed each is =
+    form_serves (Unary Negate) (a ∷ b ∷ more) lines as_many each is = absurd (omega (arith, as_many))
+    form_serves (Unary Not) [] lines as_many each is = absurd (omega (arith, as_many))
+    form_serves (Unary Not) (a ∷ []) lines as_many each is =
         subst Serves (sym is.2) (serves 1 _ (omega arith) (writes base _ (a ∷ []) (omega arith) refl (omega arith) (inl each.0, tt)))
-    form_serves (Unary Not) (a ∷ b ∷ more) ts t lines same typed each is = let n = ap length typed.0 in absurd (omega (arith, same, n))
-    form_serves (Binary operator) [] ts t lines same typed each is = let n = ap length typed.0 in absurd (omega (arith, same, n))
-    form_serves (Binary operator) (a ∷ []) ts t lines same typed each is = let n = ap length typed.0 in absurd (omega (arith, same, n))
-    form_serves (Binary operator) (a ∷ b ∷ []) ts t lines same typed each is = binary operator a b lines each.0 each.1.0 is
-    form_serves (Binary operator) (a ∷ b ∷ c ∷ more) ts t lines same typed each is = let n = ap length typed.0 in absurd (omega (arith, same, n))
-    form_serves (Print how) [] ts t lines same typed each is = let n = ap length typed.0 in absurd (omega (arith, same, n))
-    form_serves (Print how) (a ∷ []) ts t lines same typed each is =
+    form_serves (Unary Not) (a ∷ b ∷ more) lines as_many each is = absurd (omega (arith, as_many))
+    form_serves (Binary operator) [] lines as_many each is = absurd (omega (arith, as_many))
+    form_serves (Binary operator) (a ∷ []) lines as_many each is = absurd (omega (arith, as_many))
+    form_serves (Binary operator) (a ∷ b ∷ []) lines as_many each is = binary operator a b lines each.0 each.1.0 is
+    form_serves (Binary operator) (a ∷ b ∷ c ∷ more) lines as_many each is = absurd (omega (arith, as_many))
+    form_serves (Print how) [] lines as_many each is = absurd (omega (arith, as_many))
+    form_serves (Print how) (a ∷ []) lines as_many each is =
         subst Serves (sym is) (serves 4 _ (omega arith) (leads_then (Before base) (Before base) (Behind base) 3 1 (copies_to a base ∷ sets (choice_of how) (base + 1) ∷ acts (OfAction.Routine Routine.PrintInt) (base ∷ (base + 1) ∷ []) ∷ []) _
         (serves_two Routine.PrintInt Op.Mv (Op.Li (choice_of how)) (a ∷ []) refl refl refl (omega arith) (inl each.0, tt)) (sets_only unit_word)))
-    form_serves (Print how) (a ∷ b ∷ more) ts t lines same typed each is = let n = ap length typed.0 in absurd (omega (arith, same, n))
-    form_serves (Construct c) [] ts t lines same typed each is = subst Serves (sym is) (serves 1 _ (omega arith) (sets_only (constant_word c)))
-    form_serves (Construct c) (a ∷ more) ts t lines same typed each is = let n = ap length typed.0 in absurd (omega (arith, same, n))
-    form_serves (Call f) arguments ts t lines same typed each is =
-        subst Serves (sym is) (call_lines f arguments (let few = few_parameters f _ typed in omega (arith, same, few)) each)
+    form_serves (Print how) (a ∷ b ∷ more) lines as_many each is = absurd (omega (arith, as_many))
+    form_serves (Construct c) [] lines as_many each is = subst Serves (sym is) (serves 1 _ (omega arith) (sets_only (constant_word c)))
+    form_serves (Construct c) (a ∷ more) lines as_many each is = absurd (omega (arith, as_many))
+    form_serves (Call f) arguments lines as_many each is =
+        subst Serves (sym is) (call_lines f arguments as_many each)

@@ -1,5 +1,5 @@
 -- What the lines of a form do.
-use Rattle.std.proofs.Common.{◌≡◌, ◌≢◌, ◌+◌, ◌-◌, ◌^◌, ◌<◌, ◌≤◌, ℕ, suc, ℤ, List, [], ◌∷◌, ◌++◌, length, map, Option, Some, None, Bool, false, not, cond, All, w32, nat_lt, int_lt, int_le, int_eq, refl, sym, ◌∙◌, ap, subst, arith, lit<, append_assoc, eq-eqb, ne_eqb}
+use Rattle.std.proofs.Common.{◌≡◌, ◌≢◌, ◌+◌, ◌-◌, ◌*◌, ◌^◌, ◌<◌, ◌≤◌, ℕ, suc, ℤ, List, [], ◌∷◌, ◌++◌, length, map, Option, Some, None, Bool, false, not, cond, All, w32, nat_lt, int_lt, int_le, int_eq, refl, sym, ◌∙◌, ap, subst, arith, lit<, append_assoc, eq-eqb, ne_eqb}
 use Rattle.std.specs.Prelude.{bit_xor, slice_get}
 use Rattle.std.specs.Fmt.{signed_decimal}
 use Rattle.std.proofs.Math.Seq.{drop-append_seam}
@@ -11,7 +11,7 @@ use Rattle.kk_syntax.specs.declared.operator.BinaryOperator.{BinaryOperator}
 use Rattle.kk_syntax.specs.declared.operator.BinaryOperator.TheVariants.{Add, Subtract, Multiply, Divide, Remainder, Equal, NotEqual, Less, LessEqual, Greater, GreaterEqual}
 use Rattle.kk_syntax.specs.declared.operator.PrintForm.{PrintForm}
 use Rattle.kk_syntax.specs.Types.{TypeTree, int32, unit_type}
-use Rattle.kk_syntax.specs.PlainTyping.{bool, binary_type}
+use Rattle.kk_syntax.specs.Typing.{bool, binary_type}
 use Rattle.kk_source.specs.State.{Value, integer, unit}
 use Rattle.kk_source.specs.FormEffects.{truth, number_result, byte_value, piece_of}
 use Rattle.kk_source.specs.Arithmetic.{negation_of, sum_of, difference_of, product_of, quotient_of, remainder_of}
@@ -37,7 +37,7 @@ use Rattle.rv_lower.specs.Lines.{computes, sets, copies_to, acts, registers, uni
 use Rattle.rv_lower.proofs.Words.{truth_word, divided, sum_follows, difference_follows, product_follows, negation_follows, quotient_follows, remainder_follows, remainder_fits, sum_fits, difference_fits, product_fits, truth_follows, not_follows, opposite_follows, equal_follows, unequal_follows, at_most_follows}
 use Rattle.rv_lower.proofs.Printing.{int_printed, few_steps_of, text_found}
 use Rattle.rv_lower.proofs.Following.{IsWordOf, frame_at, turn_at}
-use Rattle.rv_lower.proofs.Runs.{Target}
+use Rattle.rv_lower.proofs.Runs.{Target, word_cost, most_cost}
 use Rattle.rv_lower.proofs.Runs as Runs
 
 -- ---- cells
@@ -56,28 +56,30 @@ reads_two cells a b first second is is_too =
     ap (λ (o : Option ℕ). all_of (o ∷ cells b ∷ [])) is ∙ ap (λ (o : Option ℕ). all_of (Some first ∷ o ∷ [])) is_too
 
 module _ (target : Target) where
-  abbrev pub Run : ℕ → List Event → AsmTurn World Ending → AsmTurn World Ending → Type 0
+  abbrev pub Run : ℕ → ℕ → List Event → AsmTurn World Ending → AsmTurn World Ending → Type 0
   Run = Runs.Runs target
 
-  -- lines change the words of cells, wherever they stand
+  -- lines that compute words change the words of cells, wherever they stand
   abbrev pub Changes : ℕ → List Line → (ℕ → Option ℕ) → (ℕ → Option ℕ) → Type 0
   Changes n own cells cells' =
-      (whole rest : List Line) (into : Option ℕ) (fs : List (Frame Line)) (world : World) → Run n [] (turn_at whole (own ++ rest) cells into fs world) (turn_at whole rest cells' into fs world)
+      (whole rest : List Line) (into : Option ℕ) (fs : List (Frame Line)) (world : World) → Run (n * word_cost) n [] (turn_at whole (own ++ rest) cells into fs world) (turn_at whole rest cells' into fs world)
 
   pub changes_none : (cells : ℕ → Option ℕ) → Changes 0 [] cells cells
   changes_none cells = λ whole rest into fs world. Runs.runs_none target (turn_at whole rest cells into fs world)
 
   pub changes_one : (n : ℕ) (operation : AsmOperation) (args : List ℕ) (x : ℕ) (own : List Line) (cells cells' : ℕ → Option ℕ) (words : List ℕ) (word : ℕ)
-      → all_of (map cells args) ≡ Some words → computed target.constants operation words ≡ Some word → Changes n own (put x (Some word) cells) cells' → Changes (suc n) (computes operation args x ∷ own) cells cells'
-  changes_one n operation args x own cells cells' words word words_are computed_is later = λ whole rest into fs world.
-      Runs.runs_on target n [] [] (turn_at whole (computes operation args x ∷ (own ++ rest)) cells into fs world) (turn_at whole (own ++ rest) (put x (Some word) cells) into fs world) (turn_at whole rest cells' into fs world)
-      (Runs.compute_runs target whole operation args x (own ++ rest) cells into fs world words word words_are computed_is) (later whole rest into fs world)
+      → length args ≤ 2 → all_of (map cells args) ≡ Some words → computed target.constants operation words ≡ Some word → Changes n own (put x (Some word) cells) cells' → Changes (suc n) (computes operation args x ∷ own) cells cells'
+  changes_one n operation args x own cells cells' words word two words_are computed_is later = λ whole rest into fs world.
+      Runs.runs_cheap target (word_cost + n * word_cost) (suc n * word_cost) (suc n) [] (turn_at whole (computes operation args x ∷ (own ++ rest)) cells into fs world) (turn_at whole rest cells' into fs world) (omega arith)
+      (Runs.runs_on target word_cost (n * word_cost) n [] [] (turn_at whole (computes operation args x ∷ (own ++ rest)) cells into fs world) (turn_at whole (own ++ rest) (put x (Some word) cells) into fs world) (turn_at whole rest cells' into fs world)
+      (Runs.compute_runs target whole operation args x (own ++ rest) cells into fs world words word two words_are computed_is) (later whole rest into fs world))
 
   pub changes_then : (n m : ℕ) (first second : List Line) (cells middle cells' : ℕ → Option ℕ) → Changes n first cells middle → Changes m second middle cells' → Changes (n + m) (first ++ second) cells cells'
   changes_then n m first second cells middle cells' before behind = λ whole rest into fs world.
-      subst (λ lines. Run (n + m) [] (turn_at whole lines cells into fs world) (turn_at whole rest cells' into fs world)) (sym (append_assoc first second rest))
-      (Runs.runs_then target n m [] [] (turn_at whole (first ++ (second ++ rest)) cells into fs world) (turn_at whole (second ++ rest) middle into fs world) (turn_at whole rest cells' into fs world)
-      (before whole (second ++ rest) into fs world) (behind whole rest into fs world))
+      subst (λ lines. Run ((n + m) * word_cost) (n + m) [] (turn_at whole lines cells into fs world) (turn_at whole rest cells' into fs world)) (sym (append_assoc first second rest))
+      (Runs.runs_cheap target (n * word_cost + m * word_cost) ((n + m) * word_cost) (n + m) [] (turn_at whole (first ++ (second ++ rest)) cells into fs world) (turn_at whole rest cells' into fs world) (omega arith)
+      (Runs.runs_then target (n * word_cost) (m * word_cost) n m [] [] (turn_at whole (first ++ (second ++ rest)) cells into fs world) (turn_at whole (second ++ rest) middle into fs world) (turn_at whole rest cells' into fs world)
+      (before whole (second ++ rest) into fs world) (behind whole rest into fs world)))
 
   -- lines give a variable a word, and leave those below it as they are
   pub record Gives (n : ℕ) (own : List Line) (x word : ℕ) (cells : ℕ → Option ℕ) : Type 0 where
@@ -86,12 +88,12 @@ module _ (target : Target) where
     pub kept : (z : ℕ) → z < x → cells' z ≡ cells z
     pub there : cells' x ≡ Some word
 
-  pub gives_one : (operation : AsmOperation) (args : List ℕ) (x : ℕ) (cells : ℕ → Option ℕ) (words : List ℕ) (word : ℕ) → all_of (map cells args) ≡ Some words → computed target.constants operation words ≡ Some word
+  pub gives_one : (operation : AsmOperation) (args : List ℕ) (x : ℕ) (cells : ℕ → Option ℕ) (words : List ℕ) (word : ℕ) → length args ≤ 2 → all_of (map cells args) ≡ Some words → computed target.constants operation words ≡ Some word
       → Gives 1 (computes operation args x ∷ []) x word cells
-  gives_one operation args x cells words word words_are computed_is =
+  gives_one operation args x cells words word two words_are computed_is =
       record {
         cells' = put x (Some word) cells;
-        changes = changes_one 0 operation args x [] cells (put x (Some word) cells) words word words_are computed_is (changes_none (put x (Some word) cells));
+        changes = changes_one 0 operation args x [] cells (put x (Some word) cells) words word two words_are computed_is (changes_none (put x (Some word) cells));
         kept = λ z less. put_other x z word cells (λ e. omega (arith, e, less));
         there = put_same x word cells;
       }
@@ -101,7 +103,7 @@ module _ (target : Target) where
       → Gives (n + 1) (own ++ computes operation (x ∷ []) x ∷ []) x later cells
   gives_on n own operation x word later cells before computed_is =
       let middle : ℕ → Option ℕ = before.cells' in
-      let one : Gives 1 (computes operation (x ∷ []) x ∷ []) x later middle = gives_one operation (x ∷ []) x middle (word ∷ []) later (reads_one middle x word before.there) computed_is in
+      let one : Gives 1 (computes operation (x ∷ []) x ∷ []) x later middle = gives_one operation (x ∷ []) x middle (word ∷ []) later (omega arith) (reads_one middle x word before.there) computed_is in
       record {
         cells' = one.cells';
         changes = changes_then n 1 own (computes operation (x ∷ []) x ∷ []) cells middle one.cells' before.changes one.changes;
@@ -113,13 +115,14 @@ module _ (target : Target) where
   pub record Performs (own : List Line) (x : ℕ) (t : TypeTree) (v : Value) (cells : ℕ → Option ℕ) (world world' : World) (events : List Event) : Type 0 where
     pub steps : ℕ
     pub some : 1 ≤ steps
-    pub few : steps ≤ 8
+    pub cost : ℕ
+    pub cheap : cost ≤ most_cost
     pub cells' : ℕ → Option ℕ
     pub word : ℕ
     pub kept : (z : ℕ) → z < x → cells' z ≡ cells z
     pub there : cells' x ≡ Some word
     pub is : IsWordOf t v word
-    pub runs : (whole rest : List Line) (into : Option ℕ) (fs : List (Frame Line)) → Run steps events (turn_at whole (own ++ rest) cells into fs world) (turn_at whole rest cells' into fs world')
+    pub runs : (whole rest : List Line) (into : Option ℕ) (fs : List (Frame Line)) → Run cost steps events (turn_at whole (own ++ rest) cells into fs world) (turn_at whole rest cells' into fs world')
 
   pub performs : (n : ℕ) (own : List Line) (x : ℕ) (t : TypeTree) (v : Value) (cells : ℕ → Option ℕ) (world : World) (word : ℕ) → 1 ≤ n → n ≤ 8 → Gives n own x word cells → IsWordOf t v word
       → Performs own x t v cells world world []
@@ -127,7 +130,8 @@ module _ (target : Target) where
       record {
         steps = n;
         some = some;
-        few = few;
+        cost = n * word_cost;
+        cheap = omega (arith, few);
         cells' = gives.cells';
         word = word;
         kept = gives.kept;
@@ -168,7 +172,7 @@ module _ (target : Target) where
   registers_give : (operation : AsmOperation) (x a b first second word : ℕ) (cells : ℕ → Option ℕ) → cells a ≡ Some first → cells b ≡ Some second → computed target.constants operation (first ∷ second ∷ []) ≡ Some word
       → Gives 1 (registers x a b operation ∷ []) x word cells
   registers_give operation x a b first second word cells at_a at_b computed_is =
-      gives_one operation (a ∷ b ∷ []) x cells (first ∷ second ∷ []) word (reads_two cells a b first second at_a at_b) computed_is
+      gives_one operation (a ∷ b ∷ []) x cells (first ∷ second ∷ []) word (omega arith) (reads_two cells a b first second at_a at_b) computed_is
 
   -- one line, whose word is the integer
   integer_performs : (own : List Line) (operation : AsmOperation) (x a b first second word : ℕ) (n : ℤ) (cells : ℕ → Option ℕ) (world : World) → cells a ≡ Some first → cells b ≡ Some second
@@ -194,10 +198,10 @@ module _ (target : Target) where
       record {
         cells' = c4;
         changes =
-            changes_one 3 (Op.Register Register.Div) (a ∷ b ∷ []) x (sets 0 base ∷ third) cells c4 (first ∷ second ∷ []) quotient (reads_two cells a b first second at_a at_b) refl
-            (changes_one 2 (Op.Li 0) [] base third c1 c4 [] 0 refl refl
-            (changes_one 1 (Op.Register Register.Sltu) (base ∷ b ∷ []) base fourth c2 c4 (0 ∷ second ∷ []) test (reads_two c2 base b 0 second (put_same base 0 c1) b2) refl
-            (changes_one 0 (Op.Register Register.Mul) (x ∷ base ∷ []) x [] c3 c4 (quotient ∷ test ∷ []) (divided first second) (reads_two c3 x base quotient test x3 (put_same base test c2)) refl (changes_none c4))));
+            changes_one 3 (Op.Register Register.Div) (a ∷ b ∷ []) x (sets 0 base ∷ third) cells c4 (first ∷ second ∷ []) quotient (omega arith) (reads_two cells a b first second at_a at_b) refl
+            (changes_one 2 (Op.Li 0) [] base third c1 c4 [] 0 (omega arith) refl refl
+            (changes_one 1 (Op.Register Register.Sltu) (base ∷ b ∷ []) base fourth c2 c4 (0 ∷ second ∷ []) test (omega arith) (reads_two c2 base b 0 second (put_same base 0 c1) b2) refl
+            (changes_one 0 (Op.Register Register.Mul) (x ∷ base ∷ []) x [] c3 c4 (quotient ∷ test ∷ []) (divided first second) (omega arith) (reads_two c3 x base quotient test x3 (put_same base test c2)) refl (changes_none c4))));
         kept = λ z less. put_other x z (divided first second) c3 (λ e. omega (arith, e)) ∙ put_other base z test c2 (λ e. omega (arith, e)) ∙ put_other base z 0 c1 (λ e. omega (arith, e)) ∙ put_other x z quotient cells (λ e. omega (arith, e));
         there = put_same x (divided first second) c3;
       }
@@ -216,9 +220,9 @@ module _ (target : Target) where
       record {
         cells' = c3;
         changes =
-            changes_one 2 (Op.Register Register.Sub) (a ∷ b ∷ []) x (sets 0 base ∷ third) cells c3 (first ∷ second ∷ []) d (reads_two cells a b first second at_a at_b) refl
-            (changes_one 1 (Op.Li 0) [] base third c1 c3 [] 0 refl refl
-            (changes_one 0 (Op.Register Register.Sltu) (base ∷ x ∷ []) x [] c2 c3 (0 ∷ d ∷ []) test (reads_two c2 base x 0 d (put_same base 0 c1) x2) refl (changes_none c3)));
+            changes_one 2 (Op.Register Register.Sub) (a ∷ b ∷ []) x (sets 0 base ∷ third) cells c3 (first ∷ second ∷ []) d (omega arith) (reads_two cells a b first second at_a at_b) refl
+            (changes_one 1 (Op.Li 0) [] base third c1 c3 [] 0 (omega arith) refl refl
+            (changes_one 0 (Op.Register Register.Sltu) (base ∷ x ∷ []) x [] c2 c3 (0 ∷ d ∷ []) test (omega arith) (reads_two c2 base x 0 d (put_same base 0 c1) x2) refl (changes_none c3)));
         kept = λ z less. put_other x z test c2 (λ e. omega (arith, e)) ∙ put_other base z 0 c1 (λ e. omega (arith, e)) ∙ put_other x z d cells (λ e. omega (arith, e));
         there = put_same x test c2;
       }
@@ -277,8 +281,8 @@ module _ (target : Target) where
       let given : Gives 2 (sets 0 base ∷ second) x less cells = record {
         cells' = c2;
         changes =
-            changes_one 1 (Op.Li 0) [] base second cells c2 [] 0 refl refl
-            (changes_one 0 (Op.Register Register.Sub) (base ∷ a ∷ []) x [] c1 c2 (0 ∷ word ∷ []) less (reads_two c1 base a 0 word (put_same base 0 cells) a1) refl (changes_none c2));
+            changes_one 1 (Op.Li 0) [] base second cells c2 [] 0 (omega arith) refl refl
+            (changes_one 0 (Op.Register Register.Sub) (base ∷ a ∷ []) x [] c1 c2 (0 ∷ word ∷ []) less (omega arith) (reads_two c1 base a 0 word (put_same base 0 cells) a1) refl (changes_none c2));
         kept = λ z below. put_other x z less c1 (λ e. omega (arith, e)) ∙ put_other base z 0 cells (λ e. omega (arith, e));
         there = put_same x less c1;
       } in
@@ -291,14 +295,14 @@ module _ (target : Target) where
   unary_performs_not x a b two own cells world at_a two_is lines =
       subst (λ some. Performs some x bool (truth (not b)) cells world world []) (sym lines)
       (performs 1 (computes (Op.Immediate Immediate.Xori two) (a ∷ []) x ∷ []) x bool (truth (not b)) cells world (truth_word (not b)) (omega arith) (omega arith)
-      (gives_one (Op.Immediate Immediate.Xori two) (a ∷ []) x cells (truth_word b ∷ []) (truth_word (not b)) (reads_one cells a (truth_word b) at_a)
+      (gives_one (Op.Immediate Immediate.Xori two) (a ∷ []) x cells (truth_word b ∷ []) (truth_word (not b)) (omega arith) (reads_one cells a (truth_word b) at_a)
       (ap (λ k. Some (bit_xor (truth_word b) k)) two_is ∙ ap (λ (w : ℕ). Some w) (not_follows b))) (not b, refl, refl))
 
   -- a constant word
   pub sets_performs : (x word : ℕ) (t : TypeTree) (v : Value) (own : List Line) (cells : ℕ → Option ℕ) (world : World) → IsWordOf t v word → own ≡ sets word x ∷ [] → Performs own x t v cells world world []
   sets_performs x word t v own cells world is lines =
       subst (λ some. Performs some x t v cells world world []) (sym lines)
-      (performs 1 (sets word x ∷ []) x t v cells world word (omega arith) (omega arith) (gives_one (Op.Li word) [] x cells [] word refl refl) is)
+      (performs 1 (sets word x ∷ []) x t v cells world word (omega arith) (omega arith) (gives_one (Op.Li word) [] x cells [] word (omega arith) refl refl) is)
 
   -- ---- routines
 
@@ -306,15 +310,15 @@ module _ (target : Target) where
   routine_runs : (routine : Routine) (a b first second : ℕ) (whole rest : List Line) (cells : ℕ → Option ℕ) (into : Option ℕ) (fs : List (Frame Line)) (world : World) (events : List Event) → cells a ≡ Some first → cells b ≡ Some second
       → ((held : Option ℕ) → (Runs.world_primitives target).serve routine (first ∷ second ∷ []) held world ≡ answers 0 (told_more events world) false)
       → ((held : Option ℕ) → (Runs.world_primitives target).lasts routine (first ∷ second ∷ []) held world ≤ 80)
-      → Run 1 events (turn_at whole (acts (Action.Routine routine) (a ∷ b ∷ []) ∷ rest) cells into fs world) (turn_at whole rest cells into fs (told_more events world))
+      → Run 84 1 events (turn_at whole (acts (Action.Routine routine) (a ∷ b ∷ []) ∷ rest) cells into fs world) (turn_at whole rest cells into fs (told_more events world))
   routine_runs routine a b first second whole rest cells into fs world events at_a at_b serves light =
-      Runs.line_runs target whole (acts (Action.Routine routine) (a ∷ b ∷ [])) rest cells into fs world (first ∷ second ∷ []) events (turn_at whole rest cells into fs (told_more events world))
+      Runs.line_runs target 84 whole (acts (Action.Routine routine) (a ∷ b ∷ [])) rest cells into fs world (first ∷ second ∷ []) events (turn_at whole rest cells into fs (told_more events world))
       (reads_two cells a b first second at_a at_b)
       (ap (λ (reply : Reply World Ending). asm_served None (frame_at whole rest cells into ∷ fs) reply) (serves _))
       (λ held. omega (arith, light held)) (drop-append_seam world.trace events)
 
   -- two arguments are made, a routine is called, and the value is `()`
-  routine_performs : (routine : Routine) (n : ℕ) (first_lines : List Line) (a b x first second : ℕ) (events : List Event) (cells middle : ℕ → Option ℕ) (world : World) → n ≤ 6 → Changes n first_lines cells middle → ((z : ℕ) → z < x → middle z ≡ cells z)
+  routine_performs : (routine : Routine) (n : ℕ) (first_lines : List Line) (a b x first second : ℕ) (events : List Event) (cells middle : ℕ → Option ℕ) (world : World) → n ≤ 2 → Changes n first_lines cells middle → ((z : ℕ) → z < x → middle z ≡ cells z)
       → middle a ≡ Some first → middle b ≡ Some second
       → ((held : Option ℕ) → (Runs.world_primitives target).serve routine (first ∷ second ∷ []) held world ≡ answers 0 (told_more events world) false)
       → ((held : Option ℕ) → (Runs.world_primitives target).lasts routine (first ∷ second ∷ []) held world ≤ 80)
@@ -323,7 +327,8 @@ module _ (target : Target) where
       record {
         steps = n + 2;
         some = omega arith;
-        few = omega arith;
+        cost = n * word_cost + (84 + word_cost);
+        cheap = omega (arith, few);
         cells' = put x (Some unit_word) middle;
         word = unit_word;
         kept = λ z less. put_other x z unit_word middle (λ e. omega (arith, e)) ∙ kept z less;
@@ -335,12 +340,12 @@ module _ (target : Target) where
             let t1 : AsmTurn World Ending = turn_at whole (call ∷ sets unit_word x ∷ rest) middle into fs world in
             let t2 : AsmTurn World Ending = turn_at whole (sets unit_word x ∷ rest) middle into fs after in
             let t3 : AsmTurn World Ending = turn_at whole rest (put x (Some unit_word) middle) into fs after in
-            let behind : Run 2 (events ++ []) t1 t3
-            = Runs.runs_on target 1 events [] t1 t2 t3 (routine_runs routine a b first second whole (sets unit_word x ∷ rest) middle into fs world events at_a at_b serves light)
-            (Runs.compute_runs target whole (Op.Li unit_word) [] x rest middle into fs after [] unit_word refl refl) in
-            let behind' : Run 2 events t1 t3 = subst (λ es. Run 2 es t1 t3) (append-nil events) behind in
-            subst (λ lines. Run (n + 2) events (turn_at whole lines cells into fs world) t3) (sym (append_assoc first_lines (call ∷ sets unit_word x ∷ []) rest))
-            (Runs.runs_then target n 2 [] events (turn_at whole (first_lines ++ (call ∷ sets unit_word x ∷ rest)) cells into fs world) t1 t3 (changes whole (call ∷ sets unit_word x ∷ rest) into fs world) behind');
+            let behind : Run (84 + word_cost) 2 (events ++ []) t1 t3
+            = Runs.runs_on target 84 word_cost 1 events [] t1 t2 t3 (routine_runs routine a b first second whole (sets unit_word x ∷ rest) middle into fs world events at_a at_b serves light)
+            (Runs.compute_runs target whole (Op.Li unit_word) [] x rest middle into fs after [] unit_word (omega arith) refl refl) in
+            let behind' : Run (84 + word_cost) 2 events t1 t3 = subst (λ es. Run (84 + word_cost) 2 es t1 t3) (append-nil events) behind in
+            subst (λ lines. Run (n * word_cost + (84 + word_cost)) (n + 2) events (turn_at whole lines cells into fs world) t3) (sym (append_assoc first_lines (call ∷ sets unit_word x ∷ []) rest))
+            (Runs.runs_then target (n * word_cost) (84 + word_cost) n 2 [] events (turn_at whole (first_lines ++ (call ∷ sets unit_word x ∷ rest)) cells into fs world) t1 t3 (changes whole (call ∷ sets unit_word x ∷ rest) into fs world) behind');
       }
 
   pub print_int_performs : (base x a word : ℕ) (form : PrintForm) (own : List Line) (cells : ℕ → Option ℕ) (world : World) → x < base → a < x → cells a ≡ Some word → word < 2 ^ 32
@@ -354,7 +359,7 @@ module _ (target : Target) where
       let c2 : ℕ → Option ℕ = put (base + 1) (Some choice) c1 in
       subst (λ some. Performs some x unit_type unit cells world (told_more events world) events) (sym lines)
       (routine_performs Routine.PrintInt 2 (copies_to a base ∷ second) base (base + 1) x word choice events cells c2 world (omega arith)
-      (changes_one 1 Op.Mv (a ∷ []) base second cells c2 (word ∷ []) word (reads_one cells a word at_a) refl (changes_one 0 (Op.Li choice) [] (base + 1) [] c1 c2 [] choice refl refl (changes_none c2)))
+      (changes_one 1 Op.Mv (a ∷ []) base second cells c2 (word ∷ []) word (omega arith) (reads_one cells a word at_a) refl (changes_one 0 (Op.Li choice) [] (base + 1) [] c1 c2 [] choice (omega arith) refl refl (changes_none c2)))
       (λ z less. put_other (base + 1) z choice c1 (λ e. omega (arith, e)) ∙ put_other base z word cells (λ e. omega (arith, e)))
       (put_other (base + 1) base choice c1 (λ e. omega (arith, e)) ∙ put_same base word cells) (put_same (base + 1) choice c1)
       (λ held. int_printed word form world ha) (λ held. few_steps_of word ha))
@@ -370,7 +375,7 @@ module _ (target : Target) where
       let c1 : ℕ → Option ℕ = put base (Some at) cells in
       let c2 : ℕ → Option ℕ = put (base + 1) (Some count) c1 in
       routine_performs Routine.PrintText 2 (computes (Op.La index) [] base ∷ second) base (base + 1) x at count (put_of text) cells c2 world (omega arith)
-      (changes_one 1 (Op.La index) [] base second cells c2 [] at refl there.1 (changes_one 0 (Op.Li count) [] (base + 1) [] c1 c2 [] count refl refl (changes_none c2)))
+      (changes_one 1 (Op.La index) [] base second cells c2 [] at (omega arith) refl there.1 (changes_one 0 (Op.Li count) [] (base + 1) [] c1 c2 [] count (omega arith) refl refl (changes_none c2)))
       (λ z less. put_other (base + 1) z count c1 (λ e. omega (arith, e)) ∙ put_other base z at cells (λ e. omega (arith, e)))
       (put_other (base + 1) base count c1 (λ e. omega (arith, e)) ∙ put_same base at cells) (put_same (base + 1) count c1)
       (λ held. ap (λ bytes. print_bytes bytes world) there.2) (λ held. omega arith)
@@ -412,14 +417,15 @@ module _ (target : Target) where
       record {
         steps = 1;
         some = omega arith;
-        few = omega arith;
+        cost = most_cost;
+        cheap = omega arith;
         cells' = put x (Some word) cells;
         word = word;
         kept = λ z less. put_other x z word cells (λ e. omega (arith, e));
         there = put_same x word cells;
         is = is;
         runs = λ whole rest into fs.
-            Runs.line_runs target whole (record { action = Action.Routine Routine.ReadByte; args = []; into = Some x }) rest cells into fs world [] (read_events left)
+            Runs.line_runs target most_cost whole (record { action = Action.Routine Routine.ReadByte; args = []; into = Some x }) rest cells into fs world [] (read_events left)
             (turn_at whole rest (put x (Some word) cells) into fs (world_behind left world)) refl
             (ap (λ (reply : Reply World Ending). asm_served (Some x) (frame_at whole rest cells into ∷ fs) reply) serves)
             (λ held. omega arith) (drop-append_seam world.trace (read_events left));

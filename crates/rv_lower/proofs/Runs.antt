@@ -1,5 +1,5 @@
 -- Runs of the assembler's machine over lines, one after the other.
-use Rattle.std.proofs.Common.{◌≡◌, ◌≢◌, ◌+◌, ◌-◌, ◌*◌, ◌<◌, ◌≤◌, ℕ, suc, List, [], ◌∷◌, ◌++◌, length, drop, map, Option, Some, option_map, refl, sym, ◌∙◌, ap, subst, inl, inr, arith, add-mul}
+use Rattle.std.proofs.Common.{◌≡◌, ◌≢◌, ◌+◌, ◌-◌, ◌*◌, ◌<◌, ◌≤◌, ℕ, suc, List, [], ◌∷◌, ◌++◌, length, drop, map, Option, Some, option_map, refl, sym, ◌∙◌, ap, subst, inl, inr, arith}
 use Rattle.std.proofs.Math.Seq.{drop-length}
 use Rattle.std.proofs.lemmas.List.{append-nil}
 use Rattle.std.proofs.lemmas.Bool.{cases_lt}
@@ -11,7 +11,7 @@ use Rattle.rv_isa.specs.declared.asm.Operation.TheVariants as Op
 use Rattle.rv_isa.specs.Processor.{Ending}
 use Rattle.rv_isa.specs.AsmCode.{Line, Lines}
 use Rattle.rv_isa.specs.AsmMachine.{AsmTurn, asm_acts, asm_next, asm_machine, asm_told, asm_goes}
-use Rattle.rv_isa.specs.Costs.{operation_instructions, instructions_of}
+use Rattle.rv_isa.specs.Costs.{operation_instructions, instructions_of, line_moves}
 use Rattle.rv_isa.specs.Frames.{Frame, put, put_into, all_of, top}
 use Rattle.rv_isa.specs.Primitives.{Primitives, go, ended, stuck, or_stuck}
 use Rattle.cell_heap.specs.Pool.{Pool}
@@ -20,15 +20,18 @@ use Rattle.rv_world.specs.World.{World, primitives, computed_in}
 use Rattle.rv_lower.specs.Lines.{computes}
 use Rattle.rv_lower.proofs.Following.{frame_at, turn_at}
 
--- the most that a line weighs, with so many moves before it
-abbrev pub line_cost : ℕ → ℕ
-line_cost moves = moves + 90
+-- The most that a line weighs that computes a word of at most two: three moves, and two instructions.
+abbrev pub word_cost : ℕ
+word_cost = 5
 
--- the assembler's machine of a program: its constants and cells, how many moves may stand before a line, the depth, and its functions
+-- the most that the lines of a form weigh
+abbrev pub most_cost : ℕ
+most_cost = 100
+
+-- the assembler's machine of a program: its constants and cells, the depth, and its functions
 pub record Target : Type 0 where
   pub constants : Constants
   pub pool : Pool
-  pub moves : ℕ
   pub depth : ℕ
   pub functions : List Lines
 
@@ -37,17 +40,20 @@ module _ (target : Target) where
   world_primitives = primitives target.constants target.pool
 
   abbrev pub machine : Machine (AsmTurn World Ending) Event Ending
-  machine = asm_machine (primitives target.constants target.pool) target.moves target.depth target.functions
+  machine = asm_machine (primitives target.constants target.pool) target.depth target.functions
 
-  -- so many steps lead from a turn to another, with these events, and none of them is stuck
-  pub record Runs (n : ℕ) (events : List Event) (t u : AsmTurn World Ending) : Type 0 where
-    pub within : weight_of machine n t ≤ n * line_cost target.moves
+  -- so many steps lead from a turn to another, with these events, none of them is stuck, and they weigh no more than this
+  pub record Runs (cost n : ℕ) (events : List Event) (t u : AsmTurn World Ending) : Type 0 where
+    pub within : weight_of machine n t ≤ cost
     pub events_are : trace machine n t ≡ events
     pub passes : (k : ℕ) → k < n → state machine k t ≢ stuck
     pub arrives : state machine n t ≡ u
 
-  pub runs_none : (t : AsmTurn World Ending) → Runs 0 [] t t
+  pub runs_none : (t : AsmTurn World Ending) → Runs 0 0 [] t t
   runs_none t = record { within = omega arith; events_are = refl; passes = λ k less. absurd (omega arith); arrives = refl }
+
+  pub runs_cheap : (cost most n : ℕ) (events : List Event) (t u : AsmTurn World Ending) → cost ≤ most → Runs cost n events t u → Runs most n events t u
+  runs_cheap cost most n events t u le runs = record { within = let within = runs.within in omega (arith, le, within); events_are = runs.events_are; passes = runs.passes; arrives = runs.arrives }
 
   passes_both : (n m : ℕ) (t : AsmTurn World Ending) → ((k : ℕ) → k < n → state machine k t ≢ stuck) → ((k : ℕ) → k < m → state machine k (state machine n t) ≢ stuck)
       → (k : ℕ) → k < n + m → state machine k t ≢ stuck
@@ -59,41 +65,41 @@ module _ (target : Target) where
             subst (λ (j : ℕ). state machine j t ≢ stuck) whole (subst (λ (s : AsmTurn World Ending). s ≢ stuck) (sym (state-add machine n (k - n) t)) (behind (k - n) (omega arith)))
       ]
 
-  pub runs_then : (n m : ℕ) (first second : List Event) (t u v : AsmTurn World Ending) → Runs n first t u → Runs m second u v → Runs (n + m) (first ++ second) t v
-  runs_then n m first second t u v before behind =
-      let there : Runs m second (state machine n t) v = subst (λ s. Runs m second s v) (sym before.arrives) behind in
+  pub runs_then : (cost more n m : ℕ) (first second : List Event) (t u v : AsmTurn World Ending) → Runs cost n first t u → Runs more m second u v → Runs (cost + more) (n + m) (first ++ second) t v
+  runs_then cost more n m first second t u v before behind =
+      let there : Runs more m second (state machine n t) v = subst (λ s. Runs more m second s v) (sym before.arrives) behind in
       record {
-        within = omega (arith, weight_of-add machine n m t, before.within, there.within, add-mul n m (line_cost target.moves));
+        within = omega (arith, weight_of-add machine n m t, before.within, there.within);
         events_are = trace-add machine n m t ∙ ap (λ es. es ++ trace machine m (state machine n t)) before.events_are ∙ ap (λ es. first ++ es) there.events_are;
         passes = passes_both n m t before.passes there.passes;
         arrives = state-add machine n m t ∙ there.arrives;
       }
 
   -- one line, and lines behind it
-  pub runs_on : (n : ℕ) (first second : List Event) (t u v : AsmTurn World Ending) → Runs 1 first t u → Runs n second u v → Runs (suc n) (first ++ second) t v
-  runs_on n first second t u v before behind =
+  pub runs_on : (cost more n : ℕ) (first second : List Event) (t u v : AsmTurn World Ending) → Runs cost 1 first t u → Runs more n second u v → Runs (cost + more) (suc n) (first ++ second) t v
+  runs_on cost more n first second t u v before behind =
       let whole : 1 + n ≡ suc n = omega arith in
-      subst (λ m. Runs m (first ++ second) t v) whole (runs_then 1 n first second t u v before behind)
+      subst (λ m. Runs (cost + more) m (first ++ second) t v) whole (runs_then cost more 1 n first second t u v before behind)
 
   goes_not : (s : AsmTurn World Ending) (whole left : List Line) (cells : ℕ → Option ℕ) (into : Option ℕ) (fs : List (Frame Line)) (world : World) → s ≡ turn_at whole left cells into fs world → s ≢ stuck
   goes_not s whole left cells into fs world is at = subst (λ (t : AsmTurn World Ending). elim t as (λ _. Type 0) [ go u ↦ Unit {0} | ended how shared ↦ Unit {0} | stuck ↦ ⊥ ]) (sym is ∙ at) tt
 
   -- a line whose arguments have words
-  pub line_runs : (whole : List Line) (line : Line) (rest : List Line) (cells : ℕ → Option ℕ) (into : Option ℕ) (fs : List (Frame Line)) (world : World) (words : List ℕ) (events : List Event) (u : AsmTurn World Ending)
+  pub line_runs : (cost : ℕ) (whole : List Line) (line : Line) (rest : List Line) (cells : ℕ → Option ℕ) (into : Option ℕ) (fs : List (Frame Line)) (world : World) (words : List ℕ) (events : List Event) (u : AsmTurn World Ending)
       → all_of (map cells line.args) ≡ Some words
       → asm_acts world_primitives target.depth target.functions (frame_at whole rest cells into) fs world line.action line.args line.into words ≡ u
-      → ((held : Option ℕ) → instructions_of world_primitives line.action (Some words) held world ≤ 90)
+      → ((held : Option ℕ) → line_moves line + instructions_of world_primitives line.action (Some words) held world ≤ cost)
       → drop (length world.trace) (asm_told world_primitives u) ≡ events
-      → Runs 1 events (turn_at whole (line ∷ rest) cells into fs world) u
-  line_runs whole line rest cells into fs world words events u words_are acts light told_are =
+      → Runs cost 1 events (turn_at whole (line ∷ rest) cells into fs world) u
+  line_runs cost whole line rest cells into fs world words events u words_are acts light told_are =
       let t : AsmTurn World Ending = turn_at whole (line ∷ rest) cells into fs world in
       let next : asm_next world_primitives target.depth target.functions t ≡ u
       = ap (λ o. or_stuck o (λ ws. asm_acts world_primitives target.depth target.functions (frame_at whole rest cells into) fs world line.action line.args line.into ws)) words_are ∙ acts in
       let told : drop (length world.trace) (asm_told world_primitives (asm_next world_primitives target.depth target.functions t)) ≡ events
       = ap (λ (s : AsmTurn World Ending). drop (length world.trace) (asm_told world_primitives s)) next ∙ told_are in
       let held : Option ℕ = top (frame_at whole (line ∷ rest) cells into ∷ fs) in
-      let weighs : machine.weight t ≡ target.moves * 1 + instructions_of world_primitives line.action (Some words) held world
-      = ap (λ o. target.moves * 1 + instructions_of world_primitives line.action o held world) words_are in
+      let weighs : machine.weight t ≡ line_moves line * 1 + instructions_of world_primitives line.action (Some words) held world
+      = ap (λ o. line_moves line * 1 + instructions_of world_primitives line.action o held world) words_are in
       record {
         within = omega (arith, weighs, light held);
         events_are = append-nil (drop (length world.trace) (asm_told world_primitives (asm_next world_primitives target.depth target.functions t))) ∙ told;
@@ -104,17 +110,17 @@ module _ (target : Target) where
   pub silent : (world : World) → drop (length world.trace) world.trace ≡ []
   silent world = drop-length world.trace
 
-  few_instructions : (operation : Operation) → operation_instructions operation ≤ 5
-  few_instructions (Op.Register operation) = omega arith
-  few_instructions (Op.Immediate operation immediate) = omega arith
-  few_instructions (Op.Shift operation amount) = omega arith
-  few_instructions (Op.Li word) = omega arith
-  few_instructions Op.Mv = omega arith
-  few_instructions (Op.La constant) = omega arith
-  few_instructions (Op.Lw offset) = omega arith
-  few_instructions (Op.Sw offset) = omega arith
-  few_instructions Op.Dup = omega arith
-  few_instructions Op.Free = omega arith
+  few_instructions : (operation : Operation) (words : List ℕ) (word : ℕ) → computed target.constants operation words ≡ Some word → operation_instructions operation ≤ 2
+  few_instructions (Op.Register operation) words word is = omega arith
+  few_instructions (Op.Immediate operation immediate) words word is = omega arith
+  few_instructions (Op.Shift operation amount) words word is = omega arith
+  few_instructions (Op.Li number) words word is = omega arith
+  few_instructions Op.Mv words word is = omega arith
+  few_instructions (Op.La constant) words word is = omega arith
+  few_instructions (Op.Lw offset) words word is = omega arith
+  few_instructions (Op.Sw offset) words word is = omega arith
+  few_instructions Op.Dup words word is = cc is
+  few_instructions Op.Free words word is = cc is
 
   -- an operation on words alone leaves the world as it is
   on_words : (operation : Operation) (words : List ℕ) (word : ℕ) (world : World) → computed target.constants operation words ≡ Some word → computed_in target.constants operation words world ≡ Some (word, world)
@@ -131,9 +137,9 @@ module _ (target : Target) where
 
   -- an operation on words
   pub compute_runs : (whole : List Line) (operation : Operation) (args : List ℕ) (x : ℕ) (rest : List Line) (cells : ℕ → Option ℕ) (into : Option ℕ) (fs : List (Frame Line)) (world : World) (words : List ℕ) (word : ℕ)
-      → all_of (map cells args) ≡ Some words → computed target.constants operation words ≡ Some word
-      → Runs 1 [] (turn_at whole (computes operation args x ∷ rest) cells into fs world) (turn_at whole rest (put x (Some word) cells) into fs world)
-  compute_runs whole operation args x rest cells into fs world words word words_are computed_is =
-      line_runs whole (computes operation args x) rest cells into fs world words [] (turn_at whole rest (put x (Some word) cells) into fs world) words_are
+      → length args ≤ 2 → all_of (map cells args) ≡ Some words → computed target.constants operation words ≡ Some word
+      → Runs word_cost 1 [] (turn_at whole (computes operation args x ∷ rest) cells into fs world) (turn_at whole rest (put x (Some word) cells) into fs world)
+  compute_runs whole operation args x rest cells into fs world words word two words_are computed_is =
+      line_runs word_cost whole (computes operation args x) rest cells into fs world words [] (turn_at whole rest (put x (Some word) cells) into fs world) words_are
       (ap (λ o. or_stuck o (λ (r : ℕ × World). asm_goes (record { whole = whole; code = rest; cells = put_into (Some x) r.0 cells; held = []; into = into }) fs r.1)) (on_words operation words word world computed_is))
-      (λ held. omega (arith, few_instructions operation)) (silent world)
+      (λ held. let few = few_instructions operation words word computed_is in omega (arith, few, two)) (silent world)

@@ -1,5 +1,3 @@
-pub mod Form
 pub mod Lines
 pub mod Lowered
-pub mod Meaning
 pub mod Written

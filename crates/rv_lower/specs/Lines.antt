@@ -1,4 +1,4 @@
--- The assembler lines of the forms of the core form. Value x of a function's assembler code is variable x of its core form; the values behind
+-- The assembler lines of forms. Value x of a function's assembler code is variable x of its counted form; the values behind
 -- all variables, from `base` on, are temporaries. An `int32` is its word, `()` is the word 1, `False` is 1 and `True` is 3.
 use Rattle.std.specs.Prelude.{◌≡◌, ℕ, ◌+◌, ◌*◌, ◌^◌, ◌<◌, List, [], ◌∷◌, ◌++◌, length, Some, None, slice_get}
 use Rattle.kk_syntax.specs.declared.operator.UnaryOperator.TheVariants.{Negate, Not}
@@ -118,7 +118,7 @@ AppliedLines base x (Call f) arguments lines =
     lines ≡ copies base arguments ++ record { action = Action.Call f; args = temporaries base arguments; into = Some x } ∷ []
 AppliedLines base x form arguments lines = Unit {0}
 
--- the string literals of the core form, and the constant bytes of the assembler code, each by its number
+-- the string literals of the program, and the constant bytes of the assembler code, each by its number
 pub record Texts : Type 0 where
   pub literals : List (List ℕ)
   pub constants : List (List ℕ)

@@ -1,10 +1,7 @@
 -- What was written of a function's assembler code.
 use Rattle.std.specs.Prelude.{◌≡◌, ℕ, ◌+◌, ◌*◌, ◌≤◌, List, [], ◌∷◌, ◌++◌, Option, Some, None, map, length}
 use Rattle.kk_syntax.specs.declared.program.Form.{Form}
-use Rattle.kk_core.specs.Codes.{Code, Piece, plug, FunctionCode}
-use Rattle.kk_core.specs.CoreTyping.{all_forms}
-use Rattle.kk_core.specs.Sizes.{forms}
-use Rattle.rv_isa.specs.AsmCode.{Line, Lines, line_of}
+use Rattle.rv_isa.specs.AsmCode.{Line, line_of}
 use Rattle.rv_world.specs.Operations.{all_bytes}
 use Rattle.rv_lower.specs.declared.line.Reads.{Reads}
 use Rattle.rv_lower.specs.declared.line.Reads.TheVariants.{Nothing, One, Two}
@@ -13,7 +10,7 @@ use Rattle.rv_lower.specs.declared.lowering.Lowering.{Lowering}
 use Rattle.rv_lower.specs.Lines.{Texts, FormLines, PrintLines}
 use Rattle.rv_lower.specs.declared.block.Goal.{Goal as CodeGoal}
 use Rattle.rv_lower.specs.declared.block.Goal.TheVariants as OfGoal
-use Rattle.rv_lower.specs.Lowered.{Goal, returns, joins, CodeLines, IsFunctionLowered, AreFunctionsLowered}
+use Rattle.rv_lower.specs.Lowered.{Goal, returns, joins}
 
 abbrev pub read_list : Reads → List ℕ
 read_list Nothing = []
@@ -64,21 +61,6 @@ pub record WroteForm (literals : List (List ℕ)) (x : ℕ) (form : Form) (argum
   pub label : new.next_label ≡ old.next_label
   pub are : (later : List (List ℕ)) → FormLines old.base (texts_of literals (texts_written new ++ later)) x form arguments lines
 
--- the same of a code
-pub record WroteCode (literals : List (List ℕ)) (goal : Goal) (code : Code) (old new : Lowering) : Type 0 where
-  pub lines : List Line
-  pub grows : Grows (forms code) lines old new
-  pub are : (later : List (List ℕ)) → CodeLines old.base (texts_of literals (texts_written new ++ later)) goal old.next_label code lines new.next_label
-
--- the lines of steps were written: those of any code that follows stand behind them
-pub record WroteSteps (literals : List (List ℕ)) (pieces : List Piece) (old new : Lowering) : Type 0 where
-  pub lines : List Line
-  pub n : ℕ
-  pub grows : Grows n lines old new
-  pub counted : (rest : Code) → forms (plug pieces rest) ≡ n + forms rest
-  pub are : (later : List (List ℕ)) (goal : Goal) (rest : Code) (more : List Line) (high : ℕ) → CodeLines old.base (texts_of literals (texts_written new ++ later)) goal new.next_label rest more high
-      → CodeLines old.base (texts_of literals (texts_written new ++ later)) goal old.next_label (plug pieces rest) (lines ++ more) high
-
 -- lines of a kind were written, and nothing else
 pub record WroteLines (Kind : List Line → Type 0) (old new : Lowering) : Type 0 where
   pub lines : List Line
@@ -109,15 +91,3 @@ pair_of _ = None
 abbrev pub goal_of : CodeGoal → Goal
 goal_of OfGoal.Return = returns
 goal_of (OfGoal.Join variable label) = joins variable label
-
--- a function was lowered, and texts were added behind those that stood there
-pub record LoweredFunction (literals : List (List ℕ)) (function : FunctionCode) (lines : Lines) (old new : List (List ℕ)) : Type 0 where
-  pub more : List (List ℕ)
-  pub texts : new ≡ old ++ more
-  pub few : length (all_bytes more) ≤ 256 * forms function.body
-  pub is : (later : List (List ℕ)) → IsFunctionLowered (texts_of literals (new ++ later)) function lines
-
--- functions were lowered, and these are their texts: they are lowered however many texts come later
-pub record LoweredFunctions (literals : List (List ℕ)) (functions : List FunctionCode) (each : List Lines) (texts : List (List ℕ)) : Type 0 where
-  pub few : length (all_bytes texts) ≤ 256 * all_forms functions
-  pub are : (later : List (List ℕ)) → AreFunctionsLowered (texts_of literals (texts ++ later)) functions each

@@ -1,4 +1,4 @@
-//! From the core form to assembler code over values.
+//! Lines of assembler code over values, and how they are written.
 #![tactic(auto)]
 
 mod block;
@@ -10,4 +10,4 @@ mod program;
 pub use block::{Goal, write_label, write_tail_call, write_test, write_value};
 pub use line::{Reads, Short, act, constant, copy, set, unary};
 pub use lowering::{Lowering, next};
-pub use program::{lower, parameters};
+pub use program::parameters;

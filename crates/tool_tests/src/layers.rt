@@ -3,18 +3,16 @@
 ghost use Rattle.kk_base.specs.Sizes.{AreSizes};
 
 use elf_image::write;
-use kk_back::{counted_image, image};
+use kk_back::image;
 use kk_base::{Bytes, NoMemory};
 use kk_build::build;
-use kk_core::code_without_cells_has_plain_types;
 use kk_front::{accepted_programs_are_typed, read};
-use kk_instances::instances_mean_the_program;
 use kk_memio::{MemSink, MemSource};
 use kk_middle::{
-    compile, compiled_programs_are_marked, compiled_programs_can_be_lowered,
-    compiled_programs_have_their_kinds, compiled_programs_keep_meaning,
+    compile, compiled_programs_are_marked, compiled_programs_are_short,
+    compiled_programs_can_be_lowered, compiled_programs_have_their_kinds,
+    compiled_programs_keep_meaning,
 };
-use kk_norm::normal;
 use rv_cells::judged_programs_are_fit;
 use rv_sim::{Halt, Machine};
 use std::alloc::Global;
@@ -103,26 +101,8 @@ fun main()
   if id(True) then println(1) else println(2)
 ";
 
-/// The file of the image of a text by its core form; none where the text is refused, or its program has a match or a cell.
-fn core_file(alloc: Global, text: &str) -> Result<Option<Bytes>, NoMemory> {
-    let accepted = match read(alloc, text.as_bytes()) {
-        Ok(accepted) => accepted,
-        Err(_) => return Ok(None),
-    };
-    accepted_programs_are_typed();
-    instances_mean_the_program();
-    let core = normal(alloc, &accepted.instances)?;
-    if !core.is_plain() {
-        return Ok(None);
-    }
-    code_without_cells_has_plain_types();
-    let image = image(alloc, &core, CELLS, DEPTH)?;
-    let file = write(alloc, &image)?;
-    Ok(Some(file))
-}
-
-/// The file of the image of a text by its counted form; none where the text is refused, or its code is too large for an image.
-fn counted_file(alloc: Global, text: &str) -> Result<Option<Bytes>, NoMemory> {
+/// The file of the image of a text by the calls below `build`; none where the text is refused.
+fn file_of(alloc: Global, text: &str) -> Result<Option<Bytes>, NoMemory> {
     let accepted = match read(alloc, text.as_bytes()) {
         Ok(accepted) => accepted,
         Err(_) => return Ok(None),
@@ -133,14 +113,11 @@ fn counted_file(alloc: Global, text: &str) -> Result<Option<Bytes>, NoMemory> {
     compiled_programs_are_marked();
     compiled_programs_have_their_kinds();
     compiled_programs_can_be_lowered();
+    compiled_programs_are_short();
     judged_programs_are_fit();
-    match counted_image(alloc, &counted, &accepted.instances.texts, CELLS, DEPTH)? {
-        Some(image) => {
-            let file = write(alloc, &image)?;
-            Ok(Some(file))
-        }
-        None => Ok(None),
-    }
+    let image = image(alloc, &counted, &accepted.instances.texts, CELLS, DEPTH)?;
+    let file = write(alloc, &image)?;
+    Ok(Some(file))
 }
 
 /// Compares the file that is built of a text with one that there is.
@@ -153,10 +130,8 @@ fn check_built(rt: &impl Abort, alloc: Global, text: &str, file: &Option<Bytes>)
 
 #[test]
 fn build_goes_through_the_layers(rt: HostRuntime) -> Result<(), NoMemory> {
-    let file = core_file(rt.alloc(), ARITHMETIC)?;
-    check_built(&rt, rt.alloc(), ARITHMETIC, &file);
-    for text in [REVERSE, LENT_PARAMETER] {
-        let file = counted_file(rt.alloc(), text)?;
+    for text in [ARITHMETIC, REVERSE, LENT_PARAMETER] {
+        let file = file_of(rt.alloc(), text)?;
         check_built(&rt, rt.alloc(), text, &file);
     }
     Ok(())

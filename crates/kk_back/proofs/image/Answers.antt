@@ -1,14 +1,18 @@
-use Rattle.kk_core.specs.Codes.{core_code}
+use Rattle.kk_counted.specs.Programs.{program_of}
 use Rattle.rv_isa.specs.AsmCode.{asm_functions, asm_constants}
 use Rattle.kk_back.proofs.Imaging.{placeable_of, image_is}
 use Rattle.kk_back.proofs.image.Goals as goal
 
 pub assembled-requires-clause-placeable : goal.assembled-requires-clause-placeable
 assembled-requires-clause-placeable c =
-    placeable_of (core_code c.args.core.now) (asm_functions c.in_ok-asm.asm) (asm_constants c.in_ok-asm.asm) c.requires.small c.in_ok-asm.ensures
+    let code = program_of c.args.counted.now.functions.items c.args.texts.now in
+    placeable_of c.args.counted.now.shape code (asm_functions c.in_ok-asm.asm) (asm_constants c.in_ok-asm.asm) c.args.cells
+    c.args.depth c.requires.runnable c.in_ok-asm.ensures c.lowered_programs_are_well_formed.ensures
+    c.lowered_programs_are_short.ensures
 
 pub returns : goal.returns
 returns c =
-    image_is (core_code c.args.core.now) (asm_functions c.in_ok-asm.asm) (asm_constants c.in_ok-asm.asm) c.requires.small c.in_ok-asm.ensures
-    c.args.cells c.args.depth c.in_ok-made.made.entry c.in_ok-made.made.parts c.requires.sizes
-    (c.in_ok-made.ensures c.in_ok-asm.ensures.main c.in_ok-asm.ensures.main_is)
+    let code = program_of c.args.counted.now.functions.items c.args.texts.now in
+    image_is c.args.counted.now.shape code (asm_functions c.in_ok-asm.asm) (asm_constants c.in_ok-asm.asm) c.args.cells c.args.depth
+    c.requires.runnable c.in_ok-asm.ensures c.lowered_programs_are_well_formed.ensures
+    c.lowered_counted_programs_run_the_same.ensures c.in_ok-made.made.entry c.in_ok-made.made.parts c.in_ok-made.ensures

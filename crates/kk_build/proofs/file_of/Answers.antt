@@ -1,37 +1,67 @@
-use Rattle.std.proofs.Common.{sym, ◌∙◌}
+use Rattle.std.proofs.Common.{sym, subst, List, ℕ, arith, refl}
 use Rattle.kk_syntax.specs.GroundPrograms.{ground_program}
-use Rattle.kk_syntax.specs.GroundTyping.{table_of}
-use Rattle.kk_core.specs.Codes.{core_code}
-use Rattle.kk_build.proofs.Agreeing.{file_agrees, file_leaves, file_is_bounded, file_is_plainly_bounded}
+use Rattle.kk_syntax.specs.Programs.{program_tree}
+use Rattle.kk_syntax.specs.Shapes.{greatest_nodes}
+use Rattle.kk_counted.specs.Programs.{program_of}
+use Rattle.kk_middle.specs.Compiled.{instance_positions}
+use Rattle.kk_middle.specs.Meaning.{store_steps}
+use Rattle.kk_source.specs.Settings.{setting_of}
+use Rattle.kk_back.specs.Images.{IsRunnable, IsImageOf}
+use Rattle.kk_build.proofs.Building.{file_agrees, file_leaves, file_is_bounded}
+use Rattle.kk_build.proofs.Nodes.{instances_have_no_more, program_has_some}
+use Rattle.kk_build.proofs.Runnable.{runnable}
 use Rattle.kk_build.proofs.file_of.Goals as goal
 
-pub returns-then-not-is_plain : goal.returns-then-not-is_plain
-returns-then-not-is_plain c =
-    sym (c.core_forms_are_plain_as_programs.ensures (ground_program c.args.given.now) (core_code c.in_ok-core.core) c.in_ok-core.ensures.form)
-    ∙ (sym c.is_plain.ensures ∙ c.if-not-is_plain.true)
-
-pub image-requires-clause-typed : goal.image-requires-clause-typed
-image-requires-clause-typed c =
-    c.code_without_cells_has_plain_types.ensures.types (table_of (ground_program c.args.given.now)) (core_code c.in_ok-core.core)
-    c.in_ok-core.ensures.means.typed (sym c.is_plain.ensures ∙ c.if-not-is_plain.false)
+pub image-requires-clause-runnable : goal.image-requires-clause-runnable
+image-requires-clause-runnable c =
+    let typed = c.args.accepted.now.typed in
+    let given = c.args.accepted.now.instances in
+    let made = c.in_ok-counted.counted in
+    let compiled = c.in_ok-counted.ensures in
+    let checked = c.requires.checked in
+    let lent = c.requires.lent compiled.table in
+    let cells = c.args.cells in
+    let depth = c.args.depth in
+    subst (λ (texts : List (List ℕ)). IsRunnable made.shape (program_of made.functions.items texts) cells depth) (sym c.deref.ensures.value)
+    (runnable c.judged_programs_are_fit.ensures made given cells depth (setting_of (program_tree typed.program) compiled.table cells depth)
+    (instance_positions given compiled.table) (greatest_nodes (ground_program given)) (store_steps (ground_program given))
+    c.requires.sizes
+    (c.compiled_programs_can_be_lowered.ensures typed given made checked c.requires.given compiled lent)
+    (c.compiled_programs_are_short.ensures typed given made checked c.requires.given compiled)
+    (c.compiled_programs_are_marked.ensures typed given made checked c.requires.given compiled) compiled.numbers
+    (c.compiled_programs_keep_meaning.ensures typed given made checked c.requires.given compiled lent cells depth)
+    (c.compiled_programs_have_their_kinds.ensures typed given made checked c.requires.given compiled lent cells depth))
 
 pub returns : goal.returns
 returns c =
-    let program = ground_program c.args.given.now in
-    let code = core_code c.in_ok-core.core in
-    let plain = sym c.is_plain.ensures ∙ c.if-not-is_plain.false in
-    let keeps = c.plain_core_forms_keep_meaning.ensures program code c.requires.typed c.in_ok-core.ensures.form plain in
+    let typed = c.args.accepted.now.typed in
+    let given = c.args.accepted.now.instances in
+    let made = c.in_ok-counted.counted in
+    let compiled = c.in_ok-counted.ensures in
+    let cells = c.args.cells in
+    let depth = c.args.depth in
+    let code = program_of made.functions.items given.texts.items in
+    let program = program_tree typed.program in
+    let greatest = greatest_nodes (ground_program given) in
+    let entry = c.in_ok-image.image.entry in
+    let parts = c.in_ok-image.image.parts in
+    let image : IsImageOf code cells depth entry parts =
+    subst (λ (texts : List (List ℕ)). IsImageOf (program_of made.functions.items texts) cells depth entry parts) c.deref.ensures.value
+    c.in_ok-image.ensures in
+    let positions = instance_positions given compiled.table in
+    let up = store_steps (ground_program given) in
+    let keeps = c.compiled_programs_keep_meaning.ensures typed given made c.requires.checked c.requires.given compiled
+    (c.requires.lent compiled.table) cells depth in
+    let loaded = c.in_ok-file.ensures.read_again in
     record {
-      plain = sym (c.core_forms_are_plain_as_programs.ensures program code c.in_ok-core.ensures.form) ∙ plain;
-      image = record {
-        entry = c.in_ok-image.image.entry;
-        parts = c.in_ok-image.image.parts;
-        program = c.in_ok-image.ensures.program;
-        written = c.in_ok-file.ensures.written;
-        loads = c.in_ok-file.ensures.read_again;
-      };
-      agrees = λ positions. file_agrees keeps c.in_ok-image.ensures c.in_ok-file.ensures.read_again positions;
-      leaves = λ positions. file_leaves keeps c.in_ok-image.ensures c.in_ok-file.ensures.read_again positions;
-      bounded = λ positions. file_is_bounded keeps c.in_ok-image.ensures c.in_ok-file.ensures.read_again positions;
-      bounded_plain = λ positions. file_is_plainly_bounded keeps c.in_ok-image.ensures c.in_ok-file.ensures.read_again positions;
+      is_image = record { entry = entry; parts = parts; program = image.program; written = c.in_ok-file.ensures.written; loads = loaded };
+      setting = setting_of program compiled.table cells depth;
+      is_run = record { positions = compiled.table; least = compiled.least; is = refl };
+      agrees = file_agrees program compiled.table positions code greatest up cells depth entry parts image keeps loaded;
+      leaves_no_cell = file_leaves program compiled.table positions code greatest up cells depth entry parts image keeps loaded;
+      bounded = λ nodes few.
+          let most = instances_have_no_more c.requires.given.instances in
+          let some = program_has_some c.requires.given.instances in
+          file_is_bounded program compiled.table positions code greatest up cells depth entry parts image keeps loaded nodes
+          (omega (arith, most, few)) (omega (arith, some, few));
     }

@@ -1,10 +1,10 @@
-use Rattle.kk_perform.proofs.Rows.{text_unbuilt, text_of_file, image_built}
+use Rattle.kk_perform.proofs.Rows.{text_refused, text_of_file, image_built}
 use Rattle.kk_perform.proofs.perform.build_image.Goals as goal
 
 pub returns-clause-err : goal.returns-clause-err
 returns-clause-err g c = λ input out request asked is.
-    text_unbuilt _ _ input out c.args.image.now c.in-Ok.text c.as_slice.result.now c.in-Err-build.cause c.unbuilt_answer.result
-    request asked c.as_slice.ensures c.unbuilt_answer.ensures
+    text_refused _ _ input out c.args.image.now c.in-Ok.text c.as_slice.result.now c.in-Err-build.refusal c.refusal_answer.result
+    request c.as_slice.ensures c.refusal_answer.ensures
     (text_of_file _ request c.args.file.now c.in-Ok.text asked is c.in-Ok.ensures.text) c.in-Ok.ensures.kept
     c.in-Err-build.ensures.err
 

@@ -9,14 +9,14 @@ use Rattle.kk_perform.proofs.perform.run_file.Goals as goal
 pub run_built-requires : goal.run_built-requires
 run_built-requires g c =
     let P : List ℕ → Type 0 = λ bytes. reason_of bytes ≡ None in
-    subst P (sym c.as_slice.ensures) c.in-Ok.ensures.built.built.is_image.loads.sound
+    subst P (sym c.as_slice.ensures) c.in-Ok.ensures.built.built.is_file.is_image.loads.sound
 
 -- it agrees with its program, and so its run stops well
 pub run_answer-requires : goal.run_answer-requires
 run_answer-requires g c =
     let is = c.in-Ok.ensures.built.built in
     stops_well c.as_slice.result.now c.args.options.steps c.in-Ok-run_built.stopped.halt _ _ _ _
-    (subst EndsWell (sym c.as_slice.ensures) (ends_well is.program _ c.args.options.sizes.cells c.args.options.sizes.depth is.setting is.is_run is.agrees)) c.in-Ok-run_built.ensures.ran.runs
+    (subst EndsWell (sym c.as_slice.ensures) (ends_well is.program _ c.args.options.sizes.cells c.args.options.sizes.depth is.is_file.setting is.is_file.is_run is.is_file.agrees)) c.in-Ok-run_built.ensures.ran.runs
 
 pub returns-in-Ok-run_built : goal.returns-in-Ok-run_built
 returns-in-Ok-run_built g c =

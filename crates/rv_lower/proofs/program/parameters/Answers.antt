@@ -1,5 +1,5 @@
 use Rattle.std.proofs.Common.{ℕ, List, [], ◌∷◌, ◌++◌, ap, ◌∙◌}
-use Rattle.rv_lower.proofs.Programs.{from_to_up}
+use Rattle.rv_lower.proofs.Functions.{from_to_up}
 use Rattle.rv_lower.proofs.program.parameters.Goals as goal
 
 pub loop-value-preserved : goal.loop-value-preserved

@@ -1,4 +1,4 @@
--- The file of an image that is made by the counted form agrees with the program, leaves no cell, and is bounded.
+-- The file of an image agrees with the program, leaves no cell, and is bounded.
 use Rattle.std.proofs.Common.{◌≡◌, ℕ, ◌*◌, ◌≤◌, ◌<◌, List, All, refl, ap, subst, ◌∙◌, arith}
 use Rattle.kk_base.specs.Agreements.{Agree}
 use Rattle.kk_base.specs.Machines.{Machine, state}
@@ -7,12 +7,13 @@ use Rattle.kk_syntax.specs.PositionsOf.{PositionTable}
 use Rattle.kk_syntax.specs.Programs.{ProgramTree}
 use Rattle.kk_source.specs.Ends.{exit_of}
 use Rattle.kk_source.specs.Notes.{Note, events_of}
+use Rattle.kk_source.specs.Settings.{setting_of}
 use Rattle.kk_source.specs.SourceAfter.{step, ending_of, first_state, State}
 use Rattle.kk_source.specs.State.{Setting, End, ended}
 use Rattle.kk_norm.specs.Meaning.{heavy_store_machine}
 use Rattle.kk_counted.specs.CountedCodes.{CountedProgram}
 use Rattle.kk_counted.specs.CountedCosts.{counted_cost}
-use Rattle.kk_counted.specs.CountedMachine.{counted_step, counted_ending_of, counted_machine}
+use Rattle.kk_counted.specs.CountedMachine.{counted_machine}
 use Rattle.kk_counted.specs.CountedStates.{CountedControl, CountedSetting, CountedState, CountedConfiguration, stopped}
 use Rattle.kk_counted.specs.CountedStates.{counted_first_state}
 use Rattle.kk_counted.specs.Heaps.{busy}
@@ -21,21 +22,17 @@ use Rattle.kk_middle.specs.Meaning.{KeepsMeaning}
 use Rattle.elf_image.specs.Loaded.{IsLoaded}
 use Rattle.elf_image.specs.Parts.{memory_of}
 use Rattle.elf_image.specs.declared.part.Part.{Part}
-use Rattle.rv_cells.specs.Costs.{instructions_each, counted_instructions}
 use Rattle.rv_cells.specs.Meaning.{counted_outside}
 use Rattle.rv_isa.specs.Execution.{rv32im}
 use Rattle.rv_isa.specs.InstructionSet.{run_over}
 use Rattle.rv_isa.specs.Processor.{Processor, exited, start, goes}
 use Rattle.rv_isa.specs.ProcessorMachine.{processor_machine}
 use Rattle.rv_place.specs.Images.{outside_lines}
-use Rattle.kk_back.specs.CountedImages.{counted_setting, IsCountedImageOf}
+use Rattle.kk_back.specs.Images.{counted_setting, IsImageOf}
 use Rattle.kk_build.specs.Agreement.{Agrees, instructions_within, IsBounded, LeavesNoCell}
-use Rattle.kk_build.specs.Built.{setting_of}
-use Rattle.kk_build.proofs.Agreeing.{differ}
-use Rattle.kk_build.proofs.Endings.{exited_is, counted_stopped}
+use Rattle.kk_build.proofs.Endings.{exited_is, counted_stopped, differ}
 use Rattle.kk_build.proofs.Loading.{outside, RunAgrees, RunKeepsUp, RunLeavesNone, agrees_as_loaded, keeps_as_loaded, leaves_as_loaded}
 use Rattle.kk_build.proofs.Numbers.{counted_within}
-use Rattle.kk_build.proofs.Scaled.{agree_scaled}
 use Rattle.kk_build.proofs.Weighed.{same_endings, agrees_weighed, keeps_up_weighed}
 
 -- where a run has ended by itself no cell is counted
@@ -44,7 +41,7 @@ no_cell by c is stops clean =
     subst (λ (control : CountedControl). EndsClean control c.heap) (stops ∙ ap stopped is) clean
 
 module _ (program : ProgramTree) (table positions : PositionTable) (code : CountedProgram) (greatest : ℕ) (up : ℕ → ℕ)
-    (cells depth entry : ℕ) (parts : List Part) (image : IsCountedImageOf code cells depth entry parts)
+    (cells depth entry : ℕ) (parts : List Part) (image : IsImageOf code cells depth entry parts)
     (keeps : (input : List ℕ)
     → KeepsMeaning (setting_of program table cells depth) positions (counted_setting code cells depth) greatest up input) where
   abbrev setting : Setting
@@ -53,16 +50,13 @@ module _ (program : ProgramTree) (table positions : PositionTable) (code : Count
   abbrev counted : CountedSetting
   counted = counted_setting code cells depth
 
-  -- the counted machine, by the instructions of its steps
+  -- the counted machine, by the costs of its steps
   abbrev weighed : Machine CountedState Note End
-  weighed = counted_machine counted_instructions counted
+  weighed = counted_machine counted_cost counted
 
-  -- what a step of the program pays, by a number of nodes that no body passes: for the counted steps, and for their instructions
-  abbrev pays : ℕ → ℕ
-  pays nodes = 256 * (nodes * nodes)
-
+  -- what a step of the program pays, by a number of nodes that no body passes
   abbrev most : ℕ → ℕ
-  most nodes = instructions_each * pays nodes
+  most nodes = 256 * (nodes * nodes)
 
   module _ (nodes : ℕ) (few : greatest ≤ nodes) (input : List ℕ) (bytes : All (λ byte. byte < 256) input) where
     abbrev loaded : Processor
@@ -79,9 +73,7 @@ module _ (program : ProgramTree) (table positions : PositionTable) (code : Count
 
     -- the counted machine, by the notes of both
     agree : Agree (heavy_store_machine (most nodes) setting) weighed 0 up source first
-    agree =
-        agree_scaled instructions_each (λ (s : State). pays nodes) ending_of (step setting) counted_cost counted_ending_of
-        (counted_step counted) 0 up source first ((keeps input).agrees nodes few)
+    agree = (keeps input).agrees nodes few
 
     -- the processor's machine, as the world sees both
     whole : Agree (outside (heavy_store_machine (most nodes) setting)) (processor_machine rv32im) outside_lines up_whole source (goes loaded)
@@ -97,7 +89,7 @@ module _ (program : ProgramTree) (table positions : PositionTable) (code : Count
         agrees_weighed rv32im (most nodes) ending_of (step setting) events_of exit_of outside_lines up_whole source
         loaded whole refl differ
 
-    image_is_bounded : 1 ≤ nodes → RunKeepsUp (instructions_within nodes) setting parts entry input
+    image_is_bounded : 1 ≤ nodes → RunKeepsUp nodes setting parts entry input
     image_is_bounded some =
         keeps_up_weighed rv32im (most nodes) ending_of (step setting) events_of exit_of outside_lines up_whole source
         loaded whole refl (instructions_within nodes) (λ n. counted_within nodes n some)
@@ -108,7 +100,7 @@ module _ (program : ProgramTree) (table positions : PositionTable) (code : Count
         let last = state weighed does.steps first in
         let same = same_endings (λ (s : State). most nodes) ending_of (step setting) n source in
         let stops = counted_stopped last.machine.control ended (does.ending_is ∙ same ∙ is) in
-        let clean = (keeps input).clean counted_instructions does.steps in
+        let clean = (keeps input).clean counted_cost does.steps in
         let leaves = image.leaves_cells input bytes does.steps ended stops (no_cell ended last.machine refl stops clean) in
         (leaves.0, exited_is (run_over rv32im leaves.0 loaded).ending (exit_of ended) leaves.1.0, leaves.1.1)
 
@@ -122,4 +114,4 @@ module _ (program : ProgramTree) (table positions : PositionTable) (code : Count
 
     pub file_is_bounded : (nodes : ℕ) → greatest ≤ nodes → 1 ≤ nodes → IsBounded nodes file setting
     file_is_bounded nodes few some =
-        keeps_as_loaded loads setting (instructions_within nodes) (λ input bytes. image_is_bounded nodes few input bytes some)
+        keeps_as_loaded loads setting nodes (λ input bytes. image_is_bounded nodes few input bytes some)

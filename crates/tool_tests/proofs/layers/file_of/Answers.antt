@@ -6,10 +6,10 @@ use Rattle.kk_source.specs.Settings.{setting_of}
 use Rattle.kk_counted.specs.Programs.{program_of}
 use Rattle.kk_middle.specs.Compiled.{instance_positions}
 use Rattle.kk_middle.specs.Meaning.{store_steps}
-use Rattle.kk_back.specs.CountedImages.{IsRunnable}
+use Rattle.kk_back.specs.Images.{IsRunnable}
 use Rattle.kk_build.proofs.LentNames.{keeps_lent}
 use Rattle.kk_build.proofs.Runnable.{runnable}
-use Rattle.tool_tests.proofs.layers.counted_file.Goals as goal
+use Rattle.tool_tests.proofs.layers.file_of.Goals as goal
 
 pub compile-requires-clause-checked : goal.compile-requires-clause-checked
 compile-requires-clause-checked c =
@@ -22,8 +22,8 @@ compile-requires-clause-lent c positions least =
     let resolved = c.accepted_programs_are_typed.ensures.resolved _ program c.in-Ok.ensures.program in
     keeps_lent resolved.0.declarations program resolved.1 positions
 
-pub counted_image-requires-clause-runnable : goal.counted_image-requires-clause-runnable
-counted_image-requires-clause-runnable c =
+pub image-requires-clause-runnable : goal.image-requires-clause-runnable
+image-requires-clause-runnable c =
     let typed = c.in-Ok.accepted.typed in
     let given = c.in-Ok.accepted.instances in
     let program = program_tree typed.program in
@@ -38,6 +38,7 @@ counted_image-requires-clause-runnable c =
     (instance_positions given compiled.table) (greatest_nodes (ground_program given)) (store_steps (ground_program given))
     record { few_cells = omega arith; some_depth = omega arith; small_depth = omega arith }
     (c.compiled_programs_can_be_lowered.ensures typed given made checked is_given compiled lent)
+    (c.compiled_programs_are_short.ensures typed given made checked is_given compiled)
     (c.compiled_programs_are_marked.ensures typed given made checked is_given compiled) compiled.numbers
     (c.compiled_programs_keep_meaning.ensures typed given made checked is_given compiled lent 65536 4096)
     (c.compiled_programs_have_their_kinds.ensures typed given made checked is_given compiled lent 65536 4096))

@@ -1,0 +1,280 @@
+-- The lines of forms are short: each is so many instructions at most.
+use Rattle.std.proofs.Common.{◌≡◌, ℕ, suc, ◌+◌, ◌*◌, ◌≤◌, Bool, true, false, not, List, [], ◌∷◌, ◌++◌, length, Some, refl, ap, arith}
+use Rattle.std.specs.Prelude.{filter, if◌then◌else◌}
+use Rattle.kk_syntax.specs.declared.operator.BinaryOperator.{BinaryOperator}
+use Rattle.kk_syntax.specs.declared.operator.BinaryOperator.TheVariants as OfBinary
+use Rattle.kk_syntax.specs.declared.operator.UnaryOperator.{UnaryOperator}
+use Rattle.kk_syntax.specs.declared.operator.UnaryOperator.TheVariants.{Negate, Not}
+use Rattle.kk_syntax.specs.declared.program.Form.{Form}
+use Rattle.kk_syntax.specs.declared.program.Form.TheVariants.{Number, Unit as Nothing, ReadByte, PrintText, Unary, Binary, Print, Construct, Call}
+use Rattle.kk_syntax.specs.Programs.{text_at}
+use Rattle.kk_syntax.specs.Shapes.{is_among}
+use Rattle.kk_source.specs.FormEffects.{piece_of}
+use Rattle.kk_counted.specs.Lowerable.{HasArity}
+use Rattle.kk_counted.specs.Marks.{CellMarks, field_marks, HaveMarks, IsFormMarked}
+use Rattle.rv_isa.specs.declared.asm.Action.TheVariants.{Label, TailCall, Call as Calls}
+use Rattle.rv_isa.specs.declared.asm.ImmediateOperation.{ImmediateOperation}
+use Rattle.rv_isa.specs.declared.asm.ImmediateOperation.TheVariants.{Addi, Sltiu, Xori}
+use Rattle.rv_isa.specs.declared.asm.Operation.TheVariants as Op
+use Rattle.rv_isa.specs.declared.asm.RegisterOperation.TheVariants as Register
+use Rattle.rv_isa.specs.AsmCode.{Line}
+use Rattle.rv_isa.specs.Costs.{line_length, code_length}
+use Rattle.rv_lower.specs.Lines.{computes, sets, acts, registers, copies, temporaries}
+use Rattle.rv_lower.specs.Lowered.{tail_lines}
+use Rattle.rv_lower.specs.Lines.{MakesTruth, Compares, ComparesWithOne, BinaryLines, PrintLines, AppliedLines}
+use Rattle.rv_cells.specs.Layout.{header_of}
+use Rattle.rv_cells.specs.CellLines.{Loads, Stores, AllLoads, AllStores, dup_lines, drop_lines, dups_lines, drops_lines}
+use Rattle.rv_cells.specs.CellLines.{ConstructLines, OpenLines, UniqueLines}
+use Rattle.rv_cells.specs.CountedLines.{Setting, ComputeLines}
+use Rattle.rv_cells.specs.Written.{free_lines}
+
+pub lines_append : (first second : List Line) → code_length (first ++ second) ≡ code_length first + code_length second
+lines_append [] second = omega arith
+lines_append (line ∷ first) second = omega (arith, lines_append first second)
+
+-- ---- words of cells
+
+pub load_length : (cell i into : ℕ) (line : Line) → Loads cell i into line → line_length line ≡ 3
+load_length cell i into line is = ap line_length is.2
+
+store_length : (cell i from : ℕ) (line : Line) → Stores cell i from line → line_length line ≡ 3
+store_length cell i from line is = ap line_length is.2
+
+pub loads_length : (cell i : ℕ) (xs : List ℕ) (lines : List Line) → AllLoads cell i xs lines → code_length lines ≡ 3 * length xs
+loads_length cell i [] lines is = let empty = ap code_length is in omega (arith, empty)
+loads_length cell i (x ∷ xs) lines is =
+    let whole = ap code_length is.4 in
+    let one = load_length cell i x is.0 is.2 in
+    let more = loads_length cell (suc i) xs is.1 is.3 in omega (arith, whole, one, more)
+
+stores_length : (cell i : ℕ) (xs : List ℕ) (lines : List Line) → AllStores cell i xs lines → code_length lines ≡ 3 * length xs
+stores_length cell i [] lines is = let empty = ap code_length is in omega (arith, empty)
+stores_length cell i (x ∷ xs) lines is =
+    let whole = ap code_length is.4 in
+    let one = store_length cell i x is.0 is.2 in
+    let more = stores_length cell (suc i) xs is.1 is.3 in omega (arith, whole, one, more)
+
+-- ---- references
+
+filter_few : (takes : ℕ → Bool) (xs : List ℕ) → length (filter takes xs) ≤ length xs
+filter_few takes [] = omega arith
+filter_few takes (x ∷ xs) = by (takes x) (filter_few takes xs)
+  where
+    by : (t : Bool) → length (filter takes xs) ≤ length xs
+        → length (if t then x ∷ filter takes xs else filter takes xs) ≤ suc (length xs)
+    by true few = omega (arith, few)
+    by false few = omega (arith, few)
+
+module _ (holds : ℕ → Bool) where
+  pub dup_length : (x : ℕ) → code_length (dup_lines holds x) ≤ 6
+  dup_length x = by (holds x)
+    where
+      by : (t : Bool) → code_length (dup_lines (λ y. t) x) ≤ 6
+      by true = omega arith
+      by false = omega arith
+
+  pub drop_length : (base x : ℕ) → code_length (drop_lines base holds x) ≤ 6
+  drop_length base x = by (holds x)
+    where
+      by : (t : Bool) → code_length (drop_lines base (λ y. t) x) ≤ 6
+      by true = omega arith
+      by false = omega arith
+
+  dups_length : (xs : List ℕ) → code_length (dups_lines holds xs) ≤ 6 * length xs
+  dups_length [] = omega arith
+  dups_length (x ∷ xs) =
+      let whole = lines_append (dup_lines holds x) (dups_lines holds xs) in
+      let one = dup_length x in
+      let more = dups_length xs in omega (arith, whole, one, more)
+
+  drops_length : (base : ℕ) (xs : List ℕ) → code_length (drops_lines base holds xs) ≤ 6 * length xs
+  drops_length base [] = omega arith
+  drops_length base (x ∷ xs) =
+      let whole = lines_append (drop_lines base holds x) (drops_lines base holds xs) in
+      let one = drop_length base x in
+      let more = drops_length base xs in omega (arith, whole, one, more)
+
+  -- ---- forms that touch cells
+
+  pub open_length : (base x : ℕ) (fields used : List ℕ) (lines : List Line) → OpenLines base holds x fields used lines
+      → length fields ≤ 6 → code_length lines ≤ 60
+  open_length base x fields used lines is few =
+      let dupped : List ℕ = filter (is_among used) fields in
+      let whole = ap code_length is.2 in
+      let apart = lines_append is.0 (dups_lines holds dupped ++ drop_lines base holds x) in
+      let behind = lines_append (dups_lines holds dupped) (drop_lines base holds x) in
+      let loads = loads_length x 2 fields is.0 is.1 in
+      let dups = dups_length dupped in
+      let drop = drop_length base x in
+      let fewer = filter_few (is_among used) fields in omega (arith, whole, apart, behind, loads, dups, drop, fewer, few)
+
+  -- both ways of an opening by the count of a cell
+  pub unique_length : (base shared behind x : ℕ) (fields used : List ℕ) (lines : List Line)
+      → UniqueLines base holds shared behind x fields used lines → length fields ≤ 6 → code_length lines ≤ 134
+  unique_length base shared behind x fields used lines is few =
+      let kept : List ℕ = filter (is_among used) fields in
+      let others : List ℕ = filter (λ y. not (is_among used y)) fields in
+      let dropped : List Line = drops_lines base holds others in
+      let dupped : List Line = dups_lines holds kept in
+      let freed : List Line = free_lines x behind in
+      let lowered : List Line = is.2 ∷ computes (Op.Immediate Addi is.3) (base ∷ []) base ∷ is.4 ∷ dupped in
+      let alone : List Line = is.1 ++ (dropped ++ freed) in
+      let shares : List Line = acts (Label shared) [] ∷ (is.1 ++ lowered) in
+      let last : List Line = acts (Label behind) [] ∷ [] in
+      let whole = ap code_length is.10 in
+      let apart = lines_append alone (shares ++ last) in
+      let ending = lines_append shares last in
+      let first = lines_append is.1 (dropped ++ freed) in
+      let frees = lines_append dropped freed in
+      let second = lines_append is.1 lowered in
+      let test = load_length x 0 base is.0 is.5 in
+      let loads = loads_length x 2 fields is.1 is.6 in
+      let count = load_length x 0 base is.2 is.7 in
+      let store = store_length x 0 base is.4 is.9 in
+      let drops = drops_length base others in
+      let dups = dups_length kept in
+      let few_kept = filter_few (is_among used) fields in
+      let few_others = filter_few (λ y. not (is_among used y)) fields in
+      omega (
+        arith,
+        whole,
+        apart,
+        ending,
+        first,
+        frees,
+        second,
+        test,
+        loads,
+        count,
+        store,
+        drops,
+        dups,
+        few_kept,
+        few_others,
+        few,
+      )
+
+construct_length : (base x header : ℕ) (arguments : List ℕ) (lines : List Line) → ConstructLines base x header arguments lines
+    → length arguments ≤ 6 → code_length lines ≤ 33
+construct_length base x header arguments lines is few =
+    let whole = ap code_length is.6 in
+    let apart = lines_append is.1 (sets 1 base ∷ is.2 ∷ []) in
+    let head = store_length x 1 base is.0 is.3 in
+    let fields = stores_length x 2 arguments is.1 is.4 in
+    let count = store_length x 0 base is.2 is.5 in omega (arith, whole, apart, head, fields, count, few)
+
+-- ---- operators
+
+truth_length : (x : ℕ) (lines : List Line) → MakesTruth x lines → code_length lines ≡ 6
+truth_length x lines is = ap code_length is.4
+
+compares_length : (x : ℕ) (first lines : List Line) → Compares x first lines → code_length lines ≡ code_length first + 6
+compares_length x first lines is =
+    let whole = ap code_length is.2 in
+    let apart = lines_append first is.0 in
+    let truth = truth_length x is.0 is.1 in omega (arith, whole, apart, truth)
+
+-- one more line behind the first one, whose length is this
+with_one_length : (further : ImmediateOperation) (x : ℕ) (first : Line) (lines : List Line) → line_length first ≡ 4
+    → ComparesWithOne further x first lines → code_length lines ≡ 13
+with_one_length further x first lines size is =
+    let whole = compares_length x (first ∷ computes (Op.Immediate further is.0) (x ∷ []) x ∷ []) lines is.2 in
+    omega (arith, whole, size)
+
+binary_length : (base x : ℕ) (operator : BinaryOperator) (a b : ℕ) (lines : List Line) → BinaryLines base x operator a b lines
+    → code_length lines ≤ 17
+binary_length base x OfBinary.Add a b lines is = let whole = ap code_length is in omega (arith, whole)
+binary_length base x OfBinary.Subtract a b lines is = let whole = ap code_length is in omega (arith, whole)
+binary_length base x OfBinary.Multiply a b lines is = let whole = ap code_length is in omega (arith, whole)
+binary_length base x OfBinary.Remainder a b lines is = let whole = ap code_length is in omega (arith, whole)
+binary_length base x OfBinary.Divide a b lines is = let whole = ap code_length is in omega (arith, whole)
+binary_length base x OfBinary.Equal a b lines is =
+    let whole = with_one_length Sltiu x (registers x a b (Op.Register Register.Sub)) lines refl is in omega (arith, whole)
+binary_length base x OfBinary.NotEqual a b lines is =
+    let whole = compares_length x (registers x a b (Op.Register Register.Sub) ∷ sets 0 base ∷ registers x base x
+        (Op.Register Register.Sltu) ∷ []) lines is in omega (arith, whole)
+binary_length base x OfBinary.Less a b lines is =
+    let whole = compares_length x (registers x a b (Op.Register Register.Slt) ∷ []) lines is in omega (arith, whole)
+binary_length base x OfBinary.Greater a b lines is =
+    let whole = compares_length x (registers x b a (Op.Register Register.Slt) ∷ []) lines is in omega (arith, whole)
+binary_length base x OfBinary.LessEqual a b lines is =
+    let whole = with_one_length Xori x (registers x b a (Op.Register Register.Slt)) lines refl is in omega (arith, whole)
+binary_length base x OfBinary.GreaterEqual a b lines is =
+    let whole = with_one_length Xori x (registers x a b (Op.Register Register.Slt)) lines refl is in omega (arith, whole)
+
+unary_length : (base x : ℕ) (operator : UnaryOperator) (arguments : List ℕ) (lines : List Line) → length arguments ≡ 1
+    → AppliedLines base x (Unary operator) arguments lines → code_length lines ≤ 7
+unary_length base x operator [] lines arity is = absurd (omega (arith, arity))
+unary_length base x Negate (a ∷ []) lines arity is = let whole = ap code_length is in omega (arith, whole)
+unary_length base x Not (a ∷ []) lines arity is = let whole = ap code_length is.2 in omega (arith, whole)
+unary_length base x operator (a ∷ b ∷ more) lines arity is = absurd (omega (arith, arity))
+
+-- ---- calls
+
+copies_length : (base : ℕ) (xs : List ℕ) → code_length (copies base xs) ≡ 3 * length xs
+copies_length base [] = omega arith
+copies_length base (x ∷ xs) = let more = copies_length (base + 1) xs in omega (arith, more)
+
+temporaries_length : (base : ℕ) (xs : List ℕ) → length (temporaries base xs) ≡ length xs
+temporaries_length base [] = omega arith
+temporaries_length base (x ∷ xs) = let more = temporaries_length (base + 1) xs in omega (arith, more)
+
+call_length : (base x f : ℕ) (arguments : List ℕ) (lines : List Line) → length arguments ≤ 8
+    → AppliedLines base x (Call f) arguments lines → code_length lines ≤ 48
+call_length base x f arguments lines few is =
+    let call : Line = record { action = Calls f; args = temporaries base arguments; into = Some x } in
+    let whole = ap code_length is in
+    let apart = lines_append (copies base arguments) (call ∷ []) in
+    let copied = copies_length base arguments in
+    let handed = temporaries_length base arguments in omega (arith, whole, apart, copied, handed, few)
+
+pub tail_length : (base f : ℕ) (arguments : List ℕ) → length arguments ≤ 8 → code_length (tail_lines base f arguments) ≤ 42
+tail_length base f arguments few =
+    let apart = lines_append (copies base arguments) (acts (TailCall f) (temporaries base arguments) ∷ []) in
+    let copied = copies_length base arguments in
+    let handed = temporaries_length base arguments in omega (arith, apart, copied, handed, few)
+
+-- ---- forms on variables
+
+print_length : (base : ℕ) (texts : List (List ℕ)) (bytes : List ℕ) (lines : List Line) → PrintLines base texts bytes lines
+    → code_length lines ≤ 10
+print_length base texts [] lines is = let whole = ap code_length is in omega (arith, whole)
+print_length base texts (byte ∷ bytes) lines is = let whole = ap code_length is.2 in omega (arith, whole)
+
+-- variables are as many as the marks that they have
+pub marks_many : (holds : ℕ → Bool) (xs : List ℕ) (marks : List Bool) → HaveMarks holds xs marks → length xs ≡ length marks
+marks_many holds [] [] are = omega arith
+marks_many holds [] (mark ∷ more) are = absurd are
+marks_many holds (x ∷ xs) [] are = absurd are
+marks_many holds (x ∷ xs) (mark ∷ more) are = let rest = marks_many holds xs more are.1 in omega (arith, rest)
+
+module _ (setting : Setting) (table : CellMarks) (narrow : (c : ℕ) → length (field_marks table c) ≤ 6) where
+  pub form_short : (x : ℕ) (form : Form) (arguments : List ℕ) (mark : Bool) (lines : List Line) → HasArity form arguments
+      → IsFormMarked table setting.holds form arguments mark → ComputeLines setting x form arguments lines
+      → code_length lines ≤ 200
+  form_short x (Number value) arguments mark lines arity marked is = let whole = ap code_length is.3 in omega (arith, whole)
+  form_short x Nothing arguments mark lines arity marked is = let whole = ap code_length is in omega (arith, whole)
+  form_short x ReadByte arguments mark lines arity marked is = let whole = ap code_length is in omega (arith, whole)
+  form_short x (PrintText how text) arguments mark lines arity marked is =
+      let whole = ap code_length is.2 in
+      let apart = lines_append is.0 (sets 1 x ∷ []) in
+      let print = print_length setting.base setting.texts.constants (piece_of how (text_at setting.texts.literals text)) is.0 is.1 in
+      omega (arith, whole, apart, print)
+  form_short x (Unary operator) arguments mark lines arity marked is =
+      let whole = unary_length setting.base x operator arguments lines arity is in omega (arith, whole)
+  form_short x (Binary operator) [] mark lines arity marked is = absurd (omega (arith, arity))
+  form_short x (Binary operator) (a ∷ []) mark lines arity marked is = absurd (omega (arith, arity))
+  form_short x (Binary operator) (a ∷ b ∷ []) mark lines arity marked is =
+      let whole = binary_length setting.base x operator a b lines is in omega (arith, whole)
+  form_short x (Binary operator) (a ∷ b ∷ c ∷ more) mark lines arity marked is = absurd (omega (arith, arity))
+  form_short x (Print how) [] mark lines arity marked is = absurd (omega (arith, arity))
+  form_short x (Print how) (a ∷ []) mark lines arity marked is = let whole = ap code_length is in omega (arith, whole)
+  form_short x (Print how) (a ∷ b ∷ more) mark lines arity marked is = absurd (omega (arith, arity))
+  form_short x (Construct c) [] mark lines arity marked is = let whole = ap code_length is in omega (arith, whole)
+  form_short x (Construct c) (a ∷ arguments) mark lines arity marked is =
+      let many = marks_many setting.holds (a ∷ arguments) (field_marks table c) marked.0 in
+      let few = narrow c in
+      let whole = construct_length setting.base x (header_of setting.layout c) (a ∷ arguments) lines is (omega (arith, many, few)) in
+      omega (arith, whole)
+  form_short x (Call f) arguments mark lines arity marked is =
+      let whole = call_length setting.base x f arguments lines (omega (arith, arity)) is in omega (arith, whole)
