@@ -9,3 +9,4 @@ pub mod Numbers
 pub mod Runnable
 pub mod Runs
 pub mod Weighed
+pub mod WithoutLimits

@@ -3,3 +3,4 @@ pub mod Built
 pub mod ImageAfter
 pub mod Images
 pub mod SourceMeaning
+pub mod WithoutLimits

@@ -1,6 +1,8 @@
 //! From the bytes of a text to the bytes of its image.
 #![tactic(auto)]
 
+mod law;
+
 ghost use Rattle.std.specs.Prelude.{IfOk, IfErr};
 ghost use Rattle.kk_base.specs.Sizes.{AreSizes};
 ghost use Rattle.kk_syntax.specs.Checked.{IsChecked};
@@ -23,6 +25,7 @@ use kk_middle::{
     compiled_programs_keep_meaning,
 };
 use kk_syntax::Accepted;
+pub use law::images_follow_their_programs_without_limits;
 use rv_cells::judged_programs_are_fit;
 use std::alloc::Global;
 
