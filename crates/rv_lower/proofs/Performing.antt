@@ -114,7 +114,6 @@ module _ (target : Target) where
   -- what a form does: it gives a value of a type, and leaves the world with these events
   pub record Performs (own : List Line) (x : ℕ) (t : TypeTree) (v : Value) (cells : ℕ → Option ℕ) (world world' : World) (events : List Event) : Type 0 where
     pub steps : ℕ
-    pub some : 1 ≤ steps
     pub cost : ℕ
     pub cheap : cost ≤ most_cost
     pub cells' : ℕ → Option ℕ
@@ -124,12 +123,11 @@ module _ (target : Target) where
     pub is : IsWordOf t v word
     pub runs : (whole rest : List Line) (into : Option ℕ) (fs : List (Frame Line)) → Run cost steps events (turn_at whole (own ++ rest) cells into fs world) (turn_at whole rest cells' into fs world')
 
-  pub performs : (n : ℕ) (own : List Line) (x : ℕ) (t : TypeTree) (v : Value) (cells : ℕ → Option ℕ) (world : World) (word : ℕ) → 1 ≤ n → n ≤ 8 → Gives n own x word cells → IsWordOf t v word
+  pub performs : (n : ℕ) (own : List Line) (x : ℕ) (t : TypeTree) (v : Value) (cells : ℕ → Option ℕ) (world : World) (word : ℕ) → n ≤ 8 → Gives n own x word cells → IsWordOf t v word
       → Performs own x t v cells world world []
-  performs n own x t v cells world word some few gives is =
+  performs n own x t v cells world word few gives is =
       record {
         steps = n;
-        some = some;
         cost = n * word_cost;
         cheap = omega (arith, few);
         cells' = gives.cells';
@@ -158,7 +156,7 @@ module _ (target : Target) where
   compared : (n : ℕ) (first own : List Line) (x : ℕ) (b : Bool) (cells : ℕ → Option ℕ) (world : World) → n ≤ 6 → Gives n first x (bit_of b) cells → Compares x first own → Performs own x bool (truth b) cells world world []
   compared n first own x b cells world few gives compares =
       subst (λ lines. Performs lines x bool (truth b) cells world world []) (sym compares.2)
-      (performs (n + 1 + 1) (first ++ compares.0) x bool (truth b) cells world (truth_word b) (omega arith) (omega arith) (truth_given n first compares.0 x b cells gives compares.1) (b, refl, refl))
+      (performs (n + 1 + 1) (first ++ compares.0) x bool (truth b) cells world (truth_word b) (omega arith) (truth_given n first compares.0 x b cells gives compares.1) (b, refl, refl))
 
   compared_not : (first : Line) (own : List Line) (x : ℕ) (b : Bool) (cells : ℕ → Option ℕ) (world : World) → Gives 1 (first ∷ []) x (bit_of b) cells → ComparesNot x first own → Performs own x bool (truth (not b)) cells world world []
   compared_not first own x b cells world gives compares =
@@ -179,7 +177,7 @@ module _ (target : Target) where
       → computed target.constants operation (first ∷ second ∷ []) ≡ Some word → signed word ≡ n → word < 2 ^ 32 → own ≡ registers x a b operation ∷ [] → Performs own x int32 (integer n) cells world world []
   integer_performs own operation x a b first second word n cells world at_a at_b computed_is follows fits own_is =
       subst (λ lines. Performs lines x int32 (integer n) cells world world []) (sym own_is)
-      (performs 1 (registers x a b operation ∷ []) x int32 (integer n) cells world word (omega arith) (omega arith) (registers_give operation x a b first second word cells at_a at_b computed_is) (ap integer (sym follows), fits))
+      (performs 1 (registers x a b operation ∷ []) x int32 (integer n) cells world word (omega arith) (registers_give operation x a b first second word cells at_a at_b computed_is) (ap integer (sym follows), fits))
 
   -- division, whose quotient is 0 where the divisor is
   division : (base x a b first second : ℕ) (cells : ℕ → Option ℕ) → x < base → a < x → b < x → cells a ≡ Some first → cells b ≡ Some second
@@ -243,7 +241,7 @@ module _ (target : Target) where
   binary_performs base x Divide a b first second own cells world above under_a under_b at_a at_b ha hb lines =
       let n : ℤ = quotient_of (signed first) (signed second) in
       subst (λ some. Performs some x int32 (integer n) cells world world []) (sym lines)
-      (performs 4 (registers x a b (Op.Register Register.Div) ∷ sets 0 base ∷ registers base base b (Op.Register Register.Sltu) ∷ registers x x base (Op.Register Register.Mul) ∷ []) x int32 (integer n) cells world (divided first second) (omega arith) (omega arith) (division base x a b first second cells above under_a under_b at_a at_b)
+      (performs 4 (registers x a b (Op.Register Register.Div) ∷ sets 0 base ∷ registers base base b (Op.Register Register.Sltu) ∷ registers x x base (Op.Register Register.Mul) ∷ []) x int32 (integer n) cells world (divided first second) (omega arith) (division base x a b first second cells above under_a under_b at_a at_b)
       (ap integer (sym (quotient_follows first second hb)), product_fits (quotient_signed first second) (bit_of (nat_lt 0 second))))
   binary_performs base x Equal a b first second own cells world above under_a under_b at_a at_b ha hb lines =
       let one : ImmediateWord = lines.0 in
@@ -288,13 +286,13 @@ module _ (target : Target) where
       } in
       let n : ℤ = negation_of (signed word) in
       subst (λ some. Performs some x int32 (integer n) cells world world []) (sym lines)
-      (performs 2 (sets 0 base ∷ second) x int32 (integer n) cells world less (omega arith) (omega arith) given (ap integer (sym (negation_follows word ha)), difference_fits 0 word))
+      (performs 2 (sets 0 base ∷ second) x int32 (integer n) cells world less (omega arith) given (ap integer (sym (negation_follows word ha)), difference_fits 0 word))
 
   pub unary_performs_not : (x a : ℕ) (b : Bool) (two : ImmediateWord) (own : List Line) (cells : ℕ → Option ℕ) (world : World) → cells a ≡ Some (truth_word b) → two.word ≡ 2
       → own ≡ computes (Op.Immediate Immediate.Xori two) (a ∷ []) x ∷ [] → Performs own x bool (truth (not b)) cells world world []
   unary_performs_not x a b two own cells world at_a two_is lines =
       subst (λ some. Performs some x bool (truth (not b)) cells world world []) (sym lines)
-      (performs 1 (computes (Op.Immediate Immediate.Xori two) (a ∷ []) x ∷ []) x bool (truth (not b)) cells world (truth_word (not b)) (omega arith) (omega arith)
+      (performs 1 (computes (Op.Immediate Immediate.Xori two) (a ∷ []) x ∷ []) x bool (truth (not b)) cells world (truth_word (not b)) (omega arith)
       (gives_one (Op.Immediate Immediate.Xori two) (a ∷ []) x cells (truth_word b ∷ []) (truth_word (not b)) (omega arith) (reads_one cells a (truth_word b) at_a)
       (ap (λ k. Some (bit_xor (truth_word b) k)) two_is ∙ ap (λ (w : ℕ). Some w) (not_follows b))) (not b, refl, refl))
 
@@ -302,7 +300,7 @@ module _ (target : Target) where
   pub sets_performs : (x word : ℕ) (t : TypeTree) (v : Value) (own : List Line) (cells : ℕ → Option ℕ) (world : World) → IsWordOf t v word → own ≡ sets word x ∷ [] → Performs own x t v cells world world []
   sets_performs x word t v own cells world is lines =
       subst (λ some. Performs some x t v cells world world []) (sym lines)
-      (performs 1 (sets word x ∷ []) x t v cells world word (omega arith) (omega arith) (gives_one (Op.Li word) [] x cells [] word (omega arith) refl refl) is)
+      (performs 1 (sets word x ∷ []) x t v cells world word (omega arith) (gives_one (Op.Li word) [] x cells [] word (omega arith) refl refl) is)
 
   -- ---- routines
 
@@ -326,7 +324,6 @@ module _ (target : Target) where
   routine_performs routine n first_lines a b x first second events cells middle world few changes kept at_a at_b serves light =
       record {
         steps = n + 2;
-        some = omega arith;
         cost = n * word_cost + (print_cost + word_cost);
         cheap = omega (arith, few);
         cells' = put x (Some unit_word) middle;
@@ -416,7 +413,6 @@ module _ (target : Target) where
   read_runs x word left own cells world serves is =
       record {
         steps = 1;
-        some = omega arith;
         cost = most_cost;
         cheap = omega arith;
         cells' = put x (Some word) cells;
