@@ -37,7 +37,7 @@ use Rattle.rv_lower.specs.Lines.{computes, sets, copies_to, acts, registers, uni
 use Rattle.rv_lower.proofs.Words.{truth_word, divided, sum_follows, difference_follows, product_follows, negation_follows, quotient_follows, remainder_follows, remainder_fits, sum_fits, difference_fits, product_fits, truth_follows, not_follows, opposite_follows, equal_follows, unequal_follows, at_most_follows}
 use Rattle.rv_lower.proofs.Printing.{int_printed, few_steps_of, text_found}
 use Rattle.rv_lower.proofs.Following.{IsWordOf, frame_at, turn_at}
-use Rattle.rv_lower.proofs.Runs.{Target, word_cost, most_cost}
+use Rattle.rv_lower.proofs.Runs.{Target, word_cost, print_cost, most_cost}
 use Rattle.rv_lower.proofs.Runs as Runs
 
 -- ---- cells
@@ -114,7 +114,6 @@ module _ (target : Target) where
   -- what a form does: it gives a value of a type, and leaves the world with these events
   pub record Performs (own : List Line) (x : ℕ) (t : TypeTree) (v : Value) (cells : ℕ → Option ℕ) (world world' : World) (events : List Event) : Type 0 where
     pub steps : ℕ
-    pub some : 1 ≤ steps
     pub cost : ℕ
     pub cheap : cost ≤ most_cost
     pub cells' : ℕ → Option ℕ
@@ -124,12 +123,11 @@ module _ (target : Target) where
     pub is : IsWordOf t v word
     pub runs : (whole rest : List Line) (into : Option ℕ) (fs : List (Frame Line)) → Run cost steps events (turn_at whole (own ++ rest) cells into fs world) (turn_at whole rest cells' into fs world')
 
-  pub performs : (n : ℕ) (own : List Line) (x : ℕ) (t : TypeTree) (v : Value) (cells : ℕ → Option ℕ) (world : World) (word : ℕ) → 1 ≤ n → n ≤ 8 → Gives n own x word cells → IsWordOf t v word
+  pub performs : (n : ℕ) (own : List Line) (x : ℕ) (t : TypeTree) (v : Value) (cells : ℕ → Option ℕ) (world : World) (word : ℕ) → n ≤ 8 → Gives n own x word cells → IsWordOf t v word
       → Performs own x t v cells world world []
-  performs n own x t v cells world word some few gives is =
+  performs n own x t v cells world word few gives is =
       record {
         steps = n;
-        some = some;
         cost = n * word_cost;
         cheap = omega (arith, few);
         cells' = gives.cells';
@@ -158,7 +156,7 @@ module _ (target : Target) where
   compared : (n : ℕ) (first own : List Line) (x : ℕ) (b : Bool) (cells : ℕ → Option ℕ) (world : World) → n ≤ 6 → Gives n first x (bit_of b) cells → Compares x first own → Performs own x bool (truth b) cells world world []
   compared n first own x b cells world few gives compares =
       subst (λ lines. Performs lines x bool (truth b) cells world world []) (sym compares.2)
-      (performs (n + 1 + 1) (first ++ compares.0) x bool (truth b) cells world (truth_word b) (omega arith) (omega arith) (truth_given n first compares.0 x b cells gives compares.1) (b, refl, refl))
+      (performs (n + 1 + 1) (first ++ compares.0) x bool (truth b) cells world (truth_word b) (omega arith) (truth_given n first compares.0 x b cells gives compares.1) (b, refl, refl))
 
   compared_not : (first : Line) (own : List Line) (x : ℕ) (b : Bool) (cells : ℕ → Option ℕ) (world : World) → Gives 1 (first ∷ []) x (bit_of b) cells → ComparesNot x first own → Performs own x bool (truth (not b)) cells world world []
   compared_not first own x b cells world gives compares =
@@ -179,7 +177,7 @@ module _ (target : Target) where
       → computed target.constants operation (first ∷ second ∷ []) ≡ Some word → signed word ≡ n → word < 2 ^ 32 → own ≡ registers x a b operation ∷ [] → Performs own x int32 (integer n) cells world world []
   integer_performs own operation x a b first second word n cells world at_a at_b computed_is follows fits own_is =
       subst (λ lines. Performs lines x int32 (integer n) cells world world []) (sym own_is)
-      (performs 1 (registers x a b operation ∷ []) x int32 (integer n) cells world word (omega arith) (omega arith) (registers_give operation x a b first second word cells at_a at_b computed_is) (ap integer (sym follows), fits))
+      (performs 1 (registers x a b operation ∷ []) x int32 (integer n) cells world word (omega arith) (registers_give operation x a b first second word cells at_a at_b computed_is) (ap integer (sym follows), fits))
 
   -- division, whose quotient is 0 where the divisor is
   division : (base x a b first second : ℕ) (cells : ℕ → Option ℕ) → x < base → a < x → b < x → cells a ≡ Some first → cells b ≡ Some second
@@ -243,7 +241,7 @@ module _ (target : Target) where
   binary_performs base x Divide a b first second own cells world above under_a under_b at_a at_b ha hb lines =
       let n : ℤ = quotient_of (signed first) (signed second) in
       subst (λ some. Performs some x int32 (integer n) cells world world []) (sym lines)
-      (performs 4 (registers x a b (Op.Register Register.Div) ∷ sets 0 base ∷ registers base base b (Op.Register Register.Sltu) ∷ registers x x base (Op.Register Register.Mul) ∷ []) x int32 (integer n) cells world (divided first second) (omega arith) (omega arith) (division base x a b first second cells above under_a under_b at_a at_b)
+      (performs 4 (registers x a b (Op.Register Register.Div) ∷ sets 0 base ∷ registers base base b (Op.Register Register.Sltu) ∷ registers x x base (Op.Register Register.Mul) ∷ []) x int32 (integer n) cells world (divided first second) (omega arith) (division base x a b first second cells above under_a under_b at_a at_b)
       (ap integer (sym (quotient_follows first second hb)), product_fits (quotient_signed first second) (bit_of (nat_lt 0 second))))
   binary_performs base x Equal a b first second own cells world above under_a under_b at_a at_b ha hb lines =
       let one : ImmediateWord = lines.0 in
@@ -288,13 +286,13 @@ module _ (target : Target) where
       } in
       let n : ℤ = negation_of (signed word) in
       subst (λ some. Performs some x int32 (integer n) cells world world []) (sym lines)
-      (performs 2 (sets 0 base ∷ second) x int32 (integer n) cells world less (omega arith) (omega arith) given (ap integer (sym (negation_follows word ha)), difference_fits 0 word))
+      (performs 2 (sets 0 base ∷ second) x int32 (integer n) cells world less (omega arith) given (ap integer (sym (negation_follows word ha)), difference_fits 0 word))
 
   pub unary_performs_not : (x a : ℕ) (b : Bool) (two : ImmediateWord) (own : List Line) (cells : ℕ → Option ℕ) (world : World) → cells a ≡ Some (truth_word b) → two.word ≡ 2
       → own ≡ computes (Op.Immediate Immediate.Xori two) (a ∷ []) x ∷ [] → Performs own x bool (truth (not b)) cells world world []
   unary_performs_not x a b two own cells world at_a two_is lines =
       subst (λ some. Performs some x bool (truth (not b)) cells world world []) (sym lines)
-      (performs 1 (computes (Op.Immediate Immediate.Xori two) (a ∷ []) x ∷ []) x bool (truth (not b)) cells world (truth_word (not b)) (omega arith) (omega arith)
+      (performs 1 (computes (Op.Immediate Immediate.Xori two) (a ∷ []) x ∷ []) x bool (truth (not b)) cells world (truth_word (not b)) (omega arith)
       (gives_one (Op.Immediate Immediate.Xori two) (a ∷ []) x cells (truth_word b ∷ []) (truth_word (not b)) (omega arith) (reads_one cells a (truth_word b) at_a)
       (ap (λ k. Some (bit_xor (truth_word b) k)) two_is ∙ ap (λ (w : ℕ). Some w) (not_follows b))) (not b, refl, refl))
 
@@ -302,7 +300,7 @@ module _ (target : Target) where
   pub sets_performs : (x word : ℕ) (t : TypeTree) (v : Value) (own : List Line) (cells : ℕ → Option ℕ) (world : World) → IsWordOf t v word → own ≡ sets word x ∷ [] → Performs own x t v cells world world []
   sets_performs x word t v own cells world is lines =
       subst (λ some. Performs some x t v cells world world []) (sym lines)
-      (performs 1 (sets word x ∷ []) x t v cells world word (omega arith) (omega arith) (gives_one (Op.Li word) [] x cells [] word (omega arith) refl refl) is)
+      (performs 1 (sets word x ∷ []) x t v cells world word (omega arith) (gives_one (Op.Li word) [] x cells [] word (omega arith) refl refl) is)
 
   -- ---- routines
 
@@ -310,9 +308,9 @@ module _ (target : Target) where
   routine_runs : (routine : Routine) (a b first second : ℕ) (whole rest : List Line) (cells : ℕ → Option ℕ) (into : Option ℕ) (fs : List (Frame Line)) (world : World) (events : List Event) → cells a ≡ Some first → cells b ≡ Some second
       → ((held : Option ℕ) → (Runs.world_primitives target).serve routine (first ∷ second ∷ []) held world ≡ answers 0 (told_more events world) false)
       → ((held : Option ℕ) → (Runs.world_primitives target).lasts routine (first ∷ second ∷ []) held world ≤ 80)
-      → Run 84 1 events (turn_at whole (acts (Action.Routine routine) (a ∷ b ∷ []) ∷ rest) cells into fs world) (turn_at whole rest cells into fs (told_more events world))
+      → Run print_cost 1 events (turn_at whole (acts (Action.Routine routine) (a ∷ b ∷ []) ∷ rest) cells into fs world) (turn_at whole rest cells into fs (told_more events world))
   routine_runs routine a b first second whole rest cells into fs world events at_a at_b serves light =
-      Runs.line_runs target 84 whole (acts (Action.Routine routine) (a ∷ b ∷ [])) rest cells into fs world (first ∷ second ∷ []) events (turn_at whole rest cells into fs (told_more events world))
+      Runs.line_runs target print_cost whole (acts (Action.Routine routine) (a ∷ b ∷ [])) rest cells into fs world (first ∷ second ∷ []) events (turn_at whole rest cells into fs (told_more events world))
       (reads_two cells a b first second at_a at_b)
       (ap (λ (reply : Reply World Ending). asm_served None (frame_at whole rest cells into ∷ fs) reply) (serves _))
       (λ held. omega (arith, light held)) (drop-append_seam world.trace events)
@@ -326,8 +324,7 @@ module _ (target : Target) where
   routine_performs routine n first_lines a b x first second events cells middle world few changes kept at_a at_b serves light =
       record {
         steps = n + 2;
-        some = omega arith;
-        cost = n * word_cost + (84 + word_cost);
+        cost = n * word_cost + (print_cost + word_cost);
         cheap = omega (arith, few);
         cells' = put x (Some unit_word) middle;
         word = unit_word;
@@ -340,12 +337,12 @@ module _ (target : Target) where
             let t1 : AsmTurn World Ending = turn_at whole (call ∷ sets unit_word x ∷ rest) middle into fs world in
             let t2 : AsmTurn World Ending = turn_at whole (sets unit_word x ∷ rest) middle into fs after in
             let t3 : AsmTurn World Ending = turn_at whole rest (put x (Some unit_word) middle) into fs after in
-            let behind : Run (84 + word_cost) 2 (events ++ []) t1 t3
-            = Runs.runs_on target 84 word_cost 1 events [] t1 t2 t3 (routine_runs routine a b first second whole (sets unit_word x ∷ rest) middle into fs world events at_a at_b serves light)
+            let behind : Run (print_cost + word_cost) 2 (events ++ []) t1 t3
+            = Runs.runs_on target print_cost word_cost 1 events [] t1 t2 t3 (routine_runs routine a b first second whole (sets unit_word x ∷ rest) middle into fs world events at_a at_b serves light)
             (Runs.compute_runs target whole (Op.Li unit_word) [] x rest middle into fs after [] unit_word (omega arith) refl refl) in
-            let behind' : Run (84 + word_cost) 2 events t1 t3 = subst (λ es. Run (84 + word_cost) 2 es t1 t3) (append-nil events) behind in
-            subst (λ lines. Run (n * word_cost + (84 + word_cost)) (n + 2) events (turn_at whole lines cells into fs world) t3) (sym (append_assoc first_lines (call ∷ sets unit_word x ∷ []) rest))
-            (Runs.runs_then target (n * word_cost) (84 + word_cost) n 2 [] events (turn_at whole (first_lines ++ (call ∷ sets unit_word x ∷ rest)) cells into fs world) t1 t3 (changes whole (call ∷ sets unit_word x ∷ rest) into fs world) behind');
+            let behind' : Run (print_cost + word_cost) 2 events t1 t3 = subst (λ es. Run (print_cost + word_cost) 2 es t1 t3) (append-nil events) behind in
+            subst (λ lines. Run (n * word_cost + (print_cost + word_cost)) (n + 2) events (turn_at whole lines cells into fs world) t3) (sym (append_assoc first_lines (call ∷ sets unit_word x ∷ []) rest))
+            (Runs.runs_then target (n * word_cost) (print_cost + word_cost) n 2 [] events (turn_at whole (first_lines ++ (call ∷ sets unit_word x ∷ rest)) cells into fs world) t1 t3 (changes whole (call ∷ sets unit_word x ∷ rest) into fs world) behind');
       }
 
   pub print_int_performs : (base x a word : ℕ) (form : PrintForm) (own : List Line) (cells : ℕ → Option ℕ) (world : World) → x < base → a < x → cells a ≡ Some word → word < 2 ^ 32
@@ -416,7 +413,6 @@ module _ (target : Target) where
   read_runs x word left own cells world serves is =
       record {
         steps = 1;
-        some = omega arith;
         cost = most_cost;
         cheap = omega arith;
         cells' = put x (Some word) cells;
