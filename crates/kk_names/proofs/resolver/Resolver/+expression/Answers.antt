@@ -158,12 +158,11 @@ expressions-loop-expr-preserved t c =
     let all = writtens_of (map written_expr c.args.exprs.now) in
     let e = written_expr c.expr-item.result in
     let items : c.push.new.self.items ≡ c.loop-expr.resolved.items ++ c.in_ok-e.e ∷ [] = c.in_ok-push.ensures.items in
-    let trees = ap (map expr_tree) items ∙ map-append expr_tree c.loop-expr.resolved.items (c.in_ok-e.e ∷ []) in
-    (
+    let trees = ap (map expr_tree) items ∙ map-append expr_tree c.loop-expr.resolved.items (c.in_ok-e.e ∷ []) in (
       subst (λ (ts : List Tree). AllSoFar c.args.self.now c.expression.new.self left all ts) (sym trees)
-      (all_more c.args.self.now c.loop-expr.self c.expression.new.self e left all (map expr_tree c.loop-expr.resolved.items) (expr_tree c.in_ok-e.e)
-      (subst (λ (es : Writtens). AllSoFar c.args.self.now c.loop-expr.self es all (map expr_tree c.loop-expr.resolved.items)) (next_expr c.args.exprs.now c.loop-expr.expr-index c.expr-item.result c.expr-item.is c.loop-expr-test.true) c.loop-expr.invariant.0)
-      c.in_ok-e.ensures.resolves),
+          (all_more c.args.self.now c.loop-expr.self c.expression.new.self e left all (map expr_tree c.loop-expr.resolved.items) (expr_tree c.in_ok-e.e)
+          (subst (λ (es : Writtens). AllSoFar c.args.self.now c.loop-expr.self es all (map expr_tree c.loop-expr.resolved.items)) (next_expr c.args.exprs.now c.loop-expr.expr-index c.expr-item.result c.expr-item.is c.loop-expr-test.true) c.loop-expr.invariant.0)
+          c.in_ok-e.ensures.resolves),
       more_below depth_of surface_depth c.loop-expr.resolved.items c.push.new.self.items c.in_ok-e.e c.args.exprs.now c.loop-expr.expr-index c.expr-item.result items c.expr-item.is c.loop-expr-test.true c.loop-expr.invariant.1 c.in_ok-e.ensures.depth,
     )
 
@@ -191,12 +190,11 @@ statements-loop-statement-preserved t c =
     let s = written_statement c.statement-item.result in
     let made = c.loop-statement.resolved.items in
     let items : c.push.new.self.items ≡ made ++ c.in_ok-s.s ∷ [] = c.in_ok-push.ensures.items in
-    let trees = ap (map statement_tree) items ∙ map-append statement_tree made (c.in_ok-s.s ∷ []) in
-    (
+    let trees = ap (map statement_tree) items ∙ map-append statement_tree made (c.in_ok-s.s ∷ []) in (
       subst (λ (ts : List StatementTree). StatementsSoFar c.args.self.now c.statement.new.self left all ts) (sym trees)
-      (statements_more c.args.self.now c.loop-statement.self c.statement.new.self s left all (map statement_tree made) (statement_tree c.in_ok-s.s)
-      (subst (λ (ss : List WrittenStatement). StatementsSoFar c.args.self.now c.loop-statement.self ss all (map statement_tree made)) (next_statement c.args.statements.now c.loop-statement.statement-index c.statement-item.result c.statement-item.is c.loop-statement-test.true) c.loop-statement.invariant.0)
-      c.in_ok-s.ensures.resolves),
+          (statements_more c.args.self.now c.loop-statement.self c.statement.new.self s left all (map statement_tree made) (statement_tree c.in_ok-s.s)
+          (subst (λ (ss : List WrittenStatement). StatementsSoFar c.args.self.now c.loop-statement.self ss all (map statement_tree made)) (next_statement c.args.statements.now c.loop-statement.statement-index c.statement-item.result c.statement-item.is c.loop-statement-test.true) c.loop-statement.invariant.0)
+          c.in_ok-s.ensures.resolves),
       more_below depth_of_statement surface_statement_depth made c.push.new.self.items c.in_ok-s.s c.args.statements.now c.loop-statement.statement-index c.statement-item.result items c.statement-item.is c.loop-statement-test.true c.loop-statement.invariant.1 c.in_ok-s.ensures.depth,
     )
 
@@ -221,12 +219,11 @@ rows-loop-row-preserved t c =
     let made = c.loop-row.resolved.items in
     let items : c.push.new.self.items ≡ made ++ c.in_ok-r.r ∷ [] = c.in_ok-push.ensures.items in
     let trees = ap (map row_tree) items ∙ map-append row_tree made (c.in_ok-r.r ∷ []) in
-    let next = next_row c.args.rows.now c.loop-row.row-index c.row-item.result c.row-item.is c.loop-row-test.true in
-    (
+    let next = next_row c.args.rows.now c.loop-row.row-index c.row-item.result c.row-item.is c.loop-row-test.true in (
       subst (λ (ts : List RowTree). RowsSoFar old c.row.new.self left all ts) (sym trees)
-      (rows_more old now c.row.new.self r left all (map row_tree made) (row_tree c.in_ok-r.r)
-      (subst (λ (rs : WrittenRows). RowsSoFar old now rs all (map row_tree made)) next c.loop-row.invariant.0)
-      c.in_ok-r.ensures.resolves),
+          (rows_more old now c.row.new.self r left all (map row_tree made) (row_tree c.in_ok-r.r)
+          (subst (λ (rs : WrittenRows). RowsSoFar old now rs all (map row_tree made)) next c.loop-row.invariant.0)
+          c.in_ok-r.ensures.resolves),
       more_below depth_of_row surface_row_depth made c.push.new.self.items c.in_ok-r.r c.args.rows.now c.loop-row.row-index c.row-item.result items c.row-item.is c.loop-row-test.true c.loop-row.invariant.1 c.in_ok-r.ensures.depth,
     )
 
