@@ -2,6 +2,7 @@ pub mod Arguments
 pub mod Constructors
 pub mod Declarations
 pub mod Declaring
+pub mod Depths
 mod Examples
 pub mod Firsts
 pub mod Growing

@@ -1,5 +1,5 @@
 -- What the calls of the resolver promise: how far they have come, and which fault is the first so far.
-use Rattle.std.specs.Prelude.{◌≡◌, ◌≤◌, ℕ, ◌+◌, List, [], ◌∷◌, ◌++◌, map, length, take, position, bytes_eq, codes, ◌==◌, nat_lt, ◌||◌, ◌&&◌, ◌⊎◌, Bool, Option, Some, None, Result, Ok, Err, if◌then◌else◌}
+use Rattle.std.specs.Prelude.{◌≡◌, ◌≤◌, ℕ, ◌+◌, max, List, [], ◌∷◌, ◌++◌, map, length, take, position, bytes_eq, codes, ◌==◌, nat_lt, ◌||◌, ◌&&◌, ◌⊎◌, Bool, Option, Some, None, Result, Ok, Err, if◌then◌else◌}
 use Rattle.kk_base.specs.declared.error.NameError.{NameError}
 use Rattle.kk_base.specs.declared.error.NameError.TheVariants.{NoMain, MainShape, NoMemory}
 use Rattle.kk_syntax.specs.declared.program.Fun.{Fun}
@@ -112,6 +112,11 @@ pub record Resolves (e : Written) (old new : Resolver) (tree : program.Tree) : T
 abbrev pub choice_of : Written → Written → Option Written → Written
 choice_of condition positive None = branch_alone condition positive
 choice_of condition positive (Some negative) = branch condition positive negative
+
+-- the depth of such an `if`, those of its parts given
+abbrev pub choice_depth : ℕ → ℕ → Option ℕ → ℕ
+choice_depth condition positive None = max condition positive + 1
+choice_depth condition positive (Some negative) = max condition (max positive negative) + 1
 
 -- the same of several expressions
 pub record ResolvesAll (es : Writtens) (old new : Resolver) (trees : program.Trees) : Type 0 where

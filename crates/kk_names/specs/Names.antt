@@ -3,12 +3,15 @@ use Rattle.std.specs.Prelude.{◌≡◌, ℕ, ◌+◌, ◌≤◌, List, [], ◌�
 use Rattle.kk_base.specs.Exactly.{IsOnly, ExactlyOne}
 use Rattle.kk_base.specs.declared.error.NameError.{NameError}
 use Rattle.kk_base.specs.declared.error.NameError.TheVariants.{NoMain, MainShape, NoMemory}
+use Rattle.kk_syntax.specs.declared.program.Fun.{Fun}
 use Rattle.kk_syntax.specs.declared.program.Program.{Program}
 use Rattle.kk_syntax.specs.declared.program.TypeDecl.{TypeDecl}
+use Rattle.kk_syntax.specs.declared.tree.Declaration.{Declaration}
 use Rattle.kk_syntax.specs.declared.tree.Identifier.{Identifier}
 use Rattle.kk_syntax.specs.declared.tree.Tree.{Tree}
 use Rattle.kk_syntax.specs.Checked.{PrintsTexts}
 use Rattle.kk_syntax.specs.Covered.{Each}
+use Rattle.kk_syntax.specs.Depths.{body_depth, depth_of}
 use Rattle.kk_syntax.specs.GroundTyping.{HasTruths}
 use Rattle.kk_syntax.specs.Programs.{ConstructorTree, FunctionTree, ProgramTree, program_tree}
 use Rattle.kk_syntax.specs.Shapes.{nodes_of}
@@ -195,6 +198,10 @@ EachTreeIsResolved = (tree : WrittenTree) → ExactlyOne (ResolvesAs tree)
 -- no function has more nodes than the declarations have that it comes from
 abbrev pub KeepsNodes : List WrittenDeclaration → List FunctionTree → Type 0
 KeepsNodes declarations functions = (most : ℕ) → All (λ d. nodes_in d ≤ most) declarations → All (λ f. nodes_of f.body ≤ most) functions
+
+-- no function's body is deeper in memory than the bodies of the declarations are
+abbrev pub KeepsDepth : List Declaration → List Fun → Type 0
+KeepsDepth declarations functions = (most : ℕ) → All (λ d. body_depth d ≤ most) declarations → All (λ f. depth_of f.body ≤ most) functions
 
 -- a program has a function `main` without parameters and without a result
 pub record HasMain (program : ProgramTree) : Type 0 where

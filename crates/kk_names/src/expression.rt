@@ -1,7 +1,8 @@
-ghost use Rattle.std.specs.Prelude.{◌≡◌, map, option_map, IfOk};
+ghost use Rattle.std.specs.Prelude.{◌≡◌, ◌+◌, ◌≤◌, max, map, option_map, IfOk};
+ghost use Rattle.kk_syntax.specs.Depths.{deepest, surface_depth, surface_row_depth, surface_statement_depth, depth_of, depth_of_row, depth_of_statement};
 ghost use Rattle.kk_syntax.specs.Surface.{Written, dot_call, both, either, match, rows_of as written_rows_of, block_of, written_expr, written_row, written_statement, writtens_of};
 ghost use Rattle.kk_syntax.specs.Trees.{expr_tree, row_tree, statement_tree, rows_of, trees_of, branch};
-ghost use Rattle.kk_names.specs.Methods.{Resolves, ResolvesAll, ResolvesRow, ResolvesRows, choice_of, ResolvesStatement, ResolvesStatements, KeepsScope};
+ghost use Rattle.kk_names.specs.Methods.{Resolves, ResolvesAll, ResolvesRow, ResolvesRows, choice_of, choice_depth, ResolvesStatement, ResolvesStatements, KeepsScope};
 
 use crate::resolver::{Resolver, alone};
 use crate::table::meaning_in;
@@ -16,7 +17,8 @@ impl Resolver {
     /// What an expression means. The recursion is as deep as the expression.
     #[cycle(expression)]
     pub fn expression(&mut self, expr: &SurfaceExpr) -> Result<Expr, NoMemory>
-        ensures { IfOk result (λ e. Resolves (written_expr expr.now) self.old self.new (expr_tree e)) }
+        ensures resolves { IfOk result (λ e. Resolves (written_expr expr.now) self.old self.new (expr_tree e)) }
+        ensures depth { IfOk result (λ e. depth_of e ≤ surface_depth expr.now) }
     {
         match expr {
             SurfaceExpr::Number(value) => Ok(alone(self.alloc, Form::Number(*value))),
@@ -63,7 +65,8 @@ impl Resolver {
         others: &[SurfaceExpr],
         first: &SurfaceExpr,
     ) -> Result<Expr, NoMemory>
-        ensures { IfOk result (λ e. Resolves (dot_call (written_expr first.now) name.now (writtens_of (map written_expr others.now))) self.old self.new (expr_tree e)) }
+        ensures resolves { IfOk result (λ e. Resolves (dot_call (written_expr first.now) name.now (writtens_of (map written_expr others.now))) self.old self.new (expr_tree e)) }
+        ensures depth { IfOk result (λ e. depth_of e ≤ max (surface_depth first.now) (deepest (map surface_depth others.now)) + 1) }
     {
         let first = self.expression(first)?;
         let mut arguments = self.expressions(others)?;
@@ -75,7 +78,8 @@ impl Resolver {
     /// `a && b`: `if a then b else False`.
     #[cycle(expression)]
     fn both(&mut self, left: &SurfaceExpr, right: &SurfaceExpr) -> Result<Expr, NoMemory>
-        ensures { IfOk result (λ e. Resolves (both (written_expr left.now) (written_expr right.now)) self.old self.new (expr_tree e)) }
+        ensures resolves { IfOk result (λ e. Resolves (both (written_expr left.now) (written_expr right.now)) self.old self.new (expr_tree e)) }
+        ensures depth { IfOk result (λ e. depth_of e ≤ max (surface_depth left.now) (surface_depth right.now) + 1) }
     {
         let condition = self.expression(left)?;
         let positive = self.expression(right)?;
@@ -86,7 +90,8 @@ impl Resolver {
     /// `a || b`: `if a then True else b`.
     #[cycle(expression)]
     fn either(&mut self, left: &SurfaceExpr, right: &SurfaceExpr) -> Result<Expr, NoMemory>
-        ensures { IfOk result (λ e. Resolves (either (written_expr left.now) (written_expr right.now)) self.old self.new (expr_tree e)) }
+        ensures resolves { IfOk result (λ e. Resolves (either (written_expr left.now) (written_expr right.now)) self.old self.new (expr_tree e)) }
+        ensures depth { IfOk result (λ e. depth_of e ≤ max (surface_depth left.now) (surface_depth right.now) + 1) }
     {
         let condition = self.expression(left)?;
         let negative = self.expression(right)?;
@@ -102,7 +107,8 @@ impl Resolver {
         positive: &SurfaceExpr,
         negative: &Option<Box<SurfaceExpr>>,
     ) -> Result<Expr, NoMemory>
-        ensures { IfOk result (λ e. Resolves (choice_of (written_expr condition.now) (written_expr positive.now) (option_map (λ b. written_expr b.value) negative.now)) self.old self.new (expr_tree e)) }
+        ensures resolves { IfOk result (λ e. Resolves (choice_of (written_expr condition.now) (written_expr positive.now) (option_map (λ b. written_expr b.value) negative.now)) self.old self.new (expr_tree e)) }
+        ensures depth { IfOk result (λ e. depth_of e ≤ choice_depth (surface_depth condition.now) (surface_depth positive.now) (option_map (λ b. surface_depth b.value) negative.now)) }
     {
         let condition = self.expression(condition)?;
         let positive = self.expression(positive)?;
@@ -116,7 +122,8 @@ impl Resolver {
     /// A match.
     #[cycle(expression)]
     fn matching(&mut self, rows: &[SurfaceRow], scrutinee: &SurfaceExpr) -> Result<Expr, NoMemory>
-        ensures { IfOk result (λ e. Resolves (match (written_expr scrutinee.now) (written_rows_of (map written_row rows.now))) self.old self.new (expr_tree e)) }
+        ensures resolves { IfOk result (λ e. Resolves (match (written_expr scrutinee.now) (written_rows_of (map written_row rows.now))) self.old self.new (expr_tree e)) }
+        ensures depth { IfOk result (λ e. depth_of e ≤ max (surface_depth scrutinee.now) (deepest (map surface_row_depth rows.now)) + 1) }
     {
         let scrutinee = self.expression(scrutinee)?;
         let rows = self.rows(rows)?;
@@ -126,7 +133,8 @@ impl Resolver {
     /// What the rows of a match mean.
     #[cycle(expression)]
     fn rows(&mut self, rows: &[SurfaceRow]) -> Result<Vec<Row>, NoMemory>
-        ensures { IfOk result (λ rs. ResolvesRows (written_rows_of (map written_row rows.now)) self.old self.new (rows_of (map row_tree rs.items))) }
+        ensures resolves { IfOk result (λ rs. ResolvesRows (written_rows_of (map written_row rows.now)) self.old self.new (rows_of (map row_tree rs.items))) }
+        ensures depth { IfOk result (λ rs. deepest (map depth_of_row rs.items) ≤ deepest (map surface_row_depth rows.now)) }
     {
         let mut resolved = Vec::new(self.alloc);
         for row in rows {
@@ -139,7 +147,8 @@ impl Resolver {
     /// What a row means. The variables of its pattern are seen in its body alone.
     #[cycle(expression)]
     fn row(&mut self, row: &SurfaceRow) -> Result<Row, NoMemory>
-        ensures { IfOk result (λ r. ResolvesRow (written_row row.now) self.old self.new (row_tree r)) }
+        ensures resolves { IfOk result (λ r. ResolvesRow (written_row row.now) self.old self.new (row_tree r)) }
+        ensures depth { IfOk result (λ r. depth_of_row r ≤ surface_row_depth row.now) }
     {
         let before = self.scope.len();
         let mut bound = Vec::new(self.alloc);
@@ -157,7 +166,8 @@ impl Resolver {
         statements: &[SurfaceStatement],
         value: &SurfaceExpr,
     ) -> Result<Expr, NoMemory>
-        ensures { IfOk result (λ e. Resolves (block_of (map written_statement statements.now) (written_expr value.now)) self.old self.new (expr_tree e)) }
+        ensures resolves { IfOk result (λ e. Resolves (block_of (map written_statement statements.now) (written_expr value.now)) self.old self.new (expr_tree e)) }
+        ensures depth { IfOk result (λ e. depth_of e ≤ max (deepest (map surface_statement_depth statements.now)) (surface_depth value.now) + 1) }
     {
         let outer = self.scope.len();
         let statements = self.statements(statements)?;
@@ -169,7 +179,8 @@ impl Resolver {
     /// What expressions mean, from left to right.
     #[cycle(expression)]
     fn expressions(&mut self, exprs: &[SurfaceExpr]) -> Result<Vec<Expr>, NoMemory>
-        ensures { IfOk result (λ es. ResolvesAll (writtens_of (map written_expr exprs.now)) self.old self.new (trees_of (map expr_tree es.items))) }
+        ensures resolves { IfOk result (λ es. ResolvesAll (writtens_of (map written_expr exprs.now)) self.old self.new (trees_of (map expr_tree es.items))) }
+        ensures depth { IfOk result (λ es. deepest (map depth_of es.items) ≤ deepest (map surface_depth exprs.now)) }
     {
         let mut resolved = Vec::new(self.alloc);
         for expr in exprs {
@@ -185,6 +196,7 @@ impl Resolver {
         ensures resolves { IfOk result (λ ss. (last : Written)
             → ResolvesStatements (map written_statement statements.now) last self.old self.new (map statement_tree ss.items)) }
         ensures scope { IfOk result (λ _. KeepsScope self.old self.new) }
+        ensures depth { IfOk result (λ ss. deepest (map depth_of_statement ss.items) ≤ deepest (map surface_statement_depth statements.now)) }
     {
         let mut resolved = Vec::new(self.alloc);
         for statement in statements {
@@ -197,7 +209,8 @@ impl Resolver {
     /// What a statement means. A variable is seen behind the statement, and not in its own value.
     #[cycle(expression)]
     fn statement(&mut self, statement: &SurfaceStatement) -> Result<Statement, NoMemory>
-        ensures { IfOk result (λ s. ResolvesStatement (written_statement statement.now) self.old self.new (statement_tree s)) }
+        ensures resolves { IfOk result (λ s. ResolvesStatement (written_statement statement.now) self.old self.new (statement_tree s)) }
+        ensures depth { IfOk result (λ s. depth_of_statement s ≤ surface_statement_depth statement.now) }
     {
         match &statement.binder {
             SurfaceBinder::Nothing => {
@@ -228,7 +241,8 @@ fn conditional(
     positive: Expr,
     negative: Expr,
 ) -> Result<Expr, NoMemory>
-    ensures { IfOk result (λ e. expr_tree e ≡ branch (expr_tree condition) (expr_tree positive) (expr_tree negative)) }
+    ensures tree { IfOk result (λ e. expr_tree e ≡ branch (expr_tree condition) (expr_tree positive) (expr_tree negative)) }
+    ensures depth { IfOk result (λ e. depth_of e ≡ max (depth_of condition) (max (depth_of positive) (depth_of negative)) + 1) }
 {
     let condition = Box::new(alloc, condition)?;
     let positive = Box::new(alloc, positive)?;

@@ -1,10 +1,11 @@
-ghost use Rattle.std.specs.Prelude.{◌≡◌, [], ◌∷◌, map, IfOk};
+ghost use Rattle.std.specs.Prelude.{◌≡◌, ◌≤◌, [], ◌∷◌, map, IfOk};
+ghost use Rattle.kk_syntax.specs.Depths.{surface_depth, depth_of};
 ghost use Rattle.kk_syntax.specs.Programs.{function_tree};
 ghost use Rattle.kk_syntax.specs.Surface.{written_declaration};
 ghost use Rattle.kk_syntax.specs.declared.tree.Declaration.TheVariants as OfDeclaration;
 ghost use Rattle.kk_names.specs.Faults.{faults_in_functions};
 ghost use Rattle.kk_names.specs.Methods.{known_of, first_with, ResolvesFunction};
-ghost use Rattle.kk_names.specs.Names.{functions_of, with_all_texts};
+ghost use Rattle.kk_names.specs.Names.{functions_of, with_all_texts, KeepsDepth};
 
 use crate::resolver::Resolver;
 use crate::variables::signature_variables;
@@ -19,6 +20,7 @@ impl Resolver {
         ensures texts { IfOk result (λ _. self.new.texts.items ≡ with_all_texts self.old.texts.items (map written_declaration declarations.now)) }
         ensures first { IfOk result (λ _. self.new.first
             ≡ first_with self.old.first (faults_in_functions (known_of self.old) (map written_declaration declarations.now))) }
+        ensures depth { IfOk result (λ functions. KeepsDepth declarations.now functions.items) }
     {
         let mut functions = Vec::new(self.alloc);
         for declaration in declarations {
@@ -35,6 +37,7 @@ impl Resolver {
         ensures resolves { IfOk result (λ _. ResolvesFunction (written_declaration (OfDeclaration.Function declared.now)) self.old self.new) }
         ensures tree { IfOk result (λ function. function_tree function ∷ []
             ≡ functions_of (known_of self.old) self.old.texts.items (written_declaration (OfDeclaration.Function declared.now) ∷ [])) }
+        ensures depth { IfOk result (λ function. depth_of function.body ≤ surface_depth declared.now.body) }
     {
         self.scope.clear();
         self.next = 0;

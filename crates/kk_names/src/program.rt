@@ -3,7 +3,7 @@ ghost use Rattle.kk_syntax.specs.Programs.{function_tree, program_tree};
 ghost use Rattle.kk_syntax.specs.Surface.{written_declaration, written_tree};
 ghost use Rattle.kk_names.specs.Faults.{faults_of};
 ghost use Rattle.kk_names.specs.Methods.{parts_of, main_among, first_with, AnswersMain, IsNoMain, IsOtherMain};
-ghost use Rattle.kk_names.specs.Names.{parts_meant, program_of, IsMainShaped, AnswersNames, KeepsNodes, EachTreeIsResolved, ResolvedProgramsHaveMain, ResolvedProgramsHaveTruthsAndTexts};
+ghost use Rattle.kk_names.specs.Names.{parts_meant, program_of, IsMainShaped, AnswersNames, KeepsNodes, KeepsDepth, EachTreeIsResolved, ResolvedProgramsHaveMain, ResolvedProgramsHaveTruthsAndTexts};
 
 use crate::fault::Fault;
 use crate::resolver::Resolver;
@@ -17,6 +17,7 @@ pub fn resolve(alloc: Global, tree: Tree) -> Result<Program, NameError>
     ensures resolved { AnswersNames tree result }
     ensures keeps_nodes { IfOk result (λ program.
         KeepsNodes (written_tree tree).declarations (program_tree program).functions) }
+    ensures keeps_depth { IfOk result (λ program. KeepsDepth tree.declarations.items program.functions.items) }
 {
     let Ok(resolved) = resolve_all(alloc, tree.declarations.as_slice()) else {
         return Err(NameError::NoMemory);
@@ -65,6 +66,7 @@ struct Resolved {
 fn resolve_all(alloc: Global, declarations: &[Declaration]) -> Result<Resolved, NoMemory>
     ensures parts { IfOk result (λ r. parts_of r.parts ≡ parts_meant (map written_declaration declarations.now)) }
     ensures fault { IfOk result (λ r. r.fault ≡ first_with None (faults_of (map written_declaration declarations.now))) }
+    ensures depth { IfOk result (λ r. KeepsDepth declarations.now r.parts.functions.items) }
 {
     let mut resolver = Resolver::new(alloc)?;
     resolver.declare(declarations)?;
@@ -89,7 +91,8 @@ fn resolve_all(alloc: Global, declarations: &[Declaration]) -> Result<Resolved, 
 
 // The program of parts without faults, or what is wrong with their `main`.
 fn with_main(alloc: Global, parts: ProgramParts, length: u32) -> Result<Program, NameError>
-    ensures { AnswersMain (parts_of parts) length result }
+    ensures answers { AnswersMain (parts_of parts) length result }
+    ensures functions { IfOk result (λ program. program.functions.items ≡ parts.functions.items) }
 {
     let Some(main) = find_main(parts.functions.as_slice()) else {
         return Err(no_main(alloc, length));
@@ -154,7 +157,8 @@ fn find_main(functions: &[Fun]) -> Option<usize>
 // The program of parts, of whose functions one is `main`. There is no room for more functions than a `u32` can number.
 fn program(parts: ProgramParts, main: usize) -> Result<Program, NoMemory>
     requires { main < vec_len parts.functions }
-    ensures { IfOk result (λ program. program_tree program ≡ program_of (parts_of parts) main) }
+    ensures tree { IfOk result (λ program. program_tree program ≡ program_of (parts_of parts) main) }
+    ensures functions { IfOk result (λ program. program.functions.items ≡ parts.functions.items) }
 {
     if main > u32::MAX as usize {
         return Err(NoMemory);

@@ -1,4 +1,5 @@
-ghost use Rattle.std.specs.Prelude.{◌≡◌, [], ◌∷◌, map, None, IfOk, vec_len};
+ghost use Rattle.std.specs.Prelude.{◌≡◌, ◌+◌, ◌≤◌, [], ◌∷◌, map, None, IfOk, vec_len};
+ghost use Rattle.kk_syntax.specs.Depths.{deepest, depth_of};
 ghost use Rattle.kk_syntax.specs.Trees.{expr_tree, trees_of};
 ghost use Rattle.kk_names.specs.Expressions.{alone, applied};
 ghost use Rattle.kk_syntax.specs.Surface.{variable, print_text};
@@ -93,7 +94,8 @@ impl Resolver {
 
     /// What a variable is where it is used.
     pub fn variable(&mut self, name: &Identifier) -> Result<Expr, NoMemory>
-        ensures { IfOk result (λ e. Resolves (variable name.now) self.old self.new (expr_tree e)) }
+        ensures resolves { IfOk result (λ e. Resolves (variable name.now) self.old self.new (expr_tree e)) }
+        ensures depth { IfOk result (λ e. depth_of e ≡ 1) }
     {
         match number_in(self.scope.as_slice(), &name.name) {
             Some(number) => Ok(Expr::Variable(number)),
@@ -111,8 +113,9 @@ impl Resolver {
         name: &Identifier,
         arguments: Vec<Expr>,
     ) -> Result<Expr, NoMemory>
-        ensures { IfOk result (λ e. Notes (use_faults callee name.now (vec_len arguments)) self.old self.new
+        ensures resolves { IfOk result (λ e. Notes (use_faults callee name.now (vec_len arguments)) self.old self.new
             × (expr_tree e ≡ applied callee (trees_of (map expr_tree arguments.items)))) }
+        ensures depth { IfOk result (λ e. depth_of e ≤ deepest (map depth_of arguments.items) + 1) }
     {
         match callee {
             Some(callee) => {
@@ -157,7 +160,8 @@ impl Resolver {
 
     /// A print of a string literal, which gets its number. There is no room for more of them than a `u32` can number.
     pub fn print_text(&mut self, form: PrintForm, text: &StringLiteral) -> Result<Expr, NoMemory>
-        ensures { IfOk result (λ e. Resolves (print_text form text.now) self.old self.new (expr_tree e)) }
+        ensures resolves { IfOk result (λ e. Resolves (print_text form text.now) self.old self.new (expr_tree e)) }
+        ensures depth { IfOk result (λ e. depth_of e ≡ 1) }
     {
         let number = self.texts.len();
         if number > u32::MAX as usize {
@@ -171,7 +175,8 @@ impl Resolver {
 
 /// A form without arguments.
 pub fn alone(alloc: Global, form: Form) -> Expr
-    ensures { expr_tree result ≡ alone form }
+    ensures tree { expr_tree result ≡ alone form }
+    ensures depth { depth_of result ≡ 1 }
 {
     Expr::Apply(form, Vec::new(alloc))
 }

@@ -1,6 +1,7 @@
 -- How deep the trees of a program are, and how deep they may be within some levels of nesting.
 use Rattle.std.specs.Prelude.{ℕ, ◌+◌, ◌*◌, ◌-◌, ◌≤◌, max, All, IfSome}
-use Rattle.kk_syntax.specs.Surface.{WrittenType, unit_type, type_variable, named, WrittenTypes, no_type, type, WrittenPattern, anything, pattern_variable, exactly, constructor, WrittenPatterns, no_part, part, Written, number, unit, variable, call, dot_call, construct, unary, binary, both, either, print_text, branch, branch_alone, match, sequence, Writtens, no_written, written, WrittenRows, no_row, row, WrittenDeclaration, type_declaration, function_declaration}
+pub use Rattle.kk_syntax.specs.Depths.{pattern_depth, patterns_depth}
+use Rattle.kk_syntax.specs.Surface.{WrittenType, unit_type, type_variable, named, WrittenTypes, no_type, type, Written, number, unit, variable, call, dot_call, construct, unary, binary, both, either, print_text, branch, branch_alone, match, sequence, Writtens, no_written, written, WrittenRows, no_row, row, WrittenDeclaration, type_declaration, function_declaration}
 
 abbrev mutual
   pub type_depth : WrittenType → ℕ
@@ -11,17 +12,6 @@ abbrev mutual
   pub types_depth : WrittenTypes → ℕ
   types_depth no_type = 0
   types_depth (type first rest) = max (type_depth first) (types_depth rest)
-
-abbrev mutual
-  pub pattern_depth : WrittenPattern → ℕ
-  pattern_depth anything = 1
-  pattern_depth (pattern_variable name) = 1
-  pattern_depth (exactly value) = 1
-  pattern_depth (constructor name parts) = patterns_depth parts + 1
-
-  pub patterns_depth : WrittenPatterns → ℕ
-  patterns_depth no_part = 0
-  patterns_depth (part first rest) = max (pattern_depth first) (patterns_depth rest)
 
 -- the statements of a block, and the expression behind them, stand side by side
 abbrev mutual

@@ -29,3 +29,6 @@ returns-clause-fault c =
     let ds = map written_declaration c.args.declarations.now in
     all_noted c.in_ok-resolver.resolver c.declare.new.self ds begun.types begun.constructors begun.functions begun.texts begun.first c.in_ok-declare.ensures
     c.all_types.new.self c.all_functions.new.self.first c.in_ok-all.ensures.notes c.in_ok-functions.ensures.first
+
+pub returns-clause-depth : goal.returns-clause-depth
+returns-clause-depth c = c.in_ok-functions.ensures.depth

@@ -1,5 +1,6 @@
-use Rattle.std.proofs.Common.{◌+◌, ◌*◌, max, map, drop}
+use Rattle.std.proofs.Common.{◌+◌, ◌*◌, ◌≤◌, max, map, drop}
 use Rattle.kk_syntax.specs.declared.tree.SurfaceExpr.{size-SurfaceExpr}
+use Rattle.kk_syntax.specs.Depths.{deepest, surface_depth, surface_row_depth, surface_statement_depth, depth_of, depth_of_row, depth_of_statement}
 use Rattle.kk_syntax.specs.Surface.{written_expr, written_row, written_statement, rows_of, writtens_of}
 use Rattle.kk_syntax.specs.Trees.{expr_tree, row_tree, statement_tree}
 use Rattle.kk_names.proofs.Arguments.{AllSoFar}
@@ -11,10 +12,12 @@ use Rattle.kk_names.proofs.resolver.Resolver.+expression.Given as goal
 abbrev pub invariant-expressions-loop-expr : goal.invariant-expressions-loop-expr
 invariant-expressions-loop-expr l =
     AllSoFar l.fn.self l.self (writtens_of (map written_expr (drop l.expr-index l.exprs))) (writtens_of (map written_expr l.exprs)) (map expr_tree l.resolved.items)
+    × (deepest (map depth_of l.resolved.items) ≤ deepest (map surface_depth l.exprs))
 
 abbrev pub invariant-statements-loop-statement : goal.invariant-statements-loop-statement
 invariant-statements-loop-statement l =
     StatementsSoFar l.fn.self l.self (map written_statement (drop l.statement-index l.statements)) (map written_statement l.statements) (map statement_tree l.resolved.items)
+    × (deepest (map depth_of_statement l.resolved.items) ≤ deepest (map surface_statement_depth l.statements))
 
 abbrev pub decreases-expression : goal.decreases-expression
 decreases-expression l = 4 * size-SurfaceExpr l.expr.now
@@ -55,3 +58,4 @@ decreases-row l = 4 * goal.size-row l
 abbrev pub invariant-rows-loop-row : goal.invariant-rows-loop-row
 invariant-rows-loop-row l =
     RowsSoFar l.fn.self l.self (rows_of (map written_row (drop l.row-index l.rows))) (rows_of (map written_row l.rows)) (map row_tree l.resolved.items)
+    × (deepest (map depth_of_row l.resolved.items) ≤ deepest (map surface_row_depth l.rows))

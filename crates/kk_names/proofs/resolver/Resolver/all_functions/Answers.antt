@@ -5,6 +5,8 @@ use Rattle.kk_syntax.specs.declared.tree.Declaration.TheVariants as OfDeclaratio
 use Rattle.kk_syntax.specs.Programs.{FunctionTree, function_tree}
 use Rattle.kk_syntax.specs.Surface.{WrittenDeclaration, written_constructor, written_declaration}
 use Rattle.kk_names.specs.declared.resolver.Resolver.{Resolver}
+use Rattle.kk_names.specs.Names.{KeepsDepth}
+use Rattle.kk_names.proofs.Depths.{function_keeps}
 use Rattle.kk_names.proofs.Declarations.{ResolvedSoFar, one_more_resolved, type_passed}
 use Rattle.kk_names.proofs.Written.{next_declaration}
 use Rattle.kk_names.proofs.resolver.Resolver.all_functions.Goals as goal
@@ -24,17 +26,24 @@ loop-declaration-preserved c =
           let f = w.in_ok-function.function in
           let here = next ∙ ap (λ x. written_declaration x ∷ left) w.in-Function.is in
           let items = ap (λ fs. fs.items) w.functions-is ∙ w.in_ok-push.ensures.items in
-          let functions = ap (map function_tree) items ∙ map-append function_tree made (f ∷ []) in
-          subst (λ (r : Resolver). ResolvedSoFar old r left all (map function_tree c.match-declaration.functions.items)) (sym w.self-is)
-          (subst (λ (fs : List FunctionTree). ResolvedSoFar old w.function.new.self left all fs) (sym functions)
-          (one_more_resolved old now w.function.new.self d left all (map function_tree made) (function_tree f)
-          (subst (λ (ds : List WrittenDeclaration). ResolvedSoFar old now ds all (map function_tree made)) here c.loop-declaration.invariant)
-          w.in_ok-function.ensures.resolves w.in_ok-function.ensures.tree))
+          let functions = ap (map function_tree) items ∙ map-append function_tree made (f ∷ []) in (
+            subst (λ (r : Resolver). ResolvedSoFar old r left all (map function_tree c.match-declaration.functions.items)) (sym w.self-is)
+                (subst (λ (fs : List FunctionTree). ResolvedSoFar old w.function.new.self left all fs) (sym functions)
+                (one_more_resolved old now w.function.new.self d left all (map function_tree made) (function_tree f)
+                (subst (λ (ds : List WrittenDeclaration). ResolvedSoFar old now ds all (map function_tree made)) here c.loop-declaration.invariant.0)
+                w.in_ok-function.ensures.resolves w.in_ok-function.ensures.tree)),
+            function_keeps c.args.declarations.now made c.match-declaration.functions.items f c.loop-declaration.declaration-index c.declaration-item.result w.in-Function.declared c.loop-declaration.invariant.1 items c.declaration-item.is c.loop-declaration-test.true w.in-Function.is w.in_ok-function.ensures.depth,
+          )
       | in_default w ↦
           let d = w.in_default.field-0 in
-          let here = next ∙ ap (λ x. written_declaration x ∷ left) w.in_default.is in
-          subst (λ (r : Resolver). ResolvedSoFar old r left all (map function_tree c.match-declaration.functions.items)) (sym w.self-is)
-          (subst (λ (fs : List Fun). ResolvedSoFar old now left all (map function_tree fs)) (sym (ap (λ fs. fs.items) w.functions-is))
-          (type_passed old now d.name d.parameters.items (map written_constructor d.constructors.items) left all (map function_tree made)
-          (subst (λ (ds : List WrittenDeclaration). ResolvedSoFar old now ds all (map function_tree made)) here c.loop-declaration.invariant)))
+          let here = next ∙ ap (λ x. written_declaration x ∷ left) w.in_default.is in (
+            subst (λ (r : Resolver). ResolvedSoFar old r left all (map function_tree c.match-declaration.functions.items)) (sym w.self-is)
+                (subst (λ (fs : List Fun). ResolvedSoFar old now left all (map function_tree fs)) (sym (ap (λ fs. fs.items) w.functions-is))
+                (type_passed old now d.name d.parameters.items (map written_constructor d.constructors.items) left all (map function_tree made)
+                (subst (λ (ds : List WrittenDeclaration). ResolvedSoFar old now ds all (map function_tree made)) here c.loop-declaration.invariant.0))),
+            subst (λ (fs : List Fun). KeepsDepth c.args.declarations.now fs) (sym (ap (λ fs. fs.items) w.functions-is)) c.loop-declaration.invariant.1,
+          )
     ]
+
+pub returns-clause-depth : goal.returns-clause-depth
+returns-clause-depth c = c.loop-declaration.invariant.1

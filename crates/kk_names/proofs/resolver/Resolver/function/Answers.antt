@@ -28,7 +28,7 @@ returns-clause-resolves c =
     (subst (λ (all : List Parameter). ResolvesParameters c.as_slice-3.result.now (map written_parameter all) start first types) c.as_slice-2.ensures.value c.in_ok-parameters.ensures) in
     let result = subst (λ (vs : List (List ℕ)). Notes (result_faults (known_of first) vs r) first c.result.new.self) (c.as_slice-4.ensures.value ∙ seen) c.in_ok-result.ensures.notes in
     function_resolved d.name ps d.effects.items r (written_expr d.body) old start first c.result.new.self c.expression.new.self types (expr_tree c.in_ok-body.body)
-    refl c.clear.ensures.items refl refl refl parameters result c.in_ok-body.ensures
+    refl c.clear.ensures.items refl refl refl parameters result c.in_ok-body.ensures.resolves
 
 pub returns-clause-tree : goal.returns-clause-tree
 returns-clause-tree c =
@@ -53,5 +53,8 @@ returns-clause-tree c =
     ∙ ap (λ k. result_meant k (signature_variables ps r) r) parameters.known) in
     let tree =
     body_is (signature_variables ps r) ps _ body old start first c.result.new.self c.expression.new.self types (expr_tree c.in_ok-body.body)
-    refl c.clear.ensures.items refl refl parameters c.in_ok-result.ensures.notes c.in_ok-body.ensures in
+    refl c.clear.ensures.items refl refl parameters c.in_ok-result.ensures.notes c.in_ok-body.ensures.resolves in
     ap (λ f. f ∷ []) (function_is c.in_ok-name.name d.name.at c.len-2.result types (type_tree c.in_ok-result.result) (expr_tree c.in_ok-body.body) made c.in_ok-name.ensures refl counted parameters.types_are result tree)
+
+pub returns-clause-depth : goal.returns-clause-depth
+returns-clause-depth c = c.in_ok-body.ensures.depth
