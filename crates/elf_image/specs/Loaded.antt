@@ -52,7 +52,7 @@ has_segments file = list_all (λ h. is_inside h (length file)) (loads_of file)
 
 -- the greatest number of a file's bytes
 abbrev pub greatest_file : ℕ
-greatest_file = 268435456
+greatest_file = 2147483648
 
 -- what is asked of a file, in the order in which it is looked at, each with the reason that a file which fails it has
 abbrev pub conditions : List ℕ → List (BadImage × Bool)

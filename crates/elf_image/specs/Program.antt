@@ -17,7 +17,7 @@ memory_start size = next_multiple_of (text_start + size) PAGE_SIZE
 
 -- the greatest number of a text's bytes
 abbrev pub greatest_text : ℕ
-greatest_text = 268431360
+greatest_text = 2147479552
 
 -- the part of a text, to be read and executed
 abbrev pub text_part : List ℕ → Part

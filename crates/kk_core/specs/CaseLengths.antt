@@ -2,6 +2,7 @@
 use Rattle.std.specs.Prelude.{ℕ, ◌+◌, ◌*◌, List, [], ◌∷◌, length}
 use Rattle.kk_core.specs.Codes.{Code, give, tail_call, branch, case, compute, use_of, unpack, inside, Arms, no_arm, arm, FunctionCode}
 use Rattle.kk_core.specs.Decisions.{NodeTree, chooses, tests}
+use Rattle.kk_core.specs.Sizes.{most_nodes, most_program_nodes}
 
 -- The most instructions of a node: those of a test are so many, and more for each field on the way to its position and for each
 -- edge.
@@ -32,3 +33,8 @@ abbrev mutual
 abbrev pub all_cases_length : List FunctionCode → ℕ
 all_cases_length [] = 0
 all_cases_length (function ∷ functions) = cases_length function.body + all_cases_length functions
+
+-- The most that the limits make of it. A match has at most eight tests for each node of its patterns, each with no more fields on its
+-- way than these nodes and no more edges than the match has rows.
+abbrev pub most_cases_length : ℕ
+most_cases_length = 80 * most_nodes * most_program_nodes

@@ -11,6 +11,7 @@ use Rattle.kk_syntax.specs.Types.{TypeTree, unit_type}
 use Rattle.kk_syntax.specs.Typing.{bool}
 use Rattle.kk_core.specs.Choosing.{Decides}
 use Rattle.kk_core.specs.Codes.{Code, give, tail_call, branch, case, compute, use_of, unpack, inside, Arms, patterns_of, arm, no_arm, FunctionCode, ProgramCode}
+use Rattle.kk_core.specs.CaseLengths.{all_cases_length, most_cases_length}
 use Rattle.kk_core.specs.Sizes.{forms, IsOrdered, most_parameters, most_variables, most_forms, most_instances, most_program_forms}
 
 -- ---- what is known of variables
@@ -136,9 +137,10 @@ all_forms [] = 0
 all_forms (function ∷ functions) = forms function.body + all_forms functions
 
 -- A program is within the limits: `main` is its first function, each function is, the functions are few, and so are all
--- forms together.
+-- forms together, and the tests of all cases.
 pub record IsSmall (code : ProgramCode) : Type 0 where
   pub main : code.main ≡ 0
   pub functions : AreSmall code.functions
   pub few : length code.functions ≤ most_instances
   pub all : all_forms code.functions ≤ most_program_forms
+  pub cases : all_cases_length code.functions ≤ most_cases_length

@@ -1,6 +1,6 @@
 -- How long counted code is, at most, once it is in an image.
 use Rattle.std.specs.Prelude.{◌≤◌, ℕ, suc, ◌+◌, ◌*◌, List, [], ◌∷◌}
-use Rattle.kk_core.specs.CaseLengths.{tests_length}
+use Rattle.kk_core.specs.CaseLengths.{tests_length, most_cases_length}
 use Rattle.kk_core.specs.Sizes.{most_variables, most_instances, most_program_forms}
 use Rattle.kk_counted.specs.CountedCodes.{Counted, give, tail_call, branch, case, compute, inside, read, open_cell, if_unique, dup, drop, CountedArms, no_arm, arm, CountedFunction}
 
@@ -57,15 +57,16 @@ abbrev pub all_computes : List CountedFunction → ℕ
 all_computes [] = 0
 all_computes (function ∷ functions) = computes function.body + all_computes functions
 
--- The most that the limits make of it but for the tests of cases: no form of the core form has more dups and drops put before and behind
--- it than there are variables, and some for its arguments.
+-- The most that the limits make of it: no form of the core form has more dups and drops put before and behind it than there are
+-- variables, and some for its arguments.
 abbrev pub most_references : ℕ
 most_references = most_variables + 24
 
-abbrev pub most_forms_length : ℕ
-most_forms_length = (form_length + reference_length * most_references) * most_program_forms + form_length * most_instances
+abbrev pub most_length : ℕ
+most_length =
+    most_cases_length + (form_length + reference_length * most_references) * most_program_forms + form_length * most_instances
 
--- the functions of a program within the limits, by how long the tests of its cases are
-pub record AreShort (tests : ℕ) (functions : List CountedFunction) : Type 0 where
-  pub length : functions_length functions ≤ tests + most_forms_length
+-- the functions of a program within the limits
+pub record AreShort (functions : List CountedFunction) : Type 0 where
+  pub length : functions_length functions ≤ most_length
   pub computes : all_computes functions ≤ most_program_forms

@@ -52,9 +52,8 @@ all_compute [] = refl
 all_compute (function ∷ functions) =
     let one = same_computes function.body in let later = all_compute functions in omega (arith, one, later)
 
-pub special_short : (tests : ℕ) (functions : List CountedFunction) → AreShort tests functions
-    → AreShort tests (map special_function functions)
-special_short tests functions short =
+pub special_short : (functions : List CountedFunction) → AreShort functions → AreShort (map special_function functions)
+special_short functions short =
     let long = all_length functions in
     let many = all_compute functions in
     let most = short.length in

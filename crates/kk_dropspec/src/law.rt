@@ -65,6 +65,5 @@ pub fn specialised_code_can_be_lowered()
     ensures lowerable { (table : CellMarks) (functions : List CountedFunction) → AreLowerable table functions
         → AreLowerable table (map special_function functions) }
     ensures little { (program : CountedProgram) (n : ℕ) → AllSpendAtMost program n → AllSpendAtMost (special_program program) n }
-    ensures short { (tests : ℕ) (functions : List CountedFunction) → AreShort tests functions
-        → AreShort tests (map special_function functions) }
+    ensures short { (functions : List CountedFunction) → AreShort functions → AreShort (map special_function functions) }
 {}

@@ -12,7 +12,6 @@ use Rattle.kk_core.specs.CoreTyping.{IsCoreTyped, IsFunctionSmall, AreSmall, IsS
 use Rattle.kk_core.specs.Sizes.{most_variables}
 use Rattle.kk_counted.specs.CountBounds.{SpendsAtMost, gains, AllSpendAtMost}
 use Rattle.kk_counted.specs.CountedCodes.{CountedFunction}
-use Rattle.kk_core.specs.CaseLengths.{all_cases_length}
 use Rattle.kk_counted.specs.Lengths.{AreShort}
 use Rattle.kk_counted.specs.Lowerable.{IsLowerable, AreLowerable}
 use Rattle.kk_counted.specs.Marks.{CellMarks, IsMarked, AreMarked}
@@ -150,6 +149,6 @@ typed_can_be_lowered positions table code typed small rows ground fields =
     can_be_lowered positions table code typed small (marks_of_types table) marked.0 marked.1 rows fields
 
 pub typed_is_short : (positions : PositionTable) (table : Table) (code : ProgramCode) → IsCoreTyped table code → IsSmall code
-    → HaveFewFields table.constructors → AreShort (all_cases_length code.functions) (inserted positions code).functions
+    → HaveFewFields table.constructors → AreShort (inserted positions code).functions
 typed_is_short positions table code typed small fields =
     inserted_short positions table code typed small (has_few table code typed small fields)

@@ -11,7 +11,7 @@ use Rattle.kk_core.specs.CoreTyping.{Facts, HasCodeType, AreArmsTyped, AreCodesT
 use Rattle.kk_core.specs.Sizes.{Ordered, OrderedArms, below, forms, forms_of_arms, most_variables, most_program_forms}
 use Rattle.kk_counted.proofs.ListLengths.{filter_few, positions_few, numbers_length}
 use Rattle.kk_counted.specs.CountedCodes as Counted
-use Rattle.kk_counted.specs.Lengths.{form_length, reference_length, most_references, most_forms_length, code_length, arms_length, functions_length, computes, arms_computes, all_computes, AreShort}
+use Rattle.kk_counted.specs.Lengths.{form_length, reference_length, most_references, most_length, code_length, arms_length, functions_length, computes, arms_computes, all_computes, AreShort}
 use Rattle.kk_counted.specs.Spending.{AreApart, at_positions, numbers_from, is_owned}
 use Rattle.kk_insert.specs.Insertion.{dups, drops, dropping, common, used, lends, owns, wants, back, opening, lent_of, own, insert, insert_arms, inserted_functions, inserted}
 use Rattle.kk_insert.proofs.Below.{more_below, filter_below, fields_below, own_below}
@@ -283,19 +283,20 @@ functions_few positions f (function ∷ functions) =
     omega (arith, first, body, later)
 
 pub inserted_short : (positions : PositionTable) (table : Table) (code : ProgramCode) → IsCoreTyped table code → IsSmall code
-    → HasFew table → AreShort (all_cases_length code.functions) (inserted positions code).functions
+    → HasFew table → AreShort (inserted positions code).functions
 inserted_short positions table code typed small few =
     record {
       length = short;
       computes = fewer;
     }
   where
-    short : functions_length (inserted positions code).functions ≤ all_cases_length code.functions + most_forms_length
+    short : functions_length (inserted positions code).functions ≤ most_length
     short =
         let all = functions_long table few positions 0 code.functions table.functions typed.functions small.functions in
         let many = small.few in
         let each = small.all in
-        omega (arith, all, many, each)
+        let cases = small.cases in
+        omega (arith, all, many, each, cases)
 
     fewer : all_computes (inserted positions code).functions ≤ most_program_forms
     fewer = let all = functions_few positions 0 code.functions in let each = small.all in omega (arith, all, each)

@@ -16,7 +16,6 @@ ghost use Rattle.kk_counted.specs.CountedStates.{CountedState};
 ghost use Rattle.kk_counted.specs.Keeping.{FitsAlways, HasShapeAlways};
 ghost use Rattle.kk_counted.specs.Kinds.{HasKindsAlways};
 ghost use Rattle.kk_counted.specs.CountBounds.{AllSpendAtMost};
-ghost use Rattle.kk_core.specs.CaseLengths.{all_cases_length};
 ghost use Rattle.kk_counted.specs.Lengths.{AreShort};
 ghost use Rattle.kk_counted.specs.Lowerable.{AreLowerable};
 ghost use Rattle.kk_counted.specs.Marks.{AreMarked};
@@ -108,5 +107,5 @@ pub fn inserted_code_can_be_lowered()
 /// and does nothing.
 pub fn inserted_code_is_short()
     ensures { (positions : PositionTable) (table : Table) (code : ProgramCode) → IsCoreTyped table code → IsSmall code
-        → HaveFewFields table.constructors → AreShort (all_cases_length code.functions) (inserted positions code).functions }
+        → HaveFewFields table.constructors → AreShort (inserted positions code).functions }
 {}

@@ -5,8 +5,6 @@ ghost use Rattle.kk_syntax.specs.Programs.{program_tree};
 ghost use Rattle.kk_syntax.specs.TypedPrograms.{typings_of};
 ghost use Rattle.kk_mono.specs.Grounds.{AreGiven};
 ghost use Rattle.kk_counted.specs.declared.counted.Counted.{Counted};
-ghost use Rattle.kk_core.specs.CaseLengths.{all_cases_length};
-ghost use Rattle.kk_core.specs.Codes.{core_code};
 ghost use Rattle.kk_counted.specs.Lengths.{AreShort};
 ghost use Rattle.kk_counted.specs.Programs.{program_of};
 ghost use Rattle.kk_middle.specs.Compiled.{IsCompiled};
@@ -37,13 +35,12 @@ pub fn compiled_programs_can_be_lowered()
     specialised_code_can_be_lowered();
 }
 
-/// The counted form of an accepted program is short, by how long the tests of its core form's cases are, and has few forms on values: so
-/// its image has a known greatest length. It is a law, and does nothing.
+/// The counted form of an accepted program is short, and has few forms on values: so its image has a known greatest length. It is a
+/// law, and does nothing.
 pub fn compiled_programs_are_short()
     ensures { (typed : Typed) (given : Ground) (made : Counted) → IsChecked (program_tree typed.program) (typings_of typed)
-        → AreGiven typed given → (compiled : IsCompiled typed given made)
-        → AreShort (all_cases_length (core_code compiled.core).functions)
-        (program_of made.functions.items given.texts.items).functions }
+        → AreGiven typed given → IsCompiled typed given made
+        → AreShort (program_of made.functions.items given.texts.items).functions }
 {
     compiled_core_forms_are_insertable();
     core_forms_are_small();

@@ -4,7 +4,6 @@ use Rattle.kk_syntax.specs.GroundTyping.{table_of}
 use Rattle.kk_syntax.specs.PositionsOf.{PositionTable}
 use Rattle.kk_syntax.specs.Programs.{ProgramTree}
 use Rattle.kk_core.specs.Codes.{ProgramCode, core_code}
-use Rattle.kk_core.specs.CaseLengths.{all_cases_length}
 use Rattle.kk_counted.specs.CountedCodes.{CountedFunction}
 use Rattle.kk_counted.specs.Lengths.{AreShort}
 use Rattle.kk_insert.specs.Insertion.{inserted}
@@ -21,5 +20,5 @@ returns c typed given made checked are compiled =
     let core_typed = c.compiled_core_forms_are_insertable.ensures.typed typed given made checked are compiled in
     let small = c.core_forms_are_small.ensures ground code compiled.form (instances_are_within given) in
     let short = c.inserted_code_is_short.ensures own (table_of ground) code core_typed small (ground_has_few given) in
-    subst (λ (functions : List CountedFunction). AreShort (all_cases_length code.functions) functions) (sym compiled.functions)
-    (c.specialised_code_can_be_lowered.ensures.short (all_cases_length code.functions) (inserted own code).functions short)
+    subst (λ (functions : List CountedFunction). AreShort functions) (sym compiled.functions)
+    (c.specialised_code_can_be_lowered.ensures.short (inserted own code).functions short)
