@@ -38,7 +38,8 @@ module _ (target : Target) (rest : List Line) (f : Frame Line) (fs : List (Frame
       → Runs target (most_moves + cost) 1 (turn_of (computes operation args into ∷ rest) f fs world)
       (turn_of rest (put_in into word f) fs world)
   sets_value cost operation args into words word words_are is few light =
-      line_runs target (most_moves + cost) (computes operation args into) rest f fs world words (turn_of rest (put_in into word f) fs world)
+      line_runs target (most_moves + cost) (computes operation args into) rest f fs world words
+      (turn_of rest (put_in into word f) fs world)
       words_are
       (ap (λ o. or_stuck o (λ (r : ℕ × World). asm_goes (record (left_at rest f) { cells = put_into (Some into) r.0 f.cells }) fs
       r.1)) is)
@@ -51,7 +52,8 @@ module _ (target : Target) (rest : List Line) (f : Frame Line) (fs : List (Frame
       → Runs target (most_moves + cost) 1 (turn_of (acts (Compute operation) args ∷ rest) f fs world)
       (turn_of rest f fs (with_cells world next))
   changes_cells cost operation args words next words_are is few light =
-      line_runs target (most_moves + cost) (acts (Compute operation) args) rest f fs world words (turn_of rest f fs (with_cells world next))
+      line_runs target (most_moves + cost) (acts (Compute operation) args) rest f fs world words
+      (turn_of rest f fs (with_cells world next))
       words_are
       (ap (λ o. or_stuck o (λ (r : ℕ × World). asm_goes (record (left_at rest f) { cells = put_into None r.0 f.cells }) fs r.1)) is)
       (λ held. omega (arith, few, light)) (silent target world)
@@ -83,7 +85,8 @@ module _ (target : Target) (rest : List Line) (f : Frame Line) (fs : List (Frame
       subst (λ l. Runs target (most_moves + 2) 1 (turn_of (l ∷ rest) f fs world) (turn_of rest f fs (with_cells world next)))
       (sym stores.2)
       (changes_cells 2 (Op.Sw stores.0) (cell ∷ from ∷ []) (at ∷ word ∷ []) next (reads_two f.cells cell from at word is also)
-      (ap (option_map (λ c. (0, with_cells world c))) (ap (λ o. store at o word world.cells) stores.1 ∙ stored)) (omega arith) (omega arith))
+      (ap (option_map (λ c. (0, with_cells world c))) (ap (λ o. store at o word world.cells) stores.1 ∙ stored))
+      (omega arith) (omega arith))
 
   -- a reference more, and a cell that is given back
   pub dup_runs : (x word : ℕ) (next : Cells) → f.cells x ≡ Some word → dup word world.cells ≡ Some next
@@ -155,7 +158,9 @@ module _ (target : Target) (rest : List Line) (f : Frame Line) (fs : List (Frame
 
   pub label_runs : (l : ℕ) → Runs target (most_moves + 0) 1 (turn_of (acts (Label l) [] ∷ rest) f fs world)
       (turn_of rest f fs world)
-  label_runs l = line_runs target (most_moves + 0) (acts (Label l) []) rest f fs world [] (turn_of rest f fs world) refl refl (λ held. omega arith)
+  label_runs l =
+      line_runs target (most_moves + 0) (acts (Label l) []) rest f fs world []
+      (turn_of rest f fs world) refl refl (λ held. omega arith)
       (silent target world)
 
   -- the lines from a label on
@@ -169,7 +174,8 @@ module _ (target : Target) (rest : List Line) (f : Frame Line) (fs : List (Frame
   pub jump_runs : (l : ℕ) (there : List Line) → Finds l there → Runs target (most_moves + 2) 1
       (turn_of (acts (Jump l) [] ∷ rest) f fs world) (turn_of there f fs world)
   jump_runs l there finds =
-      line_runs target (most_moves + 2) (acts (Jump l) []) rest f fs world [] (turn_of there f fs world) refl (jumps_to l there finds)
+      line_runs target (most_moves + 2) (acts (Jump l) []) rest f fs world []
+      (turn_of there f fs world) refl (jumps_to l there finds)
       (λ held. omega arith) (silent target world)
 
   -- a branch whose condition does not hold of two values, and one whose condition does
@@ -178,7 +184,8 @@ module _ (target : Target) (rest : List Line) (f : Frame Line) (fs : List (Frame
       → Runs target (most_moves + 3) 1 (turn_of (acts (Branch condition l) (x ∷ y ∷ []) ∷ rest) f fs world)
       (turn_of rest f fs world)
   falls_runs condition l x y word other is also not =
-      line_runs target (most_moves + 3) (acts (Branch condition l) (x ∷ y ∷ [])) rest f fs world (word ∷ other ∷ []) (turn_of rest f fs world)
+      line_runs target (most_moves + 3) (acts (Branch condition l) (x ∷ y ∷ [])) rest f fs world (word ∷ other ∷ [])
+      (turn_of rest f fs world)
       (reads_two f.cells x y word other is also)
       (ap (λ b. or_stuck (Some b)
       (λ taken. cond taken (asm_jumps {W = Ending} l (left_at rest f) fs world) (asm_goes (left_at rest f) fs world))) not)
@@ -189,7 +196,8 @@ module _ (target : Target) (rest : List Line) (f : Frame Line) (fs : List (Frame
       → Runs target (most_moves + 3) 1 (turn_of (acts (Branch condition l) (x ∷ y ∷ []) ∷ rest) f fs world)
       (turn_of there f fs world)
   branch_runs condition l x y word other there is also holds finds =
-      line_runs target (most_moves + 3) (acts (Branch condition l) (x ∷ y ∷ [])) rest f fs world (word ∷ other ∷ []) (turn_of there f fs world)
+      line_runs target (most_moves + 3) (acts (Branch condition l) (x ∷ y ∷ [])) rest f fs world (word ∷ other ∷ [])
+      (turn_of there f fs world)
       (reads_two f.cells x y word other is also)
       (ap (λ b. or_stuck (Some b)
       (λ taken. cond taken (asm_jumps {W = Ending} l (left_at rest f) fs world) (asm_goes (left_at rest f) fs world))) holds

@@ -222,7 +222,8 @@ module _ (target : Target) (f : Frame Line) (fs : List (Frame Line)) (world : Wo
         → Runs target (2 * length args + 2) 1 (turn_of (acts (TailCall g) args ∷ rest) f fs world)
         (turn_of callee.code entered fs world)
     tail_call_runs none =
-        line_runs target (2 * length args + 2) (acts (TailCall g) args) rest f fs world words (turn_of callee.code entered fs world) reads
+        line_runs target (2 * length args + 2) (acts (TailCall g) args) rest f fs world words
+        (turn_of callee.code entered fs world) reads
         (ap (λ h. unless_held h (or_stuck (slice_get target.functions g) (λ (c : Lines). or_stuck (bound c.params words)
         (λ values. asm_goes (asm_entered c values) fs world)))) none
         ∙ ap (λ o. or_stuck o (λ (c : Lines). or_stuck (bound c.params words) (λ values. asm_goes (asm_entered c values) fs world)))
@@ -248,7 +249,8 @@ pub last_return_runs : (target : Target) (f : Frame Line) (world : World) (rest 
     → Runs target (most_moves + 3) 1 (turn_of (acts Return (x ∷ []) ∷ rest) f [] world)
     (ended (exited (number_of OfEnding.Ended)) world)
 last_return_runs target f world rest x word is none =
-    line_runs target (most_moves + 3) (acts Return (x ∷ [])) rest f [] world (word ∷ []) (ended (exited (number_of OfEnding.Ended)) world)
+    line_runs target (most_moves + 3) (acts Return (x ∷ [])) rest f [] world (word ∷ [])
+    (ended (exited (number_of OfEnding.Ended)) world)
     (reads_one f.cells x word is)
     (ap (λ h. unless_held h (asm_returns (world_primitives target) [] world (Some word))) none)
     (λ held. omega arith) (silent target world)

@@ -236,7 +236,8 @@ module _ (program : Lowering) where
     abbrev pub form_rest : List Line
     form_rest = at.placed.lines.1 ++ at.placed.after
 
-    pub at_value : (v : Value) (n : ℕ) (events : List Event) (cells : ℕ → Option ℕ) (world : World) (input_left : List ℕ) (cost : ℕ) → cost ≤ most_cost
+    pub at_value : (v : Value) (n : ℕ) (events : List Event) (cells : ℕ → Option ℕ) (world : World) (input_left : List ℕ)
+        (cost : ℕ) → cost ≤ most_cost
         → NumberRuns.Runs numbers_target cost n events
         (turn_at s.frame.whole (form_own ++ form_rest) s.frame.cells s.frame.into fs s.world)
         (turn_at s.frame.whole form_rest cells s.frame.into fs world)
@@ -262,7 +263,8 @@ module _ (program : Lowering) where
         = turns_are form_rest f fs world at.held in
         let ran : NumberRuns.Runs numbers_target cost n events (turn_of left s.frame fs s.world) (turn_of form_rest f fs world)
         = subst (λ u. NumberRuns.Runs numbers_target cost n events (turn_of left s.frame fs s.world) u) last
-        (subst (λ t. NumberRuns.Runs numbers_target cost n events t (turn_at s.frame.whole form_rest cells s.frame.into fs world)) first
+        (subst (λ t. NumberRuns.Runs numbers_target cost n events t (turn_at s.frame.whole form_rest cells s.frame.into fs world))
+        first
         run) in
         let place : s.frame.whole ≡ (p.before ++ form_own) ++ form_rest
         = p.place ∙ ap (λ ls. p.before ++ ls) parts ∙ sym (append_assoc p.before form_own form_rest) in

@@ -480,7 +480,7 @@ abbrev pool : ℕ → Pool
 pool cells = record { first = 32; cells = cells }
 
 abbrev lower : ℕ → ℕ → Machine (AsmTurn World Ending) Event Ending
-lower cells depth = asm_machine (primitives (record { first = 0; texts = [] }) (pool cells)) 0 depth (inc_lines ∷ main_lines ∷ [])
+lower cells depth = asm_machine (primitives (record { first = 0; texts = [] }) (pool cells)) depth (inc_lines ∷ main_lines ∷ [])
 
 abbrev last : ℕ → ℕ → AsmTurn World Ending
 last cells depth = state (lower cells depth) 200 (asm_start main_lines (first_world (pool cells) []))

@@ -124,9 +124,10 @@ pub fn lowered_programs_are_short()
         → (functions_length each ≤ counted_length functions) × (length (all_bytes texts) ≤ 256 * all_computes functions) }
 {}
 
-/// A program in counted form whose functions are all lowered runs the same as its assembler code, where each state of its run is not
-/// stuck, has a sound heap with counts that are words, and takes values of the types of its code: the same events, the same end, no
-/// more instructions than its steps weigh by the table of costs, and all cells free where the heap is empty at the end. It is a law, and does nothing.
+/// A program in counted form whose functions are all lowered runs the same as its assembler code, where each state of its run is
+/// not stuck, has a sound heap with counts that are words, and takes values of the types of its code: the same events, the same
+/// end, no more instructions than its steps weigh by the table of costs, and all cells free where the heap is empty at the end.
+/// It is a law, and does nothing.
 pub fn lowered_counted_programs_run_the_same()
     ensures { (layout : Layout) (marks : CellMarks) (code : CountedProgram) (constants : List (List ℕ)) (functions : List Lines)
         → (lowered : IsProgramLowered layout marks code constants functions)

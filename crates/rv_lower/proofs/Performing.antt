@@ -37,7 +37,7 @@ use Rattle.rv_lower.specs.Lines.{computes, sets, copies_to, acts, registers, uni
 use Rattle.rv_lower.proofs.Words.{truth_word, divided, sum_follows, difference_follows, product_follows, negation_follows, quotient_follows, remainder_follows, remainder_fits, sum_fits, difference_fits, product_fits, truth_follows, not_follows, opposite_follows, equal_follows, unequal_follows, at_most_follows}
 use Rattle.rv_lower.proofs.Printing.{int_printed, few_steps_of, text_found}
 use Rattle.rv_lower.proofs.Following.{IsWordOf, frame_at, turn_at}
-use Rattle.rv_lower.proofs.Runs.{Target, word_cost, most_cost}
+use Rattle.rv_lower.proofs.Runs.{Target, word_cost, print_cost, most_cost}
 use Rattle.rv_lower.proofs.Runs as Runs
 
 -- ---- cells
@@ -310,9 +310,9 @@ module _ (target : Target) where
   routine_runs : (routine : Routine) (a b first second : ℕ) (whole rest : List Line) (cells : ℕ → Option ℕ) (into : Option ℕ) (fs : List (Frame Line)) (world : World) (events : List Event) → cells a ≡ Some first → cells b ≡ Some second
       → ((held : Option ℕ) → (Runs.world_primitives target).serve routine (first ∷ second ∷ []) held world ≡ answers 0 (told_more events world) false)
       → ((held : Option ℕ) → (Runs.world_primitives target).lasts routine (first ∷ second ∷ []) held world ≤ 80)
-      → Run 84 1 events (turn_at whole (acts (Action.Routine routine) (a ∷ b ∷ []) ∷ rest) cells into fs world) (turn_at whole rest cells into fs (told_more events world))
+      → Run print_cost 1 events (turn_at whole (acts (Action.Routine routine) (a ∷ b ∷ []) ∷ rest) cells into fs world) (turn_at whole rest cells into fs (told_more events world))
   routine_runs routine a b first second whole rest cells into fs world events at_a at_b serves light =
-      Runs.line_runs target 84 whole (acts (Action.Routine routine) (a ∷ b ∷ [])) rest cells into fs world (first ∷ second ∷ []) events (turn_at whole rest cells into fs (told_more events world))
+      Runs.line_runs target print_cost whole (acts (Action.Routine routine) (a ∷ b ∷ [])) rest cells into fs world (first ∷ second ∷ []) events (turn_at whole rest cells into fs (told_more events world))
       (reads_two cells a b first second at_a at_b)
       (ap (λ (reply : Reply World Ending). asm_served None (frame_at whole rest cells into ∷ fs) reply) (serves _))
       (λ held. omega (arith, light held)) (drop-append_seam world.trace events)
@@ -327,7 +327,7 @@ module _ (target : Target) where
       record {
         steps = n + 2;
         some = omega arith;
-        cost = n * word_cost + (84 + word_cost);
+        cost = n * word_cost + (print_cost + word_cost);
         cheap = omega (arith, few);
         cells' = put x (Some unit_word) middle;
         word = unit_word;
@@ -340,12 +340,12 @@ module _ (target : Target) where
             let t1 : AsmTurn World Ending = turn_at whole (call ∷ sets unit_word x ∷ rest) middle into fs world in
             let t2 : AsmTurn World Ending = turn_at whole (sets unit_word x ∷ rest) middle into fs after in
             let t3 : AsmTurn World Ending = turn_at whole rest (put x (Some unit_word) middle) into fs after in
-            let behind : Run (84 + word_cost) 2 (events ++ []) t1 t3
-            = Runs.runs_on target 84 word_cost 1 events [] t1 t2 t3 (routine_runs routine a b first second whole (sets unit_word x ∷ rest) middle into fs world events at_a at_b serves light)
+            let behind : Run (print_cost + word_cost) 2 (events ++ []) t1 t3
+            = Runs.runs_on target print_cost word_cost 1 events [] t1 t2 t3 (routine_runs routine a b first second whole (sets unit_word x ∷ rest) middle into fs world events at_a at_b serves light)
             (Runs.compute_runs target whole (Op.Li unit_word) [] x rest middle into fs after [] unit_word (omega arith) refl refl) in
-            let behind' : Run (84 + word_cost) 2 events t1 t3 = subst (λ es. Run (84 + word_cost) 2 es t1 t3) (append-nil events) behind in
-            subst (λ lines. Run (n * word_cost + (84 + word_cost)) (n + 2) events (turn_at whole lines cells into fs world) t3) (sym (append_assoc first_lines (call ∷ sets unit_word x ∷ []) rest))
-            (Runs.runs_then target (n * word_cost) (84 + word_cost) n 2 [] events (turn_at whole (first_lines ++ (call ∷ sets unit_word x ∷ rest)) cells into fs world) t1 t3 (changes whole (call ∷ sets unit_word x ∷ rest) into fs world) behind');
+            let behind' : Run (print_cost + word_cost) 2 events t1 t3 = subst (λ es. Run (print_cost + word_cost) 2 es t1 t3) (append-nil events) behind in
+            subst (λ lines. Run (n * word_cost + (print_cost + word_cost)) (n + 2) events (turn_at whole lines cells into fs world) t3) (sym (append_assoc first_lines (call ∷ sets unit_word x ∷ []) rest))
+            (Runs.runs_then target (n * word_cost) (print_cost + word_cost) n 2 [] events (turn_at whole (first_lines ++ (call ∷ sets unit_word x ∷ rest)) cells into fs world) t1 t3 (changes whole (call ∷ sets unit_word x ∷ rest) into fs world) behind');
       }
 
   pub print_int_performs : (base x a word : ℕ) (form : PrintForm) (own : List Line) (cells : ℕ → Option ℕ) (world : World) → x < base → a < x → cells a ≡ Some word → word < 2 ^ 32

@@ -24,6 +24,10 @@ use Rattle.rv_lower.proofs.Following.{frame_at, turn_at}
 abbrev pub word_cost : ℕ
 word_cost = 5
 
+-- the most that a print's routine weighs, with two moves and two instructions before it
+abbrev pub print_cost : ℕ
+print_cost = 84
+
 -- the most that the lines of a form weigh
 abbrev pub most_cost : ℕ
 most_cost = 100
