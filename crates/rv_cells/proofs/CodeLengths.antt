@@ -1,5 +1,5 @@
 -- Assembler code is short: it is no longer than its counted form tells.
-use Rattle.std.proofs.Common.{◌≡◌, ℕ, suc, ◌+◌, ◌*◌, ◌≤◌, Bool, List, [], ◌∷◌, ◌++◌, length, Some, refl, sym, ap, subst, arith}
+use Rattle.std.proofs.Common.{◌≡◌, ℕ, suc, ◌+◌, ◌*◌, ◌≤◌, Bool, List, [], ◌∷◌, ◌++◌, length, Some, refl, ap, subst, arith}
 use Rattle.std.specs.Prelude.{slice_get}
 use Rattle.kk_counted.specs.CountedCodes.{Counted, give, tail_call, branch, case, compute, inside, read, open_cell, if_unique}
 use Rattle.kk_counted.specs.CountedCodes.{dup, drop, CountedArms, no_arm, arm, CountedFunction}
@@ -13,6 +13,7 @@ use Rattle.rv_isa.specs.AsmCode.{Line, Lines}
 use Rattle.rv_isa.specs.Costs.{code_length, functions_length}
 use Rattle.rv_lower.specs.Lines.{Texts, acts}
 use Rattle.rv_lower.specs.Lowered.{Goal, returns, joins, goal_lines, test_lines, from_to}
+use Rattle.rv_lower.specs.Written.{texts_of}
 use Rattle.rv_lower.proofs.Functions.{from_to_length}
 use Rattle.rv_world.specs.Operations.{all_bytes}
 use Rattle.rv_cells.specs.CellLines.{dup_lines, drop_lines}
@@ -87,7 +88,7 @@ module _ (setting : Setting) (table : CellMarks) (narrow : (c : ℕ) → length 
         let whole = ap code_length is.4 in
         let apart = lines_append is.0 is.1 in
         let own = unique_length setting.holds setting.base low (low + 1) x fields used is.0 is.2
-            (few_fields c fields marked.0.1.1) in
+        (few_fields c fields marked.0.1.1) in
         let more = code_short rest (fields ++ bound) given goal (low + 2) high is.1 marked.1 arities is.3 in
         omega (arith, whole, apart, own, more)
     code_short (dup x rest) bound given goal low high lines marked arities is =
@@ -125,7 +126,7 @@ function_short layout texts table narrow f function lines may is =
     let many = from_to_length 0 function.parameters in
     let few = may.few_parameters in
     let body = code_short setting table narrow (result_mark table f) function.body (numbers_from 0 function.parameters)
-        (result_mark table f) returns 0 is.lowered.labels lines.code is.marked.body_marked may.arities is.lowered.code in
+    (result_mark table f) returns 0 is.lowered.labels lines.code is.marked.body_marked may.arities is.lowered.code in
     omega (arith, params, many, few, body)
 
 -- functions of which each by its number is short
@@ -140,7 +141,7 @@ all_short (function ∷ functions) [] same are = absurd (omega (arith, same))
 all_short (function ∷ functions) (lines ∷ each) same are =
     let own = are 0 function refl in
     let one = subst (λ (other : Lines). length other.params + code_length other.code
-        ≤ Lengths.form_length + Lengths.code_length function.body) (found own.0 own.1.0) own.1.1 in
+    ≤ Lengths.form_length + Lengths.code_length function.body) (found own.0 own.1.0) own.1.1 in
     let more = all_short functions each (omega (arith, same)) (λ f other is. are (suc f) other is) in omega (arith, one, more)
   where
     found : (other : Lines) → Some lines ≡ Some other → other ≡ lines
@@ -150,15 +151,13 @@ pub programs_short : (shape : Shape) (functions : List CountedFunction) (literal
     → AreLowerable (table_of shape) functions → IsNarrow (layout_in shape) → IsLoweredForm shape literals functions each texts
     → (functions_length each ≤ Lengths.functions_length functions)
     × (length (all_bytes texts) ≤ 256 * Lengths.all_computes functions)
-programs_short shape functions literals texts each lowerable narrow form = (
-  all_short functions each form.as_many (λ f function is.
-      let one = form.lowered f function is in (
-        one.0,
-        (
-          one.1,
-          function_short (layout_in shape) (record { literals = literals; constants = texts }) (table_of shape) narrow.few f function
-              one.0 (lowerable f function is) one.2,
-        ),
-      )),
-  form.few_bytes,
-)
+programs_short shape functions literals texts each lowerable narrow form =
+    (all_short functions each form.as_many short, form.few_bytes)
+  where
+    short : (f : ℕ) (function : CountedFunction) → slice_get functions f ≡ Some function
+        → (lines : Lines) × ((slice_get each f ≡ Some lines)
+        × (length lines.params + code_length lines.code ≤ Lengths.form_length + Lengths.code_length function.body))
+    short f function is =
+        let one = form.lowered f function is in
+        let own = function_short (layout_in shape) (texts_of literals texts) (table_of shape) narrow.few f function one.0
+        (lowerable f function is) one.2 in (one.0, (one.1, own))

@@ -1,12 +1,14 @@
 -- The lines of forms are short: each is so many instructions at most.
-use Rattle.std.proofs.Common.{◌≡◌, ℕ, suc, ◌+◌, ◌*◌, ◌≤◌, Bool, true, false, not, List, [], ◌∷◌, ◌++◌, length, Some, refl, ap, arith}
+use Rattle.std.proofs.Common.{◌≡◌, ℕ, suc, ◌+◌, ◌*◌, ◌≤◌, Bool, true, false, not, List, [], ◌∷◌, ◌++◌, length}
+use Rattle.std.proofs.Common.{Some, refl, ap, arith}
 use Rattle.std.specs.Prelude.{filter, if◌then◌else◌}
 use Rattle.kk_syntax.specs.declared.operator.BinaryOperator.{BinaryOperator}
 use Rattle.kk_syntax.specs.declared.operator.BinaryOperator.TheVariants as OfBinary
 use Rattle.kk_syntax.specs.declared.operator.UnaryOperator.{UnaryOperator}
 use Rattle.kk_syntax.specs.declared.operator.UnaryOperator.TheVariants.{Negate, Not}
 use Rattle.kk_syntax.specs.declared.program.Form.{Form}
-use Rattle.kk_syntax.specs.declared.program.Form.TheVariants.{Number, Unit as Nothing, ReadByte, PrintText, Unary, Binary, Print, Construct, Call}
+use Rattle.kk_syntax.specs.declared.program.Form.TheVariants.{Number, Unit as Nothing, ReadByte, PrintText}
+use Rattle.kk_syntax.specs.declared.program.Form.TheVariants.{Unary, Binary, Print, Construct, Call}
 use Rattle.kk_syntax.specs.Programs.{text_at}
 use Rattle.kk_syntax.specs.Shapes.{is_among}
 use Rattle.kk_source.specs.FormEffects.{piece_of}
@@ -192,7 +194,7 @@ binary_length base x OfBinary.Equal a b lines is =
     let whole = with_one_length Sltiu x (registers x a b (Op.Register Register.Sub)) lines refl is in omega (arith, whole)
 binary_length base x OfBinary.NotEqual a b lines is =
     let whole = compares_length x (registers x a b (Op.Register Register.Sub) ∷ sets 0 base ∷ registers x base x
-        (Op.Register Register.Sltu) ∷ []) lines is in omega (arith, whole)
+    (Op.Register Register.Sltu) ∷ []) lines is in omega (arith, whole)
 binary_length base x OfBinary.Less a b lines is =
     let whole = compares_length x (registers x a b (Op.Register Register.Slt) ∷ []) lines is in omega (arith, whole)
 binary_length base x OfBinary.Greater a b lines is =
@@ -258,7 +260,8 @@ module _ (setting : Setting) (table : CellMarks) (narrow : (c : ℕ) → length 
   form_short x (PrintText how text) arguments mark lines arity marked is =
       let whole = ap code_length is.2 in
       let apart = lines_append is.0 (sets 1 x ∷ []) in
-      let print = print_length setting.base setting.texts.constants (piece_of how (text_at setting.texts.literals text)) is.0 is.1 in
+      let piece : List ℕ = piece_of how (text_at setting.texts.literals text) in
+      let print = print_length setting.base setting.texts.constants piece is.0 is.1 in
       omega (arith, whole, apart, print)
   form_short x (Unary operator) arguments mark lines arity marked is =
       let whole = unary_length setting.base x operator arguments lines arity is in omega (arith, whole)
@@ -274,7 +277,8 @@ module _ (setting : Setting) (table : CellMarks) (narrow : (c : ℕ) → length 
   form_short x (Construct c) (a ∷ arguments) mark lines arity marked is =
       let many = marks_many setting.holds (a ∷ arguments) (field_marks table c) marked.0 in
       let few = narrow c in
-      let whole = construct_length setting.base x (header_of setting.layout c) (a ∷ arguments) lines is (omega (arith, many, few)) in
+      let header = header_of setting.layout c in
+      let whole = construct_length setting.base x header (a ∷ arguments) lines is (omega (arith, many, few)) in
       omega (arith, whole)
   form_short x (Call f) arguments mark lines arity marked is =
       let whole = call_length setting.base x f arguments lines (omega (arith, arity)) is in omega (arith, whole)

@@ -128,8 +128,8 @@ steps_then {a} {b} {c} facts moves move wrote one = record {
   lines = wrote.lines ++ one.lines;
   n = wrote.n + one.n;
   grows = grows_then wrote.grows one.grows;
-  counted = λ rest. ap Lengths.computes (plug_more moves move rest) ∙ counts _ _ wrote.n one.n (Lengths.computes rest) (wrote.counted (put move rest))
-      (one.counted rest);
+  counted = λ rest. ap Lengths.computes (plug_more moves move rest)
+      ∙ counts _ _ wrote.n one.n (Lengths.computes rest) (wrote.counted (put move rest)) (one.counted rest);
   are = λ later goal rest more high is.
       subst (λ (code : Counted). CodeLines (setting_in facts a.base (texts_written c ++ later)) goal a.next_label code
       ((wrote.lines ++ one.lines) ++ more) high) (sym (plug_more moves move rest))
@@ -188,77 +188,54 @@ step_runs {a} {b} {c} {d} {label} facts x block took part labelled = record {
       );
 }
 
+-- a step whose own lines were written, and no text
+step_alone : {a b : Lowering} (facts : Facts) (move : Move) (lines : List Line) → Grows 0 lines a b
+    → ((rest : Counted) → Lengths.computes (put move rest) ≡ Lengths.computes rest)
+    → ((later : List (List ℕ)) (goal : Goal) (rest : Counted) (more : List Line) (high : ℕ)
+    → CodeLines (setting_in facts a.base (texts_written b ++ later)) goal b.next_label rest more high
+    → CodeLines (setting_in facts a.base (texts_written b ++ later)) goal a.next_label (put move rest) (lines ++ more) high)
+    → WroteSteps facts (move ∷ []) a b
+step_alone facts move lines grows same are = record {
+  lines = lines;
+  n = 0;
+  grows = grows;
+  counted = λ rest. same rest ∙ zero_plus (Lengths.computes rest);
+  are = are;
+}
+
 pub step_reads : {a b : Lowering} (facts : Facts) (x c : ℕ) (fields : List ℕ) → WroteLines (ReadLines x fields) a b
     → WroteSteps facts (reads x c fields ∷ []) a b
-step_reads {a} {b} facts x c fields wrote = record {
-  lines = wrote.lines;
-  n = 0;
-  grows = (grows_of wrote.wrote);
-  counted = λ rest. zero_plus (Lengths.computes rest);
-  are = λ later goal rest more high is. (
-    wrote.lines,
-    more,
-    wrote.are,
-    code_same facts goal rest more high refl refl
-        wrote.wrote.label is,
-    refl,
-  );
-}
+step_reads facts x c fields wrote =
+    step_alone facts (reads x c fields) wrote.lines (grows_of wrote.wrote) (λ rest. refl)
+    (λ later goal rest more high is.
+    (wrote.lines, more, wrote.are, code_same facts goal rest more high refl refl wrote.wrote.label is, refl))
 
 pub step_opens : {a b : Lowering} (facts : Facts) (x c : ℕ) (fields used : List ℕ)
     → WroteLines (OpenLines a.base facts.holds x fields used) a b
     → WroteSteps facts (opens x c fields used ∷ []) a b
-step_opens {a} {b} facts x c fields used wrote = record {
-  lines = wrote.lines;
-  n = 0;
-  grows = (grows_of wrote.wrote);
-  counted = λ rest. zero_plus (Lengths.computes rest);
-  are = λ later goal rest more high is. (
-    wrote.lines,
-    more,
-    wrote.are,
-    code_same facts goal rest more high refl refl
-        wrote.wrote.label is,
-    refl,
-  );
-}
+step_opens facts x c fields used wrote =
+    step_alone facts (opens x c fields used) wrote.lines (grows_of wrote.wrote) (λ rest. refl)
+    (λ later goal rest more high is.
+    (wrote.lines, more, wrote.are, code_same facts goal rest more high refl refl wrote.wrote.label is, refl))
 
 pub step_opens_unique : {a b : Lowering} (facts : Facts) (x c : ℕ) (fields used : List ℕ)
     → WroteUnique facts.holds x fields used a b
     → WroteSteps facts (opens_unique x c fields used ∷ []) a b
-step_opens_unique {a} {b} facts x c fields used wrote = record {
-  lines = wrote.lines;
-  n = 0;
-  grows = wrote.grows;
-  counted = λ rest. zero_plus (Lengths.computes rest);
-  are = λ later goal rest more high is. (
-    wrote.lines,
-    more,
-    wrote.are,
-    code_same facts goal rest more high refl refl wrote.label
-        is,
-    refl,
-  );
-}
+step_opens_unique facts x c fields used wrote =
+    step_alone facts (opens_unique x c fields used) wrote.lines wrote.grows (λ rest. refl)
+    (λ later goal rest more high is.
+    (wrote.lines, more, wrote.are, code_same facts goal rest more high refl refl wrote.label is, refl))
 
 pub step_dups : {a b : Lowering} (facts : Facts) (x : ℕ) → Wrote (dup_lines facts.holds x) a b → WroteSteps facts (dups x ∷ []) a b
-step_dups {a} {b} facts x wrote = record {
-  lines = dup_lines facts.holds x;
-  n = 0;
-  grows = (grows_of wrote);
-  counted = λ rest. zero_plus (Lengths.computes rest);
-  are = λ later goal rest more high is. (more, code_same facts goal rest more high refl refl wrote.label is, refl);
-}
+step_dups facts x wrote =
+    step_alone facts (dups x) (dup_lines facts.holds x) (grows_of wrote) (λ rest. refl)
+    (λ later goal rest more high is. (more, code_same facts goal rest more high refl refl wrote.label is, refl))
 
 pub step_drops : {a b : Lowering} (facts : Facts) (x : ℕ) → Wrote (drop_lines a.base facts.holds x) a b
     → WroteSteps facts (drops x ∷ []) a b
-step_drops {a} {b} facts x wrote = record {
-  lines = drop_lines a.base facts.holds x;
-  n = 0;
-  grows = (grows_of wrote);
-  counted = λ rest. zero_plus (Lengths.computes rest);
-  are = λ later goal rest more high is. (more, code_same facts goal rest more high refl refl wrote.label is, refl);
-}
+step_drops {a} facts x wrote =
+    step_alone facts (drops x) (drop_lines a.base facts.holds x) (grows_of wrote) (λ rest. refl)
+    (λ later goal rest more high is. (more, code_same facts goal rest more high refl refl wrote.label is, refl))
 
 -- a form that is no construction
 pub value_of_form : {a b : Lowering} (facts : Facts) (x : ℕ) (form : Form) (arguments : List ℕ) → ((c : ℕ) → form ≡ Construct c → ⊥)
@@ -376,8 +353,8 @@ more_arms setting goal label low middle high (other ∷ each) body lines first a
     one_more : (n m : ℕ) → n + suc m ≡ n + 1 + m
     one_more n m = omega arith
 
-computes_of_more : (each : List Counted) (body : Counted) → Lengths.arms_computes (arms_of (each ++ body ∷ [])) ≡ Lengths.arms_computes
-    (arms_of each) + Lengths.computes body
+computes_of_more : (each : List Counted) (body : Counted)
+    → Lengths.arms_computes (arms_of (each ++ body ∷ [])) ≡ Lengths.arms_computes (arms_of each) + Lengths.computes body
 computes_of_more [] body = omega arith
 computes_of_more (other ∷ each) body = omega (arith, computes_of_more each body)
 

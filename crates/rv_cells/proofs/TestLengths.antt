@@ -1,5 +1,6 @@
 -- The tests of a case are short: their nodes are no longer than the decisions tell.
-use Rattle.std.proofs.Common.{◌≡◌, ℕ, suc, ◌+◌, ◌*◌, ◌≤◌, Bool, true, false, not, List, [], ◌∷◌, ◌++◌, length, Option, None, Some, ap, arith}
+use Rattle.std.proofs.Common.{◌≡◌, ℕ, suc, ◌+◌, ◌*◌, ◌≤◌, Bool, true, false, not, List, [], ◌∷◌, ◌++◌, length}
+use Rattle.std.proofs.Common.{Option, None, Some, ap, arith}
 use Rattle.std.specs.Prelude.{filter, if◌then◌else◌}
 use Rattle.kk_core.specs.CaseLengths.{node_length, tests_length}
 use Rattle.kk_core.specs.Decisions.{NodeTree, chooses, tests}
@@ -11,7 +12,8 @@ use Rattle.rv_lower.specs.Lines.{computes}
 use Rattle.rv_isa.specs.declared.asm.ImmediateOperation.TheVariants.{Andi}
 use Rattle.rv_isa.specs.declared.asm.Operation.TheVariants as Op
 use Rattle.rv_cells.specs.CellLines.{Walks, equal_lines}
-use Rattle.rv_cells.specs.CountedLines.{is_plain, answer_word, answer_tag, number_tests, otherwise_lines, OddLines, TagLines, NodeLines, NodesLines}
+use Rattle.rv_cells.specs.CountedLines.{is_plain, answer_word, answer_tag, number_tests, otherwise_lines}
+use Rattle.rv_cells.specs.CountedLines.{OddLines, TagLines, NodeLines, NodesLines}
 use Rattle.rv_cells.specs.Layout.{Layout}
 use Rattle.rv_cells.proofs.FormLengths.{lines_append, load_length}
 
@@ -27,7 +29,7 @@ numbers_length : (number : Answer → ℕ) (value nodes : ℕ) (edges : List Edg
 numbers_length number value nodes [] = omega arith
 numbers_length number value nodes (edge ∷ edges) =
     let apart = lines_append (equal_lines value (number edge.found) (value + 1) (nodes + edge.next))
-        (number_tests number value nodes edges) in
+    (number_tests number value nodes edges) in
     let more = numbers_length number value nodes edges in omega (arith, apart, more)
 
 otherwise_length : (nodes : ℕ) (otherwise : Option ℕ) → code_length (otherwise_lines nodes otherwise) ≤ 2

@@ -1,4 +1,5 @@
-ghost use Rattle.std.specs.Prelude.{◌≡◌, ◌<◌, ◌≤◌, ℕ, suc, ◌%◌, ◌^◌, ◌*◌, Bool, List, [], ◌∷◌, length, All, Option, Some, None, true, slice_get};
+ghost use Rattle.std.specs.Prelude.{◌≡◌, ◌<◌, ◌≤◌, ℕ, suc, ◌%◌, ◌^◌, ◌*◌, Bool, List, [], ◌∷◌, length};
+ghost use Rattle.std.specs.Prelude.{All, Option, Some, None, true, slice_get};
 ghost use Rattle.cell_heap.specs.Pool.{Pool};
 ghost use Rattle.cell_heap.specs.Blocks.{Cells, own, with_block, with_word, request, unused_cells};
 ghost use Rattle.kk_source.specs.State.{Value, Cell};
@@ -104,6 +105,15 @@ pub fn cells_in_hand_are_released()
         → (at : ℕ) (words : ℕ → Option ℕ) → owners at ≡ in_hand words → Released pool layout address owners heap cells at }
 {}
 
+/// The assembler code of a program in counted form that can be lowered, and is so, is no longer than its counted form tells, and
+/// has at most 256 constant bytes for each form on values: where constructors have at most six fields. It is a law, and does
+/// nothing.
+pub fn lowered_programs_are_short()
+    ensures { (shape : Shape) (functions : List CountedFunction) (literals texts : List (List ℕ)) (each : List Lines)
+        → AreLowerable (table_of shape) functions → IsNarrow (layout_in shape) → IsLoweredForm shape literals functions each texts
+        → (functions_length each ≤ counted_length functions) × (length (all_bytes texts) ≤ 256 * all_computes functions) }
+{}
+
 /// A program in counted form that can be lowered, and is so, is one whose assembler code is well formed, and which runs the same by the
 /// next law: where its shape has tags of a byte, six fields a constructor at most, and `False` and `True` first, and `main`, which has no
 /// parameters, is there. It is a law, and does nothing.
@@ -113,15 +123,6 @@ pub fn lowered_programs_are_well_formed()
         → IsNarrow (layout_in shape) → (layout_in shape).tag 0 ≡ 0 → (layout_in shape).tag 1 ≡ 1
         → (main : CountedFunction) → slice_get code.functions code.main ≡ Some main → main.parameters ≡ 0
         → IsProgramLowered (layout_in shape) (table_of shape) code texts each }
-{}
-
-/// The assembler code of a program in counted form that can be lowered, and is so, is no longer than its counted form tells, and its
-/// constant bytes are no more than 256 for each form on values: where its constructors have six fields at most. It is a law, and does
-/// nothing.
-pub fn lowered_programs_are_short()
-    ensures { (shape : Shape) (functions : List CountedFunction) (literals texts : List (List ℕ)) (each : List Lines)
-        → AreLowerable (table_of shape) functions → IsNarrow (layout_in shape) → IsLoweredForm shape literals functions each texts
-        → (functions_length each ≤ counted_length functions) × (length (all_bytes texts) ≤ 256 * all_computes functions) }
 {}
 
 /// A program in counted form whose functions are all lowered runs the same as its assembler code, where each state of its run is

@@ -13,8 +13,8 @@ mod program;
 
 pub use law::{
     cells_in_hand_are_counted, cells_in_hand_are_released, counts_are_stored,
-    judged_programs_are_fit, lowered_counted_programs_run_the_same,
-    lowered_programs_are_short, lowered_programs_are_well_formed, references_are_dropped, references_are_duplicated,
+    judged_programs_are_fit, lowered_counted_programs_run_the_same, lowered_programs_are_short,
+    lowered_programs_are_well_formed, references_are_dropped, references_are_duplicated,
     requests_find_free_cells, unique_cells_are_opened, unused_cells_hold_no_heap,
     words_in_hand_are_stored,
 };
