@@ -1,8 +1,9 @@
 -- What code spends on a path is no more than what it owns and gains.
-use Rattle.std.proofs.Common.{◌≡◌, ◌⊎◌, inl, inr, ℕ, zero, suc, ◌+◌, ◌≤◌, ◌<◌, Bool, true, false, List, [], ◌∷◌, ◌++◌, length, Option, Some, None, arith, refl, ap}
+use Rattle.std.proofs.Common.{◌≡◌, ◌⊎◌, inl, inr, ℕ, suc, ◌+◌, ◌≤◌, ◌<◌, Bool, List, [], ◌∷◌, ◌++◌, length, Option, Some, None, arith, refl, ap}
 use Rattle.std.proofs.lemmas.Bool.{cases_lt}
-use Rattle.std.specs.Prelude.{if◌then◌else◌, filter}
+use Rattle.std.specs.Prelude.{filter}
 use Rattle.kk_counted.proofs.Evenness.{total_append}
+use Rattle.kk_counted.proofs.ListLengths.{total_ones, filter_few, numbers_length}
 use Rattle.kk_counted.proofs.OwnedBounds.{many, few_at}
 use Rattle.kk_counted.specs.CountBounds.{HasAnArm, SpendsAtMost, SpendAtMost, EachHasAnArm, AllHaveAnArm, gains, gains_in}
 use Rattle.kk_counted.specs.CountedCodes.{Counted, give, tail_call, branch, case, compute, inside, read, open_cell, if_unique, dup, drop, CountedArms, no_arm, arm, CountedFunction}
@@ -32,13 +33,8 @@ mutual
   more_spent_arms (arm body rest) n m less small = (more_spent body n m less small.0, more_spent_arms rest n m less small.1)
 
 few_filtered : (test : ℕ → Bool) (xs : List ℕ) → many (filter test xs) ≤ length xs
-few_filtered test [] = omega arith
-few_filtered test (x ∷ xs) = by_test (test x) (few_filtered test xs)
-  where
-    by_test : (t : Bool) → many (filter test xs) ≤ length xs → many (if t then x ∷ filter test xs else filter test xs) ≤ suc
-        (length xs)
-    by_test true later = omega (arith, later)
-    by_test false later = omega (arith, later)
+few_filtered test xs =
+    let same = total_ones (filter test xs) in let few = filter_few test xs in omega (arith, same, few)
 
 -- the greater of two numbers
 record Greater (a b : ℕ) : Type 0 where
@@ -164,10 +160,6 @@ module _ (positions : PositionTable) (functions : List CountedFunction) where
           ),
         )
 
-  count_numbers : (next n : ℕ) → length (numbers_from next n) ≡ n
-  count_numbers next zero = refl
-  count_numbers next (suc n) = ap suc (count_numbers (suc next) n)
-
   -- a function's code spends at most its parameters and what it gains
   pub function_spends : (f : ℕ) (function : CountedFunction) → SpendsParameters positions functions f function
       → EachHasAnArm function.body
@@ -181,6 +173,6 @@ module _ (positions : PositionTable) (functions : List CountedFunction) where
         all.1.0,
         few_at (is_owned positions functions f) 0
             (numbers_from 0 function.parameters),
-        count_numbers 0 function.parameters,
+        numbers_length 0 function.parameters,
       ))
       all.1.1

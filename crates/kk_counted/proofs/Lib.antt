@@ -27,6 +27,7 @@ mod EdgeNumbers
 mod Recounting
 pub mod Marking
 pub mod Numbers
+pub mod ListLengths
 pub mod OwnedBounds
 pub mod CountSteps
 pub mod NarrowCounts

@@ -25,7 +25,7 @@ use Rattle.kk_core.specs.CoreMachine.{bind_fields}
 use Rattle.kk_counted.specs.CountedCodes.{Counted, give, tail_call, branch, case, compute, inside, read, open_cell, if_unique, dup, drop, CountedArms, no_arm, arm, CountedFunction}
 use Rattle.kk_counted.specs.CountedMachine.{at_counted, at_end, at_stuck, with_heap, arm_at, case_step, give_step, in_code, tail_step, Named, cell_named, used_values, other_values, opened_heap, unique_heap, open_step, call_step, form_step, counted_code_step, counted_step_at, counted_step_of, counted_step, counted_ending_of, counted_machine}
 use Rattle.kk_counted.specs.CountedStates.{CountedSetting, CountedJoin, CountedFrame, CountedControl, running, stopped, stuck, CountedConfiguration, CountedState, no_function, counted_start, counted_first_state}
-use Rattle.kk_counted.specs.Heaps.{Held, Heap, held_at, count_at, set_count, busy, dup_value, drop_value, fields_if_held, fields_held}
+use Rattle.kk_counted.specs.Heaps.{Heap, held_at, count_at, set_count, busy, dup_value, drop_value, fields_if_held, fields_held}
 use Rattle.kk_counted.specs.Int32.{IsInt32, AreInt32, IsFormInt32, HasInt32, HaveInt32, AllHaveInt32, AreBindingsInt32, IsHeapInt32, AreJoinsInt32, IsRunInt32, AreFramesInt32, IsControlInt32, IsStateInt32}
 use Rattle.kk_counted.specs.Keeping.{counted_after}
 use Rattle.kk_counted.proofs.Recounting.{OnHeap, dup_keeps, drop_keeps, opened_keeps, unique_keeps}

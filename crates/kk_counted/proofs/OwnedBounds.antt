@@ -1,8 +1,8 @@
 -- What a function owns is no more than its code spends; and a count is no more than the references that can be.
-use Rattle.std.proofs.Common.{◌≡◌, ℕ, zero, suc, ◌+◌, ◌*◌, ◌≤◌, Bool, true, false, List, [], ◌∷◌, ◌++◌, length, Option, Some, None, arith, refl, ap, ◌∙◌, subst, length-append}
+use Rattle.std.proofs.Common.{◌≡◌, ℕ, zero, suc, ◌+◌, ◌*◌, ◌≤◌, Bool, List, [], ◌∷◌, ◌++◌, length, Option, Some, None, arith, refl, ap, ◌∙◌, subst, length-append}
 use Rattle.std.proofs.Math.Nat.{mul-suc, suc-mul, mul-le-mul_left, mul-le-mul_right}
 use Rattle.std.proofs.lemmas.List.{length-map}
-use Rattle.std.specs.Prelude.{if◌then◌else◌, filter}
+use Rattle.std.specs.Prelude.{filter}
 use Rattle.kk_syntax.specs.PositionsOf.{PositionTable}
 use Rattle.kk_syntax.specs.Shapes.{is_among}
 use Rattle.kk_syntax.specs.declared.program.Form.{Form}
@@ -10,6 +10,7 @@ use Rattle.kk_syntax.specs.declared.program.Form.TheVariants.{Number, Unit as No
 use Rattle.kk_source.specs.State.{Value, integer, unit, constant, place, Store, Environment}
 use Rattle.kk_source.specs.Live.{value_of}
 use Rattle.kk_counted.proofs.Evenness.{total_append}
+use Rattle.kk_counted.proofs.ListLengths.{total_ones, positions_few}
 use Rattle.kk_counted.specs.CountBounds.{HasAnArm, SpendsAtMost, SpendAtMost, JoinsSpend, RestSpends, FramesSpend, ControlSpends, IsBounded}
 use Rattle.kk_counted.specs.CountedCodes.{Counted, give, tail_call, branch, case, compute, inside, read, open_cell, if_unique, dup, drop, CountedArms, no_arm, arm, CountedFunction}
 use Rattle.kk_counted.specs.CountedStates.{CountedSetting, CountedJoin, CountedFrame, running, CountedConfiguration}
@@ -25,29 +26,20 @@ use Rattle.kk_counted.specs.Spending.{total, at_positions, left_by, is_owned, us
 abbrev pub many : List ℕ → ℕ
 many xs = total (λ x. 1) xs
 
-pub many_length : (xs : List ℕ) → many xs ≡ length xs
-many_length [] = refl
-many_length (x ∷ xs) = omega (arith, many_length xs)
-
 pub few_at : (takes : ℕ → Bool) (next : ℕ) (xs : List ℕ) → many (at_positions takes next xs) ≤ length xs
-few_at takes next [] = omega arith
-few_at takes next (x ∷ xs) = by_test (takes next) (few_at takes (suc next) xs)
-  where
-    by_test : (t : Bool) → many (at_positions takes (suc next) xs) ≤ length xs
-        → many (if t then x ∷ at_positions takes (suc next) xs else at_positions takes (suc next) xs) ≤ suc (length xs)
-    by_test true later = omega (arith, later)
-    by_test false later = omega (arith, later)
+few_at takes next xs =
+    let same = total_ones (at_positions takes next xs) in let few = positions_few takes next xs in omega (arith, same, few)
 
 module _ (positions : PositionTable) (functions : List CountedFunction) where
   pub few_used : (form : Form) (xs : List ℕ) → many (used_by positions functions form xs) ≤ length xs
-  few_used (Number n) xs = omega (arith, many_length xs)
-  few_used Nothing xs = omega (arith, many_length xs)
-  few_used ReadByte xs = omega (arith, many_length xs)
-  few_used (PrintText form text) xs = omega (arith, many_length xs)
-  few_used (Unary operator) xs = omega (arith, many_length xs)
-  few_used (Binary operator) xs = omega (arith, many_length xs)
-  few_used (Print form) xs = omega (arith, many_length xs)
-  few_used (Construct c) xs = omega (arith, many_length xs)
+  few_used (Number n) xs = omega (arith, total_ones xs)
+  few_used Nothing xs = omega (arith, total_ones xs)
+  few_used ReadByte xs = omega (arith, total_ones xs)
+  few_used (PrintText form text) xs = omega (arith, total_ones xs)
+  few_used (Unary operator) xs = omega (arith, total_ones xs)
+  few_used (Binary operator) xs = omega (arith, total_ones xs)
+  few_used (Print form) xs = omega (arith, total_ones xs)
+  few_used (Construct c) xs = omega (arith, total_ones xs)
   few_used (Call f) xs = few_at (is_owned positions functions f) 0 xs
 
   mutual
@@ -131,7 +123,7 @@ module _ (positions : PositionTable) (functions : List CountedFunction) where
       let one : length w.owned ≤ n =
       omega (
         arith,
-        many_length w.owned,
+        total_ones w.owned,
         owned_few w.lent [] w.left (frame.variable ∷ w.owned) frame.rest few.0 w.spends few.1.1.1.0,
         left_few w.lent w.left frame.joins few.1.0 w.waits few.1.1.1.1,
         few.1.1.0,
@@ -196,7 +188,7 @@ module _ (positions : PositionTable) (setting : CountedSetting) (marks : CellMar
         few_refs (values_of environment r.owned ++ kept.0) at,
         length-append (values_of environment r.owned) kept.0,
         length-map r.owned (value_of environment),
-        many_length r.owned,
+        total_ones r.owned,
         owned_few positions setting.program.functions r.lent r.readable r.left r.owned code spends.0.0 r.spends spends.0.1.1.1.0,
         left_few positions setting.program.functions r.lent r.left joins spends.0.1.0 r.waits spends.0.1.1.1.1,
         spends.0.1.1.0,

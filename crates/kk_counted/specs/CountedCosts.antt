@@ -1,4 +1,4 @@
--- What the steps of the counted machine cost: the one table of costs from the core form to the image.
+-- What the steps of the counted machine cost, in the unit in which kk_core/specs/Costs counts those of the core machine.
 use Rattle.std.specs.Prelude.{ℕ, ◌+◌, ◌*◌, not, List, length, filter}
 use Rattle.kk_syntax.specs.Shapes.{is_among}
 use Rattle.kk_source.specs.Live.{value_of}

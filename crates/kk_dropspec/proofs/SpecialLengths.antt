@@ -1,5 +1,5 @@
 -- Specialised code is as long as the code that it is made of, and has as many forms on values.
-use Rattle.std.proofs.Common.{◌≡◌, ℕ, suc, ◌+◌, ◌≤◌, List, [], ◌∷◌, map, arith, refl, ap}
+use Rattle.std.proofs.Common.{◌≡◌, suc, List, [], ◌∷◌, map, arith, refl, ap}
 use Rattle.kk_counted.specs.CountedCodes.{Counted, give, tail_call, branch, case, compute, inside, read, open_cell, if_unique, dup, drop, CountedArms, no_arm, arm, CountedFunction}
 use Rattle.kk_counted.specs.Lengths.{code_length, arms_length, functions_length, computes, arms_computes, all_computes, AreShort}
 use Rattle.kk_dropspec.specs.Specialised.{special, special_arms, special_function}

@@ -1,5 +1,5 @@
 -- What a code owns is below the number of its function's variables.
-use Rattle.std.proofs.Common.{◌≡◌, ◌⊎◌, inl, inr, ℕ, ◌+◌, ◌≤◌, ◌<◌, Bool, true, false, not, List, [], ◌∷◌, ◌++◌, arith}
+use Rattle.std.proofs.Common.{◌≡◌, ◌⊎◌, inl, inr, ℕ, ◌+◌, ◌≤◌, ◌<◌, Bool, true, not, List, [], ◌∷◌, ◌++◌, arith}
 use Rattle.std.specs.Prelude.{filter}
 use Rattle.kk_syntax.specs.Shapes.{is_among, without}
 use Rattle.kk_syntax.specs.declared.program.Form.TheVariants.{Call}
@@ -48,7 +48,8 @@ module _ (positions : PositionTable) (lent : List ℕ) (most : ℕ) where
         owns_below (x ∷ []) left (one_of bound low x below (omega (arith, o.1, le)) o.0) under
     own_below left bound low (tail_call f arguments) high o le below under =
         owns_below (used positions (Call f) arguments) left
-        (λ y is. some_of bound low arguments below (omega (arith, o.1, le)) o.0 y (used_part positions (Call f) arguments y is)) under
+        (λ y is. some_of bound low arguments below (omega (arith, o.1, le)) o.0 y
+        (used_part positions (Call f) arguments y is)) under
     own_below left bound low (branch x positive negative) high o le below under =
         let more : low ≤ o.0 = ordered_high bound low positive o.0 o.2 in
         let middle : o.0 ≤ high = ordered_high bound o.0 negative high o.3 in

@@ -14,6 +14,7 @@ use Rattle.kk_core.specs.Codes.{Code, tail_call, FunctionCode}
 use Rattle.kk_core.specs.Costs.{step_cost, part_cost}
 use Rattle.kk_core.specs.CoreStates.{CoreSetting, Join, CallFrame, CoreConfiguration}
 use Rattle.kk_core.specs.CoreMachine.{at_end, in_code, tail_step, call_step}
+use Rattle.kk_counted.proofs.ListLengths.{positions_few}
 use Rattle.kk_counted.specs.CountedCodes as Counted
 use Rattle.kk_counted.specs.CountedCodes.{CountedFunction}
 use Rattle.kk_counted.specs.CountedCosts.{form_cost, value_cost, drop_cost}
@@ -31,7 +32,7 @@ use Rattle.kk_insert.specs.Meaning.{inserted_setting}
 use Rattle.kk_insert.specs.Insertion.{used, lends, owns, own, insert, inserted_function, inserted_functions}
 use Rattle.kk_insert.specs.Promise.{IsInsertable}
 use Rattle.kk_insert.proofs.Sets.{in_either, part_all}
-use Rattle.kk_insert.proofs.Lengths.{positions_few, values_length, owned_length}
+use Rattle.kk_insert.proofs.Lengths.{values_length, owned_length}
 use Rattle.kk_insert.proofs.Owned.{in_owns}
 use Rattle.kk_insert.proofs.Spent.{lent_arguments}
 use Rattle.kk_insert.proofs.Programs.{inserted_there}

@@ -8,7 +8,7 @@ use Rattle.kk_core.specs.declared.form.Last.{Last}
 use Rattle.kk_core.specs.declared.form.Last.TheVariants as OfLast
 use Rattle.kk_core.specs.declared.form.Last.TheFolds.{fold-roll-Last}
 use Rattle.kk_core.specs.Codes.{Code, case, Piece, ArmCode, arms_of, arm_step, block_step, last_step, step_step, last_code, arm_code}
-use Rattle.kk_counted.specs.CountedCodes.{Counted, CountedArms, arm}
+use Rattle.kk_counted.specs.CountedCodes.{Counted, arm}
 use Rattle.kk_counted.specs.CountedCodes as Form
 use Rattle.kk_counted.specs.CountedForms.{decisions_of}
 use Rattle.kk_insert.specs.Insertion.{before, dropping, owns, own, own_arms, insert, insert_arms}

@@ -22,6 +22,7 @@ use Rattle.kk_source.specs.NeverStuck.{ArgumentsFit}
 use Rattle.kk_core.specs.Kinds.{TakesKinds}
 use Rattle.kk_core.specs.NeverStuck.{CallFits}
 use Rattle.kk_core.proofs.TakenKinds.{takes_kinds}
+use Rattle.kk_counted.proofs.ListLengths.{positions_few}
 use Rattle.kk_counted.specs.CountedCodes as Counted
 use Rattle.kk_counted.specs.CountedCosts.{form_cost, value_cost, drop_cost}
 use Rattle.kk_counted.specs.Heaps.{Heap, count_at, forwards, busy}
@@ -39,7 +40,6 @@ use Rattle.kk_insert.specs.Meaning.{inserted_setting}
 use Rattle.kk_insert.specs.Insertion.{used, lends, owns, own, back, insert, inserted_functions}
 use Rattle.kk_insert.specs.Promise.{IsInsertable}
 use Rattle.kk_insert.proofs.Sets.{false_if, no_both}
-use Rattle.kk_insert.proofs.Lengths.{positions_few}
 use Rattle.kk_insert.proofs.Owned.{lends_part}
 use Rattle.kk_insert.proofs.Paths.{conf, with_input, Path, path_here, path_step}
 use Rattle.kk_insert.proofs.Standing.{left_of, image_joins, CodeOk, RestOk, JoinsOk, FramesStand, Stands, Follows}

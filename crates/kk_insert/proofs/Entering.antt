@@ -17,7 +17,6 @@ use Rattle.kk_counted.specs.Heaps.{busy}
 use Rattle.kk_counted.proofs.Reaching.{none_counted}
 use Rattle.kk_core.specs.Sizes.{below as numbers_below}
 use Rattle.kk_counted.specs.CountedCodes as Counted
-use Rattle.kk_counted.specs.CountedCodes.{CountedFunction}
 use Rattle.kk_counted.specs.CountedCosts.{form_cost, dup_cost, drop_cost}
 use Rattle.kk_counted.specs.Heaps.{Heap, forwards}
 use Rattle.kk_counted.specs.CountedStates.{CountedSetting, CountedJoin, CountedFrame, CountedState}

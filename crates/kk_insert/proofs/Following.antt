@@ -16,6 +16,7 @@ use Rattle.kk_core.specs.Decisions.{NodeTree, chosen}
 use Rattle.kk_core.specs.Kinds.{IsTruth}
 use Rattle.kk_core.specs.Looks.{looks_taken}
 use Rattle.kk_core.specs.Sizes.{forms, forms_of_arms, most_forms}
+use Rattle.kk_counted.proofs.ListLengths.{filter_length}
 use Rattle.kk_counted.specs.CountedCodes as Counted
 use Rattle.kk_counted.specs.CountedCosts.{dup_cost, drop_cost}
 use Rattle.kk_counted.specs.Heaps.{Heap, forwards, count_at, cell_at, fields_held}
@@ -35,7 +36,7 @@ use Rattle.kk_insert.specs.Meaning.{inserted_setting}
 use Rattle.kk_insert.specs.Insertion.{before, common, dups, dropping, own, own_arms, insert, insert_arms, opening}
 use Rattle.kk_insert.specs.Promise.{LendsOn, AllLendOn}
 use Rattle.kk_insert.proofs.Sets.{no_both, false_if, Part, among_next, one_only, in_back, filter_in, without_clear, in_without, clear_back, before_front, before_back, clear_fresh, apart_filter, filter_alike, among_filter}
-use Rattle.kk_insert.proofs.Lengths.{even_length, filter_length}
+use Rattle.kk_insert.proofs.Lengths.{even_length}
 use Rattle.kk_insert.proofs.Fine.{FineFields, IsFine, AreFine}
 use Rattle.kk_insert.proofs.Owned.{own_part, own_apart, owns_after, rest_part}
 use Rattle.kk_insert.proofs.Spent.{looked_at, at_tail, fields_even, owns_kept, owns_new}

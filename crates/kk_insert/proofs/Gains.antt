@@ -1,7 +1,6 @@
 -- How much inserted code gains at most: so how many references it spends on a path.
-use Rattle.std.proofs.Common.{◌≡◌, ℕ, suc, ◌+◌, ◌*◌, ◌≤◌, ◌||◌, Bool, true, false, not, List, [], ◌∷◌, length, Some, arith, refl, ap, ◌∙◌}
-use Rattle.std.specs.Prelude.{filter, slice_get, if◌then◌else◌}
-use Rattle.std.proofs.lemmas.List.{length-append}
+use Rattle.std.proofs.Common.{◌≡◌, ℕ, ◌+◌, ◌*◌, ◌≤◌, ◌||◌, Bool, true, false, List, [], ◌∷◌, length, Some, arith, refl, ap, ◌∙◌}
+use Rattle.std.specs.Prelude.{slice_get}
 use Rattle.kk_syntax.specs.Shapes.{is_among, without}
 use Rattle.kk_syntax.specs.GroundTyping.{Signature, Table, IsFormTyped}
 use Rattle.kk_syntax.specs.OfType.{field_types}
@@ -12,27 +11,26 @@ use Rattle.kk_syntax.specs.declared.program.Form.TheVariants.{Number, Unit as No
 use Rattle.kk_core.specs.Codes.{Code, give, tail_call, branch, case, compute, use_of, unpack, inside, Arms, no_arm, arm, FunctionCode}
 use Rattle.kk_core.specs.CoreTyping.{Facts, HasCodeType, AreArmsTyped}
 use Rattle.kk_core.specs.Sizes.{forms, forms_of_arms}
+use Rattle.kk_counted.proofs.ListLengths.{total_ones, filter_few, positions_few}
+use Rattle.kk_counted.proofs.OwnedBounds.{few_used}
 use Rattle.kk_counted.specs.CountedCodes as Counted
 use Rattle.kk_counted.specs.CountBounds.{gains, gains_in}
 use Rattle.kk_counted.specs.Spending.{at_positions, numbers_from, is_owned}
-use Rattle.kk_insert.specs.Insertion.{dups, drops, dropping, before, extra, common, used, lends, owns, wants, back, opening, lent_of, own, insert, insert_arms, inserted_function}
-use Rattle.kk_insert.proofs.Lengths.{filter_few, positions_few, wants_few}
+use Rattle.kk_insert.specs.Insertion.{dups, drops, dropping, common, used, lends, owns, wants, back, opening, lent_of, own, insert, insert_arms, inserted_function}
+use Rattle.kk_insert.proofs.Lengths.{wants_few}
 use Rattle.kk_insert.proofs.Typed.{same_length}
 
 -- ---- arguments
 
-pub used_few : (positions : PositionTable) (form : Form) (arguments : List ℕ) → length (used positions form arguments) ≤ length arguments
-used_few positions (Call f) arguments = positions_few (is_owned positions [] f) 0 arguments
-used_few positions (Number n) arguments = omega arith
-used_few positions Nothing arguments = omega arith
-used_few positions ReadByte arguments = omega arith
-used_few positions (PrintText form text) arguments = omega arith
-used_few positions (Unary operator) arguments = omega arith
-used_few positions (Binary operator) arguments = omega arith
-used_few positions (Print form) arguments = omega arith
-used_few positions (Construct c) arguments = omega arith
+pub used_few : (positions : PositionTable) (form : Form) (arguments : List ℕ)
+    → length (used positions form arguments) ≤ length arguments
+used_few positions form arguments =
+    let same = total_ones (used positions form arguments) in
+    let few = few_used positions [] form arguments in
+    omega (arith, same, few)
 
-pub lends_few : (positions : PositionTable) (form : Form) (arguments : List ℕ) → length (lends positions form arguments) ≤ length arguments
+pub lends_few : (positions : PositionTable) (form : Form) (arguments : List ℕ)
+    → length (lends positions form arguments) ≤ length arguments
 lends_few positions (Call f) arguments = positions_few (is_lent positions f) 0 arguments
 lends_few positions (Number n) arguments = omega arith
 lends_few positions Nothing arguments = omega arith
@@ -118,7 +116,8 @@ module _ (table : Table) (few : HasFew table) where
           let given = lends positions form arguments in
           let after = owns lent given (without (x ∷ []) now) in
           let code = insert positions lent left rest in
-          let same = dups_gain (wants lent (used positions form arguments) after) (Counted.compute x form arguments (back lent given x now code)) in
+          let same = dups_gain (wants lent (used positions form arguments) after)
+          (Counted.compute x form arguments (back lent given x now code)) in
           let most = wants_few lent (used positions form arguments) after in
           let fewer = used_few positions form arguments in
           let many = same_length facts arguments has.1 has.2 in
@@ -127,7 +126,8 @@ module _ (table : Table) (few : HasFew table) where
           let more = gained left rest tail _ t has.4 in
           omega (arith, same, most, fewer, many, eight, behind, more)
       gained left (use_of x rest) tail facts t has =
-          let same = dropping_gains (own positions lent left (use_of x rest)) (own positions lent left rest) (insert positions lent left rest) in
+          let same = dropping_gains (own positions lent left (use_of x rest)) (own positions lent left rest)
+          (insert positions lent left rest) in
           let more = gained left rest tail facts t has.2 in
           omega (arith, same, more)
       gained left (unpack x c fields rest) tail facts t has =
@@ -153,7 +153,8 @@ module _ (table : Table) (few : HasFew table) where
           omega (arith, same, one, two)
 
   pub function_gains : (positions : PositionTable) (f : ℕ) (function : FunctionCode) (facts : Facts) (t : TypeTree)
-      → HasCodeType table true facts function.body t → gains (inserted_function positions f function).body ≤ 25 * forms function.body
+      → HasCodeType table true facts function.body t
+      → gains (inserted_function positions f function).body ≤ 25 * forms function.body
   function_gains positions f function facts t has =
       let lent = lent_of positions f function in
       let same = dropping_gains (at_positions (is_owned positions [] f) 0 (numbers_from 0 function.parameters))

@@ -1,21 +1,17 @@
 -- How many variables are owned, and how many dups are taken: for each owned variable the cost of its drop is saved.
 use Rattle.std.proofs.Common.{◌≡◌, ◌⊎◌, inl, inr, ℕ, zero, suc, ◌+◌, ◌≤◌, ◌<◌, Bool, true, false, not, List, [], ◌∷◌, ◌++◌, length, arith, refl, subst}
 use Rattle.std.proofs.lemmas.Bool.{cases_lt}
-use Rattle.std.specs.Prelude.{if◌then◌else◌, filter}
-use Rattle.std.proofs.lemmas.List.{length-map}
+use Rattle.std.specs.Prelude.{if◌then◌else◌}
+use Rattle.std.proofs.lemmas.List.{length-append, length-map}
 use Rattle.kk_syntax.specs.Shapes.{is_among, without}
 use Rattle.kk_source.specs.State.{Value, Environment}
 use Rattle.kk_source.specs.Live.{value_of}
-use Rattle.kk_counted.specs.Spending.{total, AreEven, AreApart, at_positions}
+use Rattle.kk_counted.proofs.ListLengths.{total_ones, filter_length}
+use Rattle.kk_counted.specs.Spending.{AreEven, AreApart}
 use Rattle.kk_counted.specs.Keeping.{values_of}
 use Rattle.kk_insert.specs.Insertion.{before, extra, common, wants}
 use Rattle.kk_insert.proofs.Fine.{AreBelow}
 use Rattle.kk_insert.proofs.Sets.{no_both, Part, among_first, filter_in, without_clear, apart_filter, total_append, total_one}
-
--- the sum where each variable weighs 1 is the length
-total_ones : (xs : List ℕ) → total (λ x. 1) xs ≡ length xs
-total_ones [] = refl
-total_ones (x ∷ xs) = omega (arith, total_ones xs)
 
 -- even lists are as long
 pub even_length : (xs ys zs : List ℕ) → AreEven xs (ys ++ zs) → length xs ≡ length ys + length zs
@@ -36,21 +32,6 @@ even_append xs ys zs ws even =
       total_ones ws,
     )
 
--- those that pass a test, and the others
-pub filter_length : (takes : ℕ → Bool) (xs : List ℕ)
-    → length (filter takes xs) + length (filter (λ x. not (takes x)) xs) ≡ length xs
-filter_length takes [] = refl
-filter_length takes (x ∷ xs) = by_test (takes x) (filter_length takes xs)
-  where
-    by_test : (t : Bool) → length (filter takes xs) + length (filter (λ x. not (takes x)) xs) ≡ length xs
-        → length (if t then x ∷ filter takes xs else filter takes xs)
-        + length (if not t then x ∷ filter (λ x. not (takes x)) xs else filter (λ x. not (takes x)) xs) ≡ suc (length xs)
-    by_test true later = omega (arith, later)
-    by_test false later = omega (arith, later)
-
-pub filter_few : (test : ℕ → Bool) (xs : List ℕ) → length (filter test xs) ≤ length xs
-filter_few test xs = omega (arith, filter_length test xs)
-
 -- the uses that are not the last ones are no more than the uses
 extra_few : (xs after : List ℕ) → length (extra xs after) ≤ length xs
 extra_few [] after = omega arith
@@ -66,24 +47,10 @@ pub wants_few : (lent xs after : List ℕ) → length (wants lent xs after) ≤ 
 wants_few lent xs after =
     omega (
       arith,
-      length_append (common lent xs) (extra (without lent xs) after),
+      length-append (common lent xs) (extra (without lent xs) after),
       filter_length (is_among lent) xs,
       extra_few (without lent xs) after,
     )
-  where
-    length_append : (ys zs : List ℕ) → length (ys ++ zs) ≡ length ys + length zs
-    length_append [] zs = omega arith
-    length_append (y ∷ ys) zs = omega (arith, length_append ys zs)
-
--- the arguments at some positions are no more than the arguments
-pub positions_few : (takes : ℕ → Bool) (next : ℕ) (xs : List ℕ) → length (at_positions takes next xs) ≤ length xs
-positions_few takes next [] = omega arith
-positions_few takes next (x ∷ xs) = by_test (takes next) (positions_few takes (suc next) xs)
-  where
-    by_test : (t : Bool) → length (at_positions takes (suc next) xs) ≤ length xs
-        → length (if t then x ∷ at_positions takes (suc next) xs else at_positions takes (suc next) xs) ≤ suc (length xs)
-    by_test true later = omega (arith, later)
-    by_test false later = omega (arith, later)
 
 -- nothing is among no variables
 pub part_none : (xs : List ℕ) → Part xs [] → length xs ≡ 0
@@ -126,7 +93,9 @@ pub before_few : (xs now : List ℕ) → length (without now (before xs now)) �
 before_few [] now = omega (arith, part_none (without now now) none)
   where
     none : Part (without now now) []
-    none y is = no_both (is_among [] y ≡ true) (is_among now y) (filter_in (λ x. not (is_among now x)) now y is) (without_clear now now y is)
+    none y is =
+        no_both (is_among [] y ≡ true) (is_among now y) (filter_in (λ x. not (is_among now x)) now y is)
+        (without_clear now now y is)
 before_few (x ∷ xs) now = by_test (is_among (before xs now) x) (before_few xs now)
   where
     by_test : (t : Bool) → length (without now (before xs now)) ≤ length xs

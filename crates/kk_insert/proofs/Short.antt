@@ -1,5 +1,5 @@
 -- How long inserted code is at most, and how many forms on values it has.
-use Rattle.std.proofs.Common.{◌≡◌, ℕ, zero, suc, ◌+◌, ◌*◌, ◌≤◌, ◌||◌, Bool, true, false, not, List, [], ◌∷◌, ◌++◌, length, arith, refl, ap, ◌∙◌}
+use Rattle.std.proofs.Common.{◌≡◌, ℕ, suc, ◌+◌, ◌*◌, ◌≤◌, ◌||◌, Bool, true, false, not, List, [], ◌∷◌, ◌++◌, length, arith, refl, ◌∙◌}
 use Rattle.kk_syntax.specs.Shapes.{is_among, without}
 use Rattle.kk_syntax.specs.GroundTyping.{Signature, Table}
 use Rattle.kk_syntax.specs.PositionsOf.{PositionTable}
@@ -9,14 +9,15 @@ use Rattle.kk_core.specs.CaseLengths.{cases_length, arms_cases_length, all_cases
 use Rattle.kk_core.specs.Codes.{Code, give, tail_call, branch, case, compute, use_of, unpack, inside, Arms, no_arm, arm, FunctionCode, ProgramCode}
 use Rattle.kk_core.specs.CoreTyping.{Facts, HasCodeType, AreArmsTyped, AreCodesTyped, IsCoreTyped, AreSmall, all_forms, IsSmall, typing_parameters}
 use Rattle.kk_core.specs.Sizes.{Ordered, OrderedArms, below, forms, forms_of_arms, most_variables, most_program_forms}
+use Rattle.kk_counted.proofs.ListLengths.{filter_few, positions_few, numbers_length}
 use Rattle.kk_counted.specs.CountedCodes as Counted
 use Rattle.kk_counted.specs.Lengths.{form_length, reference_length, most_references, most_length, code_length, arms_length, functions_length, computes, arms_computes, all_computes, AreShort}
 use Rattle.kk_counted.specs.Spending.{AreApart, at_positions, numbers_from, is_owned}
-use Rattle.kk_insert.specs.Insertion.{dups, drops, dropping, common, used, lends, owns, wants, back, opening, lent_of, own, own_arms, insert, insert_arms, inserted_function, inserted_functions, inserted}
+use Rattle.kk_insert.specs.Insertion.{dups, drops, dropping, common, used, lends, owns, wants, back, opening, lent_of, own, insert, insert_arms, inserted_functions, inserted}
 use Rattle.kk_insert.proofs.Below.{more_below, filter_below, fields_below, own_below}
-use Rattle.kk_insert.proofs.Fine.{AreBelow, one_below, rise_high, ordered_high, arms_high}
+use Rattle.kk_insert.proofs.Fine.{AreBelow, one_below, ordered_high, arms_high}
 use Rattle.kk_insert.proofs.Gains.{HasFew, form_few, used_few, lends_few}
-use Rattle.kk_insert.proofs.Lengths.{filter_few, positions_few, wants_few, few_below, before_few}
+use Rattle.kk_insert.proofs.Lengths.{wants_few, few_below, before_few}
 use Rattle.kk_insert.proofs.Owned.{own_apart}
 use Rattle.kk_insert.proofs.Programs.{below_less}
 use Rattle.kk_insert.proofs.Sets.{apart_filter}
@@ -24,11 +25,13 @@ use Rattle.kk_insert.proofs.Typed.{same_length}
 
 -- ---- dups and drops
 
-dups_length : (xs : List ℕ) (code : Counted.Counted) → code_length (dups xs code) ≡ reference_length * length xs + code_length code
+dups_length : (xs : List ℕ) (code : Counted.Counted)
+    → code_length (dups xs code) ≡ reference_length * length xs + code_length code
 dups_length [] code = omega arith
 dups_length (x ∷ xs) code = let rest = dups_length xs code in omega (arith, rest)
 
-drops_length : (xs : List ℕ) (code : Counted.Counted) → code_length (drops xs code) ≡ reference_length * length xs + code_length code
+drops_length : (xs : List ℕ) (code : Counted.Counted)
+    → code_length (drops xs code) ≡ reference_length * length xs + code_length code
 drops_length [] code = omega arith
 drops_length (x ∷ xs) code = let rest = drops_length xs code in omega (arith, rest)
 
@@ -56,7 +59,8 @@ back_length lent given x now code =
     omega (arith, behind, few, own, one)
 
 opening_length : (stays : Bool) (x c : ℕ) (now fields : List ℕ) (code : Counted.Counted)
-    → code_length (opening stays x c fields (common now fields) code) ≤ form_length + reference_length * length fields + code_length code
+    → code_length (opening stays x c fields (common now fields) code)
+    ≤ form_length + reference_length * length fields + code_length code
 opening_length true x c now fields code =
     let few = filter_few (is_among now) fields in
     let same = dups_length (common now fields) code in
@@ -96,7 +100,8 @@ module _ (table : Table) (few : HasFew table) (positions : PositionTable) (lent 
         let one = arm_length all (own positions lent left positive) (insert positions lent left positive) each less in
         let two = arm_length all (own positions lent left negative) (insert positions lent left negative) each less in
         let first = long left bound low positive o.0 tail facts t o.2 (omega (arith, middle, le)) under most apart has.1 in
-        let second = long left bound o.0 negative high tail facts t o.3 le (more_below low o.0 bound more under) most apart has.2 in
+        let second = long left bound o.0 negative high tail facts t o.3 le (more_below low o.0 bound more under) most apart
+        has.2 in
         omega (arith, one, two, first, second)
     long left bound low (case x decisions arms) high tail facts t o le under most apart has =
         let code : Code = case x decisions arms in
@@ -118,7 +123,8 @@ module _ (table : Table) (few : HasFew table) (positions : PositionTable) (lent 
         let many = same_length facts arguments has.1 has.2 in
         let eight = form_few table few form has.1 has.0 has.3 in
         let behind = back_length lent given x now code in
-        let later = long left (x ∷ bound) (x + 1) rest high tail _ t o.2 le (λ y is. one_below x low y bound under o.1 is) most apart has.4 in
+        let later = long left (x ∷ bound) (x + 1) rest high tail _ t o.2 le (λ y is. one_below x low y bound under o.1 is) most
+        apart has.4 in
         omega (arith, same, wanted, fewer, others, many, eight, behind, later)
     long left bound low (use_of x rest) high tail facts t o le under most apart has =
         let now = own positions lent left rest in
@@ -131,7 +137,8 @@ module _ (table : Table) (few : HasFew table) (positions : PositionTable) (lent 
         let now = own positions lent left rest in
         let opens = opening_length (is_among lent x || is_among now x) x c now fields (insert positions lent left rest) in
         let eight = few.fields has.0 c has.1 has.5 in
-        let later = long left (fields ++ bound) o.0 rest high tail _ t o.3 le (fields_below bound low fields o.0 under o.2) most apart has.7 in
+        let later = long left (fields ++ bound) o.0 rest high tail _ t o.3 le (fields_below bound low fields o.0 under o.2) most
+        apart has.7 in
         omega (arith, opens, eight, has.6, later)
     long left bound low (inside x block rest) high tail facts t o le under most apart has =
         let now = own positions lent left rest in
@@ -148,8 +155,8 @@ module _ (table : Table) (few : HasFew table) (positions : PositionTable) (lent 
         omega (arith, one, two, dropped)
 
     arms_long : (left all bound : List ℕ) (low : ℕ) (arms : Arms) (high : ℕ) (tail : Bool) (facts : Facts) (x : ℕ) (u t : TypeTree)
-        → OrderedArms bound low arms high → high ≤ most_variables → AreBelow bound low → AreBelow left most_variables → AreApart left
-        → AreApart all → AreBelow all most_variables → AreArmsTyped table tail facts x u arms t
+        → OrderedArms bound low arms high → high ≤ most_variables → AreBelow bound low → AreBelow left most_variables
+        → AreApart left → AreApart all → AreBelow all most_variables → AreArmsTyped table tail facts x u arms t
         → arms_length (insert_arms positions lent left all arms)
         ≤ (form_length + reference_length * most_references) * forms_of_arms arms + arms_cases_length arms
     arms_long left all bound low no_arm high tail facts x u t o le under most apart each less has = omega arith
@@ -158,7 +165,8 @@ module _ (table : Table) (few : HasFew table) (positions : PositionTable) (lent 
         let middle : o.0 ≤ high = arms_high bound o.0 rest high o.2 in
         let one = arm_length all (own positions lent left body) (insert positions lent left body) each less in
         let first = long left bound low body o.0 tail _ t o.1 (omega (arith, middle, le)) under most apart has.1 in
-        let later = arms_long left all bound o.0 rest high tail facts x u t o.2 le (more_below low o.0 bound more under) most apart each less has.2 in
+        let later = arms_long left all bound o.0 rest high tail facts x u t o.2 le (more_below low o.0 bound more under) most
+        apart each less has.2 in
         omega (arith, one, first, later)
 
 -- ---- forms on values
@@ -174,7 +182,8 @@ drops_compute (x ∷ xs) code = drops_compute xs code
 dropping_computes : (all now : List ℕ) (code : Counted.Counted) → computes (dropping all now code) ≡ computes code
 dropping_computes all now code = drops_compute (without now all) code
 
-back_computes : (lent given : List ℕ) (x : ℕ) (now : List ℕ) (code : Counted.Counted) → computes (back lent given x now code) ≡ computes code
+back_computes : (lent given : List ℕ) (x : ℕ) (now : List ℕ) (code : Counted.Counted)
+    → computes (back lent given x now code) ≡ computes code
 back_computes lent given x now code =
     dropping_computes (owns lent given (without (x ∷ []) now)) (without (x ∷ []) now) (dropping (x ∷ []) now code)
     ∙ dropping_computes (x ∷ []) now code
@@ -217,7 +226,8 @@ module _ (positions : PositionTable) (lent : List ℕ) where
         omega (arith, same, later)
     few_computes left (unpack x c fields rest) =
         let now = own positions lent left rest in
-        let same = opening_computes (is_among lent x || is_among now x) x c fields (common now fields) (insert positions lent left rest) in
+        let same = opening_computes (is_among lent x || is_among now x) x c fields (common now fields)
+        (insert positions lent left rest) in
         let later = few_computes left rest in
         omega (arith, same, later)
     few_computes left (inside x block rest) =
@@ -236,10 +246,6 @@ module _ (positions : PositionTable) (lent : List ℕ) where
         omega (arith, same, one, later)
 
 -- ---- functions
-
-numbers_length : (next count : ℕ) → length (numbers_from next count) ≡ count
-numbers_length next zero = refl
-numbers_length next (suc count) = ap suc (numbers_length (suc next) count)
 
 module _ (table : Table) (few : HasFew table) (positions : PositionTable) where
   functions_long : (f : ℕ) (functions : List FunctionCode) (signatures : List Signature) → AreCodesTyped table functions signatures

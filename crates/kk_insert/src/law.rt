@@ -49,10 +49,10 @@ pub fn inserted_code_keeps_meaning()
         → KeepsMeaning setting input }
 {}
 
-/// The code of an inserted program has the shape of a typed program in each state, its operators and prints take values without cells,
-/// and it takes values of the kinds that it asks for where core code does: a branch finds a truth, operators and prints find numbers and
-/// truths, and each answer that a test of a case finds is of the type of its edges. The core program must never be stuck. It is a law, and does
-/// nothing.
+/// The code of an inserted program has the shape of a typed program in each state, its operators and prints take values without
+/// cells, and it takes values of the kinds that it asks for where core code does: a branch finds a truth, operators and prints find
+/// numbers and truths, and each answer that a test of a case finds is of the type of its edges. The core program must never be
+/// stuck. It is a law, and does nothing.
 pub fn inserted_code_has_its_kinds()
     ensures shape { (setting : CoreSetting) (constructors : List ConstructorTree) (weight : CoreState → ℕ) (weights : CountedState → ℕ)
         (input : List ℕ) → IsInsertable setting.positions setting.code
@@ -102,8 +102,9 @@ pub fn inserted_code_can_be_lowered()
         → AllSpendAtMost (inserted positions code) most_spent }
 {}
 
-/// The insertion of a typed program within the limits is short, and has few forms on values: before and behind each form of the core
-/// form there are no more dups and drops than there are variables, and some for the form's arguments. It is a law, and does nothing.
+/// The insertion of a typed program within the limits is short, and has few forms on values: before and behind each form of the
+/// core form there are no more dups and drops than the function may have variables, and some for the form's arguments. It is a law,
+/// and does nothing.
 pub fn inserted_code_is_short()
     ensures { (positions : PositionTable) (table : Table) (code : ProgramCode) → IsCoreTyped table code → IsSmall code
         → HaveFewFields table.constructors → AreShort (inserted positions code).functions }
