@@ -18,10 +18,11 @@ use Rattle.rv_place.specs.declared.words.Words.{Words}
 
 -- ---- what can be placed
 
--- the most instructions of all functions' lines, without the entries
+-- the most instructions of the lines of all functions, each counted at its most and without the functions' entries
 abbrev pub most_text_length : ℕ
 most_text_length = 400000000
 
+-- the most functions of a program
 abbrev pub most_functions : ℕ
 most_functions = 1024
 
@@ -33,6 +34,7 @@ most_runtime_words = 1024
 abbrev pub most_text_words : ℕ
 most_text_words = most_runtime_words + 6 * most_functions + most_text_length
 
+-- the most constant bytes of a program
 abbrev pub most_constant_bytes : ℕ
 most_constant_bytes = 8388608
 
@@ -40,12 +42,16 @@ most_constant_bytes = 8388608
 abbrev pub greatest_address : ℕ
 greatest_address = 2147483648
 
+-- how far behind the memory's begin the stack begins at most
+abbrev pub greatest_bottom : ℕ
+greatest_bottom = 268435456
+
 -- A runtime and a program that can be placed: the stack begins at a page, so that one LUI gives the address of its lowest frame;
 -- frames are at most 2,044 bytes, so that each slot is within reach of the stack pointer; and the text is small enough for a text part.
 pub record ArePlaceable (runtime program : Placed) : Type 0 where
   pub lines : AreWithin greatest_reach runtime.natives.items
   pub runtime_size : words_of runtime.natives.items ≤ most_runtime_words
-  pub bottom : runtime.memory.stack_bottom ≤ 268435456
+  pub bottom : runtime.memory.stack_bottom ≤ greatest_bottom
   pub bottom_page : runtime.memory.stack_bottom % 4096 ≡ 0
   pub frames : frame_size (placed_functions program) ≤ 2044
   pub few_functions : length (placed_functions program) ≤ most_functions
