@@ -40,15 +40,20 @@ tested types states nodes state q k is at outcome right = of at.node at.is at.ri
     of : (node : NodeTree) → slice_get nodes k ≡ Some node → IsRight types at.before state node
         → (j : ℕ) × (j < k) × (is_among (all_targets nodes) j ≡ true) × Names states j (after q.at outcome state)
     of (chooses row) here chosen = absurd (none-some q (sym chosen.0 ∙ is))
-    of (tests way edges otherwise) here branches = kept (there outcome (subst (λ (p : Part). IsOutcome types p.asked outcome) (sym same) right))
+    of (tests way edges otherwise) here branches =
+        kept (there outcome (subst (λ (p : Part). IsOutcome types p.asked outcome) (sym same) right))
       where
         same : record { at = way; asked = branches.asked } ≡ q
         same = same_Some (record { at = way; asked = branches.asked }) q (sym branches.is_test ∙ is)
 
         there : (outcome : Option Answer) → IsOutcome types branches.asked outcome
             → (j : ℕ) × (is_among (targets (tests way edges otherwise)) j ≡ true) × Names at.before j (after way outcome state)
-        there None right = let another = branches.another right in (another.0, other_among way edges otherwise another.0 another.1, another.2)
-        there (Some found) right = let whole = branches.whole found right in (whole.0, next_among way edges otherwise found whole.0 whole.1, whole.2)
+        there None right =
+            let another = branches.another right in
+            (another.0, other_among way edges otherwise another.0 another.1, another.2)
+        there (Some found) right =
+            let whole = branches.whole found right in
+            (whole.0, next_among way edges otherwise found whole.0 whole.1, whole.2)
 
         kept : ((j : ℕ) × (is_among (targets (tests way edges otherwise)) j ≡ true) × Names at.before j (after way outcome state))
             → (j : ℕ) × (j < k) × (is_among (all_targets nodes) j ≡ true) × Names states j (after q.at outcome state)
@@ -60,21 +65,25 @@ tested types states nodes state q k is at outcome right = of at.node at.is at.ri
               low,
               among_all nodes k place.0 (tests way edges otherwise) here place.1,
               subst (λ (p : Part). Names states place.0 (after p.at outcome state)) same
-                  (subst (λ ss. Names ss place.0 (after way outcome state)) (sym at.all) (get_left at.before at.more place.0 (after way outcome state) place.2)),
+                  (subst (λ ss. Names ss place.0 (after way outcome state)) (sym at.all)
+                  (get_left at.before at.more place.0 (after way outcome state) place.2)),
             )
 
 all_there : (types : List ℕ) (states : List StateTree) (nodes : List NodeTree) (start : StateTree) (number : ℕ) → AreRight types states nodes → Names states number start
     → (state : StateTree) → IsReached types start state → HasPlace states nodes number state
-all_there types states nodes start number right starts _ at_start = record { place = number; within = omega arith; named = starts; led = inl refl }
+all_there types states nodes start number right starts _ at_start =
+    record { place = number; within = omega arith; named = starts; led = inl refl }
 all_there types states nodes start number right starts _ (by_answer {state} {q} found reached is kind) =
     let here = all_there types states nodes start number right starts state reached in
-    let next = tested types states nodes state q here.place is (at_place (IsRight types) states nodes right here.place state here.named) (Some found) kind in
+    let next = tested types states nodes state q here.place is
+    (at_place (IsRight types) states nodes right here.place state here.named) (Some found) kind in
     let within = here.within in
     let less = next.1 in
     record { place = next.0; within = omega (arith, within, less); named = next.3; led = inr next.2 }
 all_there types states nodes start number right starts _ (by_another {state} {at} n reached is) =
     let here = all_there types states nodes start number right starts state reached in
-    let next = tested types states nodes state (record { at = at; asked = Number n }) here.place is (at_place (IsRight types) states nodes right here.place state here.named) None tt in
+    let next = tested types states nodes state (record { at = at; asked = Number n }) here.place is
+    (at_place (IsRight types) states nodes right here.place state here.named) None tt in
     let within = here.within in
     let less = next.1 in
     record { place = next.0; within = omega (arith, within, less); named = next.3; led = inr next.2 }
@@ -106,7 +115,8 @@ few_nodes types most start nodes graph =
       where
         of : ((state : StateTree) × Names graph.states k state) → is_among (all_targets nodes) k ≡ true
         of there =
-            let place = all_there types graph.states nodes start graph.number graph.right graph.starts there.0 (reached_at types start graph.states k there.0 graph.reached there.1) in
+            let place = all_there types graph.states nodes start graph.number graph.right graph.starts there.0
+            (reached_at types start graph.states k there.0 graph.reached there.1) in
             let same = same_place graph.states place.place k there.0 graph.apart place.named there.1 in
             elim place.led [
               | inl start ↦ absurd (omega (arith, start, same, less))

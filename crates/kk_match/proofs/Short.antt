@@ -1,5 +1,5 @@
--- The tests of decisions are short: there are few of them, each with a short position and with no more edges than rows, and few nodes
--- besides.
+-- The tests of decisions are short: they are few, each with a short position and with no more edges than rows; and there are few
+-- nodes besides.
 use Rattle.std.proofs.Common.{◌≡◌, ◌⊎◌, ℕ, suc, ◌+◌, ◌*◌, ◌-◌, ◌≤◌, nat_eq, Bool, true, false, Option, None, Some, option_map, List, [], ◌∷◌, ◌++◌, length, inl, inr, refl, sym, ap, ◌∙◌, subst, arith, append_assoc, append-nil, length-append}
 use Rattle.std.specs.Prelude.{count_by, cond, sum_by, if◌then◌else◌}
 use lib.Pointwise.{pointwise, bytes_decides}
@@ -70,21 +70,26 @@ mutual
   ]
   parts_once types way at (constructor c ps) = by (has_several types c) (all_parts_once types way at 0 ps)
     where
-      both : (own : List Part) → parts_at at (own ++ parts_of_all types way 0 ps) ≡ parts_at at own + parts_at at (parts_of_all types way 0 ps)
+      both : (own : List Part)
+          → parts_at at (own ++ parts_of_all types way 0 ps) ≡ parts_at at own + parts_at at (parts_of_all types way 0 ps)
       both own = parts_at_both at own (parts_of_all types way 0 ps)
 
       own : List Part
       own = record { at = way; asked = Constructor c } ∷ []
 
       by : (several : Bool) → AtMostOne at (IsBehindFrom 0 way at) (parts_of_all types way 0 ps)
-          → AtMostOne at (IsBehind way at) ((if several then record { at = way; asked = Constructor c } ∷ [] else []) ++ parts_of_all types way 0 ps)
+          → AtMostOne at (IsBehind way at)
+          ((if several then record { at = way; asked = Constructor c } ∷ [] else []) ++ parts_of_all types way 0 ps)
       by true behind = elim (one_part at way (Constructor c)) [
         | inl none ↦ elim behind [
           | inl nothing ↦ inl (let all = both own in omega (arith, all, none, nothing))
           | inr one ↦ inr ((let all = both own in let o = one.0 in omega (arith, all, none, o)), (one.1.0 ∷ one.1.1, one.1.3))
         ]
         | inr here ↦ elim behind [
-          | inl nothing ↦ inr ((let all = both own in let h = here.0 in omega (arith, all, h, nothing)), ([], append-nil way ∙ here.1))
+          | inl nothing ↦ inr (
+            (let all = both own in let h = here.0 in omega (arith, all, h, nothing)),
+            ([], append-nil way ∙ here.1),
+          )
           | inr one ↦ absurd (not_itself way one.1.0 one.1.1 (one.1.3 ∙ sym here.1))
         ]
       ]
@@ -93,14 +98,18 @@ mutual
         | inr one ↦ inr (one.0, (one.1.0 ∷ one.1.1, one.1.3))
       ]
 
-  all_parts_once : (types way at : List ℕ) (field : ℕ) (ps : Patterns) → AtMostOne at (IsBehindFrom field way at) (parts_of_all types way field ps)
+  all_parts_once : (types way at : List ℕ) (field : ℕ) (ps : Patterns)
+      → AtMostOne at (IsBehindFrom field way at) (parts_of_all types way field ps)
   all_parts_once types way at field no_part = inl refl
   all_parts_once types way at field (part first rest) =
       let both = parts_at_both at (parts_of types (way ++ field ∷ []) first) (parts_of_all types way (field + 1) rest) in
       elim (parts_once types (way ++ field ∷ []) at first) [
         | inl none ↦ elim (all_parts_once types way at (field + 1) rest) [
           | inl nothing ↦ inl (omega (arith, both, none, nothing))
-          | inr one ↦ inr ((let o = one.0 in omega (arith, both, none, o)), (one.1.0, one.1.1, (let low = one.1.2 in omega (arith, low)), one.1.3))
+          | inr one ↦ inr (
+            (let o = one.0 in omega (arith, both, none, o)),
+            (one.1.0, one.1.1, (let low = one.1.2 in omega (arith, low)), one.1.3),
+          )
         ]
         | inr here ↦ elim (all_parts_once types way at (field + 1) rest) [
           | inl nothing ↦ inr (
@@ -108,7 +117,8 @@ mutual
             (field, here.1.0, omega arith, sym (append_assoc way (field ∷ []) here.1.0) ∙ here.1.1),
           )
           | inr one ↦ absurd (
-              let same = same_field way field one.1.0 here.1.0 one.1.1 (sym (append_assoc way (field ∷ []) here.1.0) ∙ (here.1.1 ∙ sym one.1.3)) in
+              let same = same_field way field one.1.0 here.1.0 one.1.1
+              (sym (append_assoc way (field ∷ []) here.1.0) ∙ (here.1.1 ∙ sym one.1.3)) in
               let low = one.1.2 in omega (arith, same, low)
               )
         ]
@@ -137,7 +147,8 @@ LeftFewer qs (Some left) = (way : List ℕ) → parts_at way left ≤ parts_at w
 
 left_fewer : (at : List ℕ) (outcome : Option Answer) (qs : List Part) → LeftFewer qs (left_after at outcome qs)
 left_fewer at outcome [] = λ way. omega arith
-left_fewer at outcome (q ∷ qs) = by (pointwise nat_eq q.at at) (agrees outcome q.asked) (left_after at outcome qs) (left_fewer at outcome qs)
+left_fewer at outcome (q ∷ qs) =
+    by (pointwise nat_eq q.at at) (agrees outcome q.asked) (left_after at outcome qs) (left_fewer at outcome qs)
   where
     more : (left : Option (List Part)) → LeftFewer qs left → LeftFewer (q ∷ qs) left
     more None rest = tt
@@ -153,7 +164,8 @@ left_fewer at outcome (q ∷ qs) = by (pointwise nat_eq q.at at) (agrees outcome
     by true false left rest = tt
     by false agreed left rest = put left rest
 
-kept_once : (row : ℕ) (qs : List Part) (left : Option (List Part)) (rest : StateTree) → ((at : List ℕ) → parts_at at qs ≤ 1) → LeftFewer qs left
+kept_once : (row : ℕ) (qs : List Part) (left : Option (List Part)) (rest : StateTree) → ((at : List ℕ) → parts_at at qs ≤ 1)
+    → LeftFewer qs left
     → AreOnce rest → AreOnce (kept_line row left rest)
 kept_once row qs None rest once fewer behind = behind
 kept_once row qs (Some left) rest once fewer behind = ((λ at. omega (arith, once at, fewer at)), behind)
@@ -198,10 +210,12 @@ reached_narrow types most rows start state narrow reached = record {
     once_in _ at_start = (narrow.once, narrow.few)
     once_in _ (by_answer {state} {q} found reached is kind) =
         let before = once_in state reached in
-        (after_once q.at (Some found) state before.0, (let few = before.1 in omega (arith, few, after_rows q.at (Some found) state)))
+        let few = before.1 in
+        (after_once q.at (Some found) state before.0, omega (arith, few, after_rows q.at (Some found) state))
     once_in _ (by_another {state} {at} n reached is) =
         let before = once_in state reached in
-        (after_once at None state before.0, (let few = before.1 in omega (arith, few, after_rows at None state)))
+        let few = before.1 in
+        (after_once at None state before.0, omega (arith, few, after_rows at None state))
 
 -- ---- nodes with short positions and few edges
 
@@ -219,7 +233,8 @@ small_push most rows [] node small last = (last, tt)
 small_push most rows (one ∷ nodes) node small last = (small.0, small_push most rows nodes node small.1 last)
 
 -- the node of a narrow state is small
-node_small : (types : List ℕ) (most rows : ℕ) (states : List StateTree) (state : StateTree) (node : NodeTree) → IsNarrow most rows state
+node_small : (types : List ℕ) (most rows : ℕ) (states : List StateTree) (state : StateTree) (node : NodeTree)
+    → IsNarrow most rows state
     → IsRight types states state node → IsSmall most rows node
 node_small types most rows states state (chooses row) narrow right = tt
 node_small types most rows states state (tests at edges otherwise) narrow right = (
@@ -227,7 +242,8 @@ node_small types most rows states state (tests at edges otherwise) narrow right 
   (let few = right.few in let lines = narrow.few in omega (arith, few, lines, once_few at state narrow.once)),
 )
 
-nodes_small : (types : List ℕ) (most rows : ℕ) (states : List StateTree) (nodes : List NodeTree) → InRow (IsRight types) states nodes
+nodes_small : (types : List ℕ) (most rows : ℕ) (states : List StateTree) (nodes : List NodeTree)
+    → InRow (IsRight types) states nodes
     → ((k : ℕ) (state : StateTree) → Names states k state → IsNarrow most rows state) → AreSmall most rows nodes
 nodes_small types most rows _ _ no_state narrow = tt
 nodes_small types most rows _ _ (one_more {states} {nodes} state node row right) narrow =
@@ -245,14 +261,17 @@ small_length most rows (chooses row ∷ nodes) small =
     let rest = small_length most rows nodes small.1 in
     let all = sum_by-cons (λ n. cond (is_test n) 1 0) (chooses row) nodes in
     let same : count_by is_test (chooses row ∷ nodes) ≡ count_by is_test nodes = omega (arith, all) in
-    subst (λ (n : ℕ). 2 + tests_length nodes ≤ n * (18 + 3 * most + 11 * rows) + 2 * suc (length nodes)) (sym same) (omega (arith, rest))
+    subst (λ (n : ℕ). 2 + tests_length nodes ≤ n * (18 + 3 * most + 11 * rows) + 2 * suc (length nodes)) (sym same)
+    (omega (arith, rest))
 small_length most rows (tests at edges otherwise ∷ nodes) small =
     let rest = small_length most rows nodes small.1 in
     let all = sum_by-cons (λ n. cond (is_test n) 1 0) (tests at edges otherwise) nodes in
     let same : count_by is_test (tests at edges otherwise ∷ nodes) ≡ suc (count_by is_test nodes) = omega (arith, all) in
     let low = small.0.0 in
     let few = small.0.1 in
-    subst (λ (n : ℕ). node_length (tests at edges otherwise) + tests_length nodes ≤ n * (18 + 3 * most + 11 * rows) + 2 * suc (length nodes)) (sym same)
+    subst
+    (λ (n : ℕ). node_length (tests at edges otherwise) + tests_length nodes
+    ≤ n * (18 + 3 * most + 11 * rows) + 2 * suc (length nodes)) (sym same)
     (omega (arith, rest, low, few))
 
 -- a test leads to no more nodes than it has edges, and one
@@ -300,7 +319,8 @@ lines_as_many types k [] = refl
 lines_as_many types k (p ∷ ps) = ap suc (lines_as_many types (k + 1) ps)
 
 -- of the graph of states
-graph_short : (types : List ℕ) (ps : List Pattern) (nodes : List NodeTree) → IsGraphOf types (most_tests ps) (lines_from types 0 ps) nodes
+graph_short : (types : List ℕ) (ps : List Pattern) (nodes : List NodeTree)
+    → IsGraphOf types (most_tests ps) (lines_from types 0 ps) nodes
     → tests_length nodes ≤ most_tests_length ps
 graph_short types ps nodes graph =
     let most : ℕ = sum_by nodes_of_pattern ps in
@@ -311,9 +331,11 @@ graph_short types ps nodes graph =
       few = (let same = lines_as_many types 0 ps in omega (arith, same));
     } in
     let small : AreSmall most (length ps) nodes = nodes_small types most (length ps) graph.states nodes graph.right
-    (λ k state named. reached_narrow types most (length ps) start state begins (reached_at types start graph.states k state graph.reached named)) in
+    (λ k state named. reached_narrow types most (length ps) start state begins
+    (reached_at types start graph.states k state graph.reached named)) in
     let within = graph.within in
-    let count : count_by is_test nodes ≤ most_tests ps = (let same = tests_right types graph.states nodes graph.right in omega (arith, same, within)) in
+    let same = tests_right types graph.states nodes graph.right in
+    let count : count_by is_test nodes ≤ most_tests ps = omega (arith, same, within) in
     omega (
       arith,
       small_length most (length ps) nodes small,
@@ -324,7 +346,8 @@ graph_short types ps nodes graph =
     )
 
 -- of rows in turn
-parts_small : (most rows other : ℕ) (qs : List Part) (nodes : List NodeTree) → 1 ≤ rows → PartsShort most qs → AreSmall most rows nodes
+parts_small : (most rows other : ℕ) (qs : List Part) (nodes : List NodeTree) → 1 ≤ rows → PartsShort most qs
+    → AreSmall most rows nodes
     → AreSmall most rows (with_parts other qs nodes)
 parts_small most rows other [] nodes some short small = small
 parts_small most rows other (q ∷ qs) nodes some short small =
@@ -370,12 +393,14 @@ rows_few (p ∷ ps) =
     let all = sum_by-cons nodes_of_pattern p ps in
     omega (arith, all, rows_few ps, node_each p)
 
-turn_short : (types : List ℕ) (p : Pattern) (ps : List Pattern) → tests_length (with_rows (lines_from types 0 (p ∷ ps)) []) ≤ most_tests_length (p ∷ ps)
+turn_short : (types : List ℕ) (p : Pattern) (ps : List Pattern)
+    → tests_length (with_rows (lines_from types 0 (p ∷ ps)) []) ≤ most_tests_length (p ∷ ps)
 turn_short types p ps =
     let most : ℕ = sum_by nodes_of_pattern (p ∷ ps) in
     let rows : ℕ = length (p ∷ ps) in
     let start : StateTree = lines_from types 0 (p ∷ ps) in
-    let small : AreSmall most rows (with_rows start []) = rows_small most rows start (omega arith) (lines_short types most 0 (p ∷ ps) (omega arith)) in
+    let small : AreSmall most rows (with_rows start [])
+    = rows_small most rows start (omega arith) (lines_short types most 0 (p ∷ ps) (omega arith)) in
     let tests_are = rows_test start in
     let light = lines_small types 0 (p ∷ ps) in
     let count : count_by is_test (with_rows start []) ≤ most_tests (p ∷ ps) = omega (arith, tests_are, light) in
@@ -385,7 +410,8 @@ turn_short types p ps =
     let nodes : length (with_rows start []) ≤ most_tests (p ∷ ps) * (rows + 1) + 1 = omega (arith, long, wide, few, light) in
     omega (arith, small_length most rows (with_rows start []) small, mul-le-mul_right (18 + 3 * most + 11 * rows) count, nodes)
 
-pub formed_short : (types : List ℕ) (ps : List Pattern) (nodes : List NodeTree) (count : ℕ) (by_rows : Bool) → IsFormed types ps nodes count by_rows
+pub formed_short : (types : List ℕ) (ps : List Pattern) (nodes : List NodeTree) (count : ℕ) (by_rows : Bool)
+    → IsFormed types ps nodes count by_rows
     → tests_length nodes ≤ most_tests_length ps
 formed_short types ps nodes count false formed =
     let others = formed.3.0 in

@@ -24,16 +24,20 @@ edge_among (edge ∷ edges) otherwise found j is = by (is_answer edge.found foun
     or_first false b is = absurd (cc)
 
     by : (here : Bool)
-        → (next_by edges otherwise found ≡ Some j → (otherwise ≡ Some j) ⊎ (is_among (map (λ (edge : Edge). edge.next) edges) j ≡ true))
+        → (next_by edges otherwise found ≡ Some j
+        → (otherwise ≡ Some j) ⊎ (is_among (map (λ (edge : Edge). edge.next) edges) j ≡ true))
         → (if here then Some edge.next else next_by edges otherwise found) ≡ Some j
         → (otherwise ≡ Some j) ⊎ (((edge.next == j) || is_among (map (λ (edge : Edge). edge.next) edges) j) ≡ true)
-    by true rest is = inr (or_first (edge.next == j) (is_among (map (λ (edge : Edge). edge.next) edges) j) (eq-eqb edge.next j (same_Some edge.next j is)))
+    by true rest is = inr
+        (or_first (edge.next == j) (is_among (map (λ (edge : Edge). edge.next) edges) j)
+        (eq-eqb edge.next j (same_Some edge.next j is)))
     by false rest is = elim (rest is) [
       | inl other ↦ inl other
       | inr behind ↦ inr (or_else (edge.next == j) (is_among (map (λ (edge : Edge). edge.next) edges) j) behind)
     ]
 
-pub next_among : (at : List ℕ) (edges : List Edge) (otherwise : Option ℕ) (found : Answer) (j : ℕ) → next_by edges otherwise found ≡ Some j
+pub next_among : (at : List ℕ) (edges : List Edge) (otherwise : Option ℕ) (found : Answer) (j : ℕ)
+    → next_by edges otherwise found ≡ Some j
     → is_among (targets (tests at edges otherwise)) j ≡ true
 next_among at edges None found j is = elim (edge_among edges None found j is) [
   | inl other ↦ absurd (none-some j other)
@@ -55,7 +59,8 @@ next_among at edges (Some other) found j is = elim (edge_among edges (Some other
 pub other_among : (at : List ℕ) (edges : List Edge) (otherwise : Option ℕ) (j : ℕ) → otherwise ≡ Some j
     → is_among (targets (tests at edges otherwise)) j ≡ true
 other_among at edges None j is = absurd (none-some j is)
-other_among at edges (Some other) j is = ap (λ b. b || is_among (map (λ (edge : Edge). edge.next) edges) j) (eq-eqb other j (same_Some other j is))
+other_among at edges (Some other) j is =
+    ap (λ b. b || is_among (map (λ (edge : Edge). edge.next) edges) j) (eq-eqb other j (same_Some other j is))
 
 -- ---- all that nodes lead to
 
@@ -80,12 +85,15 @@ among_right : (xs ys : List ℕ) (j : ℕ) → is_among ys j ≡ true → is_amo
 among_right [] ys j is = is
 among_right (x ∷ xs) ys j is = or_right (x == j) (is_among (xs ++ ys) j) (among_right xs ys j is)
 
-pub among_all : (nodes : List NodeTree) (k j : ℕ) (node : NodeTree) → slice_get nodes k ≡ Some node → is_among (targets node) j ≡ true
+pub among_all : (nodes : List NodeTree) (k j : ℕ) (node : NodeTree) → slice_get nodes k ≡ Some node
+    → is_among (targets node) j ≡ true
     → is_among (all_targets nodes) j ≡ true
 among_all [] k j node is among = absurd (none-some node is)
 among_all (first ∷ nodes) zero j node is among =
-    among_left (targets first) (all_targets nodes) j (subst (λ (n : NodeTree). is_among (targets n) j ≡ true) (sym (same_Some first node is)) among)
-among_all (first ∷ nodes) (suc k) j node is among = among_right (targets first) (all_targets nodes) j (among_all nodes k j node is among)
+    among_left (targets first) (all_targets nodes) j
+    (subst (λ (n : NodeTree). is_among (targets n) j ≡ true) (sym (same_Some first node is)) among)
+among_all (first ∷ nodes) (suc k) j node is among =
+    among_right (targets first) (all_targets nodes) j (among_all nodes k j node is among)
 
 -- ---- numbers that are all among some are no more
 
@@ -107,14 +115,16 @@ but_keeps : (x z : ℕ) (ys : List ℕ) → z < x → is_among ys z ≡ true →
 but_keeps x z [] less among = among
 but_keeps x z (y ∷ ys) less among = elim (cases_Bool (y == x)) [
   | inl here ↦ subst (λ b. is_among (if b then ys else y ∷ but x ys) z ≡ true) (sym here) (behind here (y == z) refl among)
-  | inr there ↦ subst (λ b. is_among (if b then ys else y ∷ but x ys) z ≡ true) (sym there) (on (y == z) among (but_keeps x z ys less))
+  | inr there ↦
+      subst (λ b. is_among (if b then ys else y ∷ but x ys) z ≡ true) (sym there) (on (y == z) among (but_keeps x z ys less))
 ]
   where
     behind : (y == x) ≡ true → (b : Bool) → (y == z) ≡ b → (b || is_among ys z) ≡ true → is_among ys z ≡ true
     behind here true is among = absurd (let a = eqb-true y z is in let c = eqb-true y x here in omega (arith, a, c, less))
     behind here false is among = among
 
-    on : (b : Bool) → (b || is_among ys z) ≡ true → (is_among ys z ≡ true → is_among (but x ys) z ≡ true) → (b || is_among (but x ys) z) ≡ true
+    on : (b : Bool) → (b || is_among ys z) ≡ true → (is_among ys z ≡ true → is_among (but x ys) z ≡ true)
+        → (b || is_among (but x ys) z) ≡ true
     on true among rest = refl
     on false among rest = rest among
 

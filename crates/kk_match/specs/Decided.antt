@@ -30,7 +30,7 @@ is_test (tests at edges otherwise) = true
 abbrev pub most_tests : List Pattern → ℕ
 most_tests patterns = 8 * sum_by nodes_of_pattern patterns
 
--- How long so many tests are at most, as they are in an image: on the way to the position of a test there are no more fields than the
+-- How long so many tests are at most, once they are in an image: the position of a test has no more fields on its way than the
 -- patterns have nodes, a test has no more edges than there are patterns, and each node but the first is one that a test leads to.
 abbrev pub most_tests_length : List Pattern → ℕ
 most_tests_length patterns =

@@ -35,9 +35,9 @@ pub struct Rows<'a> {
 
 /// Which tests decide a match: the graph of its states, or, where more states test than eight for each node of the patterns,
 /// the tests of one row after the other. Of each value of a type of the patterns the first row that matches is chosen, if
-/// there is one, and each answer that a test finds is of the type of its edges. On its way it looks at no more edges than the patterns
-/// have nodes; and where these are p, at no more than p * (p + 1) nodes of tests, fields on the way to positions and edges. All tests
-/// together are short.
+/// there is one, and each answer that a test finds is of the type of its edges. On its way it looks at no more edges than the
+/// patterns have nodes; and where these are p, at no more than p * (p + 1) nodes of tests, fields on the way to positions and
+/// edges. All tests together are short.
 pub fn decide(alloc: Global, rows: &Rows<'_>) -> Result<Decisions, NoMemory>
     requires { 0 < length rows.now.patterns.items }
     ensures decides { (constructors : List ConstructorTree) → AreTypeNumbers constructors (types_in rows.now)
