@@ -86,7 +86,8 @@ few_tests p r rows most =
     omega (arith, mul-le-mul_right p each)
 
 match_short : (constructors : List ConstructorTree) (rows : Rows) (decisions : List NodeTree)
-    → AreDecisions constructors (patterns_in rows) decisions → nodes_of_rows rows ≤ 480 → tests_length decisions ≤ 38400 * (sum_by nodes_of_pattern (patterns_in rows) + 1)
+    → AreDecisions constructors (patterns_in rows) decisions → nodes_of_rows rows ≤ 480
+    → tests_length decisions ≤ 38400 * (sum_by nodes_of_pattern (patterns_in rows) + 1)
 match_short constructors rows decisions are few =
     let patterns : List Pattern = patterns_in rows in
     let nodes = rows_nodes rows in
@@ -104,7 +105,8 @@ mutual
   code_short constructors k names n (variable x) c coded few =
       omega (arith, cases_after_use k (name_of names x), ap cases_length coded)
   code_short constructors k names n (apply form es) c coded few =
-      let all = codes_short constructors names n es (finish k (n + size_all es) form (atoms names n es)) c coded (omega (arith, few)) in
+      let all = codes_short constructors names n es (finish k (n + size_all es) form (atoms names n es)) c coded
+      (omega (arith, few)) in
       omega (arith, all, cases_finish k (n + size_all es) form (atoms names n es))
   code_short constructors k names n (branch e positive negative) c coded few =
       let own : Code = Core.branch (atom names n e) coded.0 coded.1 in
@@ -123,12 +125,13 @@ mutual
       omega (arith, whole, arms, match_short constructors rows coded.0 coded.2 (omega (arith, few)), cases_joined k m own)
   code_short constructors k names n (sequence binder first rest) c coded few =
       let one = code_short constructors (next coded.0) names n first c coded.2 (omega (arith, few)) in
-      let two = code_short constructors k (named (variable_of binder) (atom names n first) names) (n + size first) rest coded.0 coded.1
-      (omega (arith, few)) in
+      let two = code_short constructors k (named (variable_of binder) (atom names n first) names) (n + size first) rest
+      coded.0 coded.1 (omega (arith, few)) in
       omega (arith, one, two)
 
   codes_short : (constructors : List ConstructorTree) (names : Names) (n : ℕ) (es : Trees) (last c : Code)
-      → AreCodes constructors names n es last c → nodes_of_all es ≤ 480 → cases_length c ≤ 38400 * nodes_of_all es + cases_length last
+      → AreCodes constructors names n es last c → nodes_of_all es ≤ 480
+      → cases_length c ≤ 38400 * nodes_of_all es + cases_length last
   codes_short constructors names n no_tree last c coded few = omega (arith, ap cases_length coded)
   codes_short constructors names n (tree first rest) last c coded few =
       let one = code_short constructors (next coded.0) names n first c coded.2 (omega (arith, few)) in
@@ -161,6 +164,7 @@ pub all_short : (constructors : List ConstructorTree) (functions : List Function
 all_short constructors [] cores are limits = omega (arith, ap all_cases_length are)
 all_short constructors (function ∷ functions) [] are limits = absurd are
 all_short constructors (function ∷ functions) (core ∷ cores) are limits =
-    let one = code_short constructors (final true) [] (length function.parameters) function.body core.body are.0.body (limits.0.nodes) in
+    let one = code_short constructors (final true) [] (length function.parameters) function.body core.body are.0.body
+    (limits.0.nodes) in
     let others = all_short constructors functions cores are.1 limits.1 in
     omega (arith, one, others)
