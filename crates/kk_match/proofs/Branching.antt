@@ -316,9 +316,9 @@ branches types states state test answers edges otherwise is_test answers_are fou
 }
   where
     another_by : (asked : Answer) (otherwise : Option ℕ) → OtherLeads states test.at state (unlisted types asked answers) otherwise → IsOutcome types asked None
-        → (j : ℕ) × Names states j (after test.at None state)
+        → (j : ℕ) × (otherwise ≡ Some j) × Names states j (after test.at None state)
     another_by (Number n) None other is = absurd other
-    another_by (Number n) (Some j) other is = (j, other)
+    another_by (Number n) (Some j) other is = (j, refl, other)
     another_by (Constructor c) otherwise other is = absurd is
 
     kinds : AreOfKind types test.asked edges

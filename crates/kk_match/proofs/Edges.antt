@@ -1,18 +1,16 @@
 -- Turned nodes lead no value through more edges than parts are left in the state of the first one.
-use Rattle.std.proofs.Common.{◌≡◌, ℕ, zero, suc, ◌+◌, ◌-◌, ◌<◌, ◌≤◌, Bool, true, false, ◌||◌, ◌⊎◌, Option, None, Some, option_map, List, [], ◌∷◌, ◌++◌, length, map, inl, inr, refl, sym, ◌∙◌, subst, arith, length-append}
-use Rattle.std.specs.Prelude.{slice_get, sum_by, if◌then◌else◌, ◌==◌}
-use Rattle.std.proofs.lemmas.Bool.{eq-eqb}
+use Rattle.std.proofs.Common.{◌≡◌, ℕ, zero, suc, ◌+◌, ◌-◌, ◌<◌, ◌≤◌, Bool, true, false, Option, None, Some, option_map, List, [], ◌∷◌, ◌++◌, length, map, refl, sym, ◌∙◌, subst, arith, length-append}
+use Rattle.std.specs.Prelude.{slice_get, sum_by, if◌then◌else◌}
 use Rattle.std.proofs.lemmas.List.{length-map}
 use Rattle.std.proofs.lemmas.List.Sums.{sum_by-cons}
-use Rattle.std.proofs.lemmas.Option.{none-some, same_Some, slice_get_within}
+use Rattle.std.proofs.lemmas.Option.{slice_get_within}
 use Rattle.kk_syntax.specs.Patterns.{Pattern, anything, variable, exactly, constructor, Patterns, no_part, part}
 use Rattle.kk_syntax.specs.Shapes.{is_among, nodes_of_pattern, nodes_of_patterns}
 use Rattle.kk_source.specs.Matching.{and_then}
 use Rattle.kk_source.specs.State.{Value, Cell}
 use Rattle.kk_core.specs.declared.decisions.Answer.{Answer}
 use Rattle.kk_core.specs.declared.decisions.Answer.TheVariants.{Constructor}
-use Rattle.kk_core.specs.declared.decisions.Edge.{Edge}
-use Rattle.kk_core.specs.Decisions.{NodeTree, chooses, tests, targets, found_at, is_answer, next_by}
+use Rattle.kk_core.specs.Decisions.{NodeTree, chooses, tests, targets, found_at, next_by}
 use Rattle.kk_core.specs.Edges.{edges_behind, edges_at, edges_from, HasFewEdges}
 use Rattle.kk_match.specs.Parts.{has_several, parts_of, parts_of_all}
 use Rattle.kk_match.specs.Graphs.{StateTree, IsReached, at_start, by_answer, by_another, weight, lines_from}
@@ -23,50 +21,7 @@ use Rattle.kk_match.proofs.After.{not_heavier}
 use Rattle.kk_match.proofs.InTurn.{AllLight}
 use Rattle.kk_match.proofs.Places.{get_left}
 use Rattle.kk_match.proofs.Running.{IsAt, IsSound, Stands, as_long, at_place, get_turned, next_turned, turned_at}
-
--- ---- the nodes that a test leads to
-
-edge_among : (edges : List Edge) (otherwise : Option ℕ) (found : Answer) (j : ℕ) → next_by edges otherwise found ≡ Some j
-    → (otherwise ≡ Some j) ⊎ (is_among (map (λ (edge : Edge). edge.next) edges) j ≡ true)
-edge_among [] otherwise found j is = inl is
-edge_among (edge ∷ edges) otherwise found j is = by (is_answer edge.found found) (edge_among edges otherwise found j) is
-  where
-    or_else : (a b : Bool) → b ≡ true → (a || b) ≡ true
-    or_else true b is = refl
-    or_else false b is = is
-
-    or_first : (a b : Bool) → a ≡ true → (a || b) ≡ true
-    or_first true b is = refl
-    or_first false b is = absurd (cc)
-
-    by : (here : Bool)
-        → (next_by edges otherwise found ≡ Some j → (otherwise ≡ Some j) ⊎ (is_among (map (λ (edge : Edge). edge.next) edges) j ≡ true))
-        → (if here then Some edge.next else next_by edges otherwise found) ≡ Some j
-        → (otherwise ≡ Some j) ⊎ (((edge.next == j) || is_among (map (λ (edge : Edge). edge.next) edges) j) ≡ true)
-    by true rest is = inr (or_first (edge.next == j) (is_among (map (λ (edge : Edge). edge.next) edges) j) (eq-eqb edge.next j (same_Some edge.next j is)))
-    by false rest is = elim (rest is) [
-      | inl other ↦ inl other
-      | inr behind ↦ inr (or_else (edge.next == j) (is_among (map (λ (edge : Edge). edge.next) edges) j) behind)
-    ]
-
-pub next_among : (at : List ℕ) (edges : List Edge) (otherwise : Option ℕ) (found : Answer) (j : ℕ) → next_by edges otherwise found ≡ Some j
-    → is_among (targets (tests at edges otherwise)) j ≡ true
-next_among at edges None found j is = elim (edge_among edges None found j is) [
-  | inl other ↦ absurd (none-some j other)
-  | inr behind ↦ behind
-]
-next_among at edges (Some other) found j is = elim (edge_among edges (Some other) found j is) [
-  | inl same ↦ first (other == j) (is_among (map (λ (edge : Edge). edge.next) edges) j) (eq-eqb other j (same_Some other j same))
-  | inr behind ↦ later (other == j) (is_among (map (λ (edge : Edge). edge.next) edges) j) behind
-]
-  where
-    first : (a b : Bool) → a ≡ true → (a || b) ≡ true
-    first true b is = refl
-    first false b is = absurd (cc)
-
-    later : (a b : Bool) → b ≡ true → (a || b) ≡ true
-    later true b is = refl
-    later false b is = is
+use Rattle.kk_match.proofs.Targets.{next_among}
 
 -- ---- turned nodes
 

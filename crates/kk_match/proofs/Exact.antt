@@ -1,12 +1,13 @@
 -- A graph of states has all of them, and its start is the last one.
-use Rattle.std.proofs.Common.{◌≡◌, ℕ, suc, ◌<◌, ◌≤◌, Bool, true, false, Option, None, Some, List, [], ◌∷◌, length, inl, inr, refl, sym, ap, ◌∙◌, subst, arith, ◌-◌, zero-add, ◌++◌, ◌+◌}
-use Rattle.std.specs.Prelude.{count_by, cond}
+use Rattle.std.proofs.Common.{◌≡◌, ◌⊎◌, ℕ, suc, ◌<◌, ◌≤◌, Bool, true, false, Option, None, Some, List, [], ◌∷◌, length, inl, inr, refl, sym, ap, ◌∙◌, subst, arith, ◌-◌, zero-add, ◌++◌, ◌+◌}
+use Rattle.std.specs.Prelude.{count_by, cond, slice_get}
 use Rattle.std.proofs.lemmas.Bool.{cases_lt}
 use Rattle.std.proofs.lemmas.List.Sums.{sum_by-cons, sum_by-append}
 use Rattle.std.proofs.lemmas.Option.{none-some, same_Some, slice_get_within}
+use Rattle.kk_syntax.specs.Shapes.{is_among}
 use Rattle.kk_core.specs.declared.decisions.Answer.{Answer}
 use Rattle.kk_core.specs.declared.decisions.Answer.TheVariants.{Number}
-use Rattle.kk_core.specs.Decisions.{NodeTree, chooses, tests}
+use Rattle.kk_core.specs.Decisions.{NodeTree, chooses, tests, targets}
 use Rattle.kk_match.specs.Parts.{Part}
 use Rattle.kk_match.specs.Graphs.{StateTree, after, test_of, IsReached, at_start, by_answer, by_another, weight, testing, HasTests}
 use Rattle.kk_match.specs.Outcomes.{IsOutcome}
@@ -18,58 +19,74 @@ use Rattle.kk_match.specs.Turned.{turn_node, turned}
 use Rattle.kk_match.proofs.After.{AreBelow, after_below}
 use Rattle.kk_match.proofs.Growth.{reached_at, one_if, tests_as, testing_push}
 use Rattle.kk_match.proofs.Places.{get_left, get_there, same_place, contained, place_of}
-use Rattle.kk_match.proofs.Running.{IsAt, at_place}
+use Rattle.kk_match.proofs.Running.{IsAt, at_place, as_long}
+use Rattle.kk_match.proofs.Targets.{next_among, other_among, all_targets, among_all, no_more}
 
 -- ---- all states
 
--- a state has a number, at most some other one
-record HasPlace (states : List StateTree) (most : ℕ) (state : StateTree) : Type 0 where
+-- a state has a number, at most some other one, and a test leads to it where it is not that one
+record HasPlace (states : List StateTree) (nodes : List NodeTree) (most : ℕ) (state : StateTree) : Type 0 where
   pub place : ℕ
   pub within : place ≤ most
   pub named : Names states place state
+  pub led : (place ≡ most) ⊎ (is_among (all_targets nodes) place ≡ true)
 
 -- a state's test leads to the states that are left
 tested : (types : List ℕ) (states : List StateTree) (nodes : List NodeTree) (state : StateTree) (q : Part) (k : ℕ) → test_of state ≡ Some q → IsAt (IsRight types) states nodes k state
-    → (outcome : Option Answer) → IsOutcome types q.asked outcome → (j : ℕ) × (j < k) × Names states j (after q.at outcome state)
-tested types states nodes state q k is at outcome right = of at.node at.right
+    → (outcome : Option Answer) → IsOutcome types q.asked outcome
+    → (j : ℕ) × (j < k) × (is_among (all_targets nodes) j ≡ true) × Names states j (after q.at outcome state)
+tested types states nodes state q k is at outcome right = of at.node at.is at.right
   where
-    of : (node : NodeTree) → IsRight types at.before state node → (j : ℕ) × (j < k) × Names states j (after q.at outcome state)
-    of (chooses row) chosen = absurd (none-some q (sym chosen.0 ∙ is))
-    of (tests way edges otherwise) branches = kept (there outcome (subst (λ (p : Part). IsOutcome types p.asked outcome) (sym same) right))
+    of : (node : NodeTree) → slice_get nodes k ≡ Some node → IsRight types at.before state node
+        → (j : ℕ) × (j < k) × (is_among (all_targets nodes) j ≡ true) × Names states j (after q.at outcome state)
+    of (chooses row) here chosen = absurd (none-some q (sym chosen.0 ∙ is))
+    of (tests way edges otherwise) here branches =
+        kept (there outcome (subst (λ (p : Part). IsOutcome types p.asked outcome) (sym same) right))
       where
         same : record { at = way; asked = branches.asked } ≡ q
         same = same_Some (record { at = way; asked = branches.asked }) q (sym branches.is_test ∙ is)
 
-        there : (outcome : Option Answer) → IsOutcome types branches.asked outcome → (j : ℕ) × Names at.before j (after way outcome state)
-        there None right = branches.another right
-        there (Some found) right = let whole = branches.whole found right in (whole.0, whole.2)
+        there : (outcome : Option Answer) → IsOutcome types branches.asked outcome
+            → (j : ℕ) × (is_among (targets (tests way edges otherwise)) j ≡ true) × Names at.before j (after way outcome state)
+        there None right =
+            let another = branches.another right in
+            (another.0, other_among way edges otherwise another.0 another.1, another.2)
+        there (Some found) right =
+            let whole = branches.whole found right in
+            (whole.0, next_among way edges otherwise found whole.0 whole.1, whole.2)
 
-        kept : ((j : ℕ) × Names at.before j (after way outcome state)) → (j : ℕ) × (j < k) × Names states j (after q.at outcome state)
+        kept : ((j : ℕ) × (is_among (targets (tests way edges otherwise)) j ≡ true) × Names at.before j (after way outcome state))
+            → (j : ℕ) × (j < k) × (is_among (all_targets nodes) j ≡ true) × Names states j (after q.at outcome state)
         kept place =
-            let within = slice_get_within at.before place.0 (after way outcome state) place.1 in
+            let within = slice_get_within at.before place.0 (after way outcome state) place.2 in
             let long = at.long in
             let low : place.0 < k = omega (arith, within, long) in (
               place.0,
               low,
+              among_all nodes k place.0 (tests way edges otherwise) here place.1,
               subst (λ (p : Part). Names states place.0 (after p.at outcome state)) same
-                  (subst (λ ss. Names ss place.0 (after way outcome state)) (sym at.all) (get_left at.before at.more place.0 (after way outcome state) place.1)),
+                  (subst (λ ss. Names ss place.0 (after way outcome state)) (sym at.all)
+                  (get_left at.before at.more place.0 (after way outcome state) place.2)),
             )
 
 all_there : (types : List ℕ) (states : List StateTree) (nodes : List NodeTree) (start : StateTree) (number : ℕ) → AreRight types states nodes → Names states number start
-    → (state : StateTree) → IsReached types start state → HasPlace states number state
-all_there types states nodes start number right starts _ at_start = record { place = number; within = omega arith; named = starts }
+    → (state : StateTree) → IsReached types start state → HasPlace states nodes number state
+all_there types states nodes start number right starts _ at_start =
+    record { place = number; within = omega arith; named = starts; led = inl refl }
 all_there types states nodes start number right starts _ (by_answer {state} {q} found reached is kind) =
     let here = all_there types states nodes start number right starts state reached in
-    let next = tested types states nodes state q here.place is (at_place (IsRight types) states nodes right here.place state here.named) (Some found) kind in
+    let next = tested types states nodes state q here.place is
+    (at_place (IsRight types) states nodes right here.place state here.named) (Some found) kind in
     let within = here.within in
     let less = next.1 in
-    record { place = next.0; within = omega (arith, within, less); named = next.2 }
+    record { place = next.0; within = omega (arith, within, less); named = next.3; led = inr next.2 }
 all_there types states nodes start number right starts _ (by_another {state} {at} n reached is) =
     let here = all_there types states nodes start number right starts state reached in
-    let next = tested types states nodes state (record { at = at; asked = Number n }) here.place is (at_place (IsRight types) states nodes right here.place state here.named) None tt in
+    let next = tested types states nodes state (record { at = at; asked = Number n }) here.place is
+    (at_place (IsRight types) states nodes right here.place state here.named) None tt in
     let within = here.within in
     let less = next.1 in
-    record { place = next.0; within = omega (arith, within, less); named = next.2 }
+    record { place = next.0; within = omega (arith, within, less); named = next.3; led = inr next.2 }
 
 -- the start is the last state
 pub starts_last : (types : List ℕ) (most : ℕ) (start : StateTree) (nodes : List NodeTree) (graph : IsGraphOf types most start nodes) → suc graph.number ≡ length graph.states
@@ -84,6 +101,27 @@ starts_last types most start nodes graph = elim (cases_lt (suc graph.number) (le
         let same = same_place graph.states place.place (suc graph.number) there.0 graph.apart place.named there.1 in
         let within = place.within in
         omega (arith, same, within)
+
+-- there are no more nodes than tests lead to, and the start
+pub few_nodes : (types : List ℕ) (most : ℕ) (start : StateTree) (nodes : List NodeTree) → IsGraphOf types most start nodes
+    → length nodes ≤ suc (length (all_targets nodes))
+few_nodes types most start nodes graph =
+    let long = as_long (IsRight types) graph.states nodes graph.right in
+    let last = starts_last types most start nodes graph in
+    omega (arith, no_more graph.number (all_targets nodes) led, long, last)
+  where
+    led : (k : ℕ) → k < graph.number → is_among (all_targets nodes) k ≡ true
+    led k less = of (get_there graph.states k (let last = starts_last types most start nodes graph in omega (arith, less, last)))
+      where
+        of : ((state : StateTree) × Names graph.states k state) → is_among (all_targets nodes) k ≡ true
+        of there =
+            let place = all_there types graph.states nodes start graph.number graph.right graph.starts there.0
+            (reached_at types start graph.states k there.0 graph.reached there.1) in
+            let same = same_place graph.states place.place k there.0 graph.apart place.named there.1 in
+            elim place.led [
+              | inl start ↦ absurd (omega (arith, start, same, less))
+              | inr by_test ↦ subst (λ (n : ℕ). is_among (all_targets nodes) n ≡ true) same by_test
+            ]
 
 -- ---- how many test
 

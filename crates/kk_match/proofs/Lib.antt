@@ -15,5 +15,7 @@ pub mod Made
 pub mod Matching
 pub mod Places
 pub mod Running
+pub mod Short
 pub mod Shown
+pub mod Targets
 pub mod Ways

@@ -19,10 +19,10 @@ use Rattle.kk_match.specs.Graphs.{StateTree, agrees, left_after, kept_line, afte
 use Rattle.kk_match.specs.Built.{Names, InRow}
 use Rattle.kk_match.specs.Turned.{turn_edge, turn_node, turned}
 use Rattle.kk_match.proofs.After.{lighter}
-use Rattle.kk_match.proofs.Edges.{next_among}
 use Rattle.kk_match.proofs.InTurn.{AllLight, PartsShort, AreShort, AllShort}
 use Rattle.kk_match.proofs.Places.{get_left}
 use Rattle.kk_match.proofs.Running.{IsAt, IsSound, Stands, as_long, at_place, get_turned, next_turned, turned_at}
+use Rattle.kk_match.proofs.Targets.{next_among}
 
 -- ---- positions stay short
 
@@ -68,7 +68,7 @@ reached_short types most start _ short (by_another {state} {at} n reached is) =
     after_short most at None state (reached_short types most start state short reached)
 
 -- the position of a test is short
-test_short : (most : ℕ) (state : StateTree) (q : Part) → test_of state ≡ Some q → AreShort most state → length q.at < most
+pub test_short : (most : ℕ) (state : StateTree) (q : Part) → test_of state ≡ Some q → AreShort most state → length q.at < most
 test_short most [] q is short = cc
 test_short most (line ∷ lines) q is short = of line.left is short.0
   where

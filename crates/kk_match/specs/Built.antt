@@ -27,7 +27,7 @@ pub record Branches (types : List ℕ) (states : List StateTree) (state : StateT
       → (outcome : Option Answer) × IsOutcome types asked outcome × Names states j (after at outcome state)
   pub whole : (found : Answer) → IsKind types asked found
       → (j : ℕ) × (next_by edges otherwise found ≡ Some j) × Names states j (after at (Some found) state)
-  pub another : IsOutcome types asked None → (j : ℕ) × Names states j (after at None state)
+  pub another : IsOutcome types asked None → (j : ℕ) × (otherwise ≡ Some j) × Names states j (after at None state)
   pub few : length edges ≤ weight_at at state
 
 -- the node of a state: it chooses the first row, or tests

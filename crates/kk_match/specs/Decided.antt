@@ -1,5 +1,5 @@
 -- Which tests decisions make.
-use Rattle.std.specs.Prelude.{◌≡◌, ◌≤◌, ◌*◌, ◌-◌, ℕ, Bool, true, false, List, [], length, Option, Some, sum_by, slice_get}
+use Rattle.std.specs.Prelude.{◌≡◌, ◌≤◌, ◌+◌, ◌*◌, ◌-◌, ℕ, Bool, true, false, List, [], length, Option, Some, sum_by, slice_get}
 use Rattle.kk_syntax.specs.Patterns.{Pattern}
 use Rattle.kk_syntax.specs.Shapes.{is_among, nodes_of_pattern}
 use Rattle.kk_core.specs.declared.decisions.Edge.{Edge}
@@ -29,6 +29,13 @@ is_test (tests at edges otherwise) = true
 -- the most states that may test: eight for each node of the patterns
 abbrev pub most_tests : List Pattern → ℕ
 most_tests patterns = 8 * sum_by nodes_of_pattern patterns
+
+-- How long so many tests are at most, once they are in an image: the position of a test has no more fields on its way than the
+-- patterns have nodes, a test has no more edges than there are patterns, and each node but the first is one that a test leads to.
+abbrev pub most_tests_length : List Pattern → ℕ
+most_tests_length patterns =
+    most_tests patterns * (18 + 3 * sum_by nodes_of_pattern patterns + 11 * length patterns)
+    + 2 * (most_tests patterns * (length patterns + 1) + 1)
 
 -- Nodes are the graph of the states: one for each state that tests lead to, with the test and the edges of that state, and
 -- the start is the first.

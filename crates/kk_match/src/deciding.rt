@@ -1,9 +1,10 @@
-ghost use Rattle.std.specs.Prelude.{◌≡◌, ◌<◌, ◌-◌, List, [], length, map, option_map, count_by, IfOk};
+ghost use Rattle.std.specs.Prelude.{◌≡◌, ◌<◌, ◌≤◌, ◌-◌, List, [], length, map, option_map, count_by, IfOk};
+ghost use Rattle.kk_core.specs.CaseLengths.{tests_length};
 ghost use Rattle.kk_core.specs.Cases.{IsLean};
 ghost use Rattle.kk_core.specs.Choosing.{Decides};
 ghost use Rattle.kk_core.specs.Decisions.{node_tree, AreOrderly};
 ghost use Rattle.kk_core.specs.Kinds.{AsksTyped};
-ghost use Rattle.kk_match.specs.Decided.{IsFormed, is_test};
+ghost use Rattle.kk_match.specs.Decided.{IsFormed, is_test, most_tests_length};
 ghost use Rattle.kk_match.specs.Graphs.{lines_of};
 ghost use Rattle.kk_match.specs.Growing.{IsGraph};
 ghost use Rattle.kk_match.specs.Parts.{types_of, parts_of, AreTypeNumbers, TellTypes};
@@ -34,8 +35,9 @@ pub struct Rows<'a> {
 
 /// Which tests decide a match: the graph of its states, or, where more states test than eight for each node of the patterns,
 /// the tests of one row after the other. Of each value of a type of the patterns the first row that matches is chosen, if
-/// there is one, and each answer that a test finds is of the type of its edges. On its way it looks at no more edges than the patterns
-/// have nodes; and where these are p, at no more than p * (p + 1) nodes of tests, fields on the way to positions and edges.
+/// there is one, and each answer that a test finds is of the type of its edges. On its way it looks at no more edges than the
+/// patterns have nodes; and where these are p, at no more than p * (p + 1) nodes of tests, fields on the way to positions and
+/// edges. All tests together are short.
 pub fn decide(alloc: Global, rows: &Rows<'_>) -> Result<Decisions, NoMemory>
     requires { 0 < length rows.now.patterns.items }
     ensures decides { (constructors : List ConstructorTree) → AreTypeNumbers constructors (types_in rows.now)
@@ -46,6 +48,7 @@ pub fn decide(alloc: Global, rows: &Rows<'_>) -> Result<Decisions, NoMemory>
     ensures formed { IfOk result (λ found.
         IsFormed (types_in rows.now) (patterns_in rows.now) (nodes_in found) found.tests found.by_rows) }
     ensures lean { IfOk result (λ found. IsLean (nodes_in found) (patterns_in rows.now)) }
+    ensures short { IfOk result (λ found. tests_length (nodes_in found) ≤ most_tests_length (patterns_in rows.now)) }
     ensures tests { IfOk result (λ found. found.tests ≡ count_by is_test (nodes_in found)) }
     ensures rows { IfOk result (λ found. found.rows ≡ length rows.now.patterns.items) }
 {

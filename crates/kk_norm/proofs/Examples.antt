@@ -174,6 +174,7 @@ are_decisions constructors numbers = record {
   orderly = only_row;
   formed = (numbers.types, 0, false, numbers.are, numbers.tell, formed numbers.types numbers.single);
   few_tests = omega arith;
+  short = omega arith;
   lean = record {
     edges = λ cells v steps k. omega (arith, no_edges cells v steps k);
     looks = λ cells v steps k. omega (arith, no_looks cells v steps k);

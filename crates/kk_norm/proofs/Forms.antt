@@ -12,6 +12,7 @@ use Rattle.kk_core.specs.CoreTyping.{IsFunctionSmall, AreSmall, all_forms, IsSma
 use Rattle.kk_core.specs.Sizes.{forms, forms_of_arms}
 use Rattle.kk_norm.specs.Names.{Names, name_of, named}
 use Rattle.kk_norm.specs.Normal.{IsFunctionWithin, AreWithin, all_nodes, IsWithin}
+use Rattle.kk_norm.proofs.Lengths.{all_short}
 use Rattle.kk_norm.specs.Normalized.{part_count, pattern_size, parts_size, Then, final, next, size, size_all, size_rows, atom, atoms, after, after_use, within, joined, finish, finish_call, opened, opened_all, pattern_names, IsCode, AreCodes, AreArms, IsCoreOf, AreCoresOf, IsCoreForm}
 
 -- ---- numbers
@@ -168,4 +169,9 @@ is_small program code form limits =
       functions = are_small program.constructors program.functions code.functions form.functions limits.functions;
       few = omega (arith, as_many program.constructors program.functions code.functions form.functions, limits.few);
       all = omega (arith, all_small program.constructors program.functions code.functions form.functions, limits.all);
+      cases = omega (
+        arith,
+        all_short program.constructors program.functions code.functions form.functions limits.functions,
+        limits.all,
+      );
     }

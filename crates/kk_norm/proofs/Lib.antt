@@ -14,6 +14,7 @@ pub mod Functions
 pub mod HeldValues
 pub mod Keeping
 pub mod KeepingTyped
+pub mod Lengths
 pub mod MatchRows
 pub mod Matches
 pub mod NeededVariables

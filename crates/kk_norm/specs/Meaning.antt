@@ -69,12 +69,6 @@ pub record KeepsMeaningByCells (program : ProgramTree) (code : ProgramCode) : Ty
       → Agree (weighed_store_machine (λ s. core_steps s * cost) (setting_of program positions cells depth)) (core_machine weight (core_setting_of code positions cells depth)) 0 (λ m. m * (greatest_nodes program + 1) + greatest_nodes program + 1)
       (first_state (setting_of program positions cells depth) input) (core_first_state (core_setting_of code positions cells depth) input)
 
--- the same where no step opens a cell, as in a program without matches
-pub record KeepsMeaning (program : ProgramTree) (code : ProgramCode) : Type 0 where
-  pub agrees : (positions : PositionTable) (cells depth : ℕ) (input : List ℕ) (cost : ℕ) (weight : CoreState → ℕ) → ((t : CoreState) → weight t ≤ cost)
-      → Agree (heavy_store_machine (2 * cost) (setting_of program positions cells depth)) (core_machine weight (core_setting_of code positions cells depth)) 0 (λ m. m * (greatest_nodes program + 1) + greatest_nodes program + 1)
-      (first_state (setting_of program positions cells depth) input) (core_first_state (core_setting_of code positions cells depth) input)
-
 -- The core steps that do a step of the source cost at most 256 times the square of the nodes of the greatest body, or of a
 -- greater number: so the machines agree where the one weighs as much, and the steps of the other no more than they cost.
 pub record CostsLittle (program : ProgramTree) (code : ProgramCode) : Type 0 where

@@ -31,7 +31,7 @@ pub fn core_forms_of_typed_programs_cost_little()
 {}
 
 /// A core form of a program that is within the limits is small: a node of a body binds at most one variable, and makes at most
-/// two forms. It is a law, and does nothing.
+/// two forms; and the tests of its matches are short together. It is a law, and does nothing.
 pub fn core_forms_are_small()
     ensures { (program : ProgramTree) (code : ProgramCode) → IsCoreForm program code → IsWithin program → IsSmall code }
 {}

@@ -11,8 +11,8 @@ mod program;
 mod writer;
 
 pub use law::{
-    core_forms_are_small, core_forms_are_whole,
-    core_forms_ask_what_types_tell, core_forms_of_typed_programs_are_typed,
-    core_forms_of_typed_programs_cost_little, core_forms_of_typed_programs_keep_meaning,
+    core_forms_are_small, core_forms_are_whole, core_forms_ask_what_types_tell,
+    core_forms_of_typed_programs_are_typed, core_forms_of_typed_programs_cost_little,
+    core_forms_of_typed_programs_keep_meaning,
 };
 pub use program::normal;

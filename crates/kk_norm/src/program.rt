@@ -11,7 +11,7 @@ ghost use Rattle.kk_core.specs.Codes.{function_code, core_code};
 ghost use Rattle.kk_core.specs.Sizes.{most_parameters, most_nodes};
 ghost use Rattle.kk_norm.specs.CellTables.{at_type, TellCells};
 ghost use Rattle.kk_norm.specs.MatchRows.{MatchesHaveRows, FunctionsHaveRows};
-ghost use Rattle.kk_norm.specs.Normal.{AreWithin, IsWithin, IsNormalForm};
+ghost use Rattle.kk_norm.specs.Normal.{AreWithin, IsNormalForm};
 ghost use Rattle.kk_norm.specs.Normalized.{IsCoreOf, AreCoresOf, IsCoreForm};
 
 use crate::cells::{cell_types, constructor_shapes, has_cells, have_cells};
@@ -27,7 +27,6 @@ use std::alloc::Global;
 /// The recursion is as deep as the deepest expression.
 pub fn normal(alloc: Global, given: &Ground) -> Result<Core, NoMemory>
     requires typed { IsGroundTyped (ground_program given.now) }
-    requires small { IsWithin (ground_program given.now) }
     ensures form { IfOk result (λ core. IsCoreForm (ground_program given.now) (core_code core)) }
     ensures means { IfOk result (λ core. IsNormalForm (ground_program given.now) (core_code core)) }
     ensures cells { IfOk result (λ core. TellsCells (ground_program given.now) core) }

@@ -13,6 +13,7 @@ use Rattle.kk_match.specs.Turned.{turned}
 use Rattle.kk_match.specs.Views.{part_of, state_tree}
 use Rattle.kk_match.proofs.Asking.{formed_asks}
 use Rattle.kk_match.proofs.Decided.{also, also_all, lines_same, graph_some, graph_orderly, graph_decides, graph_formed, turn_some, turn_orderly, turn_decides, turn_formed, formed_as, graph_lean, turn_lean}
+use Rattle.kk_match.proofs.Short.{formed_short}
 use Rattle.kk_match.proofs.deciding.decide.Goals as goal
 
 pub finished-requires : goal.finished-requires
@@ -173,3 +174,15 @@ returns-clause-asks c = λ constructors numbers tell.
     also c.finished-in-None.result (returns-clause-formed c)
     (λ found formed. formed_asks constructors (types_of c.args.rows.now.constructors.now) (map (λ p. pattern_tree p.now) c.args.rows.now.patterns.items)
     (map node_tree found.nodes.items) found.tests found.by_rows numbers tell formed)
+
+pub returns-in-Some-clause-short : goal.returns-in-Some-clause-short
+returns-in-Some-clause-short c =
+    also c.finished.result (returns-in-Some-clause-formed c)
+    (λ found formed. formed_short (types_of c.args.rows.now.constructors.now) (map (λ p. pattern_tree p.now) c.args.rows.now.patterns.items)
+    (map node_tree found.nodes.items) found.tests found.by_rows formed)
+
+pub returns-clause-short : goal.returns-clause-short
+returns-clause-short c =
+    also c.finished-in-None.result (returns-clause-formed c)
+    (λ found formed. formed_short (types_of c.args.rows.now.constructors.now) (map (λ p. pattern_tree p.now) c.args.rows.now.patterns.items)
+    (map node_tree found.nodes.items) found.tests found.by_rows formed)

@@ -25,4 +25,4 @@ returns c =
     (sym (length-map c.loop-row.patterns.items (λ p. pattern_tree p.now)))
     (c.decide.ensures.decides (ground_program c.args.given.now).constructors numbers)
     (c.decide.ensures.asks (ground_program c.args.given.now).constructors numbers tell)
-    c.decide.ensures.formed c.decide.ensures.lean c.decide.ensures.tests c.decide.ensures.rows
+    c.decide.ensures.formed c.decide.ensures.lean c.decide.ensures.short c.decide.ensures.tests c.decide.ensures.rows

@@ -12,10 +12,14 @@ use Rattle.kk_norm.proofs.Forms.{as_many, is_small}
 use Rattle.kk_norm.proofs.KeepingTyped.{typed_keeps_meaning, typed_costs_little}
 use Rattle.kk_norm.proofs.MatchRows.{functions_have_rows}
 use Rattle.kk_norm.proofs.Programs.{main_in_range}
+use Rattle.kk_norm.proofs.Within.{instances_are_within}
 use Rattle.kk_norm.proofs.program.normal.Goals as goal
 
 pub all_functions-requires-clause-rows : goal.all_functions-requires-clause-rows
 all_functions-requires-clause-rows c = functions_have_rows (ground_program c.args.given.now) c.requires.typed
+
+pub all_functions-requires-clause-small : goal.all_functions-requires-clause-small
+all_functions-requires-clause-small c = (instances_are_within c.args.given.now).functions
 
 pub returns-clause-form : goal.returns-clause-form
 returns-clause-form c =
@@ -29,7 +33,7 @@ returns-clause-means c =
     record {
       keeps_meaning = typed_keeps_meaning program _ c.requires.typed form;
       typed = core_form_typed program _ c.requires.typed form;
-      small = is_small program _ form c.requires.small;
+      small = is_small program _ form (instances_are_within c.args.given.now);
       whole = are_whole program _ form;
       lean = are_lean program _ form;
       costs = typed_costs_little program _ c.requires.typed form;
