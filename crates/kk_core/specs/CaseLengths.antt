@@ -8,7 +8,7 @@ use Rattle.kk_core.specs.Sizes.{most_nodes, most_program_nodes}
 -- edge.
 abbrev pub node_length : NodeTree → ℕ
 node_length (chooses row) = 2
-node_length (tests at edges otherwise) = 18 + 3 * length at + 11 * length edges
+node_length (tests at edges otherwise) = 22 + 4 * length at + 12 * length edges
 
 abbrev pub tests_length : List NodeTree → ℕ
 tests_length [] = 0

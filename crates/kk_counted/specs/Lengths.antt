@@ -9,7 +9,7 @@ abbrev pub form_length : ℕ
 form_length = 200
 
 abbrev pub reference_length : ℕ
-reference_length = 6
+reference_length = 7
 
 abbrev mutual
   pub code_length : Counted → ℕ

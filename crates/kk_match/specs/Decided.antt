@@ -34,7 +34,7 @@ most_tests patterns = 8 * sum_by nodes_of_pattern patterns
 -- patterns have nodes, a test has no more edges than there are patterns, and each node but the first is one that a test leads to.
 abbrev pub most_tests_length : List Pattern → ℕ
 most_tests_length patterns =
-    most_tests patterns * (18 + 3 * sum_by nodes_of_pattern patterns + 11 * length patterns)
+    most_tests patterns * (22 + 4 * sum_by nodes_of_pattern patterns + 12 * length patterns)
     + 2 * (most_tests patterns * (length patterns + 1) + 1)
 
 -- Nodes are the graph of the states: one for each state that tests lead to, with the test and the edges of that state, and

@@ -80,7 +80,7 @@ rows_nodes (row pattern body rest) =
     omega (arith, sum_by-cons nodes_of_pattern pattern (patterns_in rest), rows_nodes rest, tree_some body)
 
 -- patterns of so many nodes and rows
-few_tests : (p r : ℕ) → r ≤ p → p + r ≤ 480 → 8 * p * (18 + 3 * p + 11 * r) + 2 * (8 * p * (r + 1) + 1) ≤ 38400 * (p + 1)
+few_tests : (p r : ℕ) → r ≤ p → p + r ≤ 480 → 8 * p * (22 + 4 * p + 12 * r) + 2 * (8 * p * (r + 1) + 1) ≤ 38400 * (p + 1)
 few_tests p r rows most =
     let each : 24 * p + 104 * r ≤ 30720 = omega (arith, rows, most) in
     omega (arith, mul-le-mul_right p each)
