@@ -82,7 +82,7 @@ rows_nodes (row pattern body rest) =
 -- patterns of so many nodes and rows
 few_tests : (p r : ℕ) → r ≤ p → p + r ≤ 480 → 8 * p * (22 + 4 * p + 12 * r) + 2 * (8 * p * (r + 1) + 1) ≤ 38400 * (p + 1)
 few_tests p r rows most =
-    let each : 24 * p + 104 * r ≤ 30720 = omega (arith, rows, most) in
+    let each : 32 * p + 112 * r ≤ 38000 = omega (arith, rows, most) in
     omega (arith, mul-le-mul_right p each)
 
 match_short : (constructors : List ConstructorTree) (rows : Rows) (decisions : List NodeTree)

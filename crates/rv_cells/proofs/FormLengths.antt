@@ -68,28 +68,28 @@ filter_few takes (x ∷ xs) = by (takes x) (filter_few takes xs)
     by false few = omega (arith, few)
 
 module _ (holds : ℕ → Bool) where
-  pub dup_length : (x : ℕ) → code_length (dup_lines holds x) ≤ 6
+  pub dup_length : (x : ℕ) → code_length (dup_lines holds x) ≤ 7
   dup_length x = by (holds x)
     where
-      by : (t : Bool) → code_length (dup_lines (λ y. t) x) ≤ 6
+      by : (t : Bool) → code_length (dup_lines (λ y. t) x) ≤ 7
       by true = omega arith
       by false = omega arith
 
-  pub drop_length : (base x : ℕ) → code_length (drop_lines base holds x) ≤ 6
+  pub drop_length : (base x : ℕ) → code_length (drop_lines base holds x) ≤ 7
   drop_length base x = by (holds x)
     where
-      by : (t : Bool) → code_length (drop_lines base (λ y. t) x) ≤ 6
+      by : (t : Bool) → code_length (drop_lines base (λ y. t) x) ≤ 7
       by true = omega arith
       by false = omega arith
 
-  dups_length : (xs : List ℕ) → code_length (dups_lines holds xs) ≤ 6 * length xs
+  dups_length : (xs : List ℕ) → code_length (dups_lines holds xs) ≤ 7 * length xs
   dups_length [] = omega arith
   dups_length (x ∷ xs) =
       let whole = lines_append (dup_lines holds x) (dups_lines holds xs) in
       let one = dup_length x in
       let more = dups_length xs in omega (arith, whole, one, more)
 
-  drops_length : (base : ℕ) (xs : List ℕ) → code_length (drops_lines base holds xs) ≤ 6 * length xs
+  drops_length : (base : ℕ) (xs : List ℕ) → code_length (drops_lines base holds xs) ≤ 7 * length xs
   drops_length base [] = omega arith
   drops_length base (x ∷ xs) =
       let whole = lines_append (drop_lines base holds x) (drops_lines base holds xs) in
@@ -99,7 +99,7 @@ module _ (holds : ℕ → Bool) where
   -- ---- forms that touch cells
 
   pub open_length : (base x : ℕ) (fields used : List ℕ) (lines : List Line) → OpenLines base holds x fields used lines
-      → length fields ≤ 6 → code_length lines ≤ 60
+      → length fields ≤ 6 → code_length lines ≤ 80
   open_length base x fields used lines is few =
       let dupped : List ℕ = filter (is_among used) fields in
       let whole = ap code_length is.2 in
@@ -112,7 +112,7 @@ module _ (holds : ℕ → Bool) where
 
   -- both ways of an opening by the count of a cell
   pub unique_length : (base shared behind x : ℕ) (fields used : List ℕ) (lines : List Line)
-      → UniqueLines base holds shared behind x fields used lines → length fields ≤ 6 → code_length lines ≤ 134
+      → UniqueLines base holds shared behind x fields used lines → length fields ≤ 6 → code_length lines ≤ 180
   unique_length base shared behind x fields used lines is few =
       let kept : List ℕ = filter (is_among used) fields in
       let others : List ℕ = filter (λ y. not (is_among used y)) fields in
@@ -157,7 +157,7 @@ module _ (holds : ℕ → Bool) where
       )
 
 construct_length : (base x header : ℕ) (arguments : List ℕ) (lines : List Line) → ConstructLines base x header arguments lines
-    → length arguments ≤ 6 → code_length lines ≤ 33
+    → length arguments ≤ 6 → code_length lines ≤ 60
 construct_length base x header arguments lines is few =
     let whole = ap code_length is.6 in
     let apart = lines_append is.1 (sets 1 base ∷ is.2 ∷ []) in

@@ -17,7 +17,7 @@ use Rattle.rv_cells.specs.CountedLines.{OddLines, TagLines, NodeLines, NodesLine
 use Rattle.rv_cells.specs.Layout.{Layout}
 use Rattle.rv_cells.proofs.FormLengths.{lines_append, load_length}
 
-walk_length : (temporary : ℕ) (way : List ℕ) (lines : List Line) → Walks temporary way lines → code_length lines ≡ 3 * length way
+walk_length : (temporary : ℕ) (way : List ℕ) (lines : List Line) → Walks temporary way lines → code_length lines ≡ 4 * length way
 walk_length temporary [] lines is = let empty = ap code_length is in omega (arith, empty)
 walk_length temporary (field ∷ way) lines is =
     let whole = ap code_length is.4 in
@@ -25,7 +25,7 @@ walk_length temporary (field ∷ way) lines is =
     let more = walk_length temporary way is.1 is.3 in omega (arith, whole, one, more)
 
 numbers_length : (number : Answer → ℕ) (value nodes : ℕ) (edges : List Edge)
-    → code_length (number_tests number value nodes edges) ≡ 11 * length edges
+    → code_length (number_tests number value nodes edges) ≡ 12 * length edges
 numbers_length number value nodes [] = omega arith
 numbers_length number value nodes (edge ∷ edges) =
     let apart = lines_append (equal_lines value (number edge.found) (value + 1) (nodes + edge.next))
@@ -42,7 +42,7 @@ odd_length value nodes None lines is = let whole = ap code_length is in omega (a
 odd_length value nodes (Some next) lines is = let whole = ap code_length is.2 in omega (arith, whole)
 
 tags_length : (layout : Layout) (value nodes : ℕ) (edges : List Edge) (otherwise : Option ℕ) (lines : List Line)
-    → TagLines layout value nodes edges otherwise lines → code_length lines ≤ 13 + 11 * length edges
+    → TagLines layout value nodes edges otherwise lines → code_length lines ≤ 16 + 12 * length edges
 tags_length layout value nodes [] otherwise lines is = let whole = ap code_length is in omega (arith, whole)
 tags_length layout value nodes (edge ∷ edges) otherwise lines is =
     let tested : List Line = number_tests (answer_tag layout) (value + 1) nodes (edge ∷ edges) in

@@ -1,6 +1,7 @@
 -- What the lines of a form do.
 use Rattle.std.proofs.Common.{◌≡◌, ◌≢◌, ◌+◌, ◌-◌, ◌*◌, ◌^◌, ◌<◌, ◌≤◌, ℕ, suc, ℤ, List, [], ◌∷◌, ◌++◌, length, map, Option, Some, None, Bool, false, not, cond, All, w32, nat_lt, int_lt, int_le, int_eq, refl, sym, ◌∙◌, ap, subst, arith, lit<, append_assoc, eq-eqb, ne_eqb}
 use Rattle.std.specs.Prelude.{bit_xor, slice_get}
+use Rattle.rv_isa.specs.Costs.{operation_instructions}
 use Rattle.std.specs.Fmt.{signed_decimal}
 use Rattle.std.proofs.Math.Seq.{drop-append_seam}
 use Rattle.std.proofs.lemmas.Int.{to_z_pos}
@@ -68,7 +69,7 @@ module _ (target : Target) where
   changes_none cells = λ whole rest into fs world. Runs.runs_none target (turn_at whole rest cells into fs world)
 
   pub changes_one : (n : ℕ) (operation : AsmOperation) (args : List ℕ) (x : ℕ) (own : List Line) (cells cells' : ℕ → Option ℕ) (words : List ℕ) (word : ℕ)
-      → length args ≤ 2 → all_of (map cells args) ≡ Some words → computed target.constants operation words ≡ Some word → Changes n own (put x (Some word) cells) cells' → Changes (suc n) (computes operation args x ∷ own) cells cells'
+      → 2 * length args + operation_instructions operation ≤ 5 → all_of (map cells args) ≡ Some words → computed target.constants operation words ≡ Some word → Changes n own (put x (Some word) cells) cells' → Changes (suc n) (computes operation args x ∷ own) cells cells'
   changes_one n operation args x own cells cells' words word two words_are computed_is later = λ whole rest into fs world.
       Runs.runs_cheap target (word_cost + n * word_cost) (suc n * word_cost) (suc n) [] (turn_at whole (computes operation args x ∷ (own ++ rest)) cells into fs world) (turn_at whole rest cells' into fs world) (omega arith)
       (Runs.runs_on target word_cost (n * word_cost) n [] [] (turn_at whole (computes operation args x ∷ (own ++ rest)) cells into fs world) (turn_at whole (own ++ rest) (put x (Some word) cells) into fs world) (turn_at whole rest cells' into fs world)
@@ -88,7 +89,7 @@ module _ (target : Target) where
     pub kept : (z : ℕ) → z < x → cells' z ≡ cells z
     pub there : cells' x ≡ Some word
 
-  pub gives_one : (operation : AsmOperation) (args : List ℕ) (x : ℕ) (cells : ℕ → Option ℕ) (words : List ℕ) (word : ℕ) → length args ≤ 2 → all_of (map cells args) ≡ Some words → computed target.constants operation words ≡ Some word
+  pub gives_one : (operation : AsmOperation) (args : List ℕ) (x : ℕ) (cells : ℕ → Option ℕ) (words : List ℕ) (word : ℕ) → 2 * length args + operation_instructions operation ≤ 5 → all_of (map cells args) ≡ Some words → computed target.constants operation words ≡ Some word
       → Gives 1 (computes operation args x ∷ []) x word cells
   gives_one operation args x cells words word two words_are computed_is =
       record {
@@ -103,7 +104,8 @@ module _ (target : Target) where
       → Gives (n + 1) (own ++ computes operation (x ∷ []) x ∷ []) x later cells
   gives_on n own operation x word later cells before computed_is =
       let middle : ℕ → Option ℕ = before.cells' in
-      let one : Gives 1 (computes operation (x ∷ []) x ∷ []) x later middle = gives_one operation (x ∷ []) x middle (word ∷ []) later (omega arith) (reads_one middle x word before.there) computed_is in
+      let one : Gives 1 (computes operation (x ∷ []) x ∷ []) x later middle
+      = gives_one operation (x ∷ []) x middle (word ∷ []) later (omega (arith, Runs.one_is_one target operation word later computed_is)) (reads_one middle x word before.there) computed_is in
       record {
         cells' = one.cells';
         changes = changes_then n 1 own (computes operation (x ∷ []) x ∷ []) cells middle one.cells' before.changes one.changes;
@@ -170,7 +172,8 @@ module _ (target : Target) where
   registers_give : (operation : AsmOperation) (x a b first second word : ℕ) (cells : ℕ → Option ℕ) → cells a ≡ Some first → cells b ≡ Some second → computed target.constants operation (first ∷ second ∷ []) ≡ Some word
       → Gives 1 (registers x a b operation ∷ []) x word cells
   registers_give operation x a b first second word cells at_a at_b computed_is =
-      gives_one operation (a ∷ b ∷ []) x cells (first ∷ second ∷ []) word (omega arith) (reads_two cells a b first second at_a at_b) computed_is
+      gives_one operation (a ∷ b ∷ []) x cells (first ∷ second ∷ []) word
+      (omega (arith, Runs.two_are_one target operation first second word computed_is)) (reads_two cells a b first second at_a at_b) computed_is
 
   -- one line, whose word is the integer
   integer_performs : (own : List Line) (operation : AsmOperation) (x a b first second word : ℕ) (n : ℤ) (cells : ℕ → Option ℕ) (world : World) → cells a ≡ Some first → cells b ≡ Some second
@@ -307,7 +310,7 @@ module _ (target : Target) where
   -- a routine that leaves the values as they are
   routine_runs : (routine : Routine) (a b first second : ℕ) (whole rest : List Line) (cells : ℕ → Option ℕ) (into : Option ℕ) (fs : List (Frame Line)) (world : World) (events : List Event) → cells a ≡ Some first → cells b ≡ Some second
       → ((held : Option ℕ) → (Runs.world_primitives target).serve routine (first ∷ second ∷ []) held world ≡ answers 0 (told_more events world) false)
-      → ((held : Option ℕ) → (Runs.world_primitives target).lasts routine (first ∷ second ∷ []) held world ≤ 80)
+      → ((held : Option ℕ) → (Runs.world_primitives target).lasts routine (first ∷ second ∷ []) held world ≤ 78)
       → Run print_cost 1 events (turn_at whole (acts (Action.Routine routine) (a ∷ b ∷ []) ∷ rest) cells into fs world) (turn_at whole rest cells into fs (told_more events world))
   routine_runs routine a b first second whole rest cells into fs world events at_a at_b serves light =
       Runs.line_runs target print_cost whole (acts (Action.Routine routine) (a ∷ b ∷ [])) rest cells into fs world (first ∷ second ∷ []) events (turn_at whole rest cells into fs (told_more events world))
@@ -319,7 +322,7 @@ module _ (target : Target) where
   routine_performs : (routine : Routine) (n : ℕ) (first_lines : List Line) (a b x first second : ℕ) (events : List Event) (cells middle : ℕ → Option ℕ) (world : World) → n ≤ 2 → Changes n first_lines cells middle → ((z : ℕ) → z < x → middle z ≡ cells z)
       → middle a ≡ Some first → middle b ≡ Some second
       → ((held : Option ℕ) → (Runs.world_primitives target).serve routine (first ∷ second ∷ []) held world ≡ answers 0 (told_more events world) false)
-      → ((held : Option ℕ) → (Runs.world_primitives target).lasts routine (first ∷ second ∷ []) held world ≤ 80)
+      → ((held : Option ℕ) → (Runs.world_primitives target).lasts routine (first ∷ second ∷ []) held world ≤ 78)
       → Performs (first_lines ++ (acts (Action.Routine routine) (a ∷ b ∷ []) ∷ sets unit_word x ∷ [])) x unit_type unit cells world (told_more events world) events
   routine_performs routine n first_lines a b x first second events cells middle world few changes kept at_a at_b serves light =
       record {

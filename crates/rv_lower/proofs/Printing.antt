@@ -4,7 +4,7 @@ use Rattle.std.specs.Prelude.{if◌then◌else◌}
 use Rattle.std.specs.Fmt.{signed_decimal}
 use Rattle.std.proofs.Math.Seq.{take-append_seam, drop-append-add}
 use Rattle.std.proofs.lemmas.List.{append-nil}
-use Rattle.std.proofs.lemmas.Fmt.{length_signed_le, decimal_nonempty}
+use Rattle.std.proofs.lemmas.Fmt.{length_signed_le, length-decimal-le, decimal_nonempty}
 use Rattle.std.specs.Int.Signed.{mag}
 use Rattle.kk_base.specs.Trace.{output}
 use Rattle.kk_syntax.specs.declared.operator.PrintForm.{PrintForm}
@@ -28,14 +28,14 @@ some_digits w less = some (signed w) (signed_fits w less).sfits
     some (pos n) small = decimal_nonempty n (omega (arith, small))
     some (negsuc n) small = omega arith
 
-few_steps : (z : ℤ) → length (signed_decimal z) ≤ 11 → int_count z ≤ 80
-few_steps (pos n) few = omega (arith, few)
-few_steps (negsuc n) few = omega (arith, few)
+few_steps : (z : ℤ) → mag z < 2 ^ 31 → length (signed_decimal z) ≤ 11 → int_count z ≤ 78
+few_steps (pos n) small few = omega (arith, length-decimal-le 10 n (omega arith) (omega (arith, small)) (omega (arith, small)))
+few_steps (negsuc n) small few = omega (arith, few)
 
-pub few_steps_of : (w : ℕ) → w < 2 ^ 32 → int_count (signed w) ≤ 80
+pub few_steps_of : (w : ℕ) → w < 2 ^ 32 → int_count (signed w) ≤ 78
 few_steps_of w less =
     let small = (signed_fits w less).sfits in
-    few_steps (signed w) (length_signed_le 10 (signed w) (omega (arith, small)) (omega (arith, small)))
+    few_steps (signed w) small (length_signed_le 10 (signed w) (omega (arith, small)) (omega (arith, small)))
 
 -- what the routine prints is what the language says
 pub same_piece : (w : ℕ) (form : PrintForm) → int_piece w (choice_of form) ≡ piece_of form (signed_decimal (signed w))

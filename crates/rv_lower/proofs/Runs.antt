@@ -20,13 +20,13 @@ use Rattle.rv_world.specs.World.{World, primitives, computed_in}
 use Rattle.rv_lower.specs.Lines.{computes}
 use Rattle.rv_lower.proofs.Following.{frame_at, turn_at}
 
--- The most that a line weighs that computes a word of at most two: three moves, and two instructions.
+-- The most that a line weighs that computes a word: that of two words has five moves and one instruction.
 abbrev pub word_cost : ℕ
-word_cost = 5
+word_cost = 6
 
 -- the most that a print's routine weighs, with two moves and two instructions before it
 abbrev pub print_cost : ℕ
-print_cost = 84
+print_cost = 82
 
 -- the most that the lines of a form weigh
 abbrev pub most_cost : ℕ
@@ -114,17 +114,32 @@ module _ (target : Target) where
   pub silent : (world : World) → drop (length world.trace) world.trace ≡ []
   silent world = drop-length world.trace
 
-  few_instructions : (operation : Operation) (words : List ℕ) (word : ℕ) → computed target.constants operation words ≡ Some word → operation_instructions operation ≤ 2
-  few_instructions (Op.Register operation) words word is = omega arith
-  few_instructions (Op.Immediate operation immediate) words word is = omega arith
-  few_instructions (Op.Shift operation amount) words word is = omega arith
-  few_instructions (Op.Li number) words word is = omega arith
-  few_instructions Op.Mv words word is = omega arith
-  few_instructions (Op.La constant) words word is = omega arith
-  few_instructions (Op.Lw offset) words word is = omega arith
-  few_instructions (Op.Sw offset) words word is = omega arith
-  few_instructions Op.Dup words word is = cc is
-  few_instructions Op.Free words word is = cc is
+  -- an operation on one word is one instruction, and one on two words too
+  pub one_is_one : (operation : Operation) (first word : ℕ) → computed target.constants operation (first ∷ []) ≡ Some word
+      → operation_instructions operation ≤ 1
+  one_is_one (Op.Register operation) first word is = omega arith
+  one_is_one (Op.Immediate operation immediate) first word is = omega arith
+  one_is_one (Op.Shift operation amount) first word is = omega arith
+  one_is_one (Op.Li number) first word is = cc is
+  one_is_one Op.Mv first word is = omega arith
+  one_is_one (Op.La constant) first word is = cc is
+  one_is_one (Op.Lw offset) first word is = omega arith
+  one_is_one (Op.Sw offset) first word is = omega arith
+  one_is_one Op.Dup first word is = cc is
+  one_is_one Op.Free first word is = cc is
+
+  pub two_are_one : (operation : Operation) (first second word : ℕ) → computed target.constants operation (first ∷ second ∷ []) ≡ Some word
+      → operation_instructions operation ≤ 1
+  two_are_one (Op.Register operation) first second word is = omega arith
+  two_are_one (Op.Immediate operation immediate) first second word is = omega arith
+  two_are_one (Op.Shift operation amount) first second word is = omega arith
+  two_are_one (Op.Li number) first second word is = cc is
+  two_are_one Op.Mv first second word is = omega arith
+  two_are_one (Op.La constant) first second word is = cc is
+  two_are_one (Op.Lw offset) first second word is = omega arith
+  two_are_one (Op.Sw offset) first second word is = omega arith
+  two_are_one Op.Dup first second word is = cc is
+  two_are_one Op.Free first second word is = cc is
 
   -- an operation on words alone leaves the world as it is
   on_words : (operation : Operation) (words : List ℕ) (word : ℕ) (world : World) → computed target.constants operation words ≡ Some word → computed_in target.constants operation words world ≡ Some (word, world)
@@ -141,9 +156,10 @@ module _ (target : Target) where
 
   -- an operation on words
   pub compute_runs : (whole : List Line) (operation : Operation) (args : List ℕ) (x : ℕ) (rest : List Line) (cells : ℕ → Option ℕ) (into : Option ℕ) (fs : List (Frame Line)) (world : World) (words : List ℕ) (word : ℕ)
-      → length args ≤ 2 → all_of (map cells args) ≡ Some words → computed target.constants operation words ≡ Some word
+      → 2 * length args + operation_instructions operation ≤ 5 → all_of (map cells args) ≡ Some words
+      → computed target.constants operation words ≡ Some word
       → Runs word_cost 1 [] (turn_at whole (computes operation args x ∷ rest) cells into fs world) (turn_at whole rest (put x (Some word) cells) into fs world)
   compute_runs whole operation args x rest cells into fs world words word two words_are computed_is =
       line_runs word_cost whole (computes operation args x) rest cells into fs world words [] (turn_at whole rest (put x (Some word) cells) into fs world) words_are
       (ap (λ o. or_stuck o (λ (r : ℕ × World). asm_goes (record { whole = whole; code = rest; cells = put_into (Some x) r.0 cells; held = []; into = into }) fs r.1)) (on_words operation words word world computed_is))
-      (λ held. let few = few_instructions operation words word computed_is in omega (arith, few, two)) (silent world)
+      (λ held. omega (arith, two)) (silent world)
