@@ -34,39 +34,39 @@ module _ (target : Target) (rest : List Line) (f : Frame Line) (fs : List (Frame
   -- an operation that writes a value, and one that writes none
   sets_value : (cost : ℕ) (operation : Operation) (args : List ℕ) (into : ℕ) (words : List ℕ) (word : ℕ)
       → all_of (map f.cells args) ≡ Some words → computed_in target.constants operation words world ≡ Some (word, world)
-      → length args ≤ 1 → operation_instructions operation ≤ cost
+      → 2 * length args + 1 + operation_instructions operation ≤ most_moves + cost
       → Runs target (most_moves + cost) 1 (turn_of (computes operation args into ∷ rest) f fs world)
       (turn_of rest (put_in into word f) fs world)
-  sets_value cost operation args into words word words_are is few light =
+  sets_value cost operation args into words word words_are is light =
       line_runs target (most_moves + cost) (computes operation args into) rest f fs world words
       (turn_of rest (put_in into word f) fs world)
       words_are
       (ap (λ o. or_stuck o (λ (r : ℕ × World). asm_goes (record (left_at rest f) { cells = put_into (Some into) r.0 f.cells }) fs
       r.1)) is)
-      (λ held. omega (arith, few, light)) (silent target world)
+      (λ held. omega (arith, light)) (silent target world)
 
   changes_cells : (cost : ℕ) (operation : Operation) (args : List ℕ) (words : List ℕ) (next : Cells)
       → all_of (map f.cells args) ≡ Some words → computed_in target.constants operation words world
       ≡ Some (0, with_cells world next)
-      → length args ≤ 2 → operation_instructions operation ≤ cost
+      → 2 * length args + operation_instructions operation ≤ most_moves + cost
       → Runs target (most_moves + cost) 1 (turn_of (acts (Compute operation) args ∷ rest) f fs world)
       (turn_of rest f fs (with_cells world next))
-  changes_cells cost operation args words next words_are is few light =
+  changes_cells cost operation args words next words_are is light =
       line_runs target (most_moves + cost) (acts (Compute operation) args) rest f fs world words
       (turn_of rest f fs (with_cells world next))
       words_are
       (ap (λ o. or_stuck o (λ (r : ℕ × World). asm_goes (record (left_at rest f) { cells = put_into None r.0 f.cells }) fs r.1)) is)
-      (λ held. omega (arith, few, light)) (silent target world)
+      (λ held. omega (arith, light)) (silent target world)
 
   -- a constant, and a copy
   pub sets_runs : (word into : ℕ) → Runs target (most_moves + 2) 1 (turn_of (sets word into ∷ rest) f fs world)
       (turn_of rest (put_in into word f) fs world)
-  sets_runs word into = sets_value 2 (Op.Li word) [] into [] word refl refl (omega arith) (omega arith)
+  sets_runs word into = sets_value 2 (Op.Li word) [] into [] word refl refl (omega arith)
 
   pub copy_runs : (from into word : ℕ) → f.cells from ≡ Some word → Runs target (most_moves + 2) 1
       (turn_of (copies_to from into ∷ rest) f fs world) (turn_of rest (put_in into word f) fs world)
   copy_runs from into word is = sets_value 2 Op.Mv (from ∷ []) into (word ∷ []) word (reads_one f.cells from word is) refl
-      (omega arith) (omega arith)
+      (omega arith)
 
   -- a load, and a store
   pub load_runs : (cell i into at word : ℕ) (line : Line) → Loads cell i into line → f.cells cell ≡ Some at
@@ -76,17 +76,17 @@ module _ (target : Target) (rest : List Line) (f : Frame Line) (fs : List (Frame
       subst (λ l. Runs target (most_moves + 2) 1 (turn_of (l ∷ rest) f fs world) (turn_of rest (put_in into word f) fs world))
       (sym loads.2)
       (sets_value 2 (Op.Lw loads.0) (cell ∷ []) into (at ∷ []) word (reads_one f.cells cell at is)
-      (ap (option_map (λ w. (w, world))) (ap (λ o. load at o world.cells) loads.1 ∙ loaded)) (omega arith) (omega arith))
+      (ap (option_map (λ w. (w, world))) (ap (λ o. load at o world.cells) loads.1 ∙ loaded)) (omega arith))
 
   pub store_runs : (cell i from at word : ℕ) (line : Line) (next : Cells) → Stores cell i from line → f.cells cell ≡ Some at
       → f.cells from ≡ Some word → store at (4 * i) word world.cells ≡ Some next
-      → Runs target (most_moves + 2) 1 (turn_of (line ∷ rest) f fs world) (turn_of rest f fs (with_cells world next))
+      → Runs target (most_moves + 3) 1 (turn_of (line ∷ rest) f fs world) (turn_of rest f fs (with_cells world next))
   store_runs cell i from at word line next stores is also stored =
-      subst (λ l. Runs target (most_moves + 2) 1 (turn_of (l ∷ rest) f fs world) (turn_of rest f fs (with_cells world next)))
+      subst (λ l. Runs target (most_moves + 3) 1 (turn_of (l ∷ rest) f fs world) (turn_of rest f fs (with_cells world next)))
       (sym stores.2)
-      (changes_cells 2 (Op.Sw stores.0) (cell ∷ from ∷ []) (at ∷ word ∷ []) next (reads_two f.cells cell from at word is also)
+      (changes_cells 3 (Op.Sw stores.0) (cell ∷ from ∷ []) (at ∷ word ∷ []) next (reads_two f.cells cell from at word is also)
       (ap (option_map (λ c. (0, with_cells world c))) (ap (λ o. store at o word world.cells) stores.1 ∙ stored))
-      (omega arith) (omega arith))
+      (omega arith))
 
   -- a reference more, and a cell that is given back
   pub dup_runs : (x word : ℕ) (next : Cells) → f.cells x ≡ Some word → dup word world.cells ≡ Some next
@@ -95,7 +95,7 @@ module _ (target : Target) (rest : List Line) (f : Frame Line) (fs : List (Frame
   dup_runs x word next is dupped =
       changes_cells 5 Op.Dup (x ∷ []) (word ∷ []) next (reads_one f.cells x word is)
       (ap (option_map (λ c. (0, with_cells world c))) dupped)
-      (omega arith) (omega arith)
+      (omega arith)
 
   pub free_runs : (x word : ℕ) (next : Cells) → f.cells x ≡ Some word → word ≢ 0 → release word world.cells ≡ Some next
       → Runs target (most_moves + 5) 1 (turn_of (acts (Compute Op.Free) (x ∷ []) ∷ rest) f fs world)
@@ -105,7 +105,7 @@ module _ (target : Target) (rest : List Line) (f : Frame Line) (fs : List (Frame
       (ne_eqb word 0 some) ∙ freed in
       changes_cells 5 Op.Free (x ∷ []) (word ∷ []) next (reads_one f.cells x word is)
       (ap (option_map (λ c. (0, with_cells world c))) act)
-      (omega arith) (omega arith)
+      (omega arith)
 
   -- a reference is given up by the runtime
   pub drop_runs : (x word : ℕ) (work : Work) → f.cells x ≡ Some word → drop_cells target.pool word world.cells ≡ Some work
@@ -145,14 +145,14 @@ module _ (target : Target) (rest : List Line) (f : Frame Line) (fs : List (Frame
       (turn_of rest (put_in into (sum_word word immediate.word) f) fs world)
   addi_runs from into word immediate is =
       sets_value 2 (Op.Immediate Addi immediate) (from ∷ []) into (word ∷ []) (sum_word word immediate.word)
-      (reads_one f.cells from word is) refl (omega arith) (omega arith)
+      (reads_one f.cells from word is) refl (omega arith)
 
   pub andi_runs : (from into word : ℕ) (immediate : Immediate) → f.cells from ≡ Some word
       → Runs target (most_moves + 2) 1 (turn_of (computes (Op.Immediate Andi immediate) (from ∷ []) into ∷ rest) f fs world)
       (turn_of rest (put_in into (bit_and word immediate.word) f) fs world)
   andi_runs from into word immediate is =
       sets_value 2 (Op.Immediate Andi immediate) (from ∷ []) into (word ∷ []) (bit_and word immediate.word)
-      (reads_one f.cells from word is) refl (omega arith) (omega arith)
+      (reads_one f.cells from word is) refl (omega arith)
 
   -- ---- labels and jumps
 

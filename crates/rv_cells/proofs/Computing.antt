@@ -137,7 +137,7 @@ module _ (program : Lowering) where
           (texts program) at.goal p.low p.high x c a
           more rest inner m p.own p.after fs s at.here making p.lines refl test in
           goes_on program (compute x (Construct c) (a ∷ more) rest) rest idle inner frames input s fs left at fit
-          (5 * most_moves + 18 + row_cost (a ∷ more) (most_moves + 2) + (52 + 8 * length (a ∷ more))) (builds (busy s.heap))
+          (5 * most_moves + 26 + row_cost (a ∷ more) (most_moves + 2) + (52 + 8 * length (a ∷ more))) (builds (busy s.heap))
           (x ∷ s.bound) (x ∷ s.bound) steps (quiet_builds program (busy s.heap))
           (omega arith) (ap (λ action. seen_action program action input) steps.steps) (omega (arith, idle_is)) (omega arith)
           (within_itself (x ∷ s.bound)) (within_one x s.bound) p.marked.1.1 p.numbered.1.1

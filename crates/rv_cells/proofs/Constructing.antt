@@ -34,7 +34,7 @@ use Rattle.rv_cells.proofs.Values.{HasValues, among_none, has_bound, has_tempora
 use Rattle.rv_cells.proofs.Runs.{Target, left_at, turn_of, Runs, runs_none, runs_then}
 use Rattle.rv_cells.proofs.Acting.{put_in, take_runs, full_runs, sets_runs, store_runs}
 use Rattle.rv_cells.proofs.Spots.{Spot, Known, Here, Did}
-use Rattle.rv_cells.proofs.LineCosts.{most_moves, row_cost}
+use Rattle.rv_cells.proofs.LineCosts.{row_more, most_moves, row_cost}
 
 -- ---- words one behind the other
 
@@ -82,7 +82,7 @@ module _ (target : Target) (layout : Layout) (address : ℕ → ℕ) (owners : �
 
   store_hand : (rest : List Line) (world : World) (i from w : ℕ) (words : ℕ → Option ℕ) (line : Line) → Stores x i from line
       → f.cells from ≡ Some w → i < 8 → Holds words world.cells
-      → Runs target (most_moves + 2) 1 (turn_of (line ∷ rest) f fs world)
+      → Runs target (most_moves + 3) 1 (turn_of (line ∷ rest) f fs world)
       (turn_of rest f fs (with_cells world (with_block at (own (with_word i w words)) world.cells)))
   store_hand rest world i from w words line stores has low holds =
       let stands = hand_owned holds at words (chosen_same at at (in_hand words) owners refl) in
@@ -91,7 +91,7 @@ module _ (target : Target) (layout : Layout) (address : ℕ → ℕ) (owners : �
 
   stores_run : (rest : List Line) (xs ws : List ℕ) (i : ℕ) (lines : List Line) (words : ℕ → Option ℕ) (world : World)
       → AllStores x i xs lines → HaveWords f.cells xs ws → i + length xs ≤ 8 → Holds words world.cells
-      → (cells : Cells) × Runs target (row_cost xs (most_moves + 2)) (length xs) (turn_of (lines ++ rest) f fs world)
+      → (cells : Cells) × Runs target (row_cost xs (most_moves + 3)) (length xs) (turn_of (lines ++ rest) f fs world)
       (turn_of rest f fs (with_cells world cells)) × Holds (with_words i ws words) cells
   stores_run rest [] [] i lines words world stores has few holds = (
     world.cells,
@@ -108,11 +108,11 @@ module _ (target : Target) (layout : Layout) (address : ℕ → ℕ) (owners : �
       (omega (arith, few)) (stored i w words world.cells holds) in
       let one_more : 1 + length ys ≡ suc (length ys) = omega arith in (
         later.0,
-        subst (λ ls. Runs target (row_cost (y ∷ ys) (most_moves + 2)) (suc (length ys)) (turn_of (ls ++ rest) f fs world)
+        subst (λ ls. Runs target (row_cost (y ∷ ys) (most_moves + 3)) (suc (length ys)) (turn_of (ls ++ rest) f fs world)
             (turn_of rest f fs (with_cells world later.0))) (sym stores.4)
-            (subst (λ n. Runs target (row_cost (y ∷ ys) (most_moves + 2)) n (turn_of ((stores.0 ∷ stores.1) ++ rest) f fs world)
+            (subst (λ n. Runs target (row_cost (y ∷ ys) (most_moves + 3)) n (turn_of ((stores.0 ∷ stores.1) ++ rest) f fs world)
             (turn_of rest f fs (with_cells world later.0))) one_more
-            (runs_then target (most_moves + 2) (row_cost ys (most_moves + 2)) 1 (length ys)
+            (runs_then target (most_moves + 3) (row_cost ys (most_moves + 3)) 1 (length ys)
             (turn_of (stores.0 ∷ (stores.1 ++ rest)) f fs world) (turn_of (stores.1 ++ rest) f fs (with_cells world next))
             (turn_of rest f fs (with_cells world later.0)) first later.1)),
         later.2,
@@ -160,7 +160,7 @@ made_spot s x c vs at frame cells =
 
 -- a construction costs its lines, and what is saved for the drop of its cell
 abbrev pub construct_cost : Known → List ℕ → ℕ
-construct_cost known arguments = 5 * most_moves + 18 + row_cost arguments (most_moves + 2) +
+construct_cost known arguments = 5 * most_moves + 26 + row_cost arguments (most_moves + 2) +
     (52 + 8 * length arguments)
 
 args_words : (known : Known) (s : Spot) (here : Here known s) (x at word : ℕ) (xs : List ℕ) → AllAmong xs s.bound
@@ -229,7 +229,7 @@ module _ (known : Known) (rest : List Line) (fs : List (Frame Line)) (s : Spot) 
 
   -- from the cell that was taken to the whole cell
   fills : (at : ℕ) (world : World) → Hands known.target.pool known.layout s.address s.owners s.heap at nothing world.cells
-      → (cells : Cells) × Runs known.target (4 * most_moves + 8 + row_cost arguments (most_moves + 2))
+      → (cells : Cells) × Runs known.target (4 * most_moves + 10 + row_cost arguments (most_moves + 3))
       (1 + (1 + (length arguments + (1 + 1))))
       (turn_of behind_take (put_in x at s.frame) fs world) (turn_of rest (ended_frame at) fs (with_cells world cells))
       × Hands known.target.pool known.layout s.address s.owners s.heap at last_words cells
@@ -258,27 +258,27 @@ module _ (known : Known) (rest : List Line) (fs : List (Frame Line)) (s : Spot) 
       (put_same known.base 1 f2.cells) (omega arith) third.2 in
       let c3 = with_block at (own (with_word 0 1 words)) third.0 in
       let hold3 = stored target known.layout s.address s.owners s.heap fs f3 x at (still_names at) 0 1 words third.0 third.2 in
-      let row = row_cost arguments (moves + 2) in
+      let row = row_cost arguments (moves + 3) in
       let t1 = turn_of behind_take f1 fs world in
       let t2 = turn_of (constructs.0 ∷ ((constructs.1 ++ tail) ++ rest)) f2 fs world in
       let t3 = turn_of (constructs.1 ++ (tail ++ rest)) f2 fs w1 in
       let t4 = turn_of (tail ++ rest) f2 fs w2 in
       let t5 = turn_of (constructs.2 ∷ rest) f3 fs w2 in
       let t6 = turn_of rest f3 fs (with_cells w2 c3) in
-      let last_two : Runs target ((moves + 2) + (moves + 2)) (1 + 1) t4 t6 = runs_then target (moves + 2)
-      (moves + 2) 1 1 t4 t5 t6 fourth fifth in
-      let from_fields : Runs target (row + ((moves + 2) + (moves + 2))) (length arguments + (1 + 1)) t3 t6 =
-      runs_then target row ((moves + 2) + (moves + 2)) (length arguments) (1 + 1) t3 t4 t6 third.1 last_two in
-      let to_fields : Runs target (moves + 2) 1 t2 t3 = subst (λ ls. Runs target (moves + 2) 1 t2 (turn_of ls f2 fs w1))
+      let last_two : Runs target ((moves + 2) + (moves + 3)) (1 + 1) t4 t6 = runs_then target (moves + 2)
+      (moves + 3) 1 1 t4 t5 t6 fourth fifth in
+      let from_fields : Runs target (row + ((moves + 2) + (moves + 3))) (length arguments + (1 + 1)) t3 t6 =
+      runs_then target row ((moves + 2) + (moves + 3)) (length arguments) (1 + 1) t3 t4 t6 third.1 last_two in
+      let to_fields : Runs target (moves + 3) 1 t2 t3 = subst (λ ls. Runs target (moves + 3) 1 t2 (turn_of ls f2 fs w1))
       (append_assoc constructs.1 tail rest) second in
-      let from_head : Runs target ((moves + 2) + (row + ((moves + 2) + (moves + 2)))) (1 + (length arguments + (1 + 1))) t2 t6 =
-      runs_then target (moves + 2) (row + ((moves + 2) + (moves + 2))) 1 (length arguments + (1 + 1)) t2 t3 t6 to_fields
+      let from_head : Runs target ((moves + 3) + (row + ((moves + 2) + (moves + 3)))) (1 + (length arguments + (1 + 1))) t2 t6 =
+      runs_then target (moves + 3) (row + ((moves + 2) + (moves + 3))) 1 (length arguments + (1 + 1)) t2 t3 t6 to_fields
       from_fields in
-      let all : Runs target ((moves + 2) + ((moves + 2) + (row + ((moves + 2) + (moves + 2)))))
+      let all : Runs target ((moves + 2) + ((moves + 3) + (row + ((moves + 2) + (moves + 3)))))
       (1 + (1 + (length arguments + (1 + 1)))) t1 t6 =
-      runs_then target (moves + 2) ((moves + 2) + (row + ((moves + 2) + (moves + 2)))) 1 (1 + (length arguments + (1 + 1))) t1
+      runs_then target (moves + 2) ((moves + 3) + (row + ((moves + 2) + (moves + 3)))) 1 (1 + (length arguments + (1 + 1))) t1
       t2 t6 first from_head in
-      let cost : (moves + 2) + ((moves + 2) + (row + ((moves + 2) + (moves + 2)))) ≡ 4 * moves + 8 + row = omega arith in
+      let cost : (moves + 2) + ((moves + 3) + (row + ((moves + 2) + (moves + 3)))) ≡ 4 * moves + 10 + row = omega arith in
       (c3, subst (λ n. Runs target n (1 + (1 + (length arguments + (1 + 1)))) t1 t6) cost all, hold3)
 
   none_was : (at y : ℕ) (words : ℕ → Option ℕ) → with_owner at (cell_of (length s.heap)) s.owners y ≡ in_hand words
@@ -293,7 +293,7 @@ module _ (known : Known) (rest : List Line) (fs : List (Frame Line)) (s : Spot) 
       (made_spot s x c (values_of s.environment arguments) at frame cells)
   construct_did room =
       let moves = most_moves in
-      let row = row_cost arguments (moves + 2) in
+      let row = row_cost arguments (moves + 3) in
       let took = served here.follows known.aligned making.none (top (left_at behind_take s.frame ∷ fs)) room in
       let first = take_runs known.target behind_take s.frame fs s.world x took.at took.next took.is in
       let filled = fills took.at (with_cells s.world took.next) took.holds in
@@ -311,19 +311,19 @@ module _ (known : Known) (rest : List Line) (fs : List (Frame Line)) (s : Spot) 
       let long : length (values_of s.environment arguments) ≡ length arguments = length-map arguments (value_of s.environment) in
       let t0 = turn_of (lines ++ rest) s.frame fs s.world in
       let t6 = turn_of rest (ended_frame took.at) fs (with_cells s.world filled.0) in
-      let runs : Runs known.target ((moves + 10) + (4 * moves + 8 + row)) (1 + (1 + (1 + (length arguments + (1 + 1))))) t0 t6 =
-      subst (λ ls. Runs known.target ((moves + 10) + (4 * moves + 8 + row)) (1 + (1 + (1 + (length arguments + (1 + 1)))))
+      let runs : Runs known.target ((moves + 10) + (4 * moves + 10 + row)) (1 + (1 + (1 + (length arguments + (1 + 1))))) t0 t6 =
+      subst (λ ls. Runs known.target ((moves + 10) + (4 * moves + 10 + row)) (1 + (1 + (1 + (length arguments + (1 + 1)))))
       (turn_of (ls ++ rest) s.frame fs s.world) t6) (sym constructs.6)
-      (runs_then known.target (moves + 10) (4 * moves + 8 + row) 1 (1 + (1 + (length arguments + (1 + 1))))
+      (runs_then known.target (moves + 10) (4 * moves + 10 + row) 1 (1 + (1 + (length arguments + (1 + 1))))
       (turn_of (record { action = Calls Take; args = []; into = Some x } ∷ behind_take) s.frame fs s.world)
       (turn_of behind_take (put_in x took.at s.frame) fs (with_cells s.world took.next)) t6 first filled.1) in (
         took.at,
         ended_frame took.at,
         filled.0,
         record {
-          cost = (moves + 10) + (4 * moves + 8 + row);
+          cost = (moves + 10) + (4 * moves + 10 + row);
           steps = 1 + (1 + (1 + (length arguments + (1 + 1))));
-          within = omega arith;
+          within = omega (arith, row_more arguments (most_moves + 2), few);
           runs = runs;
           here = record {
             follows = subst (λ o. Follows known.target.pool known.layout later o (record { count = 1; cell = cell } ∷ s.heap)

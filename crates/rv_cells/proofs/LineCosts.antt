@@ -1,5 +1,5 @@
 -- What the steps of counted code weigh in assembler code: no more than the table of costs says.
-use Rattle.std.proofs.Common.{◌≡◌, ◌≤◌, ℕ, suc, ◌+◌, ◌*◌, not, List, [], ◌∷◌, length, filter, sym, subst, arith, mul-le-mul_right}
+use Rattle.std.proofs.Common.{◌≡◌, ◌≤◌, refl, ℕ, suc, ◌+◌, ◌*◌, not, List, [], ◌∷◌, length, filter, sym, subst, arith, mul-le-mul_right}
 use Rattle.kk_syntax.specs.Shapes.{is_among}
 use Rattle.kk_source.specs.Live.{value_of}
 use Rattle.kk_source.specs.State.{Environment}
@@ -15,6 +15,11 @@ use Rattle.kk_counted.specs.Heaps.{Heap, cell_at}
 abbrev pub row_cost : List ℕ → ℕ → ℕ
 row_cost [] cost = 0
 row_cost (x ∷ xs) cost = cost + row_cost xs cost
+
+-- one more for each
+pub row_more : (xs : List ℕ) (cost : ℕ) → row_cost xs (cost + 1) ≡ row_cost xs cost + length xs
+row_more [] cost = refl
+row_more (x ∷ xs) cost = let later = row_more xs cost in omega (arith, later)
 
 -- how many forms a code has
 abbrev mutual

@@ -335,7 +335,7 @@ module _ (known : Known) (rest : List Line) (fs : List (Frame Line)) (s : Spot) 
           (omega arith));
     }
 
-    lowers_run : Runs known.target ((most_moves + 2) + ((most_moves + 2) + (most_moves + 2))) (1 + (1 + 1))
+    lowers_run : Runs known.target ((most_moves + 2) + ((most_moves + 2) + (most_moves + 3))) (1 + (1 + 1))
         (turn_of (lowers ++ ending) one.frame fs s.world)
         (turn_of (dups ++ ending) counts fs (with_cells s.world stored))
     lowers_run =
@@ -362,8 +362,8 @@ module _ (known : Known) (rest : List Line) (fs : List (Frame Line)) (s : Spot) 
         let storing = store_runs target (dups ++ ending) counts fs s.world x 0 known.base (s.address named.at)
         (suc n) uniques.4 stored uniques.9 x_here (put_same known.base (suc n) f1.cells)
         (store_own s.world.cells (s.address named.at) 0 (suc n) stands.words stands.is (omega arith)) in
-        runs_then target (moves + 2) ((moves + 2) + (moves + 2)) 1 (1 + 1) t1 t2 t4 loaded
-        (runs_then target (moves + 2) (moves + 2) 1 1 t2 t3 t4 adding storing)
+        runs_then target (moves + 2) ((moves + 2) + (moves + 3)) 1 (1 + 1) t1 t2 t4 loaded
+        (runs_then target (moves + 2) (moves + 3) 1 1 t2 t3 t4 adding storing)
 
     fewer_counts : (name : ℕ) → count_at (set_count named.at (suc n) s.heap) name ≤ count_at s.heap name
     fewer_counts name =
@@ -407,7 +407,7 @@ module _ (known : Known) (rest : List Line) (fs : List (Frame Line)) (s : Spot) 
         let reading : Runs target read.cost read.steps t3 t4 =
         subst (λ ls. Runs target read.cost read.steps (turn_of ls tests fs s.world) t4) (sym (append_assoc loads lowers ending))
         read.runs in
-        let lowering = (moves + 2) + ((moves + 2) + (moves + 2)) in
+        let lowering = (moves + 2) + ((moves + 2) + (moves + 3)) in
         let end_two = runs_then target did.cost (moves + 0) did.steps 1 t5 t6 t7 did.runs leaves in
         let end_three = runs_then target lowering (did.cost + (moves + 0)) (1 + (1 + 1))
         (did.steps + 1) t4 t5 t7 lowers_run end_two in
