@@ -36,20 +36,20 @@ lines_append (line ∷ first) second = omega (arith, lines_append first second)
 
 -- ---- words of cells
 
-pub load_length : (cell i into : ℕ) (line : Line) → Loads cell i into line → line_length line ≡ 3
+pub load_length : (cell i into : ℕ) (line : Line) → Loads cell i into line → line_length line ≡ 4
 load_length cell i into line is = ap line_length is.2
 
-store_length : (cell i from : ℕ) (line : Line) → Stores cell i from line → line_length line ≡ 3
+store_length : (cell i from : ℕ) (line : Line) → Stores cell i from line → line_length line ≡ 5
 store_length cell i from line is = ap line_length is.2
 
-pub loads_length : (cell i : ℕ) (xs : List ℕ) (lines : List Line) → AllLoads cell i xs lines → code_length lines ≡ 3 * length xs
+pub loads_length : (cell i : ℕ) (xs : List ℕ) (lines : List Line) → AllLoads cell i xs lines → code_length lines ≡ 4 * length xs
 loads_length cell i [] lines is = let empty = ap code_length is in omega (arith, empty)
 loads_length cell i (x ∷ xs) lines is =
     let whole = ap code_length is.4 in
     let one = load_length cell i x is.0 is.2 in
     let more = loads_length cell (suc i) xs is.1 is.3 in omega (arith, whole, one, more)
 
-stores_length : (cell i : ℕ) (xs : List ℕ) (lines : List Line) → AllStores cell i xs lines → code_length lines ≡ 3 * length xs
+stores_length : (cell i : ℕ) (xs : List ℕ) (lines : List Line) → AllStores cell i xs lines → code_length lines ≡ 5 * length xs
 stores_length cell i [] lines is = let empty = ap code_length is in omega (arith, empty)
 stores_length cell i (x ∷ xs) lines is =
     let whole = ap code_length is.4 in
@@ -167,24 +167,24 @@ construct_length base x header arguments lines is few =
 
 -- ---- operators
 
-truth_length : (x : ℕ) (lines : List Line) → MakesTruth x lines → code_length lines ≡ 6
+truth_length : (x : ℕ) (lines : List Line) → MakesTruth x lines → code_length lines ≡ 8
 truth_length x lines is = ap code_length is.4
 
-compares_length : (x : ℕ) (first lines : List Line) → Compares x first lines → code_length lines ≡ code_length first + 6
+compares_length : (x : ℕ) (first lines : List Line) → Compares x first lines → code_length lines ≡ code_length first + 8
 compares_length x first lines is =
     let whole = ap code_length is.2 in
     let apart = lines_append first is.0 in
     let truth = truth_length x is.0 is.1 in omega (arith, whole, apart, truth)
 
 -- one more line behind the first one, whose length is this
-with_one_length : (further : ImmediateOperation) (x : ℕ) (first : Line) (lines : List Line) → line_length first ≡ 4
-    → ComparesWithOne further x first lines → code_length lines ≡ 13
+with_one_length : (further : ImmediateOperation) (x : ℕ) (first : Line) (lines : List Line) → line_length first ≡ 6
+    → ComparesWithOne further x first lines → code_length lines ≡ 18
 with_one_length further x first lines size is =
     let whole = compares_length x (first ∷ computes (Op.Immediate further is.0) (x ∷ []) x ∷ []) lines is.2 in
     omega (arith, whole, size)
 
 binary_length : (base x : ℕ) (operator : BinaryOperator) (a b : ℕ) (lines : List Line) → BinaryLines base x operator a b lines
-    → code_length lines ≤ 17
+    → code_length lines ≤ 23
 binary_length base x OfBinary.Add a b lines is = let whole = ap code_length is in omega (arith, whole)
 binary_length base x OfBinary.Subtract a b lines is = let whole = ap code_length is in omega (arith, whole)
 binary_length base x OfBinary.Multiply a b lines is = let whole = ap code_length is in omega (arith, whole)
@@ -205,7 +205,7 @@ binary_length base x OfBinary.GreaterEqual a b lines is =
     let whole = with_one_length Xori x (registers x a b (Op.Register Register.Slt)) lines refl is in omega (arith, whole)
 
 unary_length : (base x : ℕ) (operator : UnaryOperator) (arguments : List ℕ) (lines : List Line) → length arguments ≡ 1
-    → AppliedLines base x (Unary operator) arguments lines → code_length lines ≤ 7
+    → AppliedLines base x (Unary operator) arguments lines → code_length lines ≤ 9
 unary_length base x operator [] lines arity is = absurd (omega (arith, arity))
 unary_length base x Negate (a ∷ []) lines arity is = let whole = ap code_length is in omega (arith, whole)
 unary_length base x Not (a ∷ []) lines arity is = let whole = ap code_length is.2 in omega (arith, whole)
@@ -213,7 +213,7 @@ unary_length base x operator (a ∷ b ∷ more) lines arity is = absurd (omega (
 
 -- ---- calls
 
-copies_length : (base : ℕ) (xs : List ℕ) → code_length (copies base xs) ≡ 3 * length xs
+copies_length : (base : ℕ) (xs : List ℕ) → code_length (copies base xs) ≡ 4 * length xs
 copies_length base [] = omega arith
 copies_length base (x ∷ xs) = let more = copies_length (base + 1) xs in omega (arith, more)
 
@@ -222,7 +222,7 @@ temporaries_length base [] = omega arith
 temporaries_length base (x ∷ xs) = let more = temporaries_length (base + 1) xs in omega (arith, more)
 
 call_length : (base x f : ℕ) (arguments : List ℕ) (lines : List Line) → length arguments ≤ 8
-    → AppliedLines base x (Call f) arguments lines → code_length lines ≤ 48
+    → AppliedLines base x (Call f) arguments lines → code_length lines ≤ 56
 call_length base x f arguments lines few is =
     let call : Line = record { action = Calls f; args = temporaries base arguments; into = Some x } in
     let whole = ap code_length is in
@@ -230,7 +230,7 @@ call_length base x f arguments lines few is =
     let copied = copies_length base arguments in
     let handed = temporaries_length base arguments in omega (arith, whole, apart, copied, handed, few)
 
-pub tail_length : (base f : ℕ) (arguments : List ℕ) → length arguments ≤ 8 → code_length (tail_lines base f arguments) ≤ 42
+pub tail_length : (base f : ℕ) (arguments : List ℕ) → length arguments ≤ 8 → code_length (tail_lines base f arguments) ≤ 50
 tail_length base f arguments few =
     let apart = lines_append (copies base arguments) (acts (TailCall f) (temporaries base arguments) ∷ []) in
     let copied = copies_length base arguments in

@@ -37,7 +37,7 @@ otherwise_length nodes None = omega arith
 otherwise_length nodes (Some next) = omega arith
 
 odd_length : (value nodes : ℕ) (otherwise : Option ℕ) (lines : List Line) → OddLines value nodes otherwise lines
-    → code_length lines ≤ 7
+    → code_length lines ≤ 8
 odd_length value nodes None lines is = let whole = ap code_length is in omega (arith, whole)
 odd_length value nodes (Some next) lines is = let whole = ap code_length is.2 in omega (arith, whole)
 
