@@ -13,7 +13,6 @@ use rv_sim::Halt;
 const USAGE: &str =
     "usage: kokarv check FILE, build FILE -o OUT, run FILE, sim IMAGE, eval FILE, bench SEED SIZE\n";
 
-
 /// A part of a line.
 #[derive(Clone, Copy)]
 pub enum Piece<'a> {
