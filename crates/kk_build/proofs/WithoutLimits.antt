@@ -25,15 +25,19 @@ pub follows : (file : List ℕ) (setting : Setting) (input : List ℕ)
 follows file setting input goes_on ends agrees = record {
   prefix = λ m.
       let behind = agrees.image_is_behind m in
-      let further = goes_on behind.0 in
-      (further.0, prefix_through (file_after file input m).processor.trace (source_after setting input behind.0).trace
-      (unlimited_after setting input further.0).trace
-      (subst (IsPrefix (file_after file input m).processor.trace) (sym (seen setting input behind.0)) behind.1) further.1);
+      let further = goes_on behind.0 in (
+        further.0,
+        prefix_through (file_after file input m).processor.trace (source_after setting input behind.0).trace
+            (unlimited_after setting input further.0).trace
+            (subst (IsPrefix (file_after file input m).processor.trace) (sym (seen setting input behind.0)) behind.1) further.1,
+      );
   whole = λ m exits.
       let found = (agrees.end_alike ended).1 (m, exits) in
       let last : (source_after setting input found.0).ending ≡ Some ended = ap (option_map (λ (e : End). e)) found.1 in
-      let same = ends found.0 last in
-      (same.0, ap (λ (after : After). after.ending) same.1 ∙ last,
-      ap (λ (after : After). after.trace) same.1
-      ∙ (seen setting input found.0 ∙ agrees.same_trace ended found.0 m found.1 exits));
+      let same = ends found.0 last in (
+        same.0,
+        ap (λ (after : After). after.ending) same.1 ∙ last,
+        ap (λ (after : After). after.trace) same.1
+            ∙ (seen setting input found.0 ∙ agrees.same_trace ended found.0 m found.1 exits),
+      );
 }

@@ -17,9 +17,11 @@ pub goes_on : (setting : Setting) (input : List ℕ) (n : ℕ)
 goes_on setting input n =
     let m = enough setting n in
     let longer = trace_grows (source_machine setting) n m (first_state setting input) (omega arith) in
-    let roomier = longer_trace setting input (m + 2) (m + 2) (omega arith) (omega arith) m in
-    (m, prefix_through (source_after setting input n).trace (source_after setting input m).trace (unlimited_after setting input m).trace
-    longer roomier)
+    let roomier = longer_trace setting input (m + 2) (m + 2) (omega arith) (omega arith) m in (
+      m,
+      prefix_through (source_after setting input n).trace (source_after setting input m).trace (unlimited_after setting input m).trace
+          longer roomier,
+    )
 
 pub ends_so : (setting : Setting) (input : List ℕ) (n : ℕ) → (source_after setting input n).ending ≡ Some ended
     → (m : ℕ) × (unlimited_after setting input m ≡ source_after setting input n)
@@ -27,10 +29,12 @@ ends_so setting input n ends =
     let m = enough setting n in
     let later = ending_stays (source_machine setting) n m (first_state setting input) ended ends (omega arith) in
     let same = trace_stays (source_machine setting) n m (first_state setting input) ended ends (omega arith) in
-    let room : HasRoom (source_after setting input m).ending = subst HasRoom (sym later) tt in
-    (m, same_with_room setting input (m + 2) (m + 2) (omega arith) (omega arith) m room
-    ∙ (ap (λ events. record { trace = events; ending = (source_after setting input m).ending }) same
-    ∙ ap (λ how. record { trace = (source_after setting input n).trace; ending = how }) (later ∙ sym ends)))
+    let room : HasRoom (source_after setting input m).ending = subst HasRoom (sym later) tt in (
+      m,
+      same_with_room setting input (m + 2) (m + 2) (omega arith) (omega arith) m room
+          ∙ (ap (λ events. record { trace = events; ending = (source_after setting input m).ending }) same
+          ∙ ap (λ how. record { trace = (source_after setting input n).trace; ending = how }) (later ∙ sym ends)),
+    )
 
 pub never_full : (setting : Setting) (input : List ℕ) (n : ℕ) → HasRoom (unlimited_after setting input n).ending
 never_full setting input n =
