@@ -16,7 +16,6 @@ use Rattle.kk_insert.specs.Promise.{TailsLendOn}
 use Rattle.kk_insert.specs.Shapes.{cells_in, facts_of}
 use Rattle.kk_dropspec.specs.Specialised.{special_function}
 use Rattle.kk_middle.proofs.Compiling.{tells_parameters, tells_as_many, all_have_rows}
-use Rattle.kk_norm.proofs.Within.{instances_are_within}
 use Rattle.kk_middle.proofs.program.compile.Goals as goal
 
 pub normal-requires-clause-typed : goal.normal-requires-clause-typed
@@ -25,9 +24,6 @@ normal-requires-clause-typed c =
     (ground_program c.args.accepted.now.instances)
     (typings_of c.args.accepted.now.typed) (instances_of c.args.accepted.now.instances) c.requires.checked
     c.requires.given.instances).typed
-
-pub normal-requires-clause-small : goal.normal-requires-clause-small
-normal-requires-clause-small c = instances_are_within c.args.accepted.now.instances
 
 pub run-requires-clause-insertable : goal.run-requires-clause-insertable
 run-requires-clause-insertable c =
