@@ -1,5 +1,6 @@
 -- When code with tokens is paired: on each path a construction with fields takes the newest token that is not yet spent, if there is
--- one; each other token is freed where no construction can follow any more; and each is spent once.
+-- one, and each other token is freed where no construction can follow any more. Tokens are told by their slots: one that is null when
+-- the code runs is a token here, and a construction that takes it asks for a cell. That each is spent once is `AreTokensSpent`.
 use Rattle.std.specs.Prelude.{◌≡◌, ◌⊎◌, ℕ, Bool, true, false, List, [], ◌∷◌, ◌++◌, Some, slice_get}
 use Rattle.kk_counted.specs.BareForms.{bare}
 use Rattle.kk_counted.specs.TokenedCodes.{Tokened, TokenedArms, TokenedFunction, TokenedProgram}
@@ -19,8 +20,8 @@ pub data Renamed (to of : ℕ) : List ℕ → List ℕ → Type 0 where
   here : (older : List ℕ) → Renamed to of (of ∷ older) (to ∷ older)
   deeper : (x : ℕ) (tokens others : List ℕ) → Renamed to of tokens others → Renamed to of (x ∷ tokens) (x ∷ others)
 
--- Code is paired, by the slots of its tokens, the newest first, and of those that its block leaves. A null token comes in as the
--- oldest.
+-- Code is paired, by the slots of its tokens, the newest first, and of those that its block leaves. A null token may come in as
+-- the oldest.
 abbrev mutual
   pub IsPaired : Bool → List ℕ → List ℕ → Tokened → Type 0
   IsPaired behind left tokens (Tokened.give x) = tokens ≡ left

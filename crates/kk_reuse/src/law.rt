@@ -12,8 +12,8 @@ ghost use Rattle.kk_reuse.specs.Pairing.{paired_program, paired_setting};
 use kk_counted::tokens_keep_runs_the_same;
 
 /// Paired code without its tokens is the code that it is made of, and spends each token once on each path. On each path a
-/// construction with fields takes the newest token, if there is one; the others are freed where none can follow. It is a law, and
-/// does nothing.
+/// construction with fields takes the newest token, if there is one; the others are freed where none can follow. A token whose slot is
+/// null counts, and a construction that takes it asks for a cell. It is a law, and does nothing.
 pub fn paired_code_spends_its_tokens()
     ensures form { (program : CountedProgram) → bare_program (paired_program program) ≡ program }
     ensures spends { (program : CountedProgram) → AreTokensSpent (paired_program program) }
