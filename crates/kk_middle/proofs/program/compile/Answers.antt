@@ -18,8 +18,8 @@ use Rattle.kk_dropspec.specs.Specialised.{special_function}
 use Rattle.kk_middle.proofs.Compiling.{tells_parameters, tells_as_many, all_have_rows}
 use Rattle.kk_middle.proofs.program.compile.Goals as goal
 
-pub normal-requires-clause-typed : goal.normal-requires-clause-typed
-normal-requires-clause-typed c =
+pub normal-requires : goal.normal-requires
+normal-requires c =
     (c.instances_mean_the_program.ensures (program_tree c.args.accepted.now.typed.program)
     (ground_program c.args.accepted.now.instances)
     (typings_of c.args.accepted.now.typed) (instances_of c.args.accepted.now.instances) c.requires.checked
