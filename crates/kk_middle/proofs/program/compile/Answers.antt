@@ -19,11 +19,12 @@ use Rattle.kk_middle.proofs.Compiling.{tells_parameters, tells_as_many, all_have
 use Rattle.kk_middle.proofs.program.compile.Goals as goal
 
 pub normal-requires : goal.normal-requires
-normal-requires c =
-    (c.instances_mean_the_program.ensures (program_tree c.args.accepted.now.typed.program)
-    (ground_program c.args.accepted.now.instances)
-    (typings_of c.args.accepted.now.typed) (instances_of c.args.accepted.now.instances) c.requires.checked
-    c.requires.given.instances).typed
+normal-requires c = record {
+  typed = (c.instances_mean_the_program.ensures (program_tree c.args.accepted.now.typed.program)
+      (ground_program c.args.accepted.now.instances)
+      (typings_of c.args.accepted.now.typed) (instances_of c.args.accepted.now.instances) c.requires.checked
+      c.requires.given.instances).typed;
+}
 
 pub run-requires-clause-insertable : goal.run-requires-clause-insertable
 run-requires-clause-insertable c =
