@@ -1,6 +1,6 @@
 use Rattle.kk_perform.proofs.Rows.{text_refused, text_accepted}
 use Rattle.kk_command.specs.Requests.{check}
-use Rattle.kk_build.specs.Built.{program_tree}
+use Rattle.kk_syntax.specs.Programs.{program_tree}
 use Rattle.kk_perform.proofs.perform.check_file.Goals as goal
 
 pub returns-in-Ok-read : goal.returns-in-Ok-read

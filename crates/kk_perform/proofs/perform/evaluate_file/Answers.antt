@@ -1,5 +1,5 @@
 use Rattle.kk_command.specs.Requests.{eval}
-use Rattle.kk_build.specs.Built.{program_tree}
+use Rattle.kk_syntax.specs.Programs.{program_tree}
 use Rattle.kk_perform.proofs.Rows.{text_refused, program_evaluated, program_cut_short}
 use Rattle.kk_perform.proofs.perform.evaluate_file.Goals as goal
 
