@@ -73,7 +73,7 @@ module _ (program : ProgramTree) (table positions : PositionTable) (code : Count
 
     -- the counted machine, by the notes of both
     agree : Agree (heavy_store_machine (most nodes) setting) weighed 0 up source first
-    agree = (keeps input).agrees nodes few
+    agree = (keeps input).agrees nodes 0 few (omega arith)
 
     -- the processor's machine, as the world sees both
     whole : Agree (outside (heavy_store_machine (most nodes) setting)) (processor_machine rv32im) outside_lines up_whole source (goes loaded)

@@ -1,5 +1,5 @@
 -- What the steps of the core machine cost: so much for each, and so much for each part that it looks at.
-use Rattle.std.specs.Prelude.{ℕ, ◌+◌, ◌*◌, length, slice_get}
+use Rattle.std.specs.Prelude.{ℕ, ◌+◌, ◌-◌, ◌*◌, length, slice_get}
 use Rattle.kk_source.specs.Live.{value_of}
 use Rattle.kk_source.specs.State.{Store, Environment}
 use Rattle.kk_core.specs.Codes.{Code, tail_call, case, compute, unpack}
@@ -27,3 +27,17 @@ control_cost (stopped by) store = 0
 
 abbrev pub core_cost : CoreState → ℕ
 core_cost s = control_cost s.machine.control s.machine.store
+
+-- ---- room
+
+-- The same where each step pays so much more: room for work that a later form does beside it. There is room for so much where the
+-- greatest body has so many nodes.
+abbrev pub most_room : ℕ → ℕ
+most_room nodes = 64 * (nodes - 1)
+
+abbrev pub roomy_control_cost : ℕ → CoreControl → Store → ℕ
+roomy_control_cost room (running code environment joins) store = room + control_cost (running code environment joins) store
+roomy_control_cost room (stopped by) store = 0
+
+abbrev pub roomy_core_cost : ℕ → CoreState → ℕ
+roomy_core_cost room s = roomy_control_cost room s.machine.control s.machine.store

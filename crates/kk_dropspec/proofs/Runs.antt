@@ -7,7 +7,7 @@ use Rattle.kk_source.specs.Notes.{Note}
 use Rattle.kk_source.specs.State.{Environment}
 use Rattle.kk_source.specs.Actions.{Action, goes, puts, takes, builds, calls, performed}
 use Rattle.kk_counted.specs.CountedCodes.{Counted, give, tail_call, branch, case, compute, inside, read, open_cell, if_unique, dup, drop, CountedFunction}
-use Rattle.kk_counted.specs.CountedCosts.{code_cost, control_cost, counted_cost}
+use Rattle.kk_counted.specs.CountedCosts.{code_cost, room_at, roomy_control_cost, roomy_cost}
 use Rattle.kk_counted.specs.Heaps.{Heap}
 use Rattle.kk_counted.specs.CountedStates.{CountedSetting, CountedFrame, CountedControl, running, stopped, stuck, CountedConfiguration, CountedState, no_function, counted_first_state, counted_end_at}
 use Rattle.kk_counted.specs.CountedMachine.{counted_code_step, counted_machine}
@@ -54,12 +54,27 @@ code_costs (if_unique x c fields used rest) environment heap = refl
 code_costs (dup x rest) environment heap = refl
 code_costs (drop x rest) environment heap = refl
 
-weighs_same : (control : CountedControl) (heap : Heap)
-    → weight_unless (counted_end_at (special_control control)) (control_cost (special_control control) heap)
-    ≡ weight_unless (counted_end_at control) (control_cost control heap)
-weighs_same (running code environment joins) heap = code_costs code environment heap
-weighs_same (stopped by) heap = refl
-weighs_same stuck heap = refl
+room_same : (room : ℕ) (code : Counted) → room_at room (special code) ≡ room_at room code
+room_same room (give x) = refl
+room_same room (tail_call f arguments) = refl
+room_same room (branch x positive negative) = refl
+room_same room (case x decisions arms) = refl
+room_same room (compute x form arguments rest) = refl
+room_same room (inside x block rest) = refl
+room_same room (read x c fields rest) = refl
+room_same room (open_cell x c fields used rest) = refl
+room_same room (if_unique x c fields used rest) = refl
+room_same room (dup x rest) = refl
+room_same room (drop x rest) = refl
+
+weighs_same : (room : ℕ) (control : CountedControl) (heap : Heap)
+    → weight_unless (counted_end_at (special_control control)) (roomy_control_cost room (special_control control) heap)
+    ≡ weight_unless (counted_end_at control) (roomy_control_cost room control heap)
+weighs_same room (running code environment joins) heap =
+    ap (λ (pays : ℕ). pays + code_cost (special code) environment heap) (room_same room code)
+    ∙ ap (λ (cost : ℕ). room_at room code + cost) (code_costs code environment heap)
+weighs_same room (stopped by) heap = refl
+weighs_same room stuck heap = refl
 
 function_at : (functions : List CountedFunction) (n : ℕ)
     → slice_index_or (map special_function functions) n no_function ≡ special_function (slice_index_or functions n no_function)
@@ -109,20 +124,20 @@ module _ (positions : PositionTable) (setting : CountedSetting) (weight other : 
       )
 
   -- so many steps cost as much
-  costs_same : (n : ℕ) (s : CountedState) → ((k : ℕ) → Kept (state (counted_machine weight setting) k s).machine)
-      → weight_of (counted_machine counted_cost (special_setting setting)) n (special_state s)
-      ≡ weight_of (counted_machine counted_cost setting) n s
-  costs_same zero s kept = refl
-  costs_same (suc n) s kept =
+  costs_same : (room n : ℕ) (s : CountedState) → ((k : ℕ) → Kept (state (counted_machine weight setting) k s).machine)
+      → weight_of (counted_machine (roomy_cost room) (special_setting setting)) n (special_state s)
+      ≡ weight_of (counted_machine (roomy_cost room) setting) n s
+  costs_same room zero s kept = refl
+  costs_same room (suc n) s kept =
       let later : List Note × CountedState → ℕ
-      = λ told. weight_of (counted_machine counted_cost (special_setting setting)) n told.1 in
+      = λ told. weight_of (counted_machine (roomy_cost room) (special_setting setting)) n told.1 in
       let next = next_same s.machine.control s.machine.frames s.machine.heap s.input (kept zero) in
       ap (λ (told : List Note × CountedState).
-      (counted_machine counted_cost (special_setting setting)).weight (special_state s) + later told) next
+      (counted_machine (roomy_cost room) (special_setting setting)).weight (special_state s) + later told) next
       ∙ (ap (λ (cost : ℕ). cost + later (special_pair ((counted_machine weight setting).step s)))
-      (weighs_same s.machine.control s.machine.heap)
-      ∙ ap (λ (rest : ℕ). (counted_machine counted_cost setting).weight s + rest)
-      (costs_same n ((counted_machine weight setting).step s).1 (λ k. kept (suc k))))
+      (weighs_same room s.machine.control s.machine.heap)
+      ∙ ap (λ (rest : ℕ). (counted_machine (roomy_cost room) setting).weight s + rest)
+      (costs_same room n ((counted_machine weight setting).step s).1 (λ k. kept (suc k))))
 
 pub runs_same : (positions : PositionTable) (setting : CountedSetting) (weight other : CountedState → ℕ) (input : List ℕ)
     → IsSpent positions setting.program
@@ -134,9 +149,9 @@ runs_same positions setting weight other input spent fits n =
       ends =
           ap (λ (s : CountedState). counted_end_at s.machine.control) states ∙ end_same
           (state (counted_machine weight setting) n (counted_first_state setting input)).machine.control;
-      costs =
-          ap (weight_of (counted_machine counted_cost (special_setting setting)) n) (first_same setting input)
-          ∙ costs_same positions setting weight other n (counted_first_state setting input)
+      costs = λ room.
+          ap (weight_of (counted_machine (roomy_cost room) (special_setting setting)) n) (first_same setting input)
+          ∙ costs_same positions setting weight other room n (counted_first_state setting input)
           (keeps_sound positions setting weight input spent fits);
     }
   where

@@ -37,7 +37,7 @@ use Rattle.kk_insert.proofs.Owned.{in_owns}
 use Rattle.kk_insert.proofs.Spent.{lent_arguments}
 use Rattle.kk_insert.proofs.Programs.{inserted_there}
 use Rattle.kk_insert.proofs.Paths.{conf, with_input, path_here, path_step}
-use Rattle.kk_insert.proofs.Standing.{left_of, image_joins, image_frame, CodeOk, RestOk, JoinsOk, FramesStand, Stands, Follows}
+use Rattle.kk_insert.proofs.Standing.{inserted_at, left_of, image_joins, image_frame, CodeOk, RestOk, JoinsOk, FramesStand, Stands, Follows}
 use Rattle.kk_insert.proofs.Entering.{dups_first, enters}
 
 -- as many functions wait
@@ -73,7 +73,7 @@ places_lent takes next q (place at ∷ vs) = by_test (takes next) (places_lent t
     by_test true later = omega (arith, later)
     by_test false later = later
 
-module _ (setting : CoreSetting) (promise : IsInsertable setting.positions setting.code) (from : CoreConfiguration) (lent : List ℕ)
+module _ (room : ℕ) (setting : CoreSetting) (promise : IsInsertable setting.positions setting.code) (from : CoreConfiguration) (lent : List ℕ)
     (below : List Value) (frames : List CountedFrame) (heap : Heap)
     (store : from.store ≡ forwards heap)
     (waits : FramesStand setting.positions setting.code.functions from.store from.frames frames below) (input : List ℕ) where
@@ -84,9 +84,9 @@ module _ (setting : CoreSetting) (promise : IsInsertable setting.positions setti
       → IsSound (values_of environment (own setting.positions lent
       (left_by (left_of setting.positions setting.code.functions lent joins)) (tail_call f arguments)) ++ below) heap
       → slice_get setting.code.functions f ≡ Some function → length (map (value_of environment) arguments) ≡ function.parameters
-      → (most : ℕ) → step_cost + part_cost * length arguments + drop_cost * (length (own setting.positions lent
+      → (most : ℕ) → room + step_cost + part_cost * length arguments + drop_cost * (length (own setting.positions lent
       (left_by (left_of setting.positions setting.code.functions lent joins)) (tail_call f arguments)) + length below) ≤ most
-      → Follows setting.positions setting.code.functions (inserted_setting setting) 1 most
+      → Follows setting.positions setting.code.functions (inserted_at room setting) 1 most
       (tail_step (slice_get setting.code.functions f) (map (value_of environment) arguments) from) input
       (with_input (conf (insert setting.positions lent (left_by (left_of setting.positions setting.code.functions lent joins))
       (tail_call f arguments)) environment (image_joins setting.positions setting.code.functions lent joins) frames heap) input)
@@ -96,21 +96,21 @@ module _ (setting : CoreSetting) (promise : IsInsertable setting.positions setti
       not_tail : false ≡ true → ⊥
       not_tail is = absurd (cc)
   follows_tail f arguments environment [] function ok reached sound there many most costs =
-      subst (λ (o : Option FunctionCode). Follows setting.positions setting.code.functions (inserted_setting setting) 1 most
+      subst (λ (o : Option FunctionCode). Follows setting.positions setting.code.functions (inserted_at room setting) 1 most
       (tail_step o (map (value_of environment) arguments) from) input
       (with_input (conf (insert setting.positions lent [] (tail_call f arguments)) environment [] frames heap) input)) (sym there)
-      (dups_first (inserted_setting setting)
+      (dups_first (inserted_at room setting)
       (Stands setting.positions setting.code.functions
       (record { machine = in_code function (map (value_of environment) arguments) from; input = input })) environment
       [] frames below input 1 []
       setting.positions lent (used setting.positions (Call f) arguments) [] (Counted.tail_call f arguments) heap
-      most (form_cost + value_cost * length arguments + drop_cost * length below)
+      most (room + form_cost + value_cost * length arguments + drop_cost * length below)
       (omega (arith, costs, positions_few (is_owned setting.positions [] f) 0 arguments)) sound
       (subst (λ (s : Store). AreReached s below environment lent) store reached)
       (λ after cells sound_then.
-      path_step (inserted_setting setting) 0
+      path_step (inserted_at room setting) 0
       (drop_cost * (length (used setting.positions (Call f) arguments) + 0)
-      + (form_cost + value_cost * length arguments + drop_cost * length below))
+      + (room + form_cost + value_cost * length arguments + drop_cost * length below))
       (drop_cost * (length (used setting.positions (Call f) arguments) + length below)) [] []
       (Stands setting.positions setting.code.functions
       (record { machine = in_code function (map (value_of environment) arguments) from; input = input }))
@@ -134,7 +134,7 @@ module _ (setting : CoreSetting) (promise : IsInsertable setting.positions setti
         ),
       )
       (omega arith)
-      (enters setting from lent below frames after (store ∙ same_store heap after (sym cells)) waits input f function
+      (enters room setting from lent below frames after (store ∙ same_store heap after (sym cells)) waits input f function
       (map (value_of environment) arguments) (promise.each f function there) many
       (λ at among.
       let y = among_others environment (at_positions (is_lent setting.positions f) 0 arguments) lent at ok.lends_on.1.0
@@ -237,14 +237,14 @@ module _ (setting : CoreSetting) (promise : IsInsertable setting.positions setti
     pub call_at : (function : FunctionCode) → slice_get setting.code.functions f ≡ Some function
         → length values ≡ function.parameters
         → IsSound (values_of environment (used setting.positions (Call f) arguments ++ held) ++ below) heap
-        → (most : ℕ) → form_cost + value_cost * length arguments
+        → (most : ℕ) → room + form_cost + value_cost * length arguments
         + drop_cost * (length (used setting.positions (Call f) arguments) + length held + length below) ≤ most
-        → Follows setting.positions setting.code.functions (inserted_setting setting) 1 most
+        → Follows setting.positions setting.code.functions (inserted_at room setting) 1 most
         (call_step setting f (slice_get setting.code.functions f) values
         (λ lent. record { variable = x; rest = rest; joins = joins; environment = environment; lent = lent }) from) input
         (with_input before_call input)
     call_at function there many sound most costs =
-        subst (λ (o : Option FunctionCode). Follows setting.positions setting.code.functions (inserted_setting setting) 1 most
+        subst (λ (o : Option FunctionCode). Follows setting.positions setting.code.functions (inserted_at room setting) 1 most
         (call_step setting f o values
         (λ lent. record { variable = x; rest = rest; joins = joins; environment = environment; lent = lent }) from) input
         (with_input before_call input)) (sym there)
@@ -278,20 +278,20 @@ module _ (setting : CoreSetting) (promise : IsInsertable setting.positions setti
             is)
 
         by_test : (t : Bool) → nat_le setting.depth (suc (length from.frames)) ≡ t
-            → Follows setting.positions setting.code.functions (inserted_setting setting) 1 most
+            → Follows setting.positions setting.code.functions (inserted_at room setting) 1 most
             (calls (suc (length from.frames))
             (if t then at_end stack_full from else in_code function values (record from { frames = waiting ∷ from.frames })))
             input (with_input before_call input)
         by_test true is =
-            path_step (inserted_setting setting) 0 most 0 (called (suc (length from.frames)) ∷ []) []
+            path_step (inserted_at room setting) 0 most 0 (called (suc (length from.frames)) ∷ []) []
             (Stands setting.positions setting.code.functions (record { machine = at_end stack_full from; input = input }))
             (with_input before_call input) (with_input (counted_at_end stack_full before_call) input) (step_is true is)
             (tt, (tt, (tt, (is_there, tt)))) (omega (arith, costs))
-            (path_here (inserted_setting setting) 0
+            (path_here (inserted_at room setting) 0
             (Stands setting.positions setting.code.functions (record { machine = at_end stack_full from; input = input }))
             (with_input (counted_at_end stack_full before_call) input) (refl, (refl, tt)))
         by_test false is =
-            path_step (inserted_setting setting) 0 most
+            path_step (inserted_at room setting) 0 most
             (drop_cost * (length (used setting.positions (Call f) arguments) + (length held + length below)))
             (called (suc (length from.frames)) ∷ []) []
             (Stands setting.positions setting.code.functions
@@ -300,7 +300,7 @@ module _ (setting : CoreSetting) (promise : IsInsertable setting.positions setti
             (with_input (counted_in_code (inserted_function setting.positions f function) values
             (record before_call { frames = image ∷ frames })) input) (step_is false is) (tt, (tt, (tt, (is_there, tt))))
             (omega (arith, costs))
-            (enters setting (record from { frames = waiting ∷ from.frames }) lent (values_of environment held ++ below)
+            (enters room setting (record from { frames = waiting ∷ from.frames }) lent (values_of environment held ++ below)
             (image ∷ frames) heap store waits_longer input f function values (promise.each f function there) many lents
             (moved (values_of environment (used setting.positions (Call f) arguments ++ held) ++ below)
             (at_positions (is_owned setting.positions [] f) 0 values ++ (values_of environment held ++ below)) heap

@@ -42,7 +42,7 @@ use Rattle.kk_insert.specs.Promise.{IsInsertable}
 use Rattle.kk_insert.proofs.Sets.{false_if, no_both}
 use Rattle.kk_insert.proofs.Owned.{lends_part}
 use Rattle.kk_insert.proofs.Paths.{conf, with_input, Path, path_here, path_step}
-use Rattle.kk_insert.proofs.Standing.{left_of, image_joins, CodeOk, RestOk, JoinsOk, FramesStand, Stands, Follows}
+use Rattle.kk_insert.proofs.Standing.{inserted_at, left_of, image_joins, CodeOk, RestOk, JoinsOk, FramesStand, Stands, Follows}
 use Rattle.kk_insert.proofs.Entering.{dups_first, lands}
 use Rattle.kk_insert.proofs.Calling.{call_at}
 use Rattle.kk_insert.proofs.Needed.{busy_is_live}
@@ -105,7 +105,7 @@ frames_longer setting store cell (frame ∷ older) (c ∷ cs) below stand = (
   ),
 )
 
-module _ (setting : CoreSetting) (constructors : List ConstructorTree) (promise : IsInsertable setting.positions setting.code)
+module _ (room : ℕ) (setting : CoreSetting) (constructors : List ConstructorTree) (promise : IsInsertable setting.positions setting.code)
     (from : CoreConfiguration) (lent : List ℕ) (below : List Value) (frames : List CountedFrame) (heap : Heap)
     (store : from.store ≡ forwards heap)
     (waits : FramesStand setting.positions setting.code.functions from.store from.frames frames below)
@@ -146,15 +146,15 @@ module _ (setting : CoreSetting) (constructors : List ConstructorTree) (promise 
   saved_behind = drop_cost * (suc (length (without (x ∷ []) now)) + length below)
 
   abbrev form_costs : ℕ
-  form_costs = form_cost + value_cost * length arguments + saved_behind
+  form_costs = room + form_cost + value_cost * length arguments + saved_behind
 
   value_lands : (v : Value) (input : List ℕ) → ((q : ℕ) → refs_of v q ≡ 0) → HaveNoCells (values_of environment arguments)
       → IsSound (values_of environment (arguments ++ without (x ∷ []) now) ++ below) heap
-      → Path (inserted_setting setting) 0 saved_behind []
+      → Path (inserted_at room setting) 0 saved_behind []
       (Stands setting.positions setting.code.functions
       (record { machine = bound_then x v rest environment joins from; input = input })) (with_input (with_value v) input)
   value_lands v input free none sound =
-      lands setting from lent below frames heap store waits input x v rest environment joins []
+      lands room setting from lent below frames heap store waits input x v rest environment joins []
       (values_of environment (arguments ++ without (x ∷ []) now) ++ below) rest_ok joins_ok reached refl
       (λ q. omega (
         arith,
@@ -168,7 +168,7 @@ module _ (setting : CoreSetting) (constructors : List ConstructorTree) (promise 
   module _ (input : List ℕ) where
     abbrev FollowsForm : ℕ → Form → Type 0
     FollowsForm most form =
-        Follows setting.positions setting.code.functions (inserted_setting setting) 1 most
+        Follows setting.positions setting.code.functions (inserted_at room setting) 1 most
         (form_step setting form (map (value_of environment) arguments) x rest environment joins from) input
         (with_input (before_form form) input)
 
@@ -180,11 +180,11 @@ module _ (setting : CoreSetting) (constructors : List ConstructorTree) (promise 
         → Fits setting form (values_of environment arguments)
         → ((q : ℕ) → refs_of v q ≡ 0) → HaveNoCells (values_of environment arguments)
         → IsSound (values_of environment (arguments ++ without (x ∷ []) now) ++ below) heap → (most : ℕ) → form_costs ≤ most
-        → Path (inserted_setting setting) 1 most []
+        → Path (inserted_at room setting) 1 most []
         (Stands setting.positions setting.code.functions
         (record { machine = bound_then x v rest environment joins from; input = input })) (with_input (before_form form) input)
     value_comes form v is fits free none sound most costs =
-        path_step (inserted_setting setting) 0 most saved_behind [] []
+        path_step (inserted_at room setting) 0 most saved_behind [] []
         (Stands setting.positions setting.code.functions
         (record { machine = bound_then x v rest environment joins from; input = input })) (with_input (before_form form) input)
         (with_input (with_value v) input) is
@@ -197,16 +197,16 @@ module _ (setting : CoreSetting) (constructors : List ConstructorTree) (promise 
         → Fits setting form (values_of environment arguments)
         → HaveNoCells (values_of environment arguments)
         → IsSound (values_of environment (arguments ++ without (x ∷ []) now) ++ below) heap → (most : ℕ) → form_costs ≤ most
-        → Follows setting.positions setting.code.functions (inserted_setting setting) 1 most
+        → Follows setting.positions setting.code.functions (inserted_at room setting) 1 most
         (print_step piece (bound_then x unit rest environment joins from)) input (with_input (before_form form) input)
     print_comes form [] is fits none sound most costs =
-        path_step (inserted_setting setting) 0 most saved_behind [] []
+        path_step (inserted_at room setting) 0 most saved_behind [] []
         (Stands setting.positions setting.code.functions
         (record { machine = bound_then x unit rest environment joins from; input = input }))
         (with_input (before_form form) input) (with_input (with_value unit) input) is
         (tt, (fits.0, (tt, fits.1))) (omega (arith, costs)) (value_lands unit input (λ q. refl) none sound)
     print_comes form (byte ∷ bytes) is fits none sound most costs =
-        path_step (inserted_setting setting) 0 most saved_behind (seen (output (byte ∷ bytes)) ∷ []) []
+        path_step (inserted_at room setting) 0 most saved_behind (seen (output (byte ∷ bytes)) ∷ []) []
         (Stands setting.positions setting.code.functions
         (record { machine = bound_then x unit rest environment joins from; input = input }))
         (with_input (before_form form) input) (with_input (with_value unit) input) is
@@ -268,7 +268,7 @@ module _ (setting : CoreSetting) (constructors : List ConstructorTree) (promise 
           (record { variable = x; value = place at } ∷ environment)
           (image_joins setting.positions setting.code.functions lent joins) frames longer
 
-      cell_lands : Path (inserted_setting setting) 0 saved_behind []
+      cell_lands : Path (inserted_at room setting) 0 saved_behind []
           (Stands setting.positions setting.code.functions
           (record {
             machine = record (bound_then x (place (length from.store)) rest environment joins from)
@@ -276,7 +276,7 @@ module _ (setting : CoreSetting) (constructors : List ConstructorTree) (promise 
             input = input;
           })) (with_input (with_cell (length from.store)) input)
       cell_lands =
-          lands setting from_longer lent below frames longer (ap (λ (s : Store). s ++ cell ∷ []) store)
+          lands room setting from_longer lent below frames longer (ap (λ (s : Store). s ++ cell ∷ []) store)
           (frames_longer setting from.store cell from.frames frames below waits) input x
           (place (length from.store)) rest environment joins []
           (place (length from.store) ∷ (values_of environment (without (x ∷ []) now) ++ below)) rest_ok joins_ok
@@ -301,7 +301,7 @@ module _ (setting : CoreSetting) (constructors : List ConstructorTree) (promise 
           ≡ performed (builds (busy heap)
           (if nat_le setting.cells (busy heap) then counted_at_end heap_full (before_form (Construct c)) else with_cell
           (length heap))) input
-          → Follows setting.positions setting.code.functions (inserted_setting setting) 1 most
+          → Follows setting.positions setting.code.functions (inserted_at room setting) 1 most
           (builds found (if nat_le setting.cells found then at_end heap_full from else record
           (bound_then x (place (length from.store)) rest environment joins from) { store = from.store ++ cell ∷ [] })) input
           (with_input (before_form (Construct c)) input)
@@ -329,21 +329,21 @@ module _ (setting : CoreSetting) (constructors : List ConstructorTree) (promise 
               input) is))
 
           by_test : (t : Bool) → nat_le setting.cells found ≡ t
-              → Follows setting.positions setting.code.functions (inserted_setting setting) 1 most
+              → Follows setting.positions setting.code.functions (inserted_at room setting) 1 most
               (builds found (if t then at_end heap_full from else record
               (bound_then x (place (length from.store)) rest environment joins from) { store = from.store ++ cell ∷ [] })) input
               (with_input (before_form (Construct c)) input)
           by_test true is =
-              path_step (inserted_setting setting) 0 most 0 (built found ∷ []) []
+              path_step (inserted_at room setting) 0 most 0 (built found ∷ []) []
               (Stands setting.positions setting.code.functions (record { machine = at_end heap_full from; input = input }))
               (with_input (before_form (Construct c)) input)
               (with_input (counted_at_end heap_full (before_form (Construct c))) input) (step_is true is) (tt, (tt, (tt, (tt, tt))))
               (omega (arith, costs))
-              (path_here (inserted_setting setting) 0
+              (path_here (inserted_at room setting) 0
               (Stands setting.positions setting.code.functions (record { machine = at_end heap_full from; input = input }))
               (with_input (counted_at_end heap_full (before_form (Construct c))) input) (refl, (refl, tt)))
           by_test false is =
-              path_step (inserted_setting setting) 0 most saved_behind (built found ∷ []) []
+              path_step (inserted_at room setting) 0 most saved_behind (built found ∷ []) []
               (Stands setting.positions setting.code.functions
               (record {
                 machine = record (bound_then x (place (length from.store)) rest environment joins from)
@@ -353,7 +353,7 @@ module _ (setting : CoreSetting) (constructors : List ConstructorTree) (promise 
               (with_input (before_form (Construct c)) input) (with_input (with_cell (length from.store)) input) (step_is false is)
               (tt, (tt, (tt, (tt, tt)))) (omega (arith, costs)) cell_lands
 
-module _ (setting : CoreSetting) (constructors : List ConstructorTree) (promise : IsInsertable setting.positions setting.code)
+module _ (room : ℕ) (setting : CoreSetting) (constructors : List ConstructorTree) (promise : IsInsertable setting.positions setting.code)
     (from : CoreConfiguration) (lent : List ℕ) (below : List Value) (frames : List CountedFrame) (heap : Heap)
     (store : from.store ≡ forwards heap)
     (waits : FramesStand setting.positions setting.code.functions from.store from.frames frames below)
@@ -365,7 +365,7 @@ module _ (setting : CoreSetting) (constructors : List ConstructorTree) (promise 
   -- what a form costs, with what is saved behind it
   abbrev CostsAt : ℕ → List ℕ → Form → Type 0
   CostsAt most arguments form =
-      form_cost + value_cost * length arguments + drop_cost * (suc (length (used setting.positions form arguments)
+      room + form_cost + value_cost * length arguments + drop_cost * (suc (length (used setting.positions form arguments)
       + length (held setting constructors promise from lent below frames heap store waits x arguments rest environment joins rest_ok
       joins_ok reached form)) + length below) ≤ most
 
@@ -376,7 +376,7 @@ module _ (setting : CoreSetting) (constructors : List ConstructorTree) (promise 
       → FollowsForm setting constructors promise from lent below frames heap store waits x arguments rest environment joins rest_ok
       joins_ok reached input most ReadByte
   reads [] arguments most costs none sound =
-      path_step (inserted_setting setting) 0 most
+      path_step (inserted_at room setting) 0 most
       (saved_behind setting constructors promise from lent below frames heap store waits x arguments rest environment joins rest_ok
       joins_ok reached) (seen input_end ∷ []) []
       (Stands setting.positions setting.code.functions
@@ -385,10 +385,10 @@ module _ (setting : CoreSetting) (constructors : List ConstructorTree) (promise 
       joins rest_ok joins_ok reached ReadByte) [])
       (with_input (with_value setting constructors promise from lent below frames heap store waits x arguments rest environment
       joins rest_ok joins_ok reached (byte_value None)) []) refl (tt, (none, (tt, (tt, tt)))) (omega (arith, costs))
-      (value_lands setting constructors promise from lent below frames heap store waits x arguments rest environment joins rest_ok
+      (value_lands room setting constructors promise from lent below frames heap store waits x arguments rest environment joins rest_ok
       joins_ok reached (byte_value None) [] (byte_free None) none sound)
   reads (byte ∷ bytes) arguments most costs none sound =
-      path_step (inserted_setting setting) 0 most
+      path_step (inserted_at room setting) 0 most
       (saved_behind setting constructors promise from lent below frames heap store waits x arguments rest environment joins rest_ok
       joins_ok reached) (seen (taken byte) ∷ []) []
       (Stands setting.positions setting.code.functions
@@ -397,7 +397,7 @@ module _ (setting : CoreSetting) (constructors : List ConstructorTree) (promise 
       joins rest_ok joins_ok reached ReadByte) (byte ∷ bytes))
       (with_input (with_value setting constructors promise from lent below frames heap store waits x arguments rest environment
       joins rest_ok joins_ok reached (byte_value (Some byte))) bytes) refl (tt, (none, (tt, (tt, tt)))) (omega (arith, costs))
-      (value_lands setting constructors promise from lent below frames heap store waits x arguments rest environment joins rest_ok
+      (value_lands room setting constructors promise from lent below frames heap store waits x arguments rest environment joins rest_ok
       joins_ok reached (byte_value (Some byte)) bytes (byte_free (Some byte)) none sound)
 
   module _ (input : List ℕ) where
@@ -468,14 +468,14 @@ module _ (setting : CoreSetting) (constructors : List ConstructorTree) (promise 
         most (omega (arith, costs))
     form_at (Construct c) arguments most costs fits new sound = constructs c arguments most costs sound
     form_at (Call f) arguments most costs fits new sound =
-        call_at setting promise from lent below frames heap store waits input x f arguments rest environment joins rest_ok joins_ok
+        call_at room setting promise from lent below frames heap store waits input x f arguments rest environment joins rest_ok joins_ok
         reached
         (false_if (is_among (lends setting.positions (Call f) arguments) x)
         (λ is. no_both ⊥ (is_among arguments x) (lends_part setting.positions (Call f) arguments x is) new))
         fits.0 fits.1 fits.2 sound most (omega (arith, costs))
 
 -- the step of a code that computes
-module _ (setting : CoreSetting) (constructors : List ConstructorTree) (promise : IsInsertable setting.positions setting.code)
+module _ (room : ℕ) (setting : CoreSetting) (constructors : List ConstructorTree) (promise : IsInsertable setting.positions setting.code)
     (from : CoreConfiguration) (lent : List ℕ) (below : List Value) (frames : List CountedFrame) (heap : Heap)
     (store : from.store ≡ forwards heap)
     (waits : FramesStand setting.positions setting.code.functions from.store from.frames frames below) (input : List ℕ)
@@ -488,16 +488,16 @@ module _ (setting : CoreSetting) (constructors : List ConstructorTree) (promise 
       (left_by (left_of setting.positions setting.code.functions lent joins)) (compute x form arguments rest)) ++ below) heap
       → ArgumentsFit constructors setting.code.texts (CallFits constructors setting.code) form
       (map (value_of environment) arguments)
-      → (most : ℕ) → step_cost + part_cost * length arguments + drop_cost * (length (own setting.positions lent
+      → (most : ℕ) → room + step_cost + part_cost * length arguments + drop_cost * (length (own setting.positions lent
       (left_by (left_of setting.positions setting.code.functions lent joins)) (compute x form arguments rest)) + length below)
       ≤ most
-      → Follows setting.positions setting.code.functions (inserted_setting setting) 1 most
+      → Follows setting.positions setting.code.functions (inserted_at room setting) 1 most
       (form_step setting form (map (value_of environment) arguments) x rest environment joins from) input
       (with_input (conf (insert setting.positions lent (left_by (left_of setting.positions setting.code.functions lent joins))
       (compute x form arguments rest)) environment
       (image_joins setting.positions setting.code.functions lent joins) frames heap) input)
   follows_compute x form arguments rest ok sound fits most costs =
-      dups_first (inserted_setting setting)
+      dups_first (inserted_at room setting)
       (Stands setting.positions setting.code.functions
       (performed (form_step setting form (map (value_of environment) arguments) x rest environment joins from) input).1)
       environment (image_joins setting.positions setting.code.functions lent joins) frames below input 1
@@ -509,7 +509,7 @@ module _ (setting : CoreSetting) (constructors : List ConstructorTree) (promise 
       (Counted.compute x form arguments (back lent (lends setting.positions form arguments) x
       (own setting.positions lent (left_by (left_of setting.positions setting.code.functions lent joins)) rest)
       (insert setting.positions lent (left_by (left_of setting.positions setting.code.functions lent joins)) rest)))
-      heap most (form_cost + value_cost * length arguments + (drop_cost + drop_cost * length below))
+      heap most (room + form_cost + value_cost * length arguments + (drop_cost + drop_cost * length below))
       (omega (arith, costs, used_few form))
       sound (subst (λ (s : Store). AreReached s below environment lent) store reached)
       (λ after cells sound_then. form_at setting constructors promise from lent below frames after
@@ -529,7 +529,7 @@ module _ (setting : CoreSetting) (constructors : List ConstructorTree) (promise 
       (drop_cost * (length (used setting.positions form arguments) + length (owns lent (lends setting.positions form arguments)
       (without (x ∷ []) (own setting.positions lent
       (left_by (left_of setting.positions setting.code.functions lent joins)) rest))))
-      + (form_cost + value_cost * length arguments + (drop_cost + drop_cost * length below))) (omega arith) fits
+      + (room + form_cost + value_cost * length arguments + (drop_cost + drop_cost * length below))) (omega arith) fits
       (false_if (is_among arguments x) (λ is. no_both ⊥ (is_among ok.bound x) (ok.fine.0 x is) ok.fine.1.0)) sound_then)
     where
       used_few : (form : Form) → length (used setting.positions form arguments) ≤ length arguments

@@ -37,7 +37,7 @@ use Rattle.kk_insert.proofs.Owned.{owns_either, own_apart, wants_in, wants_even}
 use Rattle.kk_insert.proofs.Programs.{lent_parameter, is_fine, owned_parameter, numbers_apart}
 use Rattle.kk_insert.proofs.Paths.{conf, with_input, Path, path_here, path_step}
 use Rattle.kk_insert.proofs.Settling.{From, GoesOn, sound_even, either_counted, dups_path, dropping_path, landing_path, back_path}
-use Rattle.kk_insert.proofs.Standing.{left_of, image_joins, image_frame, RestOk, JoinsOk, FramesStand, rest_code, Stands, Follows}
+use Rattle.kk_insert.proofs.Standing.{inserted_at, left_of, image_joins, image_frame, RestOk, JoinsOk, FramesStand, rest_code, Stands, Follows}
 use Rattle.kk_insert.proofs.Following.{arrives}
 
 -- The dups before a code that uses variables up. Each of its uses takes one at most; and then the cost of a drop is saved for each.
@@ -76,7 +76,7 @@ not_held positions lent given x now new =
           (no_self x now)
     ])
 
-module _ (setting : CoreSetting) (from : CoreConfiguration) (lent : List ℕ) (below : List Value) (frames : List CountedFrame)
+module _ (room : ℕ) (setting : CoreSetting) (from : CoreConfiguration) (lent : List ℕ) (below : List Value) (frames : List CountedFrame)
     (heap : Heap)
     (store : from.store ≡ forwards heap)
     (waits : FramesStand setting.positions setting.code.functions from.store from.frames frames below) (input : List ℕ) where
@@ -99,7 +99,7 @@ module _ (setting : CoreSetting) (from : CoreConfiguration) (lent : List ℕ) (b
       → (most : ℕ) → drop_cost * (suc (length (owns lent given
       (without (x ∷ []) (own setting.positions lent
       (left_by (left_of setting.positions setting.code.functions lent joins)) rest)))) + length below) ≤ most
-      → Path (inserted_setting setting) 0 most []
+      → Path (inserted_at room setting) 0 most []
       (Stands setting.positions setting.code.functions
       (record { machine = bound_then x v rest environment joins from; input = input }))
       (with_input (conf (back lent given x
@@ -108,7 +108,7 @@ module _ (setting : CoreSetting) (from : CoreConfiguration) (lent : List ℕ) (b
       (record { variable = x; value = v } ∷ environment)
       (image_joins setting.positions setting.code.functions lent joins) frames heap) input)
   lands x v rest environment joins given all rest_ok joins_ok reached new even sound most costs =
-      back_path (inserted_setting setting)
+      back_path (inserted_at room setting)
       (Stands setting.positions setting.code.functions
       (record { machine = bound_then x v rest environment joins from; input = input }))
       (record { variable = x; value = v } ∷ environment)
@@ -123,13 +123,13 @@ module _ (setting : CoreSetting) (from : CoreConfiguration) (lent : List ℕ) (b
       (left_by (left_of setting.positions setting.code.functions lent joins)) rest))) below all heap
       (not_held setting.positions lent given x
       (own setting.positions lent (left_by (left_of setting.positions setting.code.functions lent joins)) rest) new) even sound)
-      (λ after cells sound_then. path_here (inserted_setting setting) (saved_at lent joins rest)
+      (λ after cells sound_then. path_here (inserted_at room setting) (saved_at lent joins rest)
       (Stands setting.positions setting.code.functions
       (record { machine = bound_then x v rest environment joins from; input = input }))
       (with_input (conf (insert setting.positions lent (left_by (left_of setting.positions setting.code.functions lent joins)) rest)
       (record { variable = x; value = v } ∷ environment)
       (image_joins setting.positions setting.code.functions lent joins) frames after) input)
-      (arrives setting from lent below frames heap store waits input rest
+      (arrives room setting from lent below frames heap store waits input rest
       (record { variable = x; value = v } ∷ environment) joins after cells
       (rest_code setting.positions setting.code.functions lent
       (left_of setting.positions setting.code.functions lent joins) x rest rest_ok) joins_ok
@@ -142,11 +142,11 @@ module _ (setting : CoreSetting) (from : CoreConfiguration) (lent : List ℕ) (b
       → ((at : ℕ) → Among (at_positions (is_lent setting.positions f) 0 values) at → Reached from.store below at)
       → IsSound (at_positions (is_owned setting.positions [] f) 0 values ++ below) heap
       → (most : ℕ) → drop_cost * (length (at_positions (is_owned setting.positions [] f) 0 values) + length below) ≤ most
-      → Path (inserted_setting setting) 0 most []
+      → Path (inserted_at room setting) 0 most []
       (Stands setting.positions setting.code.functions (record { machine = in_code function values from; input = input }))
       (with_input (conf (inserted_function setting.positions f function).body (bind_parameters 0 values []) [] frames heap) input)
   enters f function values promise many lents sound most costs =
-      dropping_path (inserted_setting setting)
+      dropping_path (inserted_at room setting)
       (Stands setting.positions setting.code.functions (record { machine = in_code function values from; input = input }))
       (bind_parameters 0 values []) [] frames below input 0 []
       (at_positions (is_owned setting.positions [] f) 0 (numbers_from 0 function.parameters))
@@ -164,12 +164,12 @@ module _ (setting : CoreSetting) (from : CoreConfiguration) (lent : List ℕ) (b
       (own_apart setting.positions (lent_of setting.positions f function) [] function.body tt)
       (owned_parameter setting.positions setting.code.functions f function promise)
       (subst (λ us. IsSound (us ++ below) heap) (sym owned_are) sound)
-      (λ after cells sound_then. path_here (inserted_setting setting)
+      (λ after cells sound_then. path_here (inserted_at room setting)
       (saved_at (lent_of setting.positions f function) [] function.body)
       (Stands setting.positions setting.code.functions (record { machine = in_code function values from; input = input }))
       (with_input (conf (insert setting.positions (lent_of setting.positions f function) [] function.body)
       (bind_parameters 0 values []) [] frames after) input)
-      (arrives setting from (lent_of setting.positions f function) below frames heap store waits input function.body
+      (arrives room setting from (lent_of setting.positions f function) below frames heap store waits input function.body
       (bind_parameters 0 values []) [] after cells
       (record {
         bound = numbers_below function.parameters;
@@ -206,7 +206,7 @@ module _ (setting : CoreSetting) (from : CoreConfiguration) (lent : List ℕ) (b
 
 -- ---- a value is given
 
-module _ (setting : CoreSetting) (constructors : List ConstructorTree) (from : CoreConfiguration) (lent : List ℕ)
+module _ (room : ℕ) (setting : CoreSetting) (constructors : List ConstructorTree) (from : CoreConfiguration) (lent : List ℕ)
     (below : List Value) (heap : Heap) (store : from.store ≡ forwards heap) (input : List ℕ) where
   -- what a function that waits owns
   abbrev waiting_owned : List ℕ → List ℕ → CallFrame → List ℕ
@@ -223,14 +223,14 @@ module _ (setting : CoreSetting) (constructors : List ConstructorTree) (from : C
       → IsSound (values_of environment ((x ∷ []) ++ left_by (left_of setting.positions setting.code.functions lent joins)) ++
       below) after
       → ResultFits constructors setting.code (value_of environment x) joins core_frames
-      → (most : ℕ) → form_cost + drop_cost * (suc (length (left_by
+      → (most : ℕ) → room + form_cost + drop_cost * (suc (length (left_by
       (left_of setting.positions setting.code.functions lent joins))) + length below) ≤ most
-      → Follows setting.positions setting.code.functions (inserted_setting setting) 1 most
+      → Follows setting.positions setting.code.functions (inserted_at room setting) 1 most
       (give_step (value_of environment x) joins core_frames environment from) input
       (with_input (conf (Counted.give x) environment (image_joins setting.positions setting.code.functions lent joins) frames after)
       input)
   gives x environment (join ∷ joins) core_frames frames waits stand joins_ok reached after cells sound fits most costs =
-      path_step (inserted_setting setting) 0 most (drop_cost * suc (length (without (join.variable ∷ [])
+      path_step (inserted_at room setting) 0 most (drop_cost * suc (length (without (join.variable ∷ [])
       (own setting.positions lent (left_by (left_of setting.positions setting.code.functions lent joins)) join.rest)))
       + drop_cost * length below) [] []
       (Stands setting.positions setting.code.functions
@@ -243,7 +243,7 @@ module _ (setting : CoreSetting) (constructors : List ConstructorTree) (from : C
       (record { variable = join.variable; value = value_of environment x } ∷ environment)
       (image_joins setting.positions setting.code.functions lent joins) frames after) input)
       refl (tt, (tt, (tt, (tt, tt)))) (omega (arith, costs))
-      (landing_path (inserted_setting setting)
+      (landing_path (inserted_at room setting)
       (Stands setting.positions setting.code.functions
       (record { machine = bound_then join.variable (value_of environment x) join.rest environment joins from; input = input }))
       (record { variable = join.variable; value = value_of environment x } ∷ environment)
@@ -269,7 +269,7 @@ module _ (setting : CoreSetting) (constructors : List ConstructorTree) (from : C
             (without (join.variable ∷ []) (own setting.positions lent
             (left_by (left_of setting.positions setting.code.functions lent joins)) join.rest))) below q,
       )) sound)
-      (λ last cells_then sound_then. path_here (inserted_setting setting)
+      (λ last cells_then sound_then. path_here (inserted_at room setting)
       (saved_at setting from lent below frames heap store waits input lent joins join.rest)
       (Stands setting.positions setting.code.functions
       (record { machine = bound_then join.variable (value_of environment x) join.rest environment joins from; input = input }))
@@ -277,19 +277,19 @@ module _ (setting : CoreSetting) (constructors : List ConstructorTree) (from : C
       (left_by (left_of setting.positions setting.code.functions lent joins)) join.rest)
       (record { variable = join.variable; value = value_of environment x } ∷ environment)
       (image_joins setting.positions setting.code.functions lent joins) frames last) input)
-      (arrives setting from lent below frames heap store waits input join.rest
+      (arrives room setting from lent below frames heap store waits input join.rest
       (record { variable = join.variable; value = value_of environment x } ∷ environment) joins last (cells_then ∙ cells)
       (rest_code setting.positions setting.code.functions lent
       (left_of setting.positions setting.code.functions lent joins) join.variable join.rest joins_ok.0) joins_ok.1
       (reached_bound from.store below environment lent join.variable (value_of environment x) joins_ok.0.unlent reached)
       sound_then (saved_at setting from lent below frames heap store waits input lent joins join.rest) (omega arith))))
   gives x environment [] [] [] waits stand joins_ok reached after cells sound fits most costs =
-      path_step (inserted_setting setting) 0 most 0 [] []
+      path_step (inserted_at room setting) 0 most 0 [] []
       (Stands setting.positions setting.code.functions (record { machine = at_end ended from; input = input }))
       (with_input (conf (Counted.give x) environment [] [] after) input)
       (with_input (record { control = Final.stopped ended; frames = []; heap = after }) input)
       refl (tt, (tt, (tt, (tt, tt)))) (omega (arith, costs))
-      (path_here (inserted_setting setting) 0
+      (path_here (inserted_at room setting) 0
       (Stands setting.positions setting.code.functions (record { machine = at_end ended from; input = input }))
       (with_input (record { control = Final.stopped ended; frames = []; heap = after }) input) (refl, (refl, none)))
     where
@@ -307,10 +307,10 @@ module _ (setting : CoreSetting) (constructors : List ConstructorTree) (from : C
   gives x environment [] [] (c ∷ cs) waits stand joins_ok reached after cells sound fits most costs = absurd stand
   gives x environment [] (frame ∷ older) [] waits stand joins_ok reached after cells sound fits most costs = absurd stand
   gives x environment [] (frame ∷ older) (c ∷ cs) waits stand joins_ok reached after cells sound fits most costs =
-      subst (λ (other : CountedFrame). Follows setting.positions setting.code.functions (inserted_setting setting) 1 most
+      subst (λ (other : CountedFrame). Follows setting.positions setting.code.functions (inserted_at room setting) 1 most
       (give_step (value_of environment x) [] (frame ∷ older) environment from) input
       (with_input (conf (Counted.give x) environment [] (other ∷ cs) after) input)) (sym stand.1.0.is)
-      (path_step (inserted_setting setting) 0 most
+      (path_step (inserted_at room setting) 0 most
       (drop_cost * (suc (length (waiting_owned stand.1.0.lent stand.1.0.given frame)) + length stand.0)) [] []
       (Stands setting.positions setting.code.functions
       (record {
@@ -330,7 +330,7 @@ module _ (setting : CoreSetting) (constructors : List ConstructorTree) (from : C
         ap length stand.1.0.owned,
         owned_length frame.environment (waiting_owned stand.1.0.lent stand.1.0.given frame) stand.0,
       ))
-      (lands setting (record from { frames = older }) stand.1.0.lent stand.0 cs after
+      (lands room setting (record from { frames = older }) stand.1.0.lent stand.0 cs after
       (store ∙ same_store heap after (sym cells)) stand.1.1 input
       frame.variable (value_of environment x) frame.rest frame.environment frame.joins stand.1.0.given
       (values_of environment (x ∷ []) ++ below) stand.1.0.rest stand.1.0.joins stand.1.0.reached stand.1.0.new
@@ -347,21 +347,21 @@ module _ (setting : CoreSetting) (constructors : List ConstructorTree) (from : C
       → IsSound (values_of environment (own setting.positions lent
       (left_by (left_of setting.positions setting.code.functions lent joins)) (give x)) ++ below) heap
       → ResultFits constructors setting.code (value_of environment x) joins from.frames
-      → (most : ℕ) → step_cost + drop_cost * (length (own setting.positions lent
+      → (most : ℕ) → room + step_cost + drop_cost * (length (own setting.positions lent
       (left_by (left_of setting.positions setting.code.functions lent joins)) (give x)) + length below) ≤ most
-      → Follows setting.positions setting.code.functions (inserted_setting setting) 1 most
+      → Follows setting.positions setting.code.functions (inserted_at room setting) 1 most
       (give_step (value_of environment x) joins from.frames environment from) input
       (with_input (conf (insert setting.positions lent (left_by (left_of setting.positions setting.code.functions lent joins))
       (give x)) environment (image_joins setting.positions setting.code.functions lent joins) frames heap) input)
   follows_give x environment joins frames waits joins_ok reached sound fits most costs =
-      dups_first (inserted_setting setting)
+      dups_first (inserted_at room setting)
       (Stands setting.positions setting.code.functions
       (performed (give_step (value_of environment x) joins from.frames environment from) input).1) environment
       (image_joins setting.positions setting.code.functions lent joins) frames below input 1
       (performed (give_step (value_of environment x) joins from.frames environment from) input).0
       setting.positions lent (x ∷ []) (left_by (left_of setting.positions setting.code.functions lent joins))
-      (Counted.give x) heap most (form_cost + drop_cost * length below) (omega (arith, costs)) sound
+      (Counted.give x) heap most (room + form_cost + drop_cost * length below) (omega (arith, costs)) sound
       (subst (λ (s : Store). AreReached s below environment lent) store reached)
       (λ after cells sound_then. gives x environment joins from.frames frames waits waits joins_ok reached after cells sound_then
       fits (drop_cost * (1 + length (left_by (left_of setting.positions setting.code.functions lent joins)))
-      + (form_cost + drop_cost * length below)) (omega arith))
+      + (room + form_cost + drop_cost * length below)) (omega arith))

@@ -42,9 +42,9 @@ use Rattle.kk_insert.proofs.Owned.{own_part, own_apart, owns_after, rest_part}
 use Rattle.kk_insert.proofs.Spent.{looked_at, at_tail, fields_even, owns_kept, owns_new}
 use Rattle.kk_insert.proofs.Paths.{PassingBy, Passing, passing_by, conf, with_input, Path, path_by, path_here, path_next, path_step}
 use Rattle.kk_insert.proofs.Settling.{sound_even, either_counted, dups_path, dropping_path}
-use Rattle.kk_insert.proofs.Standing.{left_of, image_joins, CodeOk, JoinsOk, FramesStand, Stands, FollowsBy, Follows}
+use Rattle.kk_insert.proofs.Standing.{inserted_at, left_of, image_joins, CodeOk, JoinsOk, FramesStand, Stands, FollowsBy, Follows}
 
-module _ (setting : CoreSetting) (from : CoreConfiguration) (lent : List ℕ) (below : List Value) (frames : List CountedFrame)
+module _ (room : ℕ) (setting : CoreSetting) (from : CoreConfiguration) (lent : List ℕ) (below : List Value) (frames : List CountedFrame)
     (heap : Heap)
     (store : from.store ≡ forwards heap)
     (waits : FramesStand setting.positions setting.code.functions from.store from.frames frames below) (input : List ℕ) where
@@ -102,12 +102,12 @@ module _ (setting : CoreSetting) (from : CoreConfiguration) (lent : List ℕ) (b
 
     abbrev Does : (least most : ℕ) → Action CoreConfiguration → Counted.Counted → Type 0
     Does least most action code =
-        Follows setting.positions setting.code.functions (inserted_setting setting) least most action input
+        Follows setting.positions setting.code.functions (inserted_at room setting) least most action input
         (with_input (conf code environment (image_joins setting.positions setting.code.functions lent joins) frames heap) input)
 
     abbrev DoesBy : (CountedState → Type 0) → (least most : ℕ) → Action CoreConfiguration → Counted.Counted → Type 0
     DoesBy Q least most action code =
-        FollowsBy setting.positions setting.code.functions Q (inserted_setting setting) least most action input
+        FollowsBy setting.positions setting.code.functions Q (inserted_at room setting) least most action input
         (with_input (conf code environment (image_joins setting.positions setting.code.functions lent joins) frames heap) input)
 
     abbrev StandsAs : List Note × CoreState → ℕ → CountedState → Type 0
@@ -121,11 +121,11 @@ module _ (setting : CoreSetting) (from : CoreConfiguration) (lent : List ℕ) (b
         → Part (owning code) all → IsSound (values_of environment all ++ below) heap
         → Does 0 most (goes (at_code code environment joins from)) (dropping all (owning code) (inserted_code code))
     dropped_first all code most costs ok apart part sound =
-        dropping_path (inserted_setting setting) (StandsAs (performed (goes (at_code code environment joins from)) input))
+        dropping_path (inserted_at room setting) (StandsAs (performed (goes (at_code code environment joins from)) input))
         environment (image_joins setting.positions setting.code.functions lent joins) frames below input 0 []
         all (owning code) (inserted_code code) heap most (drop_cost * length below) (omega (arith, costs)) apart
         (own_apart setting.positions lent (left_by left) code ok.apart) part sound
-        (λ after cells sound_then. path_here (inserted_setting setting)
+        (λ after cells sound_then. path_here (inserted_at room setting)
         (drop_cost * length (owning code) + drop_cost * length below)
         (StandsAs (performed (goes (at_code code environment joins from)) input))
         (with_input (conf (inserted_code code) environment
@@ -133,7 +133,7 @@ module _ (setting : CoreSetting) (from : CoreConfiguration) (lent : List ℕ) (b
         (arrives code environment joins after cells ok joins_ok reached sound_then
         (drop_cost * length (owning code) + drop_cost * length below) (omega arith)))
 
-    pub follows_use : (x : ℕ) (rest : Code) (most : ℕ) → step_cost + credit_of (owning (use_of x rest)) ≤ most
+    pub follows_use : (x : ℕ) (rest : Code) (most : ℕ) → room + step_cost + credit_of (owning (use_of x rest)) ≤ most
         → Ok (use_of x rest) → SoundNow (use_of x rest)
         → Does 0 most (goes (at_code rest environment joins from)) (inserted_code (use_of x rest))
     follows_use x rest most costs ok sound =
@@ -151,7 +151,7 @@ module _ (setting : CoreSetting) (from : CoreConfiguration) (lent : List ℕ) (b
         (owns_after setting.positions lent (x ∷ []) (owning rest)) sound
 
     pub follows_branch : (x : ℕ) (positive negative : Code) (most : ℕ)
-        → step_cost + credit_of (owning (branch x positive negative)) ≤ most → Ok (branch x positive negative)
+        → room + step_cost + credit_of (owning (branch x positive negative)) ≤ most → Ok (branch x positive negative)
         → SoundNow (branch x positive negative) → IsTruth (value_of environment x)
         → Does 1 most (goes (at_code (if is_true (value_of environment x) then positive else negative) environment joins from))
         (inserted_code (branch x positive negative))
@@ -161,7 +161,7 @@ module _ (setting : CoreSetting) (from : CoreConfiguration) (lent : List ℕ) (b
             → Does 1 most (goes (at_code (if t then positive else negative) environment joins from))
             (inserted_code (branch x positive negative))
         by_test true is =
-            path_step (inserted_setting setting) 0 most (credit_of (owning (branch x positive negative))) [] []
+            path_step (inserted_at room setting) 0 most (credit_of (owning (branch x positive negative))) [] []
             (StandsAs (performed (goes (at_code positive environment joins from)) input))
             (with_input (conf (inserted_code (branch x positive negative)) environment
             (image_joins setting.positions setting.code.functions lent joins) frames heap) input)
@@ -188,7 +188,7 @@ module _ (setting : CoreSetting) (from : CoreConfiguration) (lent : List ℕ) (b
             (λ y is. owns_after setting.positions lent (x ∷ []) (before (owning positive) (owning negative)) y
             (before_front (owning positive) (owning negative) y is)) sound)
         by_test false is =
-            path_step (inserted_setting setting) 0 most (credit_of (owning (branch x positive negative))) [] []
+            path_step (inserted_at room setting) 0 most (credit_of (owning (branch x positive negative))) [] []
             (StandsAs (performed (goes (at_code negative environment joins from)) input))
             (with_input (conf (inserted_code (branch x positive negative)) environment
             (image_joins setting.positions setting.code.functions lent joins) frames heap) input)
@@ -215,12 +215,12 @@ module _ (setting : CoreSetting) (from : CoreConfiguration) (lent : List ℕ) (b
             (λ y is. owns_after setting.positions lent (x ∷ []) (before (owning positive) (owning negative)) y
             (before_back (owning positive) (owning negative) y is)) sound)
 
-    pub follows_inside : (x : ℕ) (block rest : Code) (most : ℕ) → step_cost + credit_of (owning (inside x block rest)) ≤ most
+    pub follows_inside : (x : ℕ) (block rest : Code) (most : ℕ) → room + step_cost + credit_of (owning (inside x block rest)) ≤ most
         → Ok (inside x block rest) → SoundNow (inside x block rest)
         → Does 1 most (goes (at_code block environment (record { variable = x; rest = rest } ∷ joins) from))
         (inserted_code (inside x block rest))
     follows_inside x block rest most costs ok sound =
-        path_step (inserted_setting setting) 0 most (credit_of (owning (inside x block rest))) [] []
+        path_step (inserted_at room setting) 0 most (credit_of (owning (inside x block rest))) [] []
         (StandsAs (performed (goes (at_code block environment (record { variable = x; rest = rest } ∷ joins) from)) input))
         (with_input (conf (inserted_code (inside x block rest)) environment
         (image_joins setting.positions setting.code.functions lent joins) frames heap) input)
@@ -228,7 +228,7 @@ module _ (setting : CoreSetting) (from : CoreConfiguration) (lent : List ℕ) (b
         (image_joins setting.positions setting.code.functions lent (record { variable = x; rest = rest } ∷ joins)) frames heap)
         input)
         refl (tt, (tt, (tt, (tt, tt)))) (omega (arith, costs))
-        (path_here (inserted_setting setting) (credit_of (owning (inside x block rest)))
+        (path_here (inserted_at room setting) (credit_of (owning (inside x block rest)))
         (StandsAs (performed (goes (at_code block environment (record { variable = x; rest = rest } ∷ joins) from)) input))
         (with_input (conf (insert setting.positions lent (without (x ∷ []) (owning rest)) block) environment
         (image_joins setting.positions setting.code.functions lent (record { variable = x; rest = rest } ∷ joins)) frames heap)
@@ -303,7 +303,7 @@ module _ (setting : CoreSetting) (from : CoreConfiguration) (lent : List ℕ) (b
     -- the first state is at the case, and none behind it is
     pub follows_case : (Test : Store → Value → List NodeTree → Type 0) (x : ℕ) (decisions : List NodeTree) (arms : Arms) (row : ℕ)
         (body : Code) (most : ℕ)
-        → step_cost + part_cost * looks_taken (slice_get from.store) (value_of environment x) decisions
+        → room + step_cost + part_cost * looks_taken (slice_get from.store) (value_of environment x) decisions
         + credit_of (owning (case x decisions arms)) ≤ most → Ok (case x decisions arms) → SoundNow (case x decisions arms)
         → chosen (slice_get from.store) (value_of environment x) decisions ≡ Some row → arm_at arms row ≡ Some body
         → Test from.store (value_of environment x) decisions
@@ -314,7 +314,7 @@ module _ (setting : CoreSetting) (from : CoreConfiguration) (lent : List ℕ) (b
         subst (λ (o : Option Code). DoesBy (PassingBy Test (inserted_setting setting)) 1 most (case_step o environment joins from)
         (inserted_code (case x decisions arms)))
         (sym (ap (λ (o : Option ℕ). and_then o (arm_at arms)) row_is ∙ body_is))
-        (path_next (PassingBy Test (inserted_setting setting)) (inserted_setting setting) 0 most
+        (path_next (PassingBy Test (inserted_setting setting)) (inserted_at room setting) 0 most
         (credit_of (owning (case x decisions arms))) [] []
         (StandsAs (performed (goes (at_code body environment joins from)) input))
         (with_input (conf (inserted_code (case x decisions arms)) environment
@@ -338,7 +338,7 @@ module _ (setting : CoreSetting) (from : CoreConfiguration) (lent : List ℕ) (b
           ),
         )
         (omega (arith, costs, looks))
-        (path_by (Passing (inserted_setting setting)) (PassingBy Test (inserted_setting setting)) (inserted_setting setting) 0
+        (path_by (Passing (inserted_setting setting)) (PassingBy Test (inserted_setting setting)) (inserted_at room setting) 0
         (credit_of (owning (case x decisions arms))) []
         (StandsAs (performed (goes (at_code body environment joins from)) input))
         (with_input (conf (dropping (owning (case x decisions arms)) (owning body) (inserted_code body)) environment
@@ -391,7 +391,7 @@ module _ (setting : CoreSetting) (from : CoreConfiguration) (lent : List ℕ) (b
         (sound : SoundNow (unpack x c fields rest)) (at : ℕ) (vs : List Value)
         (named : value_of environment x ≡ place at) (cell_is : slice_get from.store at ≡ Some (record { made_by = c; fields = vs }))
         (many : length vs ≡ length fields) (most : ℕ)
-        (costs : step_cost + part_cost * length fields + credit_of (owning (unpack x c fields rest)) ≤ most) where
+        (costs : room + step_cost + part_cost * length fields + credit_of (owning (unpack x c fields rest)) ≤ most) where
       rest_ok : Ok rest
       rest_ok =
           record {
@@ -467,11 +467,11 @@ module _ (setting : CoreSetting) (from : CoreConfiguration) (lent : List ℕ) (b
 
       arrives_rest : (after : Heap) → cells_of after ≡ cells_of heap
           → IsSound (values_of (bind_fields fields vs environment) (owning rest) ++ below) after
-          → Path (inserted_setting setting) 0 (credit_of (owning rest)) [] (StandsAs step_done)
+          → Path (inserted_at room setting) 0 (credit_of (owning rest)) [] (StandsAs step_done)
           (with_input (conf (inserted_code rest) (bind_fields fields vs environment)
           (image_joins setting.positions setting.code.functions lent joins) frames after) input)
       arrives_rest after cells sound_then =
-          path_here (inserted_setting setting) (credit_of (owning rest)) (StandsAs step_done)
+          path_here (inserted_at room setting) (credit_of (owning rest)) (StandsAs step_done)
           (with_input (conf (inserted_code rest) (bind_fields fields vs environment)
           (image_joins setting.positions setting.code.functions lent joins) frames after) input)
           (arrives rest (bind_fields fields vs environment) joins after cells rest_ok joins_ok
@@ -487,7 +487,7 @@ module _ (setting : CoreSetting) (from : CoreConfiguration) (lent : List ℕ) (b
           → Does 1 most (goes (at_code rest (bind_fields fields vs environment) joins from))
           (Counted.read x c fields (dups (common (owning rest) fields) (inserted_code rest)))
       follows_read owned =
-          path_step (inserted_setting setting) 0 most
+          path_step (inserted_at room setting) 0 most
           (dup_cost * length (common (owning rest) fields) + credit_of (owning rest)) [] [] (StandsAs step_done)
           (with_input (conf (Counted.read x c fields (dups (common (owning rest) fields) (inserted_code rest))) environment
           (image_joins setting.positions setting.code.functions lent joins) frames heap) input)
@@ -506,7 +506,7 @@ module _ (setting : CoreSetting) (from : CoreConfiguration) (lent : List ℕ) (b
             fields_length,
             filter_length (is_among (owning rest)) fields,
           ))
-          (dups_path (inserted_setting setting) (StandsAs step_done) (bind_fields fields vs environment)
+          (dups_path (inserted_at room setting) (StandsAs step_done) (bind_fields fields vs environment)
           (image_joins setting.positions setting.code.functions lent joins) frames below input 0 []
           (common (owning rest) fields) (without fields (owning rest)) (inserted_code rest) heap
           (dup_cost * length (common (owning rest) fields) + credit_of (owning rest)) (credit_of (owning rest)) (omega arith)
@@ -526,7 +526,7 @@ module _ (setting : CoreSetting) (from : CoreConfiguration) (lent : List ℕ) (b
           → Does 1 most (goes (at_code rest (bind_fields fields vs environment) joins from))
           (Counted.open_cell x c fields (common (owning rest) fields) (inserted_code rest))
       follows_open owned =
-          path_step (inserted_setting setting) 0 most (credit_of (owning rest)) [] [] (StandsAs step_done)
+          path_step (inserted_at room setting) 0 most (credit_of (owning rest)) [] [] (StandsAs step_done)
           (with_input (conf (Counted.open_cell x c fields (common (owning rest) fields) (inserted_code rest)) environment
           (image_joins setting.positions setting.code.functions lent joins) frames heap) input)
           (with_input (conf (inserted_code rest) (bind_fields fields vs environment)

@@ -10,14 +10,19 @@ use Rattle.kk_core.specs.Kinds.{IsTruth, TakesKinds}
 use Rattle.kk_counted.specs.CountedCodes.{Counted, give, tail_call, branch, case, compute, inside, read, open_cell, if_unique, dup, drop}
 use Rattle.kk_counted.specs.Heaps.{Heap, forwards, dup_value, drop_value}
 use Rattle.kk_counted.specs.CountedStates.{CountedSetting, CountedJoin, CountedFrame, CountedControl, running, stopped, stuck, CountedConfiguration, CountedState}
-use Rattle.kk_counted.specs.CountedCosts.{counted_cost}
+use Rattle.kk_counted.specs.CountedCosts.{roomy_cost}
 use Rattle.kk_counted.specs.CountedMachine.{with_heap, counted_code_step, counted_machine, NotStuck}
 use Rattle.kk_counted.specs.Keeping.{FitsAt, HasShape}
 use Rattle.kk_insert.specs.Meaning.{EndsClean}
 
--- steps weigh what they cost
-abbrev pub lower : CountedSetting → Machine CountedState Note End
-lower setting = counted_machine counted_cost setting
+-- what is run, and for how much each of its forms but a dup and a drop has room
+pub record Priced : Type 0 where
+  pub setting : CountedSetting
+  pub room : ℕ
+
+-- steps weigh what they cost, with the room
+abbrev pub lower : Priced → Machine CountedState Note End
+lower priced = counted_machine (roomy_cost priced.room) priced.setting
 
 -- what may be known of a case: of its value in a store, and of its decisions
 abbrev pub no_test : Store → Value → List NodeTree → Type 0
@@ -76,39 +81,39 @@ with_input c input = record { machine = c; input = input }
 
 -- From a state some steps with these notes, at least so many, lead to a state of a kind, through states of another kind. What
 -- they cost, and what is saved behind them, is at most `most`; and the kind says for how much a state stands that is saved.
-pub record PathBy (Q : CountedState → Type 0) (setting : CountedSetting) (least most : ℕ) (events : List Note)
+pub record PathBy (Q : CountedState → Type 0) (priced : Priced) (least most : ℕ) (events : List Note)
     (P : ℕ → CountedState → Type 0) (t : CountedState) : Type 0 where
   pub steps : ℕ
   pub saved : ℕ
   pub enough : least ≤ steps
-  pub paid : weight_of (lower setting) steps t + saved ≤ most
-  pub tells : trace (lower setting) steps t ≡ events
-  pub passes : (k : ℕ) → k < steps → Q (state (lower setting) k t)
-  pub ends : P saved (state (lower setting) steps t)
+  pub paid : weight_of (lower priced) steps t + saved ≤ most
+  pub tells : trace (lower priced) steps t ≡ events
+  pub passes : (k : ℕ) → k < steps → Q (state (lower priced) k t)
+  pub ends : P saved (state (lower priced) steps t)
 
 -- through states that are not at a case
-abbrev pub Path : CountedSetting → ℕ → ℕ → List Note → (ℕ → CountedState → Type 0) → CountedState → Type 0
-Path setting = PathBy (Passing setting) setting
+abbrev pub Path : Priced → ℕ → ℕ → List Note → (ℕ → CountedState → Type 0) → CountedState → Type 0
+Path priced = PathBy (Passing priced.setting) priced
 
 -- a path through states of one kind is one through states of another
-pub path_by : (Q R : CountedState → Type 0) (setting : CountedSetting) (least most : ℕ) (events : List Note)
+pub path_by : (Q R : CountedState → Type 0) (priced : Priced) (least most : ℕ) (events : List Note)
     (P : ℕ → CountedState → Type 0) (t : CountedState) → ((u : CountedState) → Q u → R u)
-    → PathBy Q setting least most events P t → PathBy R setting least most events P t
-path_by Q R setting least most events P t other path =
+    → PathBy Q priced least most events P t → PathBy R priced least most events P t
+path_by Q R priced least most events P t other path =
     record {
       steps = path.steps;
       saved = path.saved;
       enough = path.enough;
       paid = path.paid;
       tells = path.tells;
-      passes = λ k less. other (state (lower setting) k t) (path.passes k less);
+      passes = λ k less. other (state (lower priced) k t) (path.passes k less);
       ends = path.ends;
     }
 
 -- no step: all is saved
-pub path_here : (setting : CountedSetting) (most : ℕ) (P : ℕ → CountedState → Type 0) (t : CountedState) → P most t
-    → Path setting 0 most [] P t
-path_here setting most P t holds =
+pub path_here : (priced : Priced) (most : ℕ) (P : ℕ → CountedState → Type 0) (t : CountedState) → P most t
+    → Path priced 0 most [] P t
+path_here priced most P t holds =
     record {
       steps = 0;
       saved = most;
@@ -120,40 +125,40 @@ path_here setting most P t holds =
     }
 
 -- a step, and then others
-pub path_next : (Q : CountedState → Type 0) (setting : CountedSetting) (least most later : ℕ) (now events : List Note)
-    (P : ℕ → CountedState → Type 0) (t u : CountedState) → (lower setting).step t ≡ (now, u) → Q t
-    → (lower setting).weight t + later ≤ most → PathBy Q setting least later events P u
-    → PathBy Q setting (suc least) most (now ++ events) P t
-path_next Q setting least most later now events P t u is passing costs rest =
+pub path_next : (Q : CountedState → Type 0) (priced : Priced) (least most later : ℕ) (now events : List Note)
+    (P : ℕ → CountedState → Type 0) (t u : CountedState) → (lower priced).step t ≡ (now, u) → Q t
+    → (lower priced).weight t + later ≤ most → PathBy Q priced least later events P u
+    → PathBy Q priced (suc least) most (now ++ events) P t
+path_next Q priced least most later now events P t u is passing costs rest =
     record {
       steps = suc rest.steps;
       saved = rest.saved;
       enough = omega (arith, rest.enough);
       paid =
-          let whole : weight_of (lower setting) (suc rest.steps) t
-          ≡ (lower setting).weight t + weight_of (lower setting) rest.steps u
-          = ap (λ (next : List Note × CountedState). (lower setting).weight t + weight_of (lower setting) rest.steps next.1) is in
+          let whole : weight_of (lower priced) (suc rest.steps) t
+          ≡ (lower priced).weight t + weight_of (lower priced) rest.steps u
+          = ap (λ (next : List Note × CountedState). (lower priced).weight t + weight_of (lower priced) rest.steps next.1) is in
           omega (arith, whole, costs, rest.paid);
-      tells = ap (λ (next : List Note × CountedState). next.0 ++ trace (lower setting) rest.steps next.1) is
+      tells = ap (λ (next : List Note × CountedState). next.0 ++ trace (lower priced) rest.steps next.1) is
           ∙ ap (λ later. now ++ later) rest.tells;
       passes = passes;
-      ends = subst (λ (next : List Note × CountedState). P rest.saved (state (lower setting) rest.steps next.1)) (sym is) rest.ends;
+      ends = subst (λ (next : List Note × CountedState). P rest.saved (state (lower priced) rest.steps next.1)) (sym is) rest.ends;
     }
   where
-    passes : (k : ℕ) → k < suc rest.steps → Q (state (lower setting) k t)
+    passes : (k : ℕ) → k < suc rest.steps → Q (state (lower priced) k t)
     passes zero less = passing
-    passes (suc k) less = subst (λ (next : List Note × CountedState). Q (state (lower setting) k next.1)) (sym is)
+    passes (suc k) less = subst (λ (next : List Note × CountedState). Q (state (lower priced) k next.1)) (sym is)
         (rest.passes k (omega (arith, less)))
 
-pub path_step : (setting : CountedSetting) (least most later : ℕ) (now events : List Note) (P : ℕ → CountedState → Type 0)
-    (t u : CountedState) → (lower setting).step t ≡ (now, u) → Passing setting t → (lower setting).weight t + later ≤ most
-    → Path setting least later events P u → Path setting (suc least) most (now ++ events) P t
-path_step setting = path_next (Passing setting) setting
+pub path_step : (priced : Priced) (least most later : ℕ) (now events : List Note) (P : ℕ → CountedState → Type 0)
+    (t u : CountedState) → (lower priced).step t ≡ (now, u) → Passing priced.setting t → (lower priced).weight t + later ≤ most
+    → Path priced least later events P u → Path priced (suc least) most (now ++ events) P t
+path_step priced = path_next (Passing priced.setting) priced
 
 -- a path of so many steps is one of fewer, and one that may cost more
-pub path_less : (setting : CountedSetting) (least fewer most more : ℕ) (events : List Note) (P : ℕ → CountedState → Type 0)
-    (t : CountedState) → fewer ≤ least → most ≤ more → Path setting least most events P t → Path setting fewer more events P t
-path_less setting least fewer most more events P t less costs path =
+pub path_less : (priced : Priced) (least fewer most more : ℕ) (events : List Note) (P : ℕ → CountedState → Type 0)
+    (t : CountedState) → fewer ≤ least → most ≤ more → Path priced least most events P t → Path priced fewer more events P t
+path_less priced least fewer most more events P t less costs path =
     record {
       steps = path.steps;
       saved = path.saved;
@@ -165,28 +170,28 @@ path_less setting least fewer most more events P t less costs path =
     }
 
 -- the step at a code
-pub code_step : (setting : CountedSetting) (code : Counted) (environment : Environment) (joins : List CountedJoin)
+pub code_step : (priced : Priced) (code : Counted) (environment : Environment) (joins : List CountedJoin)
     (frames : List CountedFrame) (heap : Heap) (input : List ℕ) (action : Action CountedConfiguration)
-    → counted_code_step setting code environment joins (conf code environment joins frames heap) ≡ action
-    → (lower setting).step (with_input (conf code environment joins frames heap) input) ≡ performed action input
-code_step setting code environment joins frames heap input action is = ap
+    → counted_code_step priced.setting code environment joins (conf code environment joins frames heap) ≡ action
+    → (lower priced).step (with_input (conf code environment joins frames heap) input) ≡ performed action input
+code_step priced code environment joins frames heap input action is = ap
     (λ (a : Action CountedConfiguration). performed a input) is
 
 -- a dup, and a drop, that leave a heap
-pub dup_step : (setting : CountedSetting) (x : ℕ) (rest : Counted) (environment : Environment) (joins : List CountedJoin)
+pub dup_step : (priced : Priced) (x : ℕ) (rest : Counted) (environment : Environment) (joins : List CountedJoin)
     (frames : List CountedFrame) (heap after : Heap) (input : List ℕ)
     → dup_value (value_of environment x) heap ≡ Some after
-    → (lower setting).step (with_input (conf (dup x rest) environment joins frames heap) input) ≡
+    → (lower priced).step (with_input (conf (dup x rest) environment joins frames heap) input) ≡
     ([], with_input (conf rest environment joins frames after) input)
-dup_step setting x rest environment joins frames heap after input is =
+dup_step priced x rest environment joins frames heap after input is =
     ap (λ (o : Option Heap). performed (goes
     (with_heap o (conf (dup x rest) environment joins frames heap) (conf rest environment joins frames heap))) input) is
 
-pub drop_step : (setting : CountedSetting) (x : ℕ) (rest : Counted) (environment : Environment) (joins : List CountedJoin)
+pub drop_step : (priced : Priced) (x : ℕ) (rest : Counted) (environment : Environment) (joins : List CountedJoin)
     (frames : List CountedFrame) (heap after : Heap) (input : List ℕ)
     → drop_value (value_of environment x) heap ≡ Some after
-    → (lower setting).step (with_input (conf (drop x rest) environment joins frames heap) input) ≡
+    → (lower priced).step (with_input (conf (drop x rest) environment joins frames heap) input) ≡
     ([], with_input (conf rest environment joins frames after) input)
-drop_step setting x rest environment joins frames heap after input is =
+drop_step priced x rest environment joins frames heap after input is =
     ap (λ (o : Option Heap). performed (goes
     (with_heap o (conf (drop x rest) environment joins frames heap) (conf rest environment joins frames heap))) input) is

@@ -22,7 +22,7 @@ use Rattle.kk_insert.proofs.Sets.{Part, among_first, among_next, in_either, apar
 use Rattle.kk_insert.proofs.Owned.{owns_apart, owns_after}
 use Rattle.kk_insert.proofs.Lengths.{even_length}
 use Rattle.kk_insert.proofs.Spent.{landing_even, dropping_even}
-use Rattle.kk_insert.proofs.Paths.{conf, with_input, Path, path_step, path_less, dup_step, drop_step}
+use Rattle.kk_insert.proofs.Paths.{Priced, conf, with_input, Path, path_step, path_less, dup_step, drop_step}
 
 -- equal lists of variables own the same
 pub sound_even : (environment : Environment) (now other : List ℕ) (below : List Value) (heap : Heap) → AreEven now other
@@ -69,10 +69,10 @@ either_counted environment now lent below heap x sound reached is =
       | inr two ↦ owned_counted environment now below heap x sound two
     ]
 
-module _ (setting : CountedSetting) (P : ℕ → CountedState → Type 0) (environment : Environment) (joins : List CountedJoin)
+module _ (priced : Priced) (P : ℕ → CountedState → Type 0) (environment : Environment) (joins : List CountedJoin)
     (frames : List CountedFrame) (below : List Value) (input : List ℕ) (least : ℕ) (events : List Note) where
   abbrev pub From : ℕ → Counted → Heap → Type 0
-  From most code heap = Path setting least most events P (with_input (conf code environment joins frames heap) input)
+  From most code heap = Path priced least most events P (with_input (conf code environment joins frames heap) input)
 
   -- from a heap of these cells that is sound over what is owned a code goes on
   abbrev pub GoesOn : ℕ → Counted → List ℕ → Heap → Type 0
@@ -82,7 +82,7 @@ module _ (setting : CountedSetting) (P : ℕ → CountedState → Type 0) (envir
   -- a path that may cost more
   more : (most later : ℕ) (code : Counted) (heap : Heap) → later ≤ most → From later code heap → From most code heap
   more most later code heap costs path =
-      path_less setting least least later most events P (with_input (conf code environment joins frames heap) input)
+      path_less priced least least later most events P (with_input (conf code environment joins frames heap) input)
       (omega arith) costs path
 
   pub dups_path : (xs now : List ℕ) (code : Counted) (heap : Heap) (most later : ℕ) → dup_cost * length xs + later ≤ most
@@ -95,13 +95,13 @@ module _ (setting : CountedSetting) (P : ℕ → CountedState → Type 0) (envir
       let d = dupped (refs (values_of environment now ++ below))
       (λ q. refs_of (value_of environment x) q + refs (values_of environment now ++ below) q)
       (value_of environment x) heap sound.counts (usable x (among_first x xs)) (λ q. refl) in
-      path_less setting (suc least) least most most events P
+      path_less priced (suc least) least most most events P
       (with_input (conf (dups (x ∷ xs) code) environment joins frames heap) input)
       (omega arith) (omega arith)
-      (path_step setting least most (dup_cost * length xs + later) [] events P
+      (path_step priced least most (dup_cost * length xs + later) [] events P
       (with_input (conf (dups (x ∷ xs) code) environment joins frames heap) input)
       (with_input (conf (dups xs code) environment joins frames d.0.heap) input)
-      (dup_step setting x (dups xs code) environment joins frames heap d.0.heap input d.0.is) (tt, (tt, (tt, (tt, tt))))
+      (dup_step priced x (dups xs code) environment joins frames heap d.0.heap input d.0.is) (tt, (tt, (tt, (tt, tt))))
       (omega (arith, costs))
       (dups_path xs (x ∷ now) code d.0.heap (dup_cost * length xs + later) later (omega arith)
       (became_sound (values_of environment now ++ below) (values_of environment (x ∷ now) ++ below) heap
@@ -120,13 +120,13 @@ module _ (setting : CountedSetting) (P : ℕ → CountedState → Type 0) (envir
   drops_path (x ∷ xs) now code heap most later costs sound next =
       let d = dropped (refs (values_of environment (x ∷ (xs ++ now)) ++ below)) (refs (values_of environment (xs ++ now) ++ below))
       (value_of environment x) heap sound.counts (λ q. refl) in
-      path_less setting (suc least) least most most events P
+      path_less priced (suc least) least most most events P
       (with_input (conf (drops (x ∷ xs) code) environment joins frames heap) input)
       (omega arith) (omega arith)
-      (path_step setting least most (drop_cost * length xs + later) [] events P
+      (path_step priced least most (drop_cost * length xs + later) [] events P
       (with_input (conf (drops (x ∷ xs) code) environment joins frames heap) input)
       (with_input (conf (drops xs code) environment joins frames d.heap) input)
-      (drop_step setting x (drops xs code) environment joins frames heap d.heap input d.is) (tt, (tt, (tt, (tt, tt))))
+      (drop_step priced x (drops xs code) environment joins frames heap d.heap input d.is) (tt, (tt, (tt, (tt, tt))))
       (omega (arith, costs))
       (drops_path xs now code d.heap (drop_cost * length xs + later) later (omega arith)
       (became_sound (values_of environment (x ∷ (xs ++ now)) ++ below) (values_of environment (xs ++ now) ++ below) heap

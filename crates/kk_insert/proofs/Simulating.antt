@@ -16,7 +16,7 @@ use Rattle.kk_source.specs.Notes.{Note}
 use Rattle.kk_core.specs.Codes.{Code, give, tail_call, branch, case, compute, use_of, unpack, inside, FunctionCode}
 use Rattle.kk_core.specs.CoreStates.{CoreSetting, Join, CoreControl, running, stopped, CoreConfiguration, CoreState, no_code, core_start, core_first_state, core_end_at}
 use Rattle.kk_core.specs.CoreMachine.{code_step, core_step_at, core_machine}
-use Rattle.kk_core.specs.Costs.{control_cost, core_cost}
+use Rattle.kk_core.specs.Costs.{roomy_control_cost, roomy_core_cost}
 use Rattle.kk_core.specs.Decisions.{NodeTree}
 use Rattle.kk_core.specs.Kinds as Core
 use Rattle.kk_core.specs.Kinds.{TestsAlike}
@@ -25,7 +25,7 @@ use Rattle.kk_core.specs.Sizes.{forms, most_forms, below as numbers_below}
 use Rattle.kk_counted.specs.CountedCodes as Codes
 use Rattle.kk_counted.specs.CountedCodes.{CountedFunction}
 use Rattle.kk_counted.specs.Heaps.{Heap, forwards}
-use Rattle.kk_counted.specs.CountedCosts.{drop_cost, counted_cost}
+use Rattle.kk_counted.specs.CountedCosts.{drop_cost, roomy_cost}
 use Rattle.kk_counted.specs.CountedStates as Counted
 use Rattle.kk_counted.specs.CountedStates.{CountedFrame, CountedConfiguration, CountedState, no_function, counted_start, counted_first_state}
 use Rattle.kk_counted.specs.CountedMachine.{NotStuck}
@@ -43,7 +43,7 @@ use Rattle.kk_insert.proofs.Lengths.{part_none}
 use Rattle.kk_insert.proofs.Owned.{own_part}
 use Rattle.kk_insert.proofs.Programs.{is_fine, inserted_there, inserted_is_spent}
 use Rattle.kk_insert.proofs.Paths.{lower, IsFed, PassingBy, Passing, passing_by, conf, with_input, PathBy, path_by}
-use Rattle.kk_insert.proofs.Standing.{left_of, image_joins, CodeOk, Active, StandsAt, Stands, FollowsBy, Follows}
+use Rattle.kk_insert.proofs.Standing.{inserted_at, left_of, image_joins, CodeOk, Active, StandsAt, Stands, FollowsBy, Follows}
 use Rattle.kk_insert.proofs.Following.{follows_use, follows_branch, follows_case, follows_inside, follows_unpack}
 use Rattle.kk_insert.proofs.Entering.{follows_give}
 use Rattle.kk_insert.proofs.Calling.{follows_tail}
@@ -73,7 +73,7 @@ abbrev least : Code → ℕ
 least (use_of x rest) = 0
 least _ = 1
 
-module _ (setting : CoreSetting) (constructors : List ConstructorTree) (promise : IsInsertable setting.positions setting.code) where
+module _ (room : ℕ) (setting : CoreSetting) (constructors : List ConstructorTree) (promise : IsInsertable setting.positions setting.code) where
   abbrev StandsFor : CoreState → ℕ → CountedState → Type 0
   StandsFor = Stands setting.positions setting.code.functions
 
@@ -98,28 +98,28 @@ module _ (setting : CoreSetting) (constructors : List ConstructorTree) (promise 
       (from : CoreConfiguration) (credit : ℕ) (c : CountedConfiguration) (input : List ℕ)
       → Active setting.positions setting.code.functions code environment joins from credit c
       → CodeFits constructors setting.code code environment joins from → IsTested Test (running code environment joins) from
-      → FollowsBy setting.positions setting.code.functions (PassingBy Test (inserted_setting setting)) (inserted_setting setting)
-      (least code) (control_cost (running code environment joins) from.store + credit)
+      → FollowsBy setting.positions setting.code.functions (PassingBy Test (inserted_setting setting)) (inserted_at room setting)
+      (least code) (roomy_control_cost room (running code environment joins) from.store + credit)
       (code_step setting code environment joins from) input (with_input c input)
   code_follows Test code environment joins from credit c input active fits tested =
       subst (λ (other : CountedConfiguration). FollowsBy setting.positions setting.code.functions
-      (PassingBy Test (inserted_setting setting)) (inserted_setting setting)
-      (least code) (control_cost (running code environment joins) from.store + credit)
+      (PassingBy Test (inserted_setting setting)) (inserted_at room setting)
+      (least code) (roomy_control_cost room (running code environment joins) from.store + credit)
       (code_step setting code environment joins from) input (with_input other input)) (sym active.is)
       (by_code code active.code_ok active.sound active.saved fits tested)
     where
       widened : (code : Code)
-          → Follows setting.positions setting.code.functions (inserted_setting setting) (least code)
-          (control_cost (running code environment joins) from.store + credit)
+          → Follows setting.positions setting.code.functions (inserted_at room setting) (least code)
+          (roomy_control_cost room (running code environment joins) from.store + credit)
           (code_step setting code environment joins from) input
           (image active.lent code environment joins active.frames active.heap input)
-          → FollowsBy setting.positions setting.code.functions (PassingBy Test (inserted_setting setting)) (inserted_setting setting)
-          (least code) (control_cost (running code environment joins) from.store + credit)
+          → FollowsBy setting.positions setting.code.functions (PassingBy Test (inserted_setting setting)) (inserted_at room setting)
+          (least code) (roomy_control_cost room (running code environment joins) from.store + credit)
           (code_step setting code environment joins from) input
           (image active.lent code environment joins active.frames active.heap input)
       widened code path =
-          path_by (Passing (inserted_setting setting)) (PassingBy Test (inserted_setting setting)) (inserted_setting setting)
-          (least code) (control_cost (running code environment joins) from.store + credit)
+          path_by (Passing (inserted_setting setting)) (PassingBy Test (inserted_setting setting)) (inserted_at room setting)
+          (least code) (roomy_control_cost room (running code environment joins) from.store + credit)
           (performed (code_step setting code environment joins from) input).0
           (Stands setting.positions setting.code.functions (performed (code_step setting code environment joins from) input).1)
           (image active.lent code environment joins active.frames active.heap input) (passing_by Test (inserted_setting setting)) path
@@ -133,55 +133,55 @@ module _ (setting : CoreSetting) (constructors : List ConstructorTree) (promise 
           → drop_cost * (length (own setting.positions active.lent
           (left_by (left_of setting.positions setting.code.functions active.lent joins)) code) + length active.below) ≤ credit
           → CodeFits constructors setting.code code environment joins from → IsTested Test (running code environment joins) from
-          → FollowsBy setting.positions setting.code.functions (PassingBy Test (inserted_setting setting)) (inserted_setting setting)
-          (least code) (control_cost (running code environment joins) from.store + credit)
+          → FollowsBy setting.positions setting.code.functions (PassingBy Test (inserted_setting setting)) (inserted_at room setting)
+          (least code) (roomy_control_cost room (running code environment joins) from.store + credit)
           (code_step setting code environment joins from) input
           (image active.lent code environment joins active.frames active.heap input)
       by_code (give x) ok sound saved fits tested =
           widened (give x)
-          (follows_give setting constructors from active.lent active.below active.heap active.store input x environment joins
+          (follows_give room setting constructors from active.lent active.below active.heap active.store input x environment joins
           active.frames active.waits active.joins_ok active.reached sound fits
-          (control_cost (running (give x) environment joins) from.store + credit) (omega (arith, saved)))
+          (roomy_control_cost room (running (give x) environment joins) from.store + credit) (omega (arith, saved)))
       by_code (tail_call f arguments) ok sound saved fits tested =
           widened (tail_call f arguments)
-          (follows_tail setting promise from active.lent active.below active.frames active.heap active.store active.waits input f
+          (follows_tail room setting promise from active.lent active.below active.frames active.heap active.store active.waits input f
           arguments environment joins fits.0 ok active.reached sound fits.1 fits.2
-          (control_cost (running (tail_call f arguments) environment joins) from.store + credit) (omega (arith, saved)))
+          (roomy_control_cost room (running (tail_call f arguments) environment joins) from.store + credit) (omega (arith, saved)))
       by_code (branch x positive negative) ok sound saved fits tested =
           widened (branch x positive negative)
-          (follows_branch setting from active.lent active.below active.frames active.heap active.store active.waits input environment
+          (follows_branch room setting from active.lent active.below active.frames active.heap active.store active.waits input environment
           joins active.joins_ok active.reached x positive negative
-          (control_cost (running (branch x positive negative) environment joins) from.store + credit) (omega (arith, saved))
+          (roomy_control_cost room (running (branch x positive negative) environment joins) from.store + credit) (omega (arith, saved))
           ok sound fits)
       by_code (case x decisions arms) ok sound saved fits tested =
-          follows_case setting from active.lent active.below active.frames active.heap active.store active.waits input environment
+          follows_case room setting from active.lent active.below active.frames active.heap active.store active.waits input environment
           joins active.joins_ok active.reached Test x decisions arms fits.0 fits.1
-          (control_cost (running (case x decisions arms) environment joins) from.store + credit) (omega (arith, saved))
+          (roomy_control_cost room (running (case x decisions arms) environment joins) from.store + credit) (omega (arith, saved))
           ok sound fits.2 fits.3 tested
       by_code (compute x form arguments rest) ok sound saved fits tested =
           widened (compute x form arguments rest)
-          (follows_compute setting constructors promise from active.lent active.below active.frames active.heap active.store
+          (follows_compute room setting constructors promise from active.lent active.below active.frames active.heap active.store
           active.waits input environment joins active.joins_ok active.reached x form arguments rest ok sound fits
-          (control_cost (running (compute x form arguments rest) environment joins) from.store + credit) (omega (arith, saved)))
+          (roomy_control_cost room (running (compute x form arguments rest) environment joins) from.store + credit) (omega (arith, saved)))
       by_code (use_of x rest) ok sound saved fits tested =
           widened (use_of x rest)
-          (follows_use setting from active.lent active.below active.frames active.heap active.store active.waits input environment
+          (follows_use room setting from active.lent active.below active.frames active.heap active.store active.waits input environment
           joins active.joins_ok active.reached x rest
-          (control_cost (running (use_of x rest) environment joins) from.store + credit) (omega (arith, saved)) ok sound)
+          (roomy_control_cost room (running (use_of x rest) environment joins) from.store + credit) (omega (arith, saved)) ok sound)
       by_code (unpack x c fields rest) ok sound saved fits tested =
           widened (unpack x c fields rest)
-          (follows_unpack setting from active.lent active.below active.frames active.heap active.store active.waits input environment
+          (follows_unpack room setting from active.lent active.below active.frames active.heap active.store active.waits input environment
           joins active.joins_ok active.reached x c fields rest ok sound fits.0 fits.1 fits.2 fits.3 fits.4
-          (control_cost (running (unpack x c fields rest) environment joins) from.store + credit) (omega (arith, saved)))
+          (roomy_control_cost room (running (unpack x c fields rest) environment joins) from.store + credit) (omega (arith, saved)))
       by_code (inside x block rest) ok sound saved fits tested =
           widened (inside x block rest)
-          (follows_inside setting from active.lent active.below active.frames active.heap active.store active.waits input environment
+          (follows_inside room setting from active.lent active.below active.frames active.heap active.store active.waits input environment
           joins active.joins_ok active.reached x block rest
-          (control_cost (running (inside x block rest) environment joins) from.store + credit) (omega (arith, saved)) ok sound)
+          (roomy_control_cost room (running (inside x block rest) environment joins) from.store + credit) (omega (arith, saved)) ok sound)
 
   module _ (Test : Store → Value → List NodeTree → Type 0) where
     abbrev upper : Machine CoreState Note End
-    upper = core_machine core_cost setting
+    upper = core_machine (roomy_core_cost room) setting
 
     -- a state finds what it asks for, and it is known of its case
     abbrev IsSane : CoreConfiguration → Type 0
@@ -199,7 +199,7 @@ module _ (setting : CoreSetting) (constructors : List ConstructorTree) (promise 
 
     abbrev Reached : ℕ → ℕ → CoreState → List Note × CoreState → CountedState → Type 0
     Reached credit idle s next t =
-        Reaches (lower (inserted_setting setting)) Related Passed pace (upper.weight s + credit) 1 idle next.0 next.1 t
+        Reaches (lower (inserted_at room setting)) Related Passed pace (upper.weight s + credit) 1 idle next.0 next.1 t
 
     -- steps enough for a step of the core machine
     enough_moves : (steps at_least idle before after : ℕ) → at_least ≤ steps → (at_least ≡ 0 → suc after ≤ before) → before ≤ idle
@@ -209,7 +209,7 @@ module _ (setting : CoreSetting) (constructors : List ConstructorTree) (promise 
         omega (arith, mul-le-mul_right pace (let one : 1 ≤ steps = omega (arith, enough) in one), few)
 
     by_path : (credit idle before at_least most : ℕ) (s : CoreState) (next : List Note × CoreState) (t : CountedState)
-        → PathBy Passed (inserted_setting setting) at_least most next.0 (StandsFor next.1) t → most ≤ upper.weight s + credit
+        → PathBy Passed (inserted_at room setting) at_least most next.0 (StandsFor next.1) t → most ≤ upper.weight s + credit
         → Sane next.1
         → (at_least ≡ 0 → suc (waiting next.1.machine.control) ≤ before) → before ≤ idle → Reached credit idle s next t
     by_path credit idle before at_least most s next t path costs sane more waits =
@@ -220,7 +220,7 @@ module _ (setting : CoreSetting) (constructors : List ConstructorTree) (promise 
           paid = omega (arith, path.paid, costs);
           moves = enough_moves path.steps at_least idle before (waiting next.1.machine.control) path.enough more waits
               (waits_few next.1.machine.control next.1.machine path.saved
-              (state (lower (inserted_setting setting)) path.steps t).machine path.ends.1);
+              (state (lower (inserted_at room setting)) path.steps t).machine path.ends.1);
           events_are = path.tells;
           passes = path.passes;
           related = (omega arith, (path.ends, sane));
@@ -254,10 +254,10 @@ module _ (setting : CoreSetting) (constructors : List ConstructorTree) (promise 
     reaches_at (running code environment joins) credit idle s t at waits inputs active stands sane =
         subst (λ (next : List Note × CoreState). Reached credit idle s next t) (sym step_is)
         (by_path credit idle (uses_first code) (least code)
-        (control_cost (running code environment joins) s.machine.store + credit) s
+        (roomy_control_cost room (running code environment joins) s.machine.store + credit) s
         (performed (code_step setting code environment joins s.machine) s.input) t
-        (subst (λ (i : List ℕ). PathBy Passed (inserted_setting setting) (least code)
-        (control_cost (running code environment joins) s.machine.store + credit)
+        (subst (λ (i : List ℕ). PathBy Passed (inserted_at room setting) (least code)
+        (roomy_control_cost room (running code environment joins) s.machine.store + credit)
         (performed (code_step setting code environment joins s.machine) s.input).0
         (StandsFor (performed (code_step setting code environment joins s.machine) s.input).1) (with_input t.machine i))
         (sym inputs)
@@ -272,10 +272,10 @@ module _ (setting : CoreSetting) (constructors : List ConstructorTree) (promise 
         step_is = ap (λ (control : CoreControl). step_unless (core_end_at control) s
             (performed (core_step_at setting control s.machine) s.input)) at
 
-        costs_are : upper.weight s ≡ control_cost (running code environment joins) s.machine.store
-        costs_are = ap (λ (control : CoreControl). weight_unless (core_end_at control) (control_cost control s.machine.store)) at
+        costs_are : upper.weight s ≡ roomy_control_cost room (running code environment joins) s.machine.store
+        costs_are = ap (λ (control : CoreControl). weight_unless (core_end_at control) (roomy_control_cost room control s.machine.store)) at
     reaches_at (stopped by) credit idle s t at waits inputs ends stands sane =
-        ended_reaches upper (lower (inserted_setting setting)) Related Passed pace credit idle s t by (omega arith)
+        ended_reaches upper (lower (inserted_at room setting)) Related Passed pace credit idle s t by (omega arith)
         (subst (λ (control : CoreControl). waiting control ≤ idle) (sym at) waits, (stands, sane))
         (ap core_end_at at) (ap Counted.counted_end_at ends.0) (passing ends)
       where
@@ -285,7 +285,7 @@ module _ (setting : CoreSetting) (constructors : List ConstructorTree) (promise 
             × (HasShape (inserted_setting setting).program.functions (forwards t.machine.heap) control
             × IsFed Test t.machine.heap control)))) (sym both.0) (tt, (tt, (both.1, (tt, tt))))
 
-    simulates : Simulates upper (lower (inserted_setting setting)) Related Passed pace
+    simulates : Simulates upper (lower (inserted_at room setting)) Related Passed pace
     simulates =
         record {
           by = λ credit idle s t related. reaches_at s.machine.control credit idle s t refl related.0 related.1.0.0 related.1.0.1
@@ -389,10 +389,10 @@ module _ (setting : CoreSetting) (constructors : List ConstructorTree) (promise 
             (sym fetched_too) active_main)
 
 -- each state that is passed, where in each core state it is known of cases
-module _ (setting : CoreSetting) (constructors : List ConstructorTree) (weight : CoreState → ℕ) (input : List ℕ)
+module _ (room : ℕ) (setting : CoreSetting) (constructors : List ConstructorTree) (weight : CoreState → ℕ) (input : List ℕ)
     (promise : IsInsertable setting.positions setting.code) (never : NeverStuck constructors weight setting input)
     (Test : Store → Value → List NodeTree → Type 0)
-    (tested : (n : ℕ) → IsTested setting constructors promise Test
+    (tested : (n : ℕ) → IsTested room setting constructors promise Test
     (state (core_machine weight setting) n (core_first_state setting input)).machine.control
     (state (core_machine weight setting) n (core_first_state setting input)).machine) where
   abbrev first_core : CoreState
@@ -401,41 +401,41 @@ module _ (setting : CoreSetting) (constructors : List ConstructorTree) (weight :
   abbrev first_counted : CountedState
   first_counted = counted_first_state (inserted_setting setting) input
 
-  related : Related setting constructors promise Test 0 pace first_core first_counted
+  related : Related room setting constructors promise Test 0 pace first_core first_counted
   related = (
     omega (
       arith,
-      waits_few setting constructors promise first_core.machine.control first_core.machine 0 first_counted.machine
-          (start_stands setting constructors promise Test input).1,
+      waits_few room setting constructors promise first_core.machine.control first_core.machine 0 first_counted.machine
+          (start_stands room setting constructors promise Test input).1,
     ),
-    (start_stands setting constructors promise Test input, λ n. (never n, tested n)),
+    (start_stands room setting constructors promise Test input, λ n. (never n, tested n)),
   )
 
-  agrees : Agree (core_machine core_cost setting) (lower (inserted_setting setting)) 0 (λ m. m * pace + pace + 1) first_core
+  agrees : Agree (core_machine (roomy_core_cost room) setting) (lower (inserted_at room setting)) 0 (λ m. m * pace + pace + 1) first_core
       first_counted
   agrees =
-      simulates_agree (core_machine core_cost setting) (lower (inserted_setting setting))
-      (Related setting constructors promise Test) (PassingBy Test (inserted_setting setting)) pace
-      (simulates setting constructors promise Test) 0 pace first_core first_counted related
+      simulates_agree (core_machine (roomy_core_cost room) setting) (lower (inserted_at room setting))
+      (Related room setting constructors promise Test) (PassingBy Test (inserted_setting setting)) pace
+      (simulates room setting constructors promise Test) 0 pace first_core first_counted related
 
-  pub all_passed : (n : ℕ) → PassingBy Test (inserted_setting setting) (state (lower (inserted_setting setting)) n first_counted)
+  pub all_passed : (n : ℕ) → PassingBy Test (inserted_setting setting) (state (lower (inserted_at room setting)) n first_counted)
   all_passed n =
-      simulates_passing (core_machine core_cost setting) (lower (inserted_setting setting))
-      (Related setting constructors promise Test) (PassingBy Test (inserted_setting setting)) pace
-      (simulates setting constructors promise Test) 0 pace first_core first_counted related n
+      simulates_passing (core_machine (roomy_core_cost room) setting) (lower (inserted_at room setting))
+      (Related room setting constructors promise Test) (PassingBy Test (inserted_setting setting)) pace
+      (simulates room setting constructors promise Test) 0 pace first_core first_counted related n
 
 -- ---- where nothing is known of cases
 
 abbrev any_test : Store → Value → List NodeTree → Type 0
 any_test store v decisions = Unit {0}
 
-any_tested : (setting : CoreSetting) (constructors : List ConstructorTree)
+any_tested : (room : ℕ) (setting : CoreSetting) (constructors : List ConstructorTree)
     (promise : IsInsertable setting.positions setting.code) (control : CoreControl) (c : CoreConfiguration)
-    → IsTested setting constructors promise any_test control c
-any_tested setting constructors promise (stopped by) c = tt
-any_tested setting constructors promise (running code environment joins) c = by_code code
+    → IsTested room setting constructors promise any_test control c
+any_tested room setting constructors promise (stopped by) c = tt
+any_tested room setting constructors promise (running code environment joins) c = by_code code
   where
-    by_code : (code : Code) → IsTested setting constructors promise any_test (running code environment joins) c
+    by_code : (code : Code) → IsTested room setting constructors promise any_test (running code environment joins) c
     by_code (give x) = tt
     by_code (tail_call f arguments) = tt
     by_code (branch x positive negative) = tt
@@ -445,50 +445,50 @@ any_tested setting constructors promise (running code environment joins) c = by_
     by_code (unpack x by fields rest) = tt
     by_code (inside x block rest) = tt
 
-module _ (setting : CoreSetting) (constructors : List ConstructorTree) (weight : CoreState → ℕ) (input : List ℕ)
+module _ (room : ℕ) (setting : CoreSetting) (constructors : List ConstructorTree) (weight : CoreState → ℕ) (input : List ℕ)
     (promise : IsInsertable setting.positions setting.code) (never : NeverStuck constructors weight setting input) where
-  tested_at : (n : ℕ) → IsTested setting constructors promise any_test
+  tested_at : (n : ℕ) → IsTested room setting constructors promise any_test
       (state (core_machine weight setting) n (core_first_state setting input)).machine.control
       (state (core_machine weight setting) n (core_first_state setting input)).machine
   tested_at n =
-      any_tested setting constructors promise
+      any_tested room setting constructors promise
       (state (core_machine weight setting) n (core_first_state setting input)).machine.control
       (state (core_machine weight setting) n (core_first_state setting input)).machine
 
   any_passed : (n : ℕ) → PassingBy any_test (inserted_setting setting)
-      (state (lower (inserted_setting setting)) n (counted_first_state (inserted_setting setting) input))
-  any_passed = all_passed setting constructors weight input promise never any_test tested_at
+      (state (lower (inserted_at room setting)) n (counted_first_state (inserted_setting setting) input))
+  any_passed = all_passed room setting constructors weight input promise never any_test tested_at
 
 -- An inserted program keeps the meaning of a program that is never stuck.
 pub keeps_meaning : (setting : CoreSetting) (constructors : List ConstructorTree) (weight : CoreState → ℕ) (input : List ℕ)
     → IsInsertable setting.positions setting.code → NeverStuck constructors weight setting input → KeepsMeaning setting input
 keeps_meaning setting constructors weight input promise never =
     record {
-      agrees = agrees setting constructors weight input promise never any_test
-          (tested_at setting constructors weight input promise never);
+      agrees = λ room. agrees room setting constructors weight input promise never any_test
+          (tested_at room setting constructors weight input promise never);
       never_stuck = λ weights n. (passing n).0;
-      sound = λ weights n. keeps_sound setting.positions (inserted_setting setting) counted_cost input
+      sound = λ weights n. keeps_sound setting.positions (inserted_setting setting) (roomy_cost 0) input
           (inserted_is_spent setting.positions setting.code promise) (λ k. (passing k).1.0) n;
       clean = λ weights n. (passing n).1.1.0;
     }
   where
     passing : (n : ℕ) → PassingBy any_test (inserted_setting setting)
-        (state (lower (inserted_setting setting)) n (counted_first_state (inserted_setting setting) input))
-    passing = any_passed setting constructors weight input promise never
+        (state (lower (inserted_at 0 setting)) n (counted_first_state (inserted_setting setting) input))
+    passing = any_passed 0 setting constructors weight input promise never
 
 -- Its code has the shape that a typed program has.
 pub has_shape : (setting : CoreSetting) (constructors : List ConstructorTree) (weight : CoreState → ℕ) (weights : CountedState → ℕ)
     (input : List ℕ) → IsInsertable setting.positions setting.code → NeverStuck constructors weight setting input
     → HasShapeAlways weights (inserted_setting setting) input
 has_shape setting constructors weight weights input promise never n =
-    (any_passed setting constructors weight input promise never n).1.1.1.0
+    (any_passed 0 setting constructors weight input promise never n).1.1.1.0
 
 -- Its operators and prints take values without cells.
 pub always_fits : (setting : CoreSetting) (constructors : List ConstructorTree) (weight : CoreState → ℕ) (weights : CountedState → ℕ)
     (input : List ℕ) → IsInsertable setting.positions setting.code → NeverStuck constructors weight setting input
     → FitsAlways weights (inserted_setting setting) input
 always_fits setting constructors weight weights input promise never n =
-    (any_passed setting constructors weight input promise never n).1.0
+    (any_passed 0 setting constructors weight input promise never n).1.0
 
 -- ---- where values are of the kinds that core code takes
 
@@ -496,14 +496,14 @@ module _ (alike : ℕ → ℕ → Type 0) (fields : ℕ → ℕ) where
   abbrev alike_test : Store → Value → List NodeTree → Type 0
   alike_test store v decisions = TestsAlike alike fields (slice_get store) v decisions
 
-  module _ (setting : CoreSetting) (constructors : List ConstructorTree) (promise : IsInsertable setting.positions setting.code) where
+  module _ (room : ℕ) (setting : CoreSetting) (constructors : List ConstructorTree) (promise : IsInsertable setting.positions setting.code) where
     core_tested : (control : CoreControl) (c : CoreConfiguration) → Core.HasKinds alike fields control c
-        → IsTested setting constructors promise alike_test control c
+        → IsTested room setting constructors promise alike_test control c
     core_tested (stopped by) c kinds = tt
     core_tested (running code environment joins) c kinds = by_code code kinds
       where
         by_code : (code : Code) → Core.HasKinds alike fields (running code environment joins) c
-            → IsTested setting constructors promise alike_test (running code environment joins) c
+            → IsTested room setting constructors promise alike_test (running code environment joins) c
         by_code (give x) kinds = tt
         by_code (tail_call f arguments) kinds = tt
         by_code (branch x positive negative) kinds = tt
@@ -538,10 +538,10 @@ module _ (alike : ℕ → ℕ → Type 0) (fields : ℕ → ℕ) where
       → NeverStuck constructors weight setting input → Core.HasKindsAlways alike fields weight setting input
       → HasKindsAlways alike fields weights (inserted_setting setting) input
   keeps_kinds setting constructors weight weights input promise never kinds n =
-      fed_kinds (state (lower (inserted_setting setting)) n (counted_first_state (inserted_setting setting) input)).machine.heap
-      (state (lower (inserted_setting setting)) n (counted_first_state (inserted_setting setting) input)).machine.control
-      (all_passed setting constructors weight input promise never alike_test
-      (λ k. core_tested setting constructors promise
+      fed_kinds (state (lower (inserted_at 0 setting)) n (counted_first_state (inserted_setting setting) input)).machine.heap
+      (state (lower (inserted_at 0 setting)) n (counted_first_state (inserted_setting setting) input)).machine.control
+      (all_passed 0 setting constructors weight input promise never alike_test
+      (λ k. core_tested 0 setting constructors promise
       (state (core_machine weight setting) k (core_first_state setting input)).machine.control
       (state (core_machine weight setting) k (core_first_state setting input)).machine (kinds k)) n).1.1.1.1
 
@@ -556,13 +556,13 @@ pub finds_as_many : (setting : CoreSetting) (constructors : List ConstructorTree
 finds_as_many setting constructors weight input promise sane =
     record {
       counted_are_live = λ n k note is.
-          let prefix = kept.agrees.upwards.prefix n in (
+          let prefix = (kept.agrees 0).upwards.prefix n in (
             n * pace + pace + 1,
             ap (λ (notes : List Note). slice_get notes k) (sym prefix.1)
                 ∙ front_get (counted_notes setting input n) prefix.0 k note is,
           );
       live_are_counted = λ n k note is.
-          let done = kept.agrees.downwards n in
+          let done = (kept.agrees 0).downwards n in
           (done.steps, ap (λ (notes : List Note). slice_get notes k) done.events_are ∙ is);
     }
   where

@@ -5,7 +5,7 @@ use Rattle.kk_syntax.specs.PositionsOf.{PositionTable}
 use Rattle.kk_source.specs.State.{Value, Store, Environment}
 use Rattle.kk_source.specs.Actions.{Action, performed}
 use Rattle.kk_core.specs.Codes.{Code, FunctionCode}
-use Rattle.kk_core.specs.CoreStates.{Join, CallFrame, CoreControl, running, stopped, CoreConfiguration, CoreState}
+use Rattle.kk_core.specs.CoreStates.{CoreSetting, Join, CallFrame, CoreControl, running, stopped, CoreConfiguration, CoreState}
 use Rattle.kk_core.specs.Sizes.{forms, most_forms}
 use Rattle.kk_counted.specs.Heaps.{Heap, forwards}
 use Rattle.kk_counted.specs.CountedCosts.{drop_cost}
@@ -14,13 +14,13 @@ use Rattle.kk_counted.specs.CountedStates.{CountedSetting, CountedJoin, CountedF
 use Rattle.kk_counted.specs.References.{refs, IsSound}
 use Rattle.kk_counted.specs.Spending.{AreApart, left_by}
 use Rattle.kk_counted.specs.Keeping.{values_of, AreReached}
-use Rattle.kk_insert.specs.Meaning.{LeavesNone}
+use Rattle.kk_insert.specs.Meaning.{inserted_setting, LeavesNone}
 use Rattle.kk_insert.specs.Insertion.{dropping, owns, own, back, insert}
 use Rattle.kk_insert.specs.Promise.{LendsOn}
 use Rattle.kk_insert.proofs.Sets.{Part, among_next}
 use Rattle.kk_insert.proofs.Fine.{IsFine}
 use Rattle.kk_insert.proofs.Spent.{at_tail}
-use Rattle.kk_insert.proofs.Paths.{Passing, conf, PathBy}
+use Rattle.kk_insert.proofs.Paths.{Priced, Passing, conf, PathBy}
 
 module _ (positions : PositionTable) (source : List FunctionCode) where
   -- ---- by the lent variables of a function
@@ -136,11 +136,15 @@ module _ (positions : PositionTable) (source : List FunctionCode) where
   Stands s credit t = (t.input ≡ s.input) × StandsAt s.machine.control s.machine credit t.machine
 
   -- the counted machine does what an action of the core machine does, through states of a kind, at a cost of at most `most`
-  abbrev pub FollowsBy : (CountedState → Type 0) → CountedSetting → (least most : ℕ) → Action CoreConfiguration → List ℕ
+  abbrev pub FollowsBy : (CountedState → Type 0) → Priced → (least most : ℕ) → Action CoreConfiguration → List ℕ
       → CountedState → Type 0
-  FollowsBy Q setting least most action input t =
-      PathBy Q setting least most (performed action input).0 (Stands (performed action input).1) t
+  FollowsBy Q priced least most action input t =
+      PathBy Q priced least most (performed action input).0 (Stands (performed action input).1) t
 
   -- through states that are not at a case
-  abbrev pub Follows : CountedSetting → (least most : ℕ) → Action CoreConfiguration → List ℕ → CountedState → Type 0
-  Follows setting = FollowsBy (Passing setting) setting
+  abbrev pub Follows : Priced → (least most : ℕ) → Action CoreConfiguration → List ℕ → CountedState → Type 0
+  Follows priced = FollowsBy (Passing priced.setting) priced
+
+-- an inserted program with room
+abbrev pub inserted_at : ℕ → CoreSetting → Priced
+inserted_at room setting = record { setting = inserted_setting setting; room = room }

@@ -6,9 +6,9 @@ use Rattle.kk_source.specs.Notes.{Note}
 use Rattle.kk_source.specs.State.{End, ended, heap_full, stack_full}
 use Rattle.kk_core.specs.CoreStates.{CoreSetting, core_first_state}
 use Rattle.kk_core.specs.CoreMachine.{core_machine}
-use Rattle.kk_core.specs.Costs.{core_cost}
+use Rattle.kk_core.specs.Costs.{roomy_core_cost}
 use Rattle.kk_core.specs.Sizes.{most_forms}
-use Rattle.kk_counted.specs.CountedCosts.{counted_cost}
+use Rattle.kk_counted.specs.CountedCosts.{roomy_cost}
 use Rattle.kk_counted.specs.Heaps.{Heap, busy}
 use Rattle.kk_counted.specs.CountedStates.{CountedSetting, CountedControl, stopped, CountedConfiguration, CountedState, counted_first_state}
 use Rattle.kk_counted.specs.CountedMachine.{counted_machine, NotStuck}
@@ -48,9 +48,11 @@ counted_notes setting input n =
 -- On an input both machines tell the same notes and end alike: what the core machine does in n steps the counted machine does in
 -- some that cost no more, and what the counted machine does in m steps the core machine does within `m * pace + pace + 1`. The
 -- counted machine is never stuck, its heap is sound in each state, and where it has ended by itself no cell is left. The costs are
--- those of the tables: so the dups and drops are paid, however many drops there are and cells they free.
+-- those of the tables, with any room for each core step and each form but a dup and a drop: so the dups and drops are paid, however
+-- many drops there are and cells they free.
 pub record KeepsMeaning (setting : CoreSetting) (input : List ℕ) : Type 0 where
-  pub agrees : Agree (core_machine core_cost setting) (counted_machine counted_cost (inserted_setting setting))
+  pub agrees : (room : ℕ)
+      → Agree (core_machine (roomy_core_cost room) setting) (counted_machine (roomy_cost room) (inserted_setting setting))
       0 (λ m. m * pace + pace + 1) (core_first_state setting input) (counted_first_state (inserted_setting setting) input)
   pub never_stuck : (weights : CountedState → ℕ) (n : ℕ) → NotStuck (inserted_after weights setting input n).control
   pub sound : (weights : CountedState → ℕ) (n : ℕ)

@@ -11,7 +11,8 @@ use Rattle.kk_source.specs.State.{Setting}
 use Rattle.kk_source.specs.SourceAfter.{store_machine, first_state}
 use Rattle.kk_norm.specs.Meaning.{heavy_store_machine}
 use Rattle.kk_counted.specs.declared.counted.Counted.{Counted}
-use Rattle.kk_counted.specs.CountedCosts.{counted_cost}
+use Rattle.kk_core.specs.Costs.{most_room}
+use Rattle.kk_counted.specs.CountedCosts.{roomy_cost}
 use Rattle.kk_counted.specs.CountedStates.{CountedSetting, CountedState, counted_first_state}
 use Rattle.kk_counted.specs.CountedMachine.{counted_machine, NotStuck}
 use Rattle.kk_counted.specs.Keeping.{FitsAlways, IsKept, counted_after}
@@ -37,14 +38,15 @@ store_steps instances m = (m * pace + pace + 1) * (greatest_nodes instances + 1)
 
 -- On an input both machines tell the same notes and end alike: what the store machine does in n steps the counted machine does in
 -- some, and what the counted machine does in m steps the store machine does within `up m`. The counted steps that do n steps of the
--- store machine cost at most n times 256 times the square of the nodes of the greatest body, or of a greater number. The k-th note
+-- store machine cost at most n times 256 times the square of the nodes of the greatest body, or of a greater number, with room for
+-- more at each form but dups and drops. The k-th note
 -- of one is the k-th of the other: so where a cell is made, as many cells are counted as places are live. The counted machine is
 -- never stuck, its heap is sound in each state, operators and prints take values without cells, and where it has ended by itself no
 -- cell is left. So what is known of code that spends what it owns is known of this code.
 pub record KeepsMeaning (setting : Setting) (positions : PositionTable) (counted : CountedSetting) (greatest : ℕ) (up : ℕ → ℕ)
     (input : List ℕ) : Type 0 where
-  pub agrees : (nodes : ℕ) → greatest ≤ nodes
-      → Agree (heavy_store_machine (256 * (nodes * nodes)) setting) (counted_machine counted_cost counted) 0 up
+  pub agrees : (nodes room : ℕ) → greatest ≤ nodes → room ≤ most_room nodes
+      → Agree (heavy_store_machine (256 * (nodes * nodes)) setting) (counted_machine (roomy_cost room) counted) 0 up
       (first_state setting input) (counted_first_state counted input)
   pub counted_are_live : (n k : ℕ) (note : Note) → slice_get (counted_notes counted input n) k ≡ Some note
       → (m : ℕ) × (slice_get (store_notes setting input m) k ≡ Some note)

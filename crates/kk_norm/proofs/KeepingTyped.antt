@@ -25,7 +25,7 @@ use Rattle.kk_source.proofs.SafeRuns.{start_typed}
 use Rattle.kk_core.specs.Codes.{Code, give, tail_call, branch as core_branch, case, compute, use_of, unpack, inside, ProgramCode}
 use Rattle.kk_core.specs.CoreMachine.{core_step, core_ending_of, core_machine}
 use Rattle.kk_core.specs.CoreStates.{CoreSetting, CoreControl, running, stopped, CoreState, core_first_state}
-use Rattle.kk_core.specs.Costs.{step_cost, part_cost}
+use Rattle.kk_core.specs.Costs.{step_cost, part_cost, control_cost, most_room, roomy_control_cost}
 use Rattle.kk_core.proofs.FewParts.{most_seen, most_cost, run_cheap}
 use Rattle.kk_norm.specs.Meaning.{KeepsMeaningByCells, CostsLittle, weighed_store_machine, core_steps, openings_at, core_setting_of, core_after, setting_of}
 use Rattle.kk_norm.specs.Normalized.{IsCoreForm}
@@ -199,20 +199,28 @@ cost_at : (most : ℕ) (control : CoreControl) → most_cost (most_by most) cont
 cost_at most (running code environment joins) = costs_of most code
 cost_at most (stopped by) = omega arith
 
--- by the cells that a step opens, and the nodes of the greatest body
-square : (o d e : ℕ)
-    → 2 * (128 + 40 * ((o + d) * ((o + d) + 1))) + o * (128 + 40 * (o + d)) ≤ 256 * ((suc (o + d) + e) * (suc (o + d) + e))
-square o d e = omega arith
+-- by the cells that a step opens, the nodes of the greatest body, and the room
+square : (o d e room : ℕ) → room ≤ 64 * (o + d + e)
+    → 2 * (room + (128 + 40 * ((o + d) * ((o + d) + 1)))) + o * (room + (128 + 40 * (o + d)))
+    ≤ 256 * ((suc (o + d) + e) * (suc (o + d) + e))
+square o d e room few = omega (arith, few, mul-le-mul_right o few)
 
-step_costs : (o most nodes : ℕ) → o ≤ most → suc most ≤ nodes
-    → 2 * (step_cost + part_cost * (most * (most + 1))) + o * (step_cost + part_cost * most) ≤ 256 * (nodes * nodes)
-step_costs o most nodes few large =
+step_costs : (o most nodes room : ℕ) → o ≤ most → suc most ≤ nodes → room ≤ most_room nodes
+    → 2 * (room + (step_cost + part_cost * (most * (most + 1)))) + o * (room + (step_cost + part_cost * most))
+    ≤ 256 * (nodes * nodes)
+step_costs o most nodes room few large within =
     let first : o + (most - o) ≡ most = omega (arith, few) in
     let second : suc most + (nodes - suc most) ≡ nodes = omega (arith, large) in
-    subst (λ (n : ℕ). 2 * (128 + 40 * (most * (most + 1))) + o * (128 + 40 * most) ≤ 256 * (n * n)) second
-    (subst (λ (m : ℕ). 2 * (128 + 40 * (m * (m + 1))) + o * (128 + 40 * m)
+    subst (λ (n : ℕ). 2 * (room + (128 + 40 * (most * (most + 1)))) + o * (room + (128 + 40 * most)) ≤ 256 * (n * n)) second
+    (subst (λ (m : ℕ). 2 * (room + (128 + 40 * (m * (m + 1)))) + o * (room + (128 + 40 * m))
     ≤ 256 * ((suc m + (nodes - suc most)) * (suc m + (nodes - suc most)))) first
-    (square o (most - o) (nodes - suc most)))
+    (square o (most - o) (nodes - suc most) room (omega (arith, few, large, within))))
+
+-- a step with room costs no more than it does and the room
+roomy_most : (room : ℕ) (control : CoreControl) (store : Store)
+    → roomy_control_cost room control store ≤ room + control_cost control store
+roomy_most room (running code environment joins) store = omega arith
+roomy_most room (stopped by) store = omega arith
 
 pub typed_costs_little : (program : ProgramTree) (code : ProgramCode) → IsGroundTyped program → IsCoreForm program code
     → CostsLittle program code
@@ -226,17 +234,19 @@ typed_costs_little program code typed form =
     let main = core_at_number program.constructors program.functions code.functions form.functions program.main function found in
     let there : slice_get code.functions code.main ≡ Some main.0 = ap (slice_get code.functions) form.main ∙ main.1 in
     record {
-      agrees = λ positions cells depth input nodes weight large light.
+      agrees = λ positions cells depth input nodes room weight large within light.
           let core : CoreSetting = core_setting_of code positions cells depth in
-          typed_agrees program code typed form positions cells depth input (step_cost + part_cost * (most * (most + 1)))
-          (step_cost + part_cost * most) (λ t. most_cost (most_by most) t.machine.control) weight (λ s. 256 * (nodes * nodes))
-          (λ t. cost_at most t.machine.control) (λ x c fields rest core joins frames store input. omega arith)
+          typed_agrees program code typed form positions cells depth input
+          (room + (step_cost + part_cost * (most * (most + 1)))) (room + (step_cost + part_cost * most))
+          (λ t. room + most_cost (most_by most) t.machine.control) weight (λ s. 256 * (nodes * nodes))
+          (λ t. omega (arith, cost_at most t.machine.control)) (λ x c fields rest core joins frames store input. omega arith)
           (λ n. omega (
             arith,
             light n,
+            roomy_most room (core_after core input n).machine.control (core_after core input n).machine.store,
             run_cheap core (most_by most) (have_few_parts program code most form (omega (arith, some))) main.0 there (λ s. 1) input
                 n,
           ))
-          (λ s few. step_costs (openings_at s.machine.control s.machine.frames s.machine.store) most nodes few
-          (omega (arith, some, large)));
+          (λ s few. step_costs (openings_at s.machine.control s.machine.frames s.machine.store) most nodes room few
+          (omega (arith, some, large)) within);
     }

@@ -14,7 +14,7 @@ use Rattle.kk_source.specs.SourceAfter.{step, ending_of, first_state, State}
 use Rattle.kk_core.specs.Codes.{ProgramCode}
 use Rattle.kk_core.specs.CoreStates.{CoreSetting, CoreState, core_first_state}
 use Rattle.kk_core.specs.CoreMachine.{core_machine}
-use Rattle.kk_core.specs.Costs.{core_cost}
+use Rattle.kk_core.specs.Costs.{most_room, roomy_core_cost}
 use Rattle.kk_norm.specs.OpenedCells.{openings}
 
 -- the store machine, where the steps weigh so much
@@ -70,11 +70,12 @@ pub record KeepsMeaningByCells (program : ProgramTree) (code : ProgramCode) : Ty
       (first_state (setting_of program positions cells depth) input) (core_first_state (core_setting_of code positions cells depth) input)
 
 -- The core steps that do a step of the source cost at most 256 times the square of the nodes of the greatest body, or of a
--- greater number: so the machines agree where the one weighs as much, and the steps of the other no more than they cost.
+-- greater number, with room for more in each of them: so the machines agree where the one weighs as much, and the steps of the
+-- other no more than they cost with that room.
 pub record CostsLittle (program : ProgramTree) (code : ProgramCode) : Type 0 where
-  pub agrees : (positions : PositionTable) (cells depth : ℕ) (input : List ℕ) (nodes : ℕ) (weight : CoreState → ℕ)
-      → greatest_nodes program ≤ nodes
+  pub agrees : (positions : PositionTable) (cells depth : ℕ) (input : List ℕ) (nodes room : ℕ) (weight : CoreState → ℕ)
+      → greatest_nodes program ≤ nodes → room ≤ most_room nodes
       → ((n : ℕ) → weight (core_after (core_setting_of code positions cells depth) input n)
-      ≤ core_cost (core_after (core_setting_of code positions cells depth) input n))
+      ≤ roomy_core_cost room (core_after (core_setting_of code positions cells depth) input n))
       → Agree (heavy_store_machine (256 * (nodes * nodes)) (setting_of program positions cells depth)) (core_machine weight (core_setting_of code positions cells depth)) 0 (λ m. m * (greatest_nodes program + 1) + greatest_nodes program + 1)
       (first_state (setting_of program positions cells depth) input) (core_first_state (core_setting_of code positions cells depth) input)

@@ -7,7 +7,7 @@ use Rattle.kk_core.specs.Costs.{part_cost}
 use Rattle.kk_core.specs.Looks.{looks_taken}
 use Rattle.kk_core.specs.declared.decisions.Edge.{Edge}
 use Rattle.kk_counted.specs.CountedCodes.{Counted, give, tail_call, branch, case, compute, inside, read, open_cell, if_unique, dup, drop, CountedArms, no_arm, arm}
-use Rattle.kk_counted.specs.CountedCosts.{form_cost, code_cost as counted_code_cost, control_cost as counted_control_cost, counted_cost}
+use Rattle.kk_counted.specs.CountedCosts.{form_cost, code_cost as counted_code_cost, roomy_control_cost, counted_cost}
 use Rattle.kk_counted.specs.CountedStates.{CountedControl, running, stopped, stuck, CountedState}
 use Rattle.kk_counted.specs.Heaps.{Heap, cell_at}
 
@@ -137,7 +137,7 @@ pub lines_within : (s : CountedState) → lines_cost s ≤ counted_cost s
 lines_within s = by s.machine.control
   where
     by : (control : CountedControl)
-        → control_cost control s.machine.heap ≤ counted_control_cost control s.machine.heap
-    by (running code environment joins) = code_within code environment s.machine.heap
+        → control_cost control s.machine.heap ≤ roomy_control_cost 0 control s.machine.heap
+    by (running code environment joins) = omega (arith, code_within code environment s.machine.heap)
     by (stopped end) = omega arith
     by stuck = omega arith

@@ -15,12 +15,12 @@ use Rattle.kk_mono.specs.Grounds.{instances_of}
 use Rattle.kk_mono.specs.Instances.{InstanceTree, IsInstanceProgram}
 use Rattle.kk_core.specs.Codes.{ProgramCode, core_code}
 use Rattle.kk_core.specs.CoreMachine.{core_machine}
-use Rattle.kk_core.specs.Costs.{core_cost}
+use Rattle.kk_core.specs.Costs.{most_room, roomy_core_cost}
 use Rattle.kk_core.specs.CoreStates.{CoreSetting, core_first_state}
 use Rattle.kk_core.specs.CoreTyping.{IsCoreTyped}
 use Rattle.kk_norm.specs.Meaning as Norm
 use Rattle.kk_counted.specs.CountedCodes.{CountedProgram}
-use Rattle.kk_counted.specs.CountedCosts.{counted_cost}
+use Rattle.kk_counted.specs.CountedCosts.{roomy_cost}
 use Rattle.kk_counted.specs.CountedMachine.{counted_machine}
 use Rattle.kk_counted.specs.CountedStates.{CountedSetting, CountedState, counted_first_state}
 use Rattle.kk_counted.specs.Keeping.{FitsAlways, counted_after}
@@ -73,18 +73,18 @@ returns c typed given made checked are compiled keeps cells depth input =
     (always_fit (marks_of_types (table_of ground)) marked.0 counted marked.1 weights input n).1 in
     let store : Setting = setting_of ground own cells depth in
     let agree
-    : (nodes : ℕ) → greatest_nodes ground ≤ nodes
-    → Agree (Norm.heavy_store_machine (256 * (nodes * nodes)) store) (counted_machine counted_cost counted) 0 (store_steps ground)
+    : (nodes room : ℕ) → greatest_nodes ground ≤ nodes → room ≤ most_room nodes
+    → Agree (Norm.heavy_store_machine (256 * (nodes * nodes)) store) (counted_machine (roomy_cost room) counted) 0 (store_steps ground)
     (first_state store input) (counted_first_state counted input)
-    = λ nodes large.
-    agree_through (Norm.heavy_store_machine (256 * (nodes * nodes)) store) (core_machine core_cost core)
-    (counted_machine counted_cost counted) 0 0
+    = λ nodes room large within.
+    agree_through (Norm.heavy_store_machine (256 * (nodes * nodes)) store) (core_machine (roomy_core_cost room) core)
+    (counted_machine (roomy_cost room) counted) 0 0
     (λ m. m * (greatest_nodes ground + 1) + greatest_nodes ground + 1) (λ m. m * Insert.pace + Insert.pace + 1)
     (first_state store input) (core_first_state core input)
     (counted_first_state counted input)
     ((c.core_forms_of_typed_programs_cost_little.ensures ground code is_typed compiled.form).agrees own cells depth input nodes
-    core_cost large (λ n. omega arith))
-    means.agrees in
+    room (roomy_core_cost room) large within (λ n. omega arith))
+    (means.agrees room) in
     let same : counted_setting made given cells depth ≡ special_setting counted
     = ap (λ (all : CountedProgram). record { program = all; cells = cells; depth = depth })
     (compiled_program typed given made compiled) in
