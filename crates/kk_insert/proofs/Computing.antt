@@ -366,70 +366,70 @@ module _ (room : ℕ) (setting : CoreSetting) (constructors : List ConstructorTr
   abbrev CostsAt : ℕ → List ℕ → Form → Type 0
   CostsAt most arguments form =
       room + form_cost + value_cost * length arguments + drop_cost * (suc (length (used setting.positions form arguments)
-      + length (held setting constructors promise from lent below frames heap store waits x arguments rest environment joins rest_ok
+      + length (held room setting constructors promise from lent below frames heap store waits x arguments rest environment joins rest_ok
       joins_ok reached form)) + length below) ≤ most
 
   reads : (input : List ℕ) (arguments : List ℕ) (most : ℕ) → CostsAt most arguments ReadByte
       → HaveNoCells (values_of environment arguments)
-      → SoundAt setting constructors promise from lent below frames heap store waits x arguments rest environment joins rest_ok
+      → SoundAt room setting constructors promise from lent below frames heap store waits x arguments rest environment joins rest_ok
       joins_ok reached ReadByte
-      → FollowsForm setting constructors promise from lent below frames heap store waits x arguments rest environment joins rest_ok
+      → FollowsForm room setting constructors promise from lent below frames heap store waits x arguments rest environment joins rest_ok
       joins_ok reached input most ReadByte
   reads [] arguments most costs none sound =
       path_step (inserted_at room setting) 0 most
-      (saved_behind setting constructors promise from lent below frames heap store waits x arguments rest environment joins rest_ok
+      (saved_behind room setting constructors promise from lent below frames heap store waits x arguments rest environment joins rest_ok
       joins_ok reached) (seen input_end ∷ []) []
       (Stands setting.positions setting.code.functions
       (record { machine = bound_then x (byte_value None) rest environment joins from; input = [] }))
-      (with_input (before_form setting constructors promise from lent below frames heap store waits x arguments rest environment
+      (with_input (before_form room setting constructors promise from lent below frames heap store waits x arguments rest environment
       joins rest_ok joins_ok reached ReadByte) [])
-      (with_input (with_value setting constructors promise from lent below frames heap store waits x arguments rest environment
+      (with_input (with_value room setting constructors promise from lent below frames heap store waits x arguments rest environment
       joins rest_ok joins_ok reached (byte_value None)) []) refl (tt, (none, (tt, (tt, tt)))) (omega (arith, costs))
       (value_lands room setting constructors promise from lent below frames heap store waits x arguments rest environment joins rest_ok
       joins_ok reached (byte_value None) [] (byte_free None) none sound)
   reads (byte ∷ bytes) arguments most costs none sound =
       path_step (inserted_at room setting) 0 most
-      (saved_behind setting constructors promise from lent below frames heap store waits x arguments rest environment joins rest_ok
+      (saved_behind room setting constructors promise from lent below frames heap store waits x arguments rest environment joins rest_ok
       joins_ok reached) (seen (taken byte) ∷ []) []
       (Stands setting.positions setting.code.functions
       (record { machine = bound_then x (byte_value (Some byte)) rest environment joins from; input = bytes }))
-      (with_input (before_form setting constructors promise from lent below frames heap store waits x arguments rest environment
+      (with_input (before_form room setting constructors promise from lent below frames heap store waits x arguments rest environment
       joins rest_ok joins_ok reached ReadByte) (byte ∷ bytes))
-      (with_input (with_value setting constructors promise from lent below frames heap store waits x arguments rest environment
+      (with_input (with_value room setting constructors promise from lent below frames heap store waits x arguments rest environment
       joins rest_ok joins_ok reached (byte_value (Some byte))) bytes) refl (tt, (none, (tt, (tt, tt)))) (omega (arith, costs))
       (value_lands room setting constructors promise from lent below frames heap store waits x arguments rest environment joins rest_ok
       joins_ok reached (byte_value (Some byte)) bytes (byte_free (Some byte)) none sound)
 
   module _ (input : List ℕ) where
     constructs : (c : ℕ) (arguments : List ℕ) (most : ℕ) → CostsAt most arguments (Construct c)
-        → SoundAt setting constructors promise from lent below frames heap store waits x arguments rest environment joins rest_ok
+        → SoundAt room setting constructors promise from lent below frames heap store waits x arguments rest environment joins rest_ok
         joins_ok reached (Construct c)
-        → FollowsForm setting constructors promise from lent below frames heap store waits x arguments rest environment joins
+        → FollowsForm room setting constructors promise from lent below frames heap store waits x arguments rest environment joins
         rest_ok joins_ok reached input most (Construct c)
     constructs c [] most costs sound =
-        value_comes setting constructors promise from lent below frames heap store waits x
+        value_comes room setting constructors promise from lent below frames heap store waits x
         [] rest environment joins rest_ok joins_ok reached input (Construct c) (constant c) refl (tt, (tt, tt)) (λ q. refl) tt sound
         most (omega (arith, costs))
     constructs c (y ∷ ys) most costs sound =
-        made setting constructors promise from lent below frames heap store waits x
+        made room setting constructors promise from lent below frames heap store waits x
         (y ∷ ys) rest environment joins rest_ok joins_ok reached input c sound most (omega (arith, costs)) refl
 
     -- the step of each form
     pub form_at : (form : Form) (arguments : List ℕ) (most : ℕ) → CostsAt most arguments form
         → ArgumentsFit constructors setting.code.texts (CallFits constructors setting.code) form
         (map (value_of environment) arguments) → is_among arguments x ≡ false
-        → SoundAt setting constructors promise from lent below frames heap store waits x arguments rest environment joins rest_ok
+        → SoundAt room setting constructors promise from lent below frames heap store waits x arguments rest environment joins rest_ok
         joins_ok reached form
-        → FollowsForm setting constructors promise from lent below frames heap store waits x arguments rest environment joins
+        → FollowsForm room setting constructors promise from lent below frames heap store waits x arguments rest environment joins
         rest_ok joins_ok reached input most form
     form_at (Number n) arguments most costs fits new sound =
-        value_comes setting constructors promise from lent below frames heap store waits x arguments rest environment joins rest_ok
+        value_comes room setting constructors promise from lent below frames heap store waits x arguments rest environment joins rest_ok
         joins_ok reached input (Number n) (integer n) refl
         (form_fits setting constructors (Number n) (map (value_of environment) arguments) fits tt) (λ q. refl)
         (takes_none setting constructors (Number n) (map (value_of environment) arguments) fits) sound
         most (omega (arith, costs))
     form_at Nothing arguments most costs fits new sound =
-        value_comes setting constructors promise from lent below frames heap store waits x arguments rest environment joins rest_ok
+        value_comes room setting constructors promise from lent below frames heap store waits x arguments rest environment joins rest_ok
         joins_ok reached input Nothing unit refl
         (form_fits setting constructors Nothing (map (value_of environment) arguments) fits tt) (λ q. refl)
         (takes_none setting constructors Nothing (map (value_of environment) arguments) fits) sound
@@ -437,20 +437,20 @@ module _ (room : ℕ) (setting : CoreSetting) (constructors : List ConstructorTr
     form_at ReadByte arguments most costs fits new sound = reads input arguments most costs
         (takes_none setting constructors ReadByte (map (value_of environment) arguments) fits) sound
     form_at (PrintText form text) arguments most costs fits new sound =
-        print_comes setting constructors promise from lent below frames heap store waits x arguments rest environment joins rest_ok
+        print_comes room setting constructors promise from lent below frames heap store waits x arguments rest environment joins rest_ok
         joins_ok reached input (PrintText form text) (piece_of form (text_at setting.code.texts text)) refl
         (form_fits setting constructors (PrintText form text) (map (value_of environment) arguments) fits tt)
         (takes_none setting constructors (PrintText form text) (map (value_of environment) arguments) fits) sound
         most (omega (arith, costs))
     form_at (Unary operator) arguments most costs fits new sound =
-        value_comes setting constructors promise from lent below frames heap store waits x arguments rest environment joins rest_ok
+        value_comes room setting constructors promise from lent below frames heap store waits x arguments rest environment joins rest_ok
         joins_ok reached input (Unary operator) (unary_result operator (argument 0 (map (value_of environment) arguments))) refl
         (form_fits setting constructors (Unary operator) (map (value_of environment) arguments) fits tt)
         (unary_free operator (argument 0 (map (value_of environment) arguments)))
         (takes_none setting constructors (Unary operator) (map (value_of environment) arguments) fits) sound
         most (omega (arith, costs))
     form_at (Binary operator) arguments most costs fits new sound =
-        value_comes setting constructors promise from lent below frames heap store waits x arguments rest environment joins rest_ok
+        value_comes room setting constructors promise from lent below frames heap store waits x arguments rest environment joins rest_ok
         joins_ok reached input (Binary operator)
         (binary_result operator (argument 0 (map (value_of environment) arguments))
         (argument 1 (map (value_of environment) arguments))) refl
@@ -460,7 +460,7 @@ module _ (room : ℕ) (setting : CoreSetting) (constructors : List ConstructorTr
         (takes_none setting constructors (Binary operator) (map (value_of environment) arguments) fits) sound
         most (omega (arith, costs))
     form_at (Print form) arguments most costs fits new sound =
-        print_comes setting constructors promise from lent below frames heap store waits x arguments rest environment joins rest_ok
+        print_comes room setting constructors promise from lent below frames heap store waits x arguments rest environment joins rest_ok
         joins_ok reached input (Print form)
         (piece_of form (signed_decimal (integer_of (argument 0 (map (value_of environment) arguments))))) refl
         (form_fits setting constructors (Print form) (map (value_of environment) arguments) fits tt)
@@ -512,7 +512,7 @@ module _ (room : ℕ) (setting : CoreSetting) (constructors : List ConstructorTr
       heap most (room + form_cost + value_cost * length arguments + (drop_cost + drop_cost * length below))
       (omega (arith, costs, used_few form))
       sound (subst (λ (s : Store). AreReached s below environment lent) store reached)
-      (λ after cells sound_then. form_at setting constructors promise from lent below frames after
+      (λ after cells sound_then. form_at room setting constructors promise from lent below frames after
       (store ∙ same_store heap after (sym cells)) waits x rest environment joins
       (record {
         bound = ok.bound;

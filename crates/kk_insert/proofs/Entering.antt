@@ -35,23 +35,23 @@ use Rattle.kk_insert.proofs.Sets.{no_self, no_both, false_if}
 use Rattle.kk_insert.proofs.Lengths.{even_append, wants_few, values_length, owned_length}
 use Rattle.kk_insert.proofs.Owned.{owns_either, own_apart, wants_in, wants_even}
 use Rattle.kk_insert.proofs.Programs.{lent_parameter, is_fine, owned_parameter, numbers_apart}
-use Rattle.kk_insert.proofs.Paths.{conf, with_input, Path, path_here, path_step}
+use Rattle.kk_insert.proofs.Paths.{Priced, conf, with_input, Path, path_here, path_step}
 use Rattle.kk_insert.proofs.Settling.{From, GoesOn, sound_even, either_counted, dups_path, dropping_path, landing_path, back_path}
 use Rattle.kk_insert.proofs.Standing.{inserted_at, left_of, image_joins, image_frame, RestOk, JoinsOk, FramesStand, rest_code, Stands, Follows}
 use Rattle.kk_insert.proofs.Following.{arrives}
 
 -- The dups before a code that uses variables up. Each of its uses takes one at most; and then the cost of a drop is saved for each.
-pub dups_first : (setting : CountedSetting) (P : ℕ → CountedState → Type 0) (environment : Environment) (joins : List CountedJoin)
+pub dups_first : (priced : Priced) (P : ℕ → CountedState → Type 0) (environment : Environment) (joins : List CountedJoin)
     (frames : List CountedFrame) (below : List Value) (input : List ℕ) (least : ℕ) (events : List Note)
     (positions : PositionTable) (lent xs after : List ℕ) (code : Counted.Counted) (heap : Heap) (most later : ℕ)
     → dup_cost * length xs + (drop_cost * length xs + (drop_cost * length (owns lent xs after) + later)) ≤ most
     → IsSound (values_of environment (owns lent xs after) ++ below) heap → AreReached (forwards heap) below environment lent
-    → GoesOn setting P environment joins frames below input least events (drop_cost * (length xs + length after) + later) code
+    → GoesOn priced P environment joins frames below input least events (drop_cost * (length xs + length after) + later) code
     (xs ++ after) heap
-    → From setting P environment joins frames below input least events most (dups (wants lent xs after) code) heap
-dups_first setting P environment joins frames below input least events positions lent xs after code heap most later costs sound
+    → From priced P environment joins frames below input least events most (dups (wants lent xs after) code) heap
+dups_first priced P environment joins frames below input least events positions lent xs after code heap most later costs sound
     reached next =
-    dups_path setting P environment joins frames below input least events (wants lent xs after) (owns lent xs after) code heap most
+    dups_path priced P environment joins frames below input least events (wants lent xs after) (owns lent xs after) code heap most
     (drop_cost * (length xs + length after) + later)
     (omega (
       arith,
@@ -270,7 +270,7 @@ module _ (room : ℕ) (setting : CoreSetting) (constructors : List ConstructorTr
             (left_by (left_of setting.positions setting.code.functions lent joins)) join.rest))) below q,
       )) sound)
       (λ last cells_then sound_then. path_here (inserted_at room setting)
-      (saved_at setting from lent below frames heap store waits input lent joins join.rest)
+      (saved_at room setting from lent below frames heap store waits input lent joins join.rest)
       (Stands setting.positions setting.code.functions
       (record { machine = bound_then join.variable (value_of environment x) join.rest environment joins from; input = input }))
       (with_input (conf (insert setting.positions lent
@@ -282,7 +282,7 @@ module _ (room : ℕ) (setting : CoreSetting) (constructors : List ConstructorTr
       (rest_code setting.positions setting.code.functions lent
       (left_of setting.positions setting.code.functions lent joins) join.variable join.rest joins_ok.0) joins_ok.1
       (reached_bound from.store below environment lent join.variable (value_of environment x) joins_ok.0.unlent reached)
-      sound_then (saved_at setting from lent below frames heap store waits input lent joins join.rest) (omega arith))))
+      sound_then (saved_at room setting from lent below frames heap store waits input lent joins join.rest) (omega arith))))
   gives x environment [] [] [] waits stand joins_ok reached after cells sound fits most costs =
       path_step (inserted_at room setting) 0 most 0 [] []
       (Stands setting.positions setting.code.functions (record { machine = at_end ended from; input = input }))
