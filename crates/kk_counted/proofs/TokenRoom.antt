@@ -1,6 +1,6 @@
 -- Code with tokens costs no more than its bare form with room for them: what tokens cost ahead is saved at each form that pays room.
-use Rattle.std.proofs.Common.{◌≡◌, ℕ, zero, suc, ◌+◌, ◌-◌, ◌≤◌, Bool, true, false, List, [], ◌∷◌, map, length, Option, Some, None, arith, refl}
-use Rattle.std.specs.Prelude.{if◌then◌else◌, nat_le, slice_get, slice_index_or}
+use Rattle.std.proofs.Common.{◌≡◌, ℕ, zero, suc, ◌+◌, ◌≤◌, Bool, true, false, List, [], ◌∷◌, map, length, Option, Some, None, arith, refl}
+use Rattle.std.specs.Prelude.{max, if◌then◌else◌, nat_le, slice_get, slice_index_or}
 use Rattle.kk_base.specs.Machines.{Machine, weight_of}
 use Rattle.kk_base.specs.Agreements.{Agree}
 use Rattle.kk_source.specs.Notes.{Note}
@@ -12,12 +12,12 @@ use Rattle.kk_source.specs.Matching.{and_then}
 use Rattle.kk_core.specs.CoreMachine.{bind_fields}
 use Rattle.kk_core.specs.Decisions.{chosen}
 use Rattle.kk_counted.specs.BareForms.{bare}
-use Rattle.kk_counted.specs.CountedCosts.{code_cost}
+use Rattle.kk_counted.specs.CountedCosts.{code_cost, room_at, roomy_cost}
 use Rattle.kk_counted.specs.CountedMachine.{Named, cell_named, counted_machine, NotStuck}
 use Rattle.kk_counted.specs.CountedStates.{CountedState, counted_first_state}
 use Rattle.kk_counted.specs.Heaps.{Heap, cell_at, fields_held}
 use Rattle.kk_counted.specs.Keeping.{counted_after}
-use Rattle.kk_counted.specs.TokenCosts.{quiet_cost, tokened_cost, token_cost, pays_room, roomy_cost, tokens_ahead, room_needed, arms_need_room, HasRoom, AreStatesKept}
+use Rattle.kk_counted.specs.TokenCosts.{tokened_cost, token_cost, tokens_ahead, room_needed, arms_need_room, HasRoom, AreStatesKept}
 use Rattle.kk_counted.specs.TokenKeeping.{FillsAlways}
 use Rattle.kk_counted.specs.TokenMachine.{at_code, bound_to, to_heap, to_tokens, tokened_arm_at, token_case_step, token_give_step, in_body, token_tail_step, token_read_step, to_opened, token_open_step, make_step, filled, fill_step, token_call_step, token_code_step, token_at_end, token_machine}
 use Rattle.kk_counted.specs.TokenRuns.{is_quiet, bare_weight, AllLead, IsSameRun}
@@ -161,8 +161,15 @@ module _ (room : ℕ) where
 
   -- what is saved when the step at a code is taken: where it pays room that, and else what is then ahead
   abbrev saved_after : Tokened → ℕ
-  saved_after code =
-      if is_quiet code then tokens_ahead code - quiet_cost else (if pays_room (bare code) then room else tokens_ahead code)
+  saved_after (Tokened.dup x rest) = tokens_ahead rest
+  saved_after (Tokened.drop x rest) = tokens_ahead rest
+  saved_after (Tokened.free y rest) = tokens_ahead rest
+  saved_after (Tokened.null y rest) = tokens_ahead rest
+  saved_after (Tokened.move to of rest) = tokens_ahead rest
+  saved_after (Tokened.hold y rest) = tokens_ahead rest
+  saved_after (Tokened.unhold y rest) = tokens_ahead rest
+  saved_after (Tokened.if_token y there absent) = max (tokens_ahead there) (tokens_ahead absent)
+  saved_after _ = room
 
   -- ---- one step
 
@@ -265,13 +272,13 @@ module _ (room : ℕ) where
     -- ---- what a step costs, and what is saved then
 
     -- a form that pays room
-    paying : (cost others credit : ℕ) → others ≤ credit → (cost + others) + room ≤ (cost + room) + credit
+    paying : (cost others credit : ℕ) → others ≤ credit → (cost + others) + room ≤ (room + cost) + credit
     paying cost others credit enough = omega (arith, enough)
 
     abbrev Costs : Tokened → Environment → Heap → ℕ → Type 0
     Costs code environment heap credit =
         tokened_cost code environment heap + saved_after code
-        ≤ (if is_quiet code then 0 else code_cost (bare code) environment heap + (if pays_room (bare code) then room else 0)) + credit
+        ≤ (if is_quiet code then 0 else room_at room (bare code) + code_cost (bare code) environment heap) + credit
 
     costs : (code : Tokened) (environment : Environment) (heap : Heap) (credit : ℕ) → tokens_ahead code ≤ credit
         → Costs code environment heap credit

@@ -42,7 +42,23 @@ code_cost (if_unique x c fields used rest) environment heap = opening_cost field
 code_cost (dup x rest) environment heap = dup_cost
 code_cost (drop x rest) environment heap = drop_cost
 
--- the cost of the step from a state; an ended machine has none
+-- What a form but a dup and a drop pays beside its cost, where each has room for so much: for the work on tokens that is done
+-- before the next of them.
+abbrev pub room_at : ℕ → Counted → ℕ
+room_at room (dup x rest) = 0
+room_at room (drop x rest) = 0
+room_at room _ = room
+
+-- the cost of the step from a state, with such room; an ended machine has none
+abbrev pub roomy_control_cost : ℕ → CountedControl → Heap → ℕ
+roomy_control_cost room (running code environment joins) heap = room_at room code + code_cost code environment heap
+roomy_control_cost room (stopped by) heap = 0
+roomy_control_cost room stuck heap = 0
+
+abbrev pub roomy_cost : ℕ → CountedState → ℕ
+roomy_cost room s = roomy_control_cost room s.machine.control s.machine.heap
+
+-- the cost without room
 abbrev pub control_cost : CountedControl → Heap → ℕ
 control_cost (running code environment joins) heap = code_cost code environment heap
 control_cost (stopped by) heap = 0

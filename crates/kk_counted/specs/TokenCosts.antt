@@ -1,10 +1,10 @@
 -- What the steps of the machine with tokens cost, in the unit of CountedCosts; and the room for this in the costs of the bare form.
-use Rattle.std.specs.Prelude.{◌≡◌, ℕ, suc, ◌+◌, ◌*◌, ◌≤◌, Bool, true, false, List, length, max, Some, if◌then◌else◌, slice_get}
+use Rattle.std.specs.Prelude.{◌≡◌, ℕ, suc, ◌+◌, ◌*◌, ◌≤◌, List, length, max, Some, if◌then◌else◌, slice_get}
 use Rattle.kk_source.specs.State.{Environment}
 use Rattle.kk_counted.specs.BareForms.{bare}
 use Rattle.kk_counted.specs.CountedCodes.{Counted, give, tail_call, branch, case, compute, inside, read, open_cell, if_unique, dup, drop, CountedArms, no_arm, arm, CountedFunction, CountedProgram}
-use Rattle.kk_counted.specs.CountedCosts.{code_cost, counted_cost}
-use Rattle.kk_counted.specs.CountedStates.{CountedControl, running, CountedState}
+use Rattle.kk_counted.specs.CountedCosts.{code_cost}
+use Rattle.kk_counted.specs.CountedStates.{CountedState}
 use Rattle.kk_counted.specs.Heaps.{Heap}
 use Rattle.kk_counted.specs.TokenRuns.{is_quiet}
 use Rattle.kk_counted.specs.Keeping.{counted_after}
@@ -39,23 +39,10 @@ token_control_cost _ heap = 0
 abbrev pub token_cost : TokenState → ℕ
 token_cost s = token_control_cost s.machine.control s.machine.heap
 
--- ---- room for tokens
+-- ---- the room that tokens need
 
--- whether a form of the bare code pays for the tokens that come before the next one that does; dups and drops are many, and do not
-abbrev pub pays_room : Counted → Bool
-pays_room (dup x rest) = false
-pays_room (drop x rest) = false
-pays_room _ = true
-
-abbrev pub room_at : ℕ → CountedControl → ℕ
-room_at room (running code environment joins) = if pays_room code then room else 0
-room_at room _ = 0
-
--- the costs of the bare form with so much room for tokens
-abbrev pub roomy_cost : ℕ → CountedState → ℕ
-roomy_cost room s = counted_cost s + room_at room s.machine.control
-
--- What tokens cost from a code on to the next form that pays room, its other tokens included: the greater way of a test.
+-- What tokens cost from a code on to the next form that pays room (CountedCosts), which is any but a dup, a drop and those that only
+-- tokens have: the tokens that it names too, and the greater way of a test.
 abbrev pub tokens_ahead : Tokened → ℕ
 tokens_ahead (Tokened.dup x rest) = tokens_ahead rest
 tokens_ahead (Tokened.drop x rest) = tokens_ahead rest
@@ -67,7 +54,7 @@ tokens_ahead (Tokened.unhold y rest) = quiet_cost + tokens_ahead rest
 tokens_ahead (Tokened.if_token y there absent) = quiet_cost + max (tokens_ahead there) (tokens_ahead absent)
 tokens_ahead code = others_cost code
 
--- the most that tokens cost so from any place of a code on
+-- the most that tokens cost so, from any place of a code on
 abbrev mutual
   pub room_needed : Tokened → ℕ
   room_needed (Tokened.give x) = 0
@@ -111,12 +98,12 @@ pub record AreStatesKept (weight : TokenState → ℕ) (below : CountedState →
 
 -- ---- a number of tokens
 
--- how many openings a code has: so many tokens a function has at most
+-- the most openings on a path of a code: so many tokens a function has at most
 abbrev mutual
   pub openings : Counted → ℕ
   openings (give x) = 0
   openings (tail_call f arguments) = 0
-  openings (branch x positive negative) = openings positive + openings negative
+  openings (branch x positive negative) = max (openings positive) (openings negative)
   openings (case x decisions arms) = openings_of arms
   openings (compute x form arguments rest) = openings rest
   openings (inside x block rest) = openings block + openings rest
@@ -128,9 +115,9 @@ abbrev mutual
 
   pub openings_of : CountedArms → ℕ
   openings_of no_arm = 0
-  openings_of (arm body rest) = openings body + openings_of rest
+  openings_of (arm body rest) = max (openings body) (openings_of rest)
 
--- no function of a program has more openings
+-- no function of a program has more of them
 abbrev pub OpenAtMost : ℕ → CountedProgram → Type 0
 OpenAtMost most program =
     (f : ℕ) (function : CountedFunction) → slice_get program.functions f ≡ Some function → openings function.body ≤ most

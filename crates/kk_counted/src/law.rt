@@ -7,6 +7,7 @@ ghost use Rattle.kk_source.specs.Live.{value_of, Reached, live};
 ghost use Rattle.kk_source.specs.Sound.{AllWithin};
 ghost use Rattle.kk_core.specs.Decisions.{NodeTree, chosen};
 ghost use Rattle.kk_counted.specs.CountedCodes.{Counted, CountedArms, CountedFunction, give, case};
+ghost use Rattle.kk_counted.specs.CountedCosts.{roomy_cost};
 ghost use Rattle.kk_counted.specs.CountedMachine.{opened_heap, unique_heap, counted_code_step, counted_step, counted_machine, NotStuck};
 ghost use Rattle.kk_counted.specs.CountedStates.{CountedSetting, CountedJoin, CountedState, running, counted_start, counted_first_state};
 ghost use Rattle.kk_counted.specs.Heaps.{Heap, forwards, count_at, cell_at, fields_held, busy, weight, dup_value, drop_value};
@@ -27,7 +28,7 @@ ghost use Rattle.kk_counted.specs.CountBounds.{SpendsAtMost, AllSpendAtMost, Eac
 ghost use Rattle.kk_counted.specs.Marks.{CellMarks, field_marks, AreMarked};
 ghost use Rattle.kk_counted.specs.MarkKeeping.{FitsMark, RunFits, StateFits, numbers_after, numbers_in};
 ghost use Rattle.kk_counted.specs.NumberedPool.{IsPlaced, IsPool, Growth, Placing};
-ghost use Rattle.kk_counted.specs.TokenCosts.{token_cost, roomy_cost, HasRoom, AreStatesKept};
+ghost use Rattle.kk_counted.specs.TokenCosts.{token_cost, HasRoom, AreStatesKept};
 ghost use Rattle.kk_counted.specs.TokenRuns.{is_quiet, bare_weight, AllLead, IsFollowed, IsUnseen, IsSameRun, TakesNoCell};
 
 /// Code that spends each reference that it owns keeps its heap sound: in each state of a run the count of each cell is the

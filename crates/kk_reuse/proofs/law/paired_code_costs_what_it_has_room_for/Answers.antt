@@ -1,11 +1,12 @@
-use Rattle.std.proofs.Common.{◌≡◌, ◌+◌, ◌*◌, ℕ, refl, sym, subst}
+use Rattle.std.proofs.Common.{◌+◌, ◌*◌, ℕ, refl, sym, subst}
 use Rattle.kk_base.specs.Agreements.{Agree}
+use Rattle.kk_counted.specs.CountedCosts.{roomy_cost}
 use Rattle.kk_counted.specs.CountedMachine.{counted_machine, NotStuck}
 use Rattle.kk_counted.specs.CountedStates.{CountedSetting, counted_first_state}
 use Rattle.kk_counted.specs.Keeping.{counted_after}
-use Rattle.kk_counted.specs.TokenCosts.{token_cost, roomy_cost}
+use Rattle.kk_counted.specs.TokenCosts.{token_cost}
 use Rattle.kk_counted.specs.TokenMachine.{token_machine}
-use Rattle.kk_counted.specs.TokenStates.{token_first_state, bare_setting}
+use Rattle.kk_counted.specs.TokenStates.{token_first_state}
 use Rattle.kk_reuse.specs.Pairing.{paired_setting}
 use Rattle.kk_reuse.proofs.Programs.{setting_bare}
 use Rattle.kk_reuse.proofs.Rooms.{program_has_room}
