@@ -1,4 +1,4 @@
--- Code with tokens costs no more than its bare form with room for them: what tokens cost ahead is saved at each form that pays room.
+-- Code with tokens costs no more than its bare form with room for them: each form that pays room saves what tokens cost ahead.
 use Rattle.std.proofs.Common.{◌≡◌, ℕ, zero, suc, ◌+◌, ◌≤◌, Bool, true, false, List, [], ◌∷◌, map, length, Option, Some, None, arith, refl}
 use Rattle.std.specs.Prelude.{max, if◌then◌else◌, nat_le, slice_get, slice_index_or}
 use Rattle.kk_base.specs.Machines.{Machine, weight_of}
@@ -212,9 +212,12 @@ module _ (room : ℕ) where
     leads (Tokened.branch x positive negative) environment joins from fits fit frames =
         by (is_true (value_of environment x))
       where
+        at_place : (rest : Tokened) → room_needed rest ≤ room → IsRoomy room (at_code rest environment joins from)
+        at_place rest here = ((ahead_within rest here, (here, fit)), frames)
+
         by : (b : Bool) → IsRoomy room (at_code (if b then positive else negative) environment joins from)
-        by true = let here : room_needed positive ≤ room = omega (arith, fits) in ((ahead_within positive here, (here, fit)), frames)
-        by false = let here : room_needed negative ≤ room = omega (arith, fits) in ((ahead_within negative here, (here, fit)), frames)
+        by true = at_place positive (omega (arith, fits))
+        by false = at_place negative (omega (arith, fits))
     leads (Tokened.case x decisions arms) environment joins from fits fit frames =
         case_leads (chosen (cell_at from.heap) (value_of environment x) decisions) arms environment joins from fits fit frames
     leads (Tokened.compute x form arguments others rest) environment joins from fits fit frames =

@@ -41,8 +41,8 @@ token_cost s = token_control_cost s.machine.control s.machine.heap
 
 -- ---- the room that tokens need
 
--- What tokens cost from a code on to the next form that pays room (CountedCosts), which is any but a dup, a drop and those that only
--- tokens have: the tokens that it names too, and the greater way of a test.
+-- What tokens cost from a code on to the next form that pays room (CountedCosts), which is any but a dup, a drop and those that
+-- only tokens have: the tokens that it names too, and the greater way of a test.
 abbrev pub tokens_ahead : Tokened → ℕ
 tokens_ahead (Tokened.dup x rest) = tokens_ahead rest
 tokens_ahead (Tokened.drop x rest) = tokens_ahead rest

@@ -1,5 +1,5 @@
--- Paired code has room for its tokens: of these a function has at most as many as it has openings, and what stands ahead costs no more
--- than they are freed, held and taken back for.
+-- Paired code has room for its tokens. A function has at most as many as openings stand on a path; and on the way to the next form
+-- each is at most taken back, freed or named, and made null or moved.
 use Rattle.std.proofs.Common.{◌≡◌, ◌≤◌, ℕ, zero, suc, ◌+◌, ◌-◌, ◌*◌, Bool, true, false, if◌then◌else◌, List, [], ◌∷◌, map, length, max, Some, refl, subst, arith}
 use Rattle.std.specs.Prelude.{slice_get}
 use Rattle.kk_syntax.specs.declared.program.Form.{Form}
@@ -45,7 +45,8 @@ frees_before (suc n) code = one_before n (Tokened.free n (frees n code)) (frees 
 
 unholds_before : (n : ℕ) (code : Tokened) → StandsBefore n (unholds n code) code
 unholds_before zero code = none_before code
-unholds_before (suc n) code = one_before n (Tokened.unhold n (unholds n code)) (unholds n code) code refl refl (unholds_before n code)
+unholds_before (suc n) code =
+    one_before n (Tokened.unhold n (unholds n code)) (unholds n code) code refl refl (unholds_before n code)
 
 nulls_before : (n : ℕ) (code : Tokened) → StandsBefore n (nulls n code) code
 nulls_before zero code = none_before code
@@ -238,63 +239,80 @@ module _ (most : ℕ) where
   form_needed (suc n) x (Binary operator) arguments rest few ahead needed = omega (arith, needed)
   form_needed (suc n) x (Print how) arguments rest few ahead needed = omega (arith, needed)
 
+  -- whatever the number of tokens is with which a code begins
+  abbrev FitsRoom : Counted → Bool → ℕ → Type 0
+  FitsRoom code behind l = (n : ℕ) → n + openings code ≤ most → room_needed (paired behind l n code) ≤ 36 * most
+
   -- what comes behind a form
-  rest_needed : (code : Counted) (behind : Bool) (l n : ℕ) → n + openings code ≤ most → l ≤ most
-      → ((k : ℕ) → k + openings code ≤ most → room_needed (paired behind l k code) ≤ 36 * most)
+  rest_needed : (code : Counted) (behind : Bool) (l n : ℕ) → l ≤ most → FitsRoom code behind l → n + openings code ≤ most
       → room_needed (settled behind code n (paired behind l (kept behind code n) code)) ≤ 36 * most
-  rest_needed code behind l n few fits needed =
+  rest_needed code behind l n fits needed few =
       settled_needed (may_make behind code) n (λ k. paired behind l k code) (omega (arith, few))
       (λ k less. paired_ahead code behind l k (omega (arith, less, few)) fits)
       (λ k less. needed k (omega (arith, less, few)))
 
   mutual
-    paired_needed : (code : Counted) (behind : Bool) (l n : ℕ) → n + openings code ≤ most → l ≤ most
-        → room_needed (paired behind l n code) ≤ 36 * most
-    paired_needed (give x) behind l n few fits =
+    paired_needed : (code : Counted) (behind : Bool) (l : ℕ) → l ≤ most → FitsRoom code behind l
+    paired_needed (give x) behind l fits n few =
         let filled = filled_before (l - n) n (Tokened.give x) in
         filled.1.1.needed (36 * most) (omega (arith, few, fits, filled.1.0)) (omega arith)
-    paired_needed (tail_call f arguments) behind l n few fits =
+    paired_needed (tail_call f arguments) behind l fits n few =
         (frees_before n (Tokened.tail_call f arguments)).needed (36 * most) (omega (arith, few)) (omega arith)
-    paired_needed (branch x positive negative) behind l n few fits =
-        omega (arith, rest_needed positive behind l n (omega (arith, few)) fits (λ k small. paired_needed positive behind l k small fits), rest_needed negative behind l n (omega (arith, few)) fits (λ k small. paired_needed negative behind l k small fits))
-    paired_needed (case x decisions arms) behind l n few fits = arms_needed arms behind l n few fits
-    paired_needed (compute x form arguments rest) behind l n few fits =
+    paired_needed (branch x positive negative) behind l fits n few =
+        omega (
+          arith,
+          rest_needed positive behind l n fits (paired_needed positive behind l fits) (omega (arith, few)),
+          rest_needed negative behind l n fits (paired_needed negative behind l fits) (omega (arith, few)),
+        )
+    paired_needed (case x decisions arms) behind l fits n few = arms_needed arms behind l n fits few
+    paired_needed (compute x form arguments rest) behind l fits n few =
+        let left : taken form arguments n ≤ n = taken_few form arguments n in
         form_needed n x form arguments
         (settled behind rest (taken form arguments n) (paired behind l (kept behind rest (taken form arguments n)) rest))
         (omega (arith, few))
         (omega (
           arith,
           few,
-          taken_few form arguments n,
+          left,
           settled_ahead (may_make behind rest) (taken form arguments n) (λ k. paired behind l k rest)
-              (λ k less. paired_ahead rest behind l k (omega (arith, less, few, taken_few form arguments n)) fits),
+              (λ k less. paired_ahead rest behind l k (omega (arith, less, few, left)) fits),
         ))
-        (rest_needed rest behind l (taken form arguments n) (omega (arith, few, taken_few form arguments n)) fits (λ k small. paired_needed rest behind l k small fits))
-    paired_needed (inside x block rest) behind l n few fits =
-        let left : left_by behind n block rest ≤ n + openings block
+        (rest_needed rest behind l (taken form arguments n) fits (paired_needed rest behind l fits) (omega (arith, few, left)))
+    paired_needed (inside x block rest) behind l fits n few =
+        let outer : ℕ = left_by behind n block rest in
+        let left : outer ≤ n + openings block
         = omega (
           arith,
           leaves_few block (may_make behind rest) (kept (may_make behind rest) block n),
           kept_few (may_make (may_make behind rest) block) n,
         ) in
+        let inner : outer ≤ most = omega (arith, few, left) in
         omega (
           arith,
-          rest_needed block (may_make behind rest) (left_by behind n block rest) n (omega (arith, few)) (omega (arith, few, left)) (λ k small. paired_needed block (may_make behind rest) (left_by behind n block rest) k small (omega (arith, few, left))),
-          rest_needed rest behind l (left_by behind n block rest) (omega (arith, few, left)) fits (λ k small. paired_needed rest behind l k small fits),
+          rest_needed block (may_make behind rest) outer n inner (paired_needed block (may_make behind rest) outer inner)
+              (omega (arith, few)),
+          rest_needed rest behind l outer fits (paired_needed rest behind l fits) (omega (arith, few, left)),
         )
-    paired_needed (read x c fields rest) behind l n few fits = rest_needed rest behind l n few fits (λ k small. paired_needed rest behind l k small fits)
-    paired_needed (open_cell x c fields used rest) behind l n few fits =
-        rest_needed rest behind l (suc n) (omega (arith, few)) fits (λ k small. paired_needed rest behind l k small fits)
-    paired_needed (if_unique x c fields used rest) behind l n few fits =
-        rest_needed rest behind l (suc n) (omega (arith, few)) fits (λ k small. paired_needed rest behind l k small fits)
-    paired_needed (dup x rest) behind l n few fits = rest_needed rest behind l n few fits (λ k small. paired_needed rest behind l k small fits)
-    paired_needed (drop x rest) behind l n few fits = rest_needed rest behind l n few fits (λ k small. paired_needed rest behind l k small fits)
+    paired_needed (read x c fields rest) behind l fits n few =
+        rest_needed rest behind l n fits (paired_needed rest behind l fits) few
+    paired_needed (open_cell x c fields used rest) behind l fits n few =
+        rest_needed rest behind l (suc n) fits (paired_needed rest behind l fits) (omega (arith, few))
+    paired_needed (if_unique x c fields used rest) behind l fits n few =
+        rest_needed rest behind l (suc n) fits (paired_needed rest behind l fits) (omega (arith, few))
+    paired_needed (dup x rest) behind l fits n few =
+        rest_needed rest behind l n fits (paired_needed rest behind l fits) few
+    paired_needed (drop x rest) behind l fits n few =
+        rest_needed rest behind l n fits (paired_needed rest behind l fits) few
 
-    arms_needed : (arms : CountedArms) (behind : Bool) (l n : ℕ) → n + openings_of arms ≤ most → l ≤ most
+    arms_needed : (arms : CountedArms) (behind : Bool) (l n : ℕ) → l ≤ most → n + openings_of arms ≤ most
         → arms_need_room (paired_arms behind l n arms) ≤ 36 * most
-    arms_needed no_arm behind l n few fits = omega arith
-    arms_needed (arm body rest) behind l n few fits =
-        omega (arith, rest_needed body behind l n (omega (arith, few)) fits (λ k small. paired_needed body behind l k small fits), arms_needed rest behind l n (omega (arith, few)) fits)
+    arms_needed no_arm behind l n fits few = omega arith
+    arms_needed (arm body rest) behind l n fits few =
+        omega (
+          arith,
+          rest_needed body behind l n fits (paired_needed body behind l fits) (omega (arith, few)),
+          arms_needed rest behind l n fits (omega (arith, few)),
+        )
 
   pub program_has_room : (program : CountedProgram) → OpenAtMost most program → HasRoom (36 * most) (paired_program program)
   program_has_room program few f function is = by program.functions few f is
@@ -306,5 +324,5 @@ module _ (most : ℕ) where
       by (first ∷ functions) few zero is =
           let same : paired_function first ≡ function = cc is in
           subst (λ (g : TokenedFunction). room_needed g.body ≤ 36 * most) same
-          (paired_needed first.body false 0 0 (omega (arith, few zero first refl)) (omega arith))
+          (paired_needed first.body false 0 (omega arith) 0 (omega (arith, few zero first refl)))
       by (first ∷ functions) few (suc f) is = by functions (λ g other there. few (suc g) other there) f is

@@ -30,5 +30,6 @@ returns c = record {
       c.tokens_cost_what_they_have_room_for.ensures.states weight below (paired_setting setting) input
       (program_spends setting.program)
       (c.tokens_keep_runs_the_same.ensures.written weight (paired_setting setting) input refl)
-      (subst (λ (s : CountedSetting). (n : ℕ) → NotStuck (counted_after below s input n).control) (sym (setting_bare setting)) never);
+      (subst (λ (s : CountedSetting). (n : ℕ) → NotStuck (counted_after below s input n).control) (sym (setting_bare setting))
+      never);
 }
