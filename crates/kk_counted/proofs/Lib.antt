@@ -33,6 +33,7 @@ pub mod CountSteps
 pub mod NarrowCounts
 pub mod GainBounds
 pub mod TokenStates
+pub mod TokenRoom
 pub mod Places
 pub mod Looks
 pub mod LooksAlike

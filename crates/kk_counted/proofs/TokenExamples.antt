@@ -9,6 +9,8 @@ use Rattle.kk_source.specs.Notes.{Note, built, called}
 use Rattle.kk_counted.specs.Heaps.{busy}
 use Rattle.kk_counted.specs.TokenedCodes.{Tokened, TokenedArms, TokenedFunction}
 use Rattle.kk_counted.specs.TokenStates.{TokenSetting, TokenControl, TokenState, token_first_state}
+use Rattle.kk_counted.specs.BareForms.{bare}
+use Rattle.kk_counted.specs.TokenCosts.{room_needed, openings}
 use Rattle.kk_counted.specs.TokenMachine.{token_machine}
 use Rattle.kk_counted.specs.Tokens.{null, marked}
 use Rattle.kk_counted.specs.TokenSpending.{SpendsTokens}
@@ -206,6 +208,14 @@ adds =
     (Tokened.if_unique 0 4 (2 ∷ []) (2 ∷ []) 0 (Tokened.if_unique 1 4 (3 ∷ []) (3 ∷ []) 1
     (Tokened.compute 4 (Binary Add) (2 ∷ 3 ∷ []) []
     (Tokened.fill 5 1 4 4 [] [] (0 ∷ []) (Tokened.free 0 (Tokened.give 5))))))
+
+-- the most that tokens cost ahead in its body: the construction names one more token
+adds_room : room_needed adds.body ≡ 24
+adds_room = refl
+
+-- it takes two openings on its path
+adds_openings : openings (bare adds.body) ≡ 2
+adds_openings = refl
 
 -- h of a box that is owned once and of one that is owned twice
 abbrev adds_run : ℕ → TokenSetting

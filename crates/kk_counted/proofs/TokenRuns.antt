@@ -44,7 +44,7 @@ led_alike (takes to) (byte ∷ input) = refl
 led_alike (builds found to) input = refl
 led_alike (calls found to) input = refl
 
-led_kept : (P : TokenConfiguration → Type 0) (action : Action TokenConfiguration) (input : List ℕ) → AllLead P action
+pub led_kept : (P : TokenConfiguration → Type 0) (action : Action TokenConfiguration) (input : List ℕ) → AllLead P action
     → P (performed action input).1.machine
 led_kept P (goes to) input kept = kept
 led_kept P (puts piece to) input kept = kept

@@ -23,6 +23,7 @@ pub mod Programs
 pub mod References
 pub mod Shaping
 pub mod Spending
+pub mod TokenCosts
 pub mod TokenKeeping
 pub mod TokenMachine
 pub mod TokenRuns

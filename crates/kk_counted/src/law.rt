@@ -1,4 +1,5 @@
 ghost use Rattle.std.specs.Prelude.{◌≡◌, ◌↔◌, ◌+◌, ◌*◌, ◌^◌, ◌≤◌, ◌<◌, ℕ, suc, Bool, true, false, List, [], ◌∷◌, map, length, All, Some, slice_get};
+ghost use Rattle.kk_base.specs.Agreements.{Agree};
 ghost use Rattle.kk_syntax.specs.Shapes.{is_among};
 ghost use Rattle.kk_syntax.specs.PositionsOf.{PositionTable};
 ghost use Rattle.kk_source.specs.State.{Value, place, Cell, Environment};
@@ -6,8 +7,9 @@ ghost use Rattle.kk_source.specs.Live.{value_of, Reached, live};
 ghost use Rattle.kk_source.specs.Sound.{AllWithin};
 ghost use Rattle.kk_core.specs.Decisions.{NodeTree, chosen};
 ghost use Rattle.kk_counted.specs.CountedCodes.{Counted, CountedArms, CountedFunction, give, case};
-ghost use Rattle.kk_counted.specs.CountedMachine.{opened_heap, unique_heap, counted_code_step, counted_step, NotStuck};
-ghost use Rattle.kk_counted.specs.CountedStates.{CountedSetting, CountedJoin, CountedState, running, counted_start};
+ghost use Rattle.kk_counted.specs.CountedCosts.{roomy_cost};
+ghost use Rattle.kk_counted.specs.CountedMachine.{opened_heap, unique_heap, counted_code_step, counted_step, counted_machine, NotStuck};
+ghost use Rattle.kk_counted.specs.CountedStates.{CountedSetting, CountedJoin, CountedState, running, counted_start, counted_first_state};
 ghost use Rattle.kk_counted.specs.Heaps.{Heap, forwards, count_at, cell_at, fields_held, busy, weight, dup_value, drop_value};
 ghost use Rattle.kk_counted.specs.Int32.{AllHaveInt32, IsStateInt32};
 ghost use Rattle.kk_counted.specs.Keeping.{HasNoCell, uses, IsKept, counted_after, FitsAlways, HasShapeAlways};
@@ -18,14 +20,15 @@ ghost use Rattle.kk_source.specs.Actions.{builds};
 ghost use Rattle.kk_counted.specs.TokenedCodes.{Tokened};
 ghost use Rattle.kk_counted.specs.BareForms.{bare};
 ghost use Rattle.kk_counted.specs.Tokens.{token, Tokens, no_tokens};
-ghost use Rattle.kk_counted.specs.TokenStates.{TokenSetting, TokenJoin, TokenControl, TokenConfiguration, TokenState, bare_join, bare_configuration, bare_setting};
-ghost use Rattle.kk_counted.specs.TokenMachine.{at_code, token_code_step};
+ghost use Rattle.kk_counted.specs.TokenStates.{TokenSetting, TokenJoin, TokenControl, TokenConfiguration, TokenState, token_first_state, bare_join, bare_configuration, bare_setting};
+ghost use Rattle.kk_counted.specs.TokenMachine.{at_code, token_code_step, token_machine};
 ghost use Rattle.kk_counted.specs.TokenSpending.{AreTokensSpent};
 ghost use Rattle.kk_counted.specs.TokenKeeping.{ArePooled, IsJudged, AreKeptAt, AreKept, Lists, ListsAfter, FillsAt, FillsAlways, token_after};
 ghost use Rattle.kk_counted.specs.CountBounds.{SpendsAtMost, AllSpendAtMost, EachHasAnArm, gains};
 ghost use Rattle.kk_counted.specs.Marks.{CellMarks, field_marks, AreMarked};
 ghost use Rattle.kk_counted.specs.MarkKeeping.{FitsMark, RunFits, StateFits, numbers_after, numbers_in};
 ghost use Rattle.kk_counted.specs.NumberedPool.{IsPlaced, IsPool, Growth, Placing};
+ghost use Rattle.kk_counted.specs.TokenCosts.{token_cost, HasRoom, AreStatesKept};
 ghost use Rattle.kk_counted.specs.TokenRuns.{is_quiet, bare_weight, AllLead, IsFollowed, IsUnseen, IsSameRun, TakesNoCell};
 
 /// Code that spends each reference that it owns keeps its heap sound: in each state of a run the count of each cell is the
@@ -134,6 +137,25 @@ pub fn tokens_keep_runs_the_same()
         ≡ counted_after weight (bare_setting setting) input m) }
     ensures written { (weight : TokenState → ℕ) (setting : TokenSetting) (input : List ℕ)
         → setting.leaves ≡ false → FillsAlways weight setting input }
+{}
+
+/// Code with tokens costs no more than its bare form with room for them: each step of the bare form but dups and drops pays so much
+/// more, which is at least what the tokens on the way to the next such step cost, at any place of the code. As much more is paid at
+/// the start. Both tell the same notes and end alike. Whatever its steps weigh, in each state of the run of the code with tokens these
+/// are kept, and it is not stuck; without its tokens it is a state of the bare run. It is a law, and does nothing.
+pub fn tokens_cost_what_they_have_room_for()
+    ensures costs { (room : ℕ) (setting : TokenSetting) (input : List ℕ)
+        → AreTokensSpent setting.program
+        → FillsAlways token_cost setting input
+        → ((n : ℕ) → NotStuck (counted_after (roomy_cost room) (bare_setting setting) input n).control)
+        → HasRoom room setting.program
+        → Agree (counted_machine (roomy_cost room) (bare_setting setting)) (token_machine token_cost setting) room (λ m. m + 1)
+        (counted_first_state (bare_setting setting) input) (token_first_state setting input) }
+    ensures states { (weight : TokenState → ℕ) (below : CountedState → ℕ) (setting : TokenSetting) (input : List ℕ)
+        → AreTokensSpent setting.program
+        → FillsAlways weight setting input
+        → ((n : ℕ) → NotStuck (counted_after below (bare_setting setting) input n).control)
+        → AreStatesKept weight below setting input }
 {}
 
 /// Each step of code that spends its tokens does what its bare form does, or what the bare form does not see; and the lists by

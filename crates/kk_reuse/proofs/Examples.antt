@@ -1,7 +1,8 @@
 -- Paired code by computation.
-use Rattle.std.proofs.Common.{◌≡◌, false, [], ◌∷◌, refl}
+use Rattle.std.proofs.Common.{◌≡◌, ◌+◌, ◌*◌, false, [], ◌∷◌, refl}
 use Rattle.kk_syntax.specs.declared.program.Form.TheVariants.{Unit as Nothing, Construct, Call}
-use Rattle.kk_counted.specs.CountedCodes.{give, tail_call, branch, compute, inside, if_unique, drop}
+use Rattle.kk_counted.specs.CountedCodes.{Counted, give, tail_call, branch, compute, inside, if_unique, drop}
+use Rattle.kk_counted.specs.TokenCosts.{room_needed, openings}
 use Rattle.kk_counted.specs.TokenedCodes.{Tokened}
 use Rattle.kk_reuse.specs.Pairing.{paired}
 
@@ -42,3 +43,15 @@ uneven = refl
 unused : paired false 0 0 (if_unique 0 7 (1 ∷ []) (1 ∷ []) (give 1))
     ≡ Tokened.if_unique 0 7 (1 ∷ []) (1 ∷ []) 0 (Tokened.free 0 (Tokened.give 1))
 unused = refl
+
+-- Two tokens wait for a call: what they cost ahead is greatest behind it, where they are taken back and the newer one is used.
+abbrev waiting : Counted
+waiting =
+    if_unique 0 7 (2 ∷ []) (2 ∷ []) (if_unique 1 7 (3 ∷ []) (3 ∷ []) (compute 4 (Call 0) (2 ∷ 3 ∷ [])
+    (compute 5 (Construct 7) (4 ∷ []) (give 5))))
+
+waiting_room : room_needed (paired false 0 0 waiting) ≡ 12 * 2 + 24
+waiting_room = refl
+
+waiting_openings : openings waiting ≡ 2
+waiting_openings = refl

@@ -3,3 +3,4 @@ mod Examples
 pub mod Spends
 pub mod Pairs
 pub mod Programs
+mod Rooms

@@ -1,15 +1,20 @@
-ghost use Rattle.std.specs.Prelude.{◌≡◌, ℕ, List};
+ghost use Rattle.std.specs.Prelude.{◌≡◌, ◌+◌, ◌*◌, ℕ, List};
+ghost use Rattle.kk_base.specs.Agreements.{Agree};
 ghost use Rattle.kk_counted.specs.BareForms.{bare_program};
 ghost use Rattle.kk_counted.specs.CountedCodes.{CountedProgram};
-ghost use Rattle.kk_counted.specs.CountedMachine.{NotStuck};
-ghost use Rattle.kk_counted.specs.CountedStates.{CountedSetting, CountedState};
+ghost use Rattle.kk_counted.specs.CountedCosts.{roomy_cost};
+ghost use Rattle.kk_counted.specs.CountedMachine.{counted_machine, NotStuck};
+ghost use Rattle.kk_counted.specs.CountedStates.{CountedSetting, CountedState, counted_first_state};
 ghost use Rattle.kk_counted.specs.Keeping.{counted_after};
+ghost use Rattle.kk_counted.specs.TokenCosts.{token_cost, HasRoom, OpenAtMost, AreStatesKept};
+ghost use Rattle.kk_counted.specs.TokenMachine.{token_machine};
 ghost use Rattle.kk_counted.specs.TokenRuns.{IsSameRun};
 ghost use Rattle.kk_counted.specs.TokenSpending.{AreTokensSpent};
+ghost use Rattle.kk_counted.specs.TokenStates.{TokenState, token_first_state};
 ghost use Rattle.kk_reuse.specs.Paired.{AllPaired};
 ghost use Rattle.kk_reuse.specs.Pairing.{paired_program, paired_setting};
 
-use kk_counted::tokens_keep_runs_the_same;
+use kk_counted::{tokens_cost_what_they_have_room_for, tokens_keep_runs_the_same};
 
 /// Paired code without its tokens is the code that it is made of, and spends each token once on each path. On each path a
 /// construction with fields takes the newest token, if there is one; the others are freed where none can follow. A token whose slot is
@@ -29,4 +34,23 @@ pub fn paired_code_runs_the_same()
         → IsSameRun weight (paired_setting setting) input }
 {
     tokens_keep_runs_the_same();
+}
+
+/// Paired code has room for its tokens, where a step pays 36 for each opening of the function that has most of them. So it costs no
+/// more than the code that it is made of with this room, and as much at the start. In each state of its run, whatever its steps
+/// weigh, the tokens are kept, and it is not stuck; without its tokens it is a state of the run of that code. It is a law, and does
+/// nothing.
+pub fn paired_code_costs_what_it_has_room_for()
+    ensures room { (most : ℕ) (program : CountedProgram) → OpenAtMost most program → HasRoom (36 * most) (paired_program program) }
+    ensures costs { (most : ℕ) (setting : CountedSetting) (input : List ℕ)
+        → OpenAtMost most setting.program
+        → ((n : ℕ) → NotStuck (counted_after (roomy_cost (36 * most)) setting input n).control)
+        → Agree (counted_machine (roomy_cost (36 * most)) setting) (token_machine token_cost (paired_setting setting)) (36 * most)
+        (λ m. m + 1) (counted_first_state setting input) (token_first_state (paired_setting setting) input) }
+    ensures states { (weight : TokenState → ℕ) (below : CountedState → ℕ) (setting : CountedSetting) (input : List ℕ)
+        → ((n : ℕ) → NotStuck (counted_after below setting input n).control)
+        → AreStatesKept weight below (paired_setting setting) input }
+{
+    tokens_keep_runs_the_same();
+    tokens_cost_what_they_have_room_for();
 }

@@ -4,4 +4,7 @@
 
 mod law;
 
-pub use law::{paired_code_runs_the_same, paired_code_spends_its_tokens};
+pub use law::{
+    paired_code_costs_what_it_has_room_for, paired_code_runs_the_same,
+    paired_code_spends_its_tokens,
+};
