@@ -5,6 +5,7 @@ use Rattle.std.proofs.Common.{lit≤, arith}
 use mathlib.Core.Path.{fun_ext}
 use Rattle.std.proofs.lemmas.Bool.Decides.{nat_tests}
 use Rattle.rv_isa.specs.Processor.{Processor, value}
+use Rattle.rv_isa.specs.Standing.{Code}
 use Rattle.rv_isa.proofs.Memory.{number_at-same}
 use Rattle.cell_heap.specs.Cells.{Cell, no_cell, free, token, counted, waiting, Heap, changed, occurs}
 use Rattle.cell_heap.specs.Pool.{Pool, end_of, IsCell}
@@ -170,8 +171,8 @@ taken_cell {pool = pool} {view = view} s memory (from_held none full newest) =
     IsHeld-cell memory.shown chain.1
 
 -- a request has given a block
-pub take_blocks : {pool : Pool} {cells : Cells} {links : List Link} {s t : Processor} → HoldsCells pool cells links s
-    → (after : AfterTake pool (view_of cells links) s t)
+pub take_blocks : {code : Code} {pool : Pool} {cells : Cells} {links : List Link} {s t : Processor} → HoldsCells pool cells links s
+    → (after : AfterTake code pool (view_of cells links) s t)
     → (after.count ≤ 8) × IsCell pool after.cell × TakenBlock pool cells links t after.cell after.slot
 take_blocks {s = s} holds after =
     let given = taken_by holds after.cell after.then_view after.slot after.count after.taken after.cells after.memory in
