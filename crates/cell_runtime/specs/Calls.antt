@@ -17,8 +17,8 @@ pub record HasWayBack (s : Processor) : Type 0 where
   pub aligned : value s.registers 1 % 4 ≡ 0
   pub in_range : value s.registers 1 < 2 ^ 32
 
--- from one machine the routine at a symbol comes to another by so many instructions, each of them one of the code: it is back, and keeps the
--- registers that the table says and the parts of memory
+-- from one machine the routine at a symbol comes to another by so many instructions, each of them one of the code: it is back, and
+-- keeps the registers that the table says and the parts of memory
 pub record Returns (code : Code) (symbol : Symbol) (count : ℕ) (s t : Processor) : Type 0 where
   pub leads : Leads count s t
   pub inside : Along (Inside code) count s
@@ -30,8 +30,8 @@ pub record Returns (code : Code) (symbol : Symbol) (count : ℕ) (s t : Processo
 abbrev pub KeepsOutside : ℕ → ℕ → Processor → Processor → Type 0
 KeepsOutside at count s t = (x : ℕ) → (x < at) ⊎ (at + count ≤ x) → t.memory x ≡ s.memory x
 
--- By so many instructions, each of them one of the code, the run exits with a number, and stays there. The exit tells no event and changes
--- neither memory nor any register but those that the table says.
+-- By so many instructions, each of them one of the code, the run exits with a number, and stays there. The exit tells no event and
+-- changes neither memory nor any register but those that the table says.
 pub record Exits (code : Code) (number count : ℕ) (s : Processor) : Type 0 where
   pub last : Processor
   pub ends : (more : ℕ) → run (count + more) s ≡ record { processor = last; ending = exited number }

@@ -42,4 +42,5 @@ pub record AfterDrop (code : Code) (pool : Pool) (view : View) (dropped : Droppe
 
 abbrev pub IsDrop : Code → ℕ → Type 0
 IsDrop code at =
-    (pool : Pool) (reference : ℕ) (view : View) (dropped : Dropped) (s : Processor) → IsAt code at s → BeforeDrop pool reference view dropped s → (t : Processor) × AfterDrop code pool view dropped s t
+    (pool : Pool) (reference : ℕ) (view : View) (dropped : Dropped) (s : Processor) → IsAt code at s
+    → BeforeDrop pool reference view dropped s → (t : Processor) × AfterDrop code pool view dropped s t

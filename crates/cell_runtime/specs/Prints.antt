@@ -80,9 +80,11 @@ pub record BeforeReadByte (buffer : ℕ) (s : Processor) : Type 0 where
 -- by what is left of the input: its next byte comes to x10; at its end x10 is -1
 abbrev pub TakesNext : Code → List ℕ → Processor → Processor → Type 0
 TakesNext code [] s t =
-    Returns code (Routine ReadByte) 9 s t × (value t.registers 10 ≡ 2 ^ 32 - 1) × (t.trace ≡ s.trace ++ input_end ∷ []) × (t.left ≡ [])
+    Returns code (Routine ReadByte) 9 s t × (value t.registers 10 ≡ 2 ^ 32 - 1)
+    × (t.trace ≡ s.trace ++ input_end ∷ []) × (t.left ≡ [])
 TakesNext code (byte ∷ rest) s t =
-    Returns code (Routine ReadByte) 10 s t × (value t.registers 10 ≡ byte) × (t.trace ≡ s.trace ++ input byte ∷ []) × (t.left ≡ rest)
+    Returns code (Routine ReadByte) 10 s t × (value t.registers 10 ≡ byte)
+    × (t.trace ≡ s.trace ++ input byte ∷ []) × (t.left ≡ rest)
 
 pub record AfterReadByte (code : Code) (buffer : ℕ) (s t : Processor) : Type 0 where
   pub takes : TakesNext code s.left s t

@@ -21,7 +21,8 @@ all_free pool at =
 abbrev pub first_view : Pool → View
 first_view pool = record { heap = all_free pool; frees = []; border = pool.first; held = [] }
 
--- nine instructions of the code, however many cells there are, lead to `main`: x1 is the way back to the stop behind them, and x2 the end of the stack
+-- nine instructions of the code, however many cells there are, lead to `main`: x1 is the way back to the stop behind them, and x2 the end
+-- of the stack
 pub record AfterStart (code : Code) (pool : Pool) (stack_end main at : ℕ) (s t : Processor) : Type 0 where
   pub leads : Leads 9 s t
   pub inside : Along (Inside code) 9 s
@@ -37,7 +38,8 @@ pub record AfterStart (code : Code) (pool : Pool) (stack_end main at : ℕ) (s t
 
 abbrev pub IsStart : Pool → ℕ → ℕ → Code → ℕ → Type 0
 IsStart pool stack_end main code at =
-    (s : Processor) → IsAt code at s → IsUsable pool s.parts → main < 2 ^ 32 → (t : Processor) × AfterStart code pool stack_end main at s t
+    (s : Processor) → IsAt code at s → IsUsable pool s.parts → main < 2 ^ 32
+    → (t : Processor) × AfterStart code pool stack_end main at s t
 
 -- `main` stands behind the runtime, and the cells and the stack where the layout says
 abbrev pub IsStartOf : Layout → ℕ → Code → ℕ → Type 0

@@ -19,7 +19,8 @@ pub data Held (view : View) (memory : ℕ → ℕ) (slot : ℕ) : List Link → 
       → occurs cell (map (λ link. link.cell) view.held) ≡ 0 → occurs slot (map (λ link. link.slot) view.held) ≡ 0
       → Held view memory slot (record { cell = cell; slot = slot } ∷ view.held) 6 cell 8
 
-pub record AfterHold (code : Code) (pool : Pool) (view : View) (held : List Link) (count changed bytes : ℕ) (s t : Processor) : Type 0 where
+pub record AfterHold (code : Code) (pool : Pool) (view : View) (held : List Link) (count changed bytes : ℕ)
+    (s t : Processor) : Type 0 where
   pub returns : Returns code Hold count s t
   pub cells : Memory pool (record view { held = held }) t
   pub memory : KeepsOutside changed bytes s t

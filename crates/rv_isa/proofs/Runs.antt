@@ -1,5 +1,6 @@
 -- Runs over an instruction set, one after the other: a run in two parts is one run, and what has ended stays.
-use Rattle.std.proofs.Common.{◌≡◌, ◌≢◌, ◌<◌, inl, inr, ℕ, zero, suc, ◌+◌, ◌-◌, refl, sym, ap, ◌∙◌, subst, arith, add_assoc, add-zero, zero-add}
+use Rattle.std.proofs.Common.{◌≡◌, ◌≢◌, ◌<◌, inl, inr, ℕ, zero, suc, ◌+◌, ◌-◌}
+use Rattle.std.proofs.Common.{refl, sym, ap, ◌∙◌, subst, arith, add_assoc, add-zero, zero-add}
 use Rattle.std.proofs.lemmas.Bool.{cases_lt}
 use Rattle.rv_isa.specs.Processor.{Processor, Ending, going, exited, trapped, Progress, goes}
 use Rattle.rv_isa.specs.InstructionSet.{InstructionSet, step_over, resumes, go_on, run_over, LeadsOver}
@@ -86,7 +87,8 @@ module _ {I : Type 0} {set : InstructionSet I} where
       leads.by (suc more) ∙ run-suc set more t ∙ rw is (go_on-ended after (run_over set more) ended)
 
   -- what is so of each progress of two runs, the one behind the other, is so of each of the whole
-  pub Leads-each : (P : Progress → Type 0) {n k : ℕ} {s t : Processor} → LeadsOver set n s t → ((j : ℕ) → j < n → P (run_over set j s)) → ((j : ℕ) → j < k → P (run_over set j t))
+  pub Leads-each : (P : Progress → Type 0) {n k : ℕ} {s t : Processor} → LeadsOver set n s t
+      → ((j : ℕ) → j < n → P (run_over set j s)) → ((j : ℕ) → j < k → P (run_over set j t))
       → (j : ℕ) → j < n + k → P (run_over set j s)
   Leads-each P {n} {k} {s} {t} leads before behind j less =
       elim (cases_lt j n) [

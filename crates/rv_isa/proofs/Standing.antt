@@ -172,6 +172,7 @@ Stands-leads {code} {n} {s} {t} leads stands =
 
 -- ---- runs that stay at instructions of the code
 
+-- one instruction of the code, the runs of two rows of them, and the code stands behind them
 pub inside-one : (code : Code) (s : Processor) {i : Instr} → code s.pc ≡ Some i → Along (Inside code) 1 s
 inside-one code s here zero less = rw (run-zero rv32im s, here) refl
 inside-one code s here (suc k) less = absurd (omega arith)

@@ -1,5 +1,6 @@
 -- Code that stands in a machine's memory: what a run that executes it rests on.
-use Rattle.std.specs.Prelude.{◌≡◌, ℕ, ◌+◌, ◌-◌, ◌/◌, ◌%◌, ◌^◌, ◌<◌, List, [], ◌∷◌, Option, Some, None, IsSome, true, ◌&&◌, if◌then◌else◌, nat_eq, nat_le}
+use Rattle.std.specs.Prelude.{◌≡◌, ℕ, ◌+◌, ◌-◌, ◌/◌, ◌%◌, ◌^◌, ◌<◌, List, [], ◌∷◌}
+use Rattle.std.specs.Prelude.{Option, Some, None, IsSome, true, ◌&&◌, if◌then◌else◌, nat_eq, nat_le}
 use Rattle.std.specs.List.{slice_get}
 use Rattle.rv_isa.specs.declared.instr.Instr.{Instr}
 use Rattle.rv_isa.specs.Read.{read}
