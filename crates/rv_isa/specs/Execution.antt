@@ -43,6 +43,6 @@ image_after parts entry input count = image_after_over rv32im parts entry input 
 abbrev pub Leads : ℕ → Processor → Processor → Type 0
 Leads count from to = LeadsOver rv32im count from to
 
--- something is so of each state of a run before its next instruction, so many of them
+-- something is so of each of the first states of a run, so many of them
 abbrev pub Along : (Processor → Type 0) → ℕ → Processor → Type 0
 Along P count s = (k : ℕ) → k < count → P (run k s).processor
