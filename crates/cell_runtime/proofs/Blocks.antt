@@ -1,22 +1,23 @@
 -- What the routines for cells and tokens make of the blocks of a program.
-use Rattle.std.proofs.Common.{◌≡◌, ◌≢◌, ◌≤◌, ◌<◌, ◌⊎◌, inl, inr, ℕ, ◌+◌, ◌*◌, ◌%◌, List, [], ◌∷◌, map, Option, Some, None}
+use Rattle.std.proofs.Common.{◌≡◌, ◌≤◌, ◌<◌, ◌⊎◌, inl, inr, ℕ, ◌+◌, ◌*◌, ◌%◌, List, [], ◌∷◌, map, Option, Some, None}
 use Rattle.std.proofs.Common.{option_map, Bool, true, false, ◌&&◌, if◌then◌else◌, nat_eq, nat_le, nat_lt, refl, sym, ap, ◌∙◌, subst}
 use Rattle.std.proofs.Common.{lit≤, arith}
 use mathlib.Core.Path.{fun_ext}
 use Rattle.std.proofs.lemmas.Bool.Decides.{nat_tests}
 use Rattle.rv_isa.specs.Processor.{Processor, value}
+use Rattle.rv_isa.specs.Standing.{Code}
 use Rattle.rv_isa.proofs.Memory.{number_at-same}
-use Rattle.cell_heap.specs.Cells.{Cell, no_cell, free, token, counted, waiting, Heap, changed, occurs}
+use Rattle.cell_heap.specs.Cells.{no_cell, free, token, changed, occurs}
 use Rattle.cell_heap.specs.Pool.{Pool, end_of, IsCell}
 use Rattle.cell_heap.specs.View.{Link, View}
 use Rattle.cell_heap.specs.Memory.{word, IsChain, IsToken, IsHeldChain, Memory}
-use Rattle.cell_heap.specs.Blocks.{Block, no_block, unused, own, kept, Cells, with_block, unused_cells, nothing, takes, request_by}
+use Rattle.cell_heap.specs.Blocks.{no_block, unused, own, kept, Cells, with_block, unused_cells, nothing, takes, request_by}
 use Rattle.cell_heap.specs.Blocks.{request, past_links, fields_of, seen, seen_cells, view_of}
 use Rattle.cell_heap.specs.Known.{AreKnown, IsKnown, IsOwnBlock, HoldsCells, SameRoots}
 use Rattle.cell_heap.proofs.Sums.{occurs-none, occurs-other}
-use Rattle.cell_heap.proofs.Frames.{changed-same, SameBut, SameInside, SameWords-but, SameWords-inside, shown-cell, IsHeld-cell}
+use Rattle.cell_heap.proofs.Frames.{SameBut, SameInside, SameWords-but, SameWords-inside, shown-cell, IsHeld-cell}
 use Rattle.cell_heap.proofs.Owning.{IsOwn, token-own, own_change, changed-nothing}
-use Rattle.cell_heap.proofs.Blocks.{seen-changed, block-same, placed-by, own-cell, own-known, own-apart, is-own, known-length}
+use Rattle.cell_heap.proofs.Blocks.{seen-changed, block-same, placed-by, own-cell, own-known, is-own, known-length}
 use Rattle.cell_heap.proofs.Blocks.{known-fields}
 use Rattle.cell_runtime.specs.Calls.{KeepsOutside}
 use Rattle.cell_runtime.specs.Starts.{first_view}
@@ -170,8 +171,8 @@ taken_cell {pool = pool} {view = view} s memory (from_held none full newest) =
     IsHeld-cell memory.shown chain.1
 
 -- a request has given a block
-pub take_blocks : {pool : Pool} {cells : Cells} {links : List Link} {s t : Processor} → HoldsCells pool cells links s
-    → (after : AfterTake pool (view_of cells links) s t)
+pub take_blocks : {code : Code} {pool : Pool} {cells : Cells} {links : List Link} {s t : Processor} → HoldsCells pool cells links s
+    → (after : AfterTake code pool (view_of cells links) s t)
     → (after.count ≤ 8) × IsCell pool after.cell × TakenBlock pool cells links t after.cell after.slot
 take_blocks {s = s} holds after =
     let given = taken_by holds after.cell after.then_view after.slot after.count after.taken after.cells after.memory in

@@ -1,6 +1,7 @@
 -- What follows of a drop: it is the plain meaning of giving up the reference, and credit pays its instructions.
 use Rattle.std.proofs.Common.{◌≤◌, ℕ, ◌+◌, [], ◌∷◌, arith}
 use Rattle.rv_isa.specs.Processor.{Processor}
+use Rattle.rv_isa.specs.Standing.{Code}
 use Rattle.cell_heap.specs.Pool.{Pool, places}
 use Rattle.cell_heap.specs.View.{View}
 use Rattle.cell_heap.specs.Counts.{credit}
@@ -10,7 +11,7 @@ use Rattle.cell_heap.proofs.GivingUp.{GivesUp-paid}
 use Rattle.cell_heap.proofs.InTurns.{turns_give_up}
 use Rattle.cell_runtime.specs.Drops.{Dropped, BeforeDrop, AfterDrop}
 
-module _ {pool : Pool} {reference : ℕ} {view : View} {dropped : Dropped} {s t : Processor} (before : BeforeDrop pool reference view dropped s) (after : AfterDrop pool view dropped s t) where
+module _ {code : Code} {pool : Pool} {reference : ℕ} {view : View} {dropped : Dropped} {s t : Processor} (before : BeforeDrop pool reference view dropped s) (after : AfterDrop code pool view dropped s t) where
   pub drop-gives_up : GivesUp (reference ∷ []) view.heap dropped.gave dropped.freed dropped.heap
   drop-gives_up = turns_give_up before.turns
 

@@ -4,10 +4,8 @@ use Rattle.std.proofs.lemmas.Bool.{cases_eq}
 use Rattle.rv_isa.specs.Bytes.{with_number}
 use Rattle.rv_isa.specs.Processor.{Processor, value, put}
 use Rattle.rv_isa.specs.Environment.{stepped}
-use Rattle.rv_isa.specs.Execution.{Leads}
-use Rattle.rv_isa.specs.Standing.{Code, Has, Stands}
-use Rattle.rv_isa.proofs.Standing.{Stands-leads}
-use Rattle.rv_isa.proofs.Runs.{Leads-then}
+use Rattle.rv_isa.specs.Standing.{Code, Has, Stands, LeadsIn}
+use Rattle.rv_isa.proofs.Standing.{LeadsIn-stands, LeadsIn-then}
 use Rattle.cell_heap.specs.Cells.{Body, Heap, free, waiting, counted, changed, chosen}
 use Rattle.cell_heap.specs.Pool.{Pool, end_of, IsCell}
 use Rattle.cell_heap.specs.Memory.{word}
@@ -24,7 +22,7 @@ use Rattle.cell_runtime.proofs.DropStates.{IsQuiet, IsQuiet-then, count-stored, 
 pub record IsScanned (code : Code) (pool : Pool) (first heap : Heap) (waits frees : List ℕ) (goal most : ℕ) (s : Processor) : Type 0 where
   pub last : Processor
   pub count : ℕ
-  pub leads : Leads count s last
+  pub leads : LeadsIn code count s last
   pub few : count ≤ most
   pub quiet : IsQuiet first s last
   pub way : value last.registers 1 ≡ value s.registers 1
@@ -42,7 +40,7 @@ pub record IsChosen (code : Code) (pool : Pool) (first heap : Heap) (waits frees
 
 -- a field is passed over, which is no reference
 record IsPassed (code : Code) (pool : Pool) (first heap : Heap) (waits frees : List ℕ) (mask : ℕ) (ys : List ℕ) (s t : Processor) : Type 0 where
-  leads : Leads 7 s t
+  leads : LeadsIn code 7 s t
   quiet : IsQuiet first s t
   within : IsWithin code pool first heap waits frees t
   scanning : IsScanning pool (mask / 2) ys t
@@ -50,14 +48,14 @@ record IsPassed (code : Code) (pool : Pool) (first heap : Heap) (waits frees : L
 mask-clear : (mask : ℕ) → (mask % 2 ≡ 1 → ⊥) → mask % 2 ≡ 0
 mask-clear mask other = grind arith
 
-IsScanned-from : {code : Code} {pool : Pool} {first heap : Heap} {waits frees : List ℕ} {goal most k n : ℕ} {s t : Processor} → Leads k s t → IsQuiet first s t → value t.registers 1 ≡ value s.registers 1 → k + most ≤ n
+IsScanned-from : {code : Code} {pool : Pool} {first heap : Heap} {waits frees : List ℕ} {goal most k n : ℕ} {s t : Processor} → LeadsIn code k s t → IsQuiet first s t → value t.registers 1 ≡ value s.registers 1 → k + most ≤ n
     → IsScanned code pool first heap waits frees goal most t → IsScanned code pool first heap waits frees goal n s
 IsScanned-from {most = most} {k} {n} leads quiet way fits scanned =
     let few = scanned.few in
     record {
       last = scanned.last;
       count = k + scanned.count;
-      leads = Leads-then leads scanned.leads;
+      leads = LeadsIn-then leads scanned.leads;
       few = omega arith;
       quiet = IsQuiet-then quiet scanned.quiet;
       way = scanned.way ∙ way;
@@ -65,7 +63,7 @@ IsScanned-from {most = most} {k} {n} leads quiet way fits scanned =
       within = scanned.within;
     }
 
-IsChosen-from : {code : Code} {pool : Pool} {first heap : Heap} {waits frees : List ℕ} {x goal : ℕ} {rest xs : List ℕ} {s t : Processor} → Leads 7 s t → IsQuiet first s t → value t.registers 1 ≡ value s.registers 1 → (y : ℕ)
+IsChosen-from : {code : Code} {pool : Pool} {first heap : Heap} {waits frees : List ℕ} {x goal : ℕ} {rest xs : List ℕ} {s t : Processor} → LeadsIn code 7 s t → IsQuiet first s t → value t.registers 1 ≡ value s.registers 1 → (y : ℕ)
     → IsChosen code pool first heap waits frees x rest xs goal t → IsChosen code pool first heap waits frees x rest (y ∷ xs) goal s
 unfolding IsScanned-from
 IsChosen-from leads quiet way y later =
@@ -166,7 +164,7 @@ module _ (code : Code) (at : ℕ) (has : Has code at drop_code) (fits : at + 112
           way = refl;
           pc_is = refl;
           within = record {
-            stands = Stands-leads leads within.stands;
+            stands = LeadsIn-stands leads within.stands;
             cells = within.cells;
             heap_left = within.heap_left;
             way_back = record { aligned = within.way_back.aligned; in_range = within.way_back.in_range };
@@ -185,7 +183,7 @@ module _ (code : Code) (at : ℕ) (has : Has code at drop_code) (fits : at + 112
         record {
           leads = leads;
           quiet = quiet_field first mask y 0 (at + 32) executed s;
-          within = within_field first mask y 0 (at + 32) executed s (Stands-leads leads within.stands) within;
+          within = within_field first mask y 0 (at + 32) executed s (LeadsIn-stands leads within.stands) within;
           scanning = scanning_field first mask y 0 (at + 32) executed s pool ys scanning;
         }
 
@@ -232,7 +230,7 @@ module _ (code : Code) (at : ℕ) (has : Has code at drop_code) (fits : at + 112
                         quiet = quiet_field first mask y 1 (at + 8) (s.executed + 1 + 1 + 1 + 1 + 1 + 1) s;
                         way = refl;
                         pc_is = refl;
-                        within = within_field first mask y 1 (at + 8) (s.executed + 1 + 1 + 1 + 1 + 1 + 1) s (Stands-leads leads within.stands) within;
+                        within = within_field first mask y 1 (at + 8) (s.executed + 1 + 1 + 1 + 1 + 1 + 1) s (LeadsIn-stands leads within.stands) within;
                       };
                       fewer = omega arith;
                       reference_is = sym parts.0;
@@ -252,14 +250,14 @@ module _ (code : Code) (at : ℕ) (has : Has code at drop_code) (fits : at + 112
   module _ (heap end : Heap) (waits frees left_free : List ℕ) (x mask most : ℕ) (left : List ℕ) (s : Processor) (here : s.pc ≡ at + 8) (within : IsWithin code pool first heap waits frees s)
       (x_is : value s.registers 10 ≡ x) (scanning : IsScanning pool mask left s) where
     pub give-odd : x % 2 ≡ 1
-        → ((t : Processor) → t.pc ≡ at + 32 → IsWithin code pool first heap waits frees t → IsScanning pool mask left t → Comes pool first end left_free most t)
-        → Comes pool first end left_free (8 + most) s
+        → ((t : Processor) → t.pc ≡ at + 32 → IsWithin code pool first heap waits frees t → IsScanning pool mask left t → Comes code pool first end left_free most t)
+        → Comes code pool first end left_free (8 + most) s
     give-odd odd goes_on =
         let leads = row_odd code at has fits at_whole s x within.stands here x_is odd in
         let t = record s { registers = put 5 1 s.registers; pc = at + 32; executed = s.executed + 1 + 1 } in
         let quiet : IsQuiet first s t = record { registers = λ r kept. kept-5 s.registers r kept 1; parts = refl; trace = refl; left = refl; others = λ r none. refl } in
         let there : IsWithin code pool first heap waits frees t = record {
-          stands = Stands-leads leads within.stands;
+          stands = LeadsIn-stands leads within.stands;
           cells = within.cells;
           heap_left = within.heap_left;
           way_back = record { aligned = within.way_back.aligned; in_range = within.way_back.in_range };
@@ -268,8 +266,8 @@ module _ (code : Code) (at : ℕ) (has : Has code at drop_code) (fits : at + 112
         Comes-from leads quiet refl (omega arith) (goes_on t refl there scans)
 
     pub give-lower : (n : ℕ) (body : Body) → x % 2 ≡ 0 → heap x ≡ counted (suc (suc n)) body
-        → ((t : Processor) → t.pc ≡ at + 32 → IsWithin code pool first (changed x (counted (suc n) body) heap) waits frees t → IsScanning pool mask left t → Comes pool first end left_free most t)
-        → Comes pool first end left_free (8 + most) s
+        → ((t : Processor) → t.pc ≡ at + 32 → IsWithin code pool first (changed x (counted (suc n) body) heap) waits frees t → IsScanning pool mask left t → Comes code pool first end left_free most t)
+        → Comes code pool first end left_free (8 + most) s
     give-lower n body even is goes_on =
         let shows = AreCells-counted within.cells x (suc (suc n)) body is in
         let cell = shows.0 in
@@ -289,7 +287,7 @@ module _ (code : Code) (at : ℕ) (has : Has code at drop_code) (fits : at + 112
           others = count-stored first x was.0 (suc n) body s.memory was.1;
         } in
         let there : IsWithin code pool first (changed x (counted (suc n) body) heap) waits frees t = record {
-          stands = Stands-leads leads within.stands;
+          stands = LeadsIn-stands leads within.stands;
           cells = AreCells-lower within.cells x n body is;
           heap_left = IsLeft-counted x (suc (suc n)) body (counted (suc n) body) is (inr (inr (suc n, refl))) within.heap_left;
           way_back = record { aligned = within.way_back.aligned; in_range = within.way_back.in_range };
@@ -302,8 +300,8 @@ module _ (code : Code) (at : ℕ) (has : Has code at drop_code) (fits : at + 112
         Comes-from leads quiet refl (two_less most) (goes_on t refl there scans)
 
     pub give-wait : (body : Body) → x % 2 ≡ 0 → heap x ≡ counted 1 body
-        → ((t : Processor) → t.pc ≡ at + 32 → IsWithin code pool first (changed x (waiting body) heap) (x ∷ waits) frees t → IsScanning pool mask left t → Comes pool first end left_free most t)
-        → Comes pool first end left_free (8 + most) s
+        → ((t : Processor) → t.pc ≡ at + 32 → IsWithin code pool first (changed x (waiting body) heap) (x ∷ waits) frees t → IsScanning pool mask left t → Comes code pool first end left_free most t)
+        → Comes code pool first end left_free (8 + most) s
     give-wait body even is goes_on =
         let shows = AreCells-counted within.cells x 1 body is in
         let cell = shows.0 in
@@ -324,7 +322,7 @@ module _ (code : Code) (at : ℕ) (has : Has code at drop_code) (fits : at + 112
           others = count-stored first x was.0 w body s.memory was.1;
         } in
         let there : IsWithin code pool first (changed x (waiting body) heap) (x ∷ waits) frees t = record {
-          stands = Stands-leads leads within.stands;
+          stands = LeadsIn-stands leads within.stands;
           cells = AreCells-wait within.cells x body is;
           heap_left = IsLeft-counted x 1 body (waiting body) is (inr (inl refl)) within.heap_left;
           way_back = record { aligned = within.way_back.aligned; in_range = within.way_back.in_range };
@@ -339,7 +337,7 @@ module _ (code : Code) (at : ℕ) (has : Has code at drop_code) (fits : at + 112
   -- ---- waiting cells
 
   -- none waits
-  pub pop-none : (heap : Heap) (frees : List ℕ) (s : Processor) → s.pc ≡ at + 72 → IsWithin code pool first heap [] frees s → Comes pool first heap frees 2 s
+  pub pop-none : (heap : Heap) (frees : List ℕ) (s : Processor) → s.pc ≡ at + 72 → IsWithin code pool first heap [] frees s → Comes code pool first heap frees 2 s
   pop-none heap frees s here within =
       let leads = row_done code at has fits at_whole s within.stands here within.cells.wait_chain within.way_back.aligned within.way_back.in_range in
       record {
@@ -354,8 +352,8 @@ module _ (code : Code) (at : ℕ) (has : Has code at drop_code) (fits : at + 112
 
   -- the first one is freed, and its fields are the next ones
   pub pop-open : (heap end : Heap) (waits frees left_free : List ℕ) (x most : ℕ) (body : Body) (s : Processor) → s.pc ≡ at + 72 → ((y : ℕ) (other : Body) → first y ≢ waiting other) → IsWithin code pool first heap (x ∷ waits) frees s → heap x ≡ waiting body
-      → ((t : Processor) → t.pc ≡ at + 32 → IsWithin code pool first (changed x free heap) waits (x ∷ frees) t → IsScanning pool body.mask body.fields t → Comes pool first end left_free most t)
-      → Comes pool first end left_free (9 + most) s
+      → ((t : Processor) → t.pc ≡ at + 32 → IsWithin code pool first (changed x free heap) waits (x ∷ frees) t → IsScanning pool body.mask body.fields t → Comes code pool first end left_free most t)
+      → Comes code pool first end left_free (9 + most) s
   pop-open heap end waits frees left_free x most body s here settled within is goes_on =
       let shows = AreCells-waiting within.cells body is in
       let cell = shows.0 in
@@ -390,7 +388,7 @@ module _ (code : Code) (at : ℕ) (has : Has code at drop_code) (fits : at + 112
         others = count-stored first x was.0 f body s.memory was.1;
       } in
       let there : IsWithin code pool first (changed x free heap) waits (x ∷ frees) t = record {
-        stands = Stands-leads leads within.stands;
+        stands = LeadsIn-stands leads within.stands;
         cells = AreCells-opened within.cells body is;
         heap_left = IsLeft-opened x body settled is within.heap_left;
         way_back = record { aligned = within.way_back.aligned; in_range = within.way_back.in_range };

@@ -10,8 +10,7 @@ use Rattle.rv_isa.specs.Arithmetic.{sum_word, shift_right_logical}
 use Rattle.rv_isa.specs.Bytes.{with_number}
 use Rattle.rv_isa.specs.Processor.{Processor, value, put, can_load, can_store}
 use Rattle.rv_isa.specs.Environment.{stepped}
-use Rattle.rv_isa.specs.Execution.{Leads}
-use Rattle.rv_isa.specs.Standing.{Code, Has, Stands}
+use Rattle.rv_isa.specs.Standing.{Code, Has, Stands, LeadsIn}
 use Rattle.rv_isa.proofs.Standing.{Has-get}
 use Rattle.rv_isa.proofs.Instructions.{leads-sets, leads-addi, leads-lw, leads-sw, leads-beq_taken, leads-beq_not_taken, leads-bne_taken, leads-bne_not_taken}
 use Rattle.cell_heap.specs.Memory.{word}
@@ -124,14 +123,14 @@ word_below s at use_it = let below = use_it.below in omega arith
 
 module _ (code : Code) (at : ℕ) (has : Has code at drop_code) (fits : at + 112 ≤ 2 ^ 32) (at_whole : at % 4 ≡ 0) where
   -- x13 and x12 become 0
-  pub row_start : (s : Processor) → Stands code s → s.pc ≡ at → Leads 2 s (record s { registers = put 12 0 (put 13 0 s.registers); pc = at + 8; executed = s.executed + 1 + 1 })
+  pub row_start : (s : Processor) → Stands code s → s.pc ≡ at → LeadsIn code 2 s (record s { registers = put 12 0 (put 13 0 s.registers); pc = at + 8; executed = s.executed + 1 + 1 })
   row_start s stands here =
       let pc_0 : s.pc ≡ at + 0 = omega arith in
       let a = leads-addi stands {v = 0} (ap code pc_0 ∙ Has-get code at drop_code 0 _ has refl) refl (ap (λ p. sum_word p 4) pc_0 ∙ to_next at 0 fits (lit≤ tt)) in
       then_one stands a (λ on. leads-addi on {v = 0} (Has-get code at drop_code 1 _ has refl) refl (to_next at 4 fits (lit≤ tt)))
 
   -- an odd reference
-  pub row_odd : (s : Processor) (x : ℕ) → Stands code s → s.pc ≡ at + 8 → value s.registers 10 ≡ x → x % 2 ≡ 1 → Leads 2 s (record s { registers = put 5 1 s.registers; pc = at + 32; executed = s.executed + 1 + 1 })
+  pub row_odd : (s : Processor) (x : ℕ) → Stands code s → s.pc ≡ at + 8 → value s.registers 10 ≡ x → x % 2 ≡ 1 → LeadsIn code 2 s (record s { registers = put 5 1 s.registers; pc = at + 32; executed = s.executed + 1 + 1 })
   row_odd s x stands here x_is odd =
       let bit : bit_and (value s.registers 10) 1 ≡ 1 = bit_of_word (value s.registers 10) 1 (ap (λ n. n % 2) x_is ∙ odd) in
       let a = leads-sets stands (Andi x5 x10 imm_1) (bit_and (value s.registers 10) 1) {v = 1} (ap code here ∙ Has-get code at drop_code 2 _ has refl) refl bit (ap (λ p. sum_word p 4) here ∙ to_next at 8 fits (lit≤ tt)) in
@@ -139,7 +138,7 @@ module _ (code : Code) (at : ℕ) (has : Has code at drop_code) (fits : at + 112
 
   -- an even reference, of which others are left: its count is lowered
   pub row_lower : (s : Processor) (x n : ℕ) → Stands code s → s.pc ≡ at + 8 → value s.registers 10 ≡ x → x % 2 ≡ 0 → MayUse s x → word s.memory x ≡ suc (suc n) → suc (suc n) < 2 ^ 32
-      → Leads 6 s (record s {
+      → LeadsIn code 6 s (record s {
         registers = put 5 (suc n) (put 5 (suc (suc n)) (put 5 0 s.registers));
         memory = with_number x 4 (suc n) s.memory;
         pc = at + 32;
@@ -157,7 +156,7 @@ module _ (code : Code) (at : ℕ) (has : Has code at drop_code) (fits : at + 112
 
   -- the last reference: the cell waits
   pub row_wait : (s : Processor) (x w : ℕ) → Stands code s → s.pc ≡ at + 8 → value s.registers 10 ≡ x → x % 2 ≡ 0 → MayUse s x → word s.memory x ≡ 1 → value s.registers 13 ≡ w
-      → Leads 8 s (record s {
+      → LeadsIn code 8 s (record s {
         registers = put 13 x (put 5 0 (put 5 1 (put 5 0 s.registers)));
         memory = with_number x 4 w s.memory;
         pc = at + 32;
@@ -176,13 +175,13 @@ module _ (code : Code) (at : ℕ) (has : Has code at drop_code) (fits : at + 112
       then_one stands g (λ on. leads-beq_taken on (Has-get code at drop_code 17 _ has refl) refl (to_back at 68 36 fits (lit≤ tt) (lit≤ tt)) (whole at 32 at_whole refl))
 
   -- no field is left
-  pub row_scanned : (s : Processor) → Stands code s → s.pc ≡ at + 32 → value s.registers 12 ≡ 0 → Leads 1 s (stepped (at + 72) s)
+  pub row_scanned : (s : Processor) → Stands code s → s.pc ≡ at + 32 → value s.registers 12 ≡ 0 → LeadsIn code 1 s (stepped (at + 72) s)
   row_scanned s stands here none =
       leads-beq_taken stands (ap code here ∙ Has-get code at drop_code 8 _ has refl) none (ap (λ p. sum_word p 40) here ∙ to_ahead at 32 40 fits (lit≤ tt)) (whole at 72 at_whole refl)
 
   -- the next field, up to the branch by its bit
   row_field : (s : Processor) (m p y b : ℕ) → Stands code s → s.pc ≡ at + 32 → value s.registers 12 ≡ m → m ≢ 0 → m % 2 ≡ b → value s.registers 11 ≡ p → MayUse s p → word s.memory p ≡ y
-      → Leads 5 s (record s {
+      → LeadsIn code 5 s (record s {
         registers = put 12 (m / 2) (put 11 (p + 4) (put 10 y (put 5 b s.registers)));
         pc = at + 52;
         executed = s.executed + 1 + 1 + 1 + 1 + 1;
@@ -200,7 +199,7 @@ module _ (code : Code) (at : ℕ) (has : Has code at drop_code) (fits : at + 112
 
   -- a field whose bit is set is given up
   pub row_reference : (s : Processor) (m p y : ℕ) → Stands code s → s.pc ≡ at + 32 → value s.registers 12 ≡ m → m ≢ 0 → m % 2 ≡ 1 → value s.registers 11 ≡ p → MayUse s p → word s.memory p ≡ y
-      → Leads 6 s (record s {
+      → LeadsIn code 6 s (record s {
         registers = put 12 (m / 2) (put 11 (p + 4) (put 10 y (put 5 1 s.registers)));
         pc = at + 8;
         executed = s.executed + 1 + 1 + 1 + 1 + 1 + 1;
@@ -211,7 +210,7 @@ module _ (code : Code) (at : ℕ) (has : Has code at drop_code) (fits : at + 112
 
   -- another one is passed over
   pub row_skip : (s : Processor) (m p y : ℕ) → Stands code s → s.pc ≡ at + 32 → value s.registers 12 ≡ m → m ≢ 0 → m % 2 ≡ 0 → value s.registers 11 ≡ p → MayUse s p → word s.memory p ≡ y
-      → Leads 7 s (record s {
+      → LeadsIn code 7 s (record s {
         registers = put 12 (m / 2) (put 11 (p + 4) (put 10 y (put 5 0 s.registers)));
         pc = at + 32;
         executed = s.executed + 1 + 1 + 1 + 1 + 1 + 1 + 1;
@@ -223,7 +222,7 @@ module _ (code : Code) (at : ℕ) (has : Has code at drop_code) (fits : at + 112
 
   -- no cell waits: the way back
   pub row_done : (s : Processor) → Stands code s → s.pc ≡ at + 72 → value s.registers 13 ≡ 0 → value s.registers 1 % 4 ≡ 0 → value s.registers 1 < 2 ^ 32
-      → Leads 2 s (record s { pc = value s.registers 1; executed = s.executed + 1 + 1 })
+      → LeadsIn code 2 s (record s { pc = value s.registers 1; executed = s.executed + 1 + 1 })
   row_done s stands here none way_whole way_below =
       let a = leads-bne_not_taken stands (ap code here ∙ Has-get code at drop_code 18 _ has refl) none (ap (λ p. sum_word p 4) here ∙ to_next at 72 fits (lit≤ tt)) in
       leads-back _ stands a (Has-get code at drop_code 19 _ has refl) refl way_whole way_below
@@ -231,7 +230,7 @@ module _ (code : Code) (at : ℕ) (has : Has code at drop_code) (fits : at + 112
   -- the first waiting cell goes to the free ones, and its fields are the next ones
   pub row_open : (s : Processor) (a f n h m : ℕ) → Stands code s → s.pc ≡ at + 72 → value s.registers 13 ≡ a → a ≢ 0 → value s.registers 8 ≡ f → MayUse s a → a % 32 ≡ 0 → a + 8 < 2 ^ 32 → can_load s.parts (a + 4) 4 ≡ true
       → word s.memory a ≡ n → n < 2 ^ 32 → word (with_number a 4 f s.memory) (a + 4) ≡ h → h / 256 ≡ m
-      → Leads 9 s (record s {
+      → LeadsIn code 9 s (record s {
         registers = put 13 n (put 11 (a + 8) (put 12 m (put 12 h (put 8 a (put 5 n s.registers)))));
         memory = with_number a 4 f s.memory;
         pc = at + 32;

@@ -1,9 +1,8 @@
 -- The routine that gives up a reference, executed: it takes the turns of a drop without a stack.
 use Rattle.std.proofs.Common.{◌≡◌, ◌≢◌, ℕ, suc, ◌+◌, ◌*◌, ◌%◌, ◌^◌, ◌≤◌, List, [], ◌∷◌, length, refl, sym, ◌∙◌, subst, lit<, arith}
 use Rattle.rv_isa.specs.Processor.{Processor, value, put}
-use Rattle.rv_isa.specs.Execution.{Leads}
-use Rattle.rv_isa.specs.Standing.{Code, Has, Stands}
-use Rattle.rv_isa.proofs.Standing.{Has-get, Stands-leads}
+use Rattle.rv_isa.specs.Standing.{Code, Has, Stands, LeadsIn}
+use Rattle.rv_isa.proofs.Standing.{Has-get, LeadsIn-stands}
 use Rattle.cell_heap.specs.Cells.{Body, Heap, waiting, chosen}
 use Rattle.cell_heap.specs.Pool.{Pool}
 use Rattle.cell_heap.specs.View.{View}
@@ -24,6 +23,7 @@ use Rattle.cell_runtime.specs.Drops.{Dropped, IsDrop, BeforeDrop, AfterDrop}
 use Rattle.cell_runtime.proofs.Spelling.{plain, plain_makes}
 use Rattle.cell_runtime.proofs.DropRows.{drop_code, row_start}
 use Rattle.cell_runtime.proofs.DropStates.{IsQuiet, kept-12, kept-13, IsWithin, IsScanning, Comes, Comes-from, Comes-weaker}
+use Rattle.cell_runtime.proofs.Calling.{returns_by}
 use Rattle.cell_runtime.proofs.DropMoves.{scan-none, scan-some, give-odd, give-lower, give-wait, pop-none, pop-open}
 
 -- the routine keeps the registers of the held chain and of the border
@@ -43,7 +43,7 @@ cost fields gave freed = 7 * fields + 8 * gave + 52 * freed + 3
 module _ (code : Code) (at : ℕ) (has : Has code at drop_code) (fits : at + 112 ≤ 2 ^ 32) (at_whole : at % 4 ≡ 0) (pool : Pool) (first : Heap) (settled : (y : ℕ) (other : Body) → first y ≢ waiting other) where
   pub from-next : {refs waits frees left_free : List ℕ} {heap end : Heap} {gave freed : ℕ} → Turns refs waits frees heap gave freed left_free end
       → (mask : ℕ) (xs : List ℕ) (s : Processor) → refs ≡ chosen mask xs → s.pc ≡ at + 32 → IsWithin code pool first heap waits frees s → IsScanning pool mask xs s
-      → Comes pool first end left_free (cost (length xs) gave freed) s
+      → Comes code pool first end left_free (cost (length xs) gave freed) s
   from-next (ended {frees = frees} {heap = heap}) mask xs s refs_are here within scanning =
       let scanned = scan-none code at has fits at_whole pool first heap [] frees xs mask s here within scanning refs_are in
       let few = scanned.few in
@@ -81,7 +81,7 @@ module _ (code : Code) (at : ℕ) (has : Has code at drop_code) (fits : at + 112
 
   pub from-give : {x : ℕ} {rest waits frees left_free : List ℕ} {heap end : Heap} {gave freed : ℕ} → Turns (x ∷ rest) waits frees heap gave freed left_free end
       → (mask : ℕ) (xs : List ℕ) (s : Processor) → rest ≡ chosen mask xs → s.pc ≡ at + 8 → value s.registers 10 ≡ x → IsWithin code pool first heap waits frees s → IsScanning pool mask xs s
-      → Comes pool first end left_free (cost (length xs) gave freed) s
+      → Comes code pool first end left_free (cost (length xs) gave freed) s
   from-give (passed {x = x} {waits = waits} {frees = frees} {left = left} {heap = heap} {end = end} {gave = gave} {freed = freed} odd turns) mask xs s rest_is here x_is within scanning =
       Comes-weaker (gives-more (length xs) gave freed)
       (give-odd code at has fits at_whole pool first heap end waits frees left x mask (cost (length xs) gave freed) xs s here within x_is scanning odd
@@ -114,7 +114,7 @@ module _ (code : Code) (at : ℕ) (has : Has code at drop_code) where
     started : Processor
     started = record s { registers = put 12 0 (put 13 0 s.registers); pc = at + 8; executed = s.executed + 1 + 1 }
 
-    starts : Leads 2 s started
+    starts : LeadsIn code 2 s started
     unfolding started
     starts = row_start code at has (code-fits s here.stands) (code-whole s here.stands) s here.stands here.pc_is
 
@@ -131,7 +131,7 @@ module _ (code : Code) (at : ℕ) (has : Has code at drop_code) where
     starts-within : IsWithin code pool view.heap view.heap [] view.frees started
     unfolding started
     starts-within = record {
-      stands = Stands-leads starts here.stands;
+      stands = LeadsIn-stands starts here.stands;
       cells = record { usable = before.memory.usable; shown = before.memory.shown; chain = before.memory.chain; wait_chain = refl };
       heap_left = IsLeft-same view.heap;
       way_back = record { aligned = before.way_back.aligned; in_range = before.way_back.in_range };
@@ -141,13 +141,13 @@ module _ (code : Code) (at : ℕ) (has : Has code at drop_code) where
     unfolding started
     starts-scanning = record { mask_is = refl; below = lit< tt; fields = tt }
 
-    comes : Comes pool view.heap dropped.heap dropped.frees (8 * dropped.gave + 52 * dropped.freed + 5) s
+    comes : Comes code pool view.heap dropped.heap dropped.frees (8 * dropped.gave + 52 * dropped.freed + 5) s
     unfolding started
     comes =
         Comes-from starts starts-quiet refl (omega arith)
         (from-give code at has (code-fits s here.stands) (code-whole s here.stands) pool view.heap before.memory.settled before.turns 0 [] started refl refl before.reference_is starts-within starts-scanning)
 
-    after : (t : Processor) × AfterDrop pool view dropped s t
+    after : (t : Processor) × AfterDrop code pool view dropped s t
     after =
         let came = comes in
         let left = Turns-left view.heap before.memory.settled before.turns (IsLeft-same view.heap) in
@@ -167,7 +167,7 @@ module _ (code : Code) (at : ℕ) (has : Has code at drop_code) where
               end = quiet.registers 19 kept_19 ∙ before.memory.end;
               has_border = Turns-border view before.turns placed before.memory.has_border;
             };
-            returns = record { leads = came.leads; back = came.back; registers = quiet.registers; parts = quiet.parts };
+            returns = returns_by came.leads came.back quiet.registers quiet.parts;
             bounded = came.within;
             trace = quiet.trace;
             left = quiet.left;

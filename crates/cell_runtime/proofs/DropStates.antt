@@ -2,9 +2,8 @@
 use Rattle.std.proofs.Common.{◌≡◌, ℕ, ◌+◌, ◌^◌, ◌<◌, ◌≤◌, List, [], ◌∷◌, length, ◌∙◌, arith}
 use Rattle.rv_isa.specs.Bytes.{with_number}
 use Rattle.rv_isa.specs.Processor.{Processor, value, put}
-use Rattle.rv_isa.specs.Execution.{Leads}
-use Rattle.rv_isa.specs.Standing.{Code, Stands}
-use Rattle.rv_isa.proofs.Runs.{Leads-then}
+use Rattle.rv_isa.specs.Standing.{Code, Stands, LeadsIn}
+use Rattle.rv_isa.proofs.Standing.{LeadsIn-then}
 use Rattle.rv_isa.proofs.Instructions.{value-put_other}
 use Rattle.cell_heap.specs.Cells.{Body, Heap, counted}
 use Rattle.cell_heap.specs.Pool.{Pool, IsCell}
@@ -106,30 +105,30 @@ field-use {pool = pool} within at x xs fields =
 -- ---- what a state comes to
 
 -- within so many instructions the routine is back, with this heap and this chain of free cells
-pub record Comes (pool : Pool) (first end : Heap) (left : List ℕ) (most : ℕ) (s : Processor) : Type 0 where
+pub record Comes (code : Code) (pool : Pool) (first end : Heap) (left : List ℕ) (most : ℕ) (s : Processor) : Type 0 where
   pub last : Processor
   pub count : ℕ
-  pub leads : Leads count s last
+  pub leads : LeadsIn code count s last
   pub within : count ≤ most
   pub back : last.pc ≡ value s.registers 1
   pub quiet : IsQuiet first s last
   pub cells : AreCells pool last.parts last.memory end (value last.registers 8) left (value last.registers 13) []
 
 -- and so it does from a machine that leads there
-pub Comes-from : {pool : Pool} {first end : Heap} {left : List ℕ} {most k n : ℕ} {s t : Processor} → Leads k s t → IsQuiet first s t → value t.registers 1 ≡ value s.registers 1 → k + most ≤ n → Comes pool first end left most t → Comes pool first end left n s
+pub Comes-from : {code : Code} {pool : Pool} {first end : Heap} {left : List ℕ} {most k n : ℕ} {s t : Processor} → LeadsIn code k s t → IsQuiet first s t → value t.registers 1 ≡ value s.registers 1 → k + most ≤ n → Comes code pool first end left most t → Comes code pool first end left n s
 Comes-from {most = most} {k} {n} leads quiet way fits comes =
     let within = comes.within in
     record {
       last = comes.last;
       count = k + comes.count;
-      leads = Leads-then leads comes.leads;
+      leads = LeadsIn-then leads comes.leads;
       within = omega arith;
       back = comes.back ∙ way;
       quiet = IsQuiet-then quiet comes.quiet;
       cells = comes.cells;
     }
 
-pub Comes-weaker : {pool : Pool} {first end : Heap} {left : List ℕ} {most n : ℕ} {s : Processor} → most ≤ n → Comes pool first end left most s → Comes pool first end left n s
+pub Comes-weaker : {code : Code} {pool : Pool} {first end : Heap} {left : List ℕ} {most n : ℕ} {s : Processor} → most ≤ n → Comes code pool first end left most s → Comes code pool first end left n s
 Comes-weaker fits comes =
     let within = comes.within in
     record {

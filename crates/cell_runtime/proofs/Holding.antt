@@ -7,8 +7,7 @@ use Rattle.rv_isa.specs.Arithmetic.{sum_word}
 use Rattle.rv_isa.specs.Bytes.{with_number}
 use Rattle.rv_isa.specs.Processor.{Processor, value, put}
 use Rattle.rv_isa.specs.Environment.{stepped}
-use Rattle.rv_isa.specs.Execution.{Leads}
-use Rattle.rv_isa.specs.Standing.{Code, Has, Stands}
+use Rattle.rv_isa.specs.Standing.{Code, Has, Stands, LeadsIn}
 use Rattle.rv_isa.proofs.Standing.{next-is}
 use Rattle.rv_isa.proofs.Instructions.{leads-addi, leads-lw, leads-sw, leads-beq_taken, leads-beq_not_taken}
 use Rattle.cell_heap.specs.Cells.{token, occurs}
@@ -24,7 +23,7 @@ use Rattle.cell_runtime.specs.Tokens.{Held, no_token, newest, AfterHold, IsHoldO
 use Rattle.rv_isa.proofs.Registers.{x0, x1, x5, x9, x10}
 use Rattle.cell_runtime.proofs.Operands.{imm_0, imm_4, forward_8, forward_16}
 use Rattle.cell_runtime.proofs.Spelling.{plain, plain_makes}
-use Rattle.cell_runtime.proofs.Calling.{leads-back, then_one}
+use Rattle.cell_runtime.proofs.Calling.{leads-back, then_one, returns_by}
 use Rattle.cell_runtime.proofs.HoldingTokens.{linked, token_cell, memory_held, memory_with, newest_below}
 
 abbrev pub hold_code : List Instr
@@ -36,7 +35,7 @@ unhold_code = Lw x5 x10 imm_0 ∷ Beq x5 x0 forward_8 ∷ Lw x9 x5 imm_0 ∷ Jal
 
 -- the word of the slot is in x5
 looks : {code : Code} {pool : Pool} {s : Processor} {i : Instr} {v : ℕ} → Stands code s → code s.pc ≡ Some (Lw x5 x10 imm_0) → code (s.pc + 4) ≡ Some i → IsSlot pool s.parts (value s.registers 10) → word s.memory (value s.registers 10) ≡ v
-    → Leads 1 s (record (stepped (s.pc + 4) s) { registers = put 5 v s.registers })
+    → LeadsIn code 1 s (record (stepped (s.pc + 4) s) { registers = put 5 v s.registers })
 looks {s = s} {i = i} stands here there is_slot holds =
     let below = is_slot.below in
     let to : sum_word (value s.registers 10) 0 ≡ value s.registers 10 = omega arith in
@@ -49,7 +48,7 @@ abbrev held_at : ℕ → Processor → Processor
 held_at cell s = record s { memory = linked cell (value s.registers 9) (value s.registers 10) s.memory }
 
 module _ (code : Code) (pool : Pool) (view : View) (s : Processor) (stands : Stands code s) (has : Has code s.pc hold_code) (way : HasWayBack s) (memory : Memory pool view s) (is_slot : IsSlot pool s.parts (value s.registers 10)) where
-  hold_none : word s.memory (value s.registers 10) ≡ 0 → (t : Processor) × AfterHold pool view view.held 3 0 0 s t
+  hold_none : word s.memory (value s.registers 10) ≡ 0 → (t : Processor) × AfterHold code pool view view.held 3 0 0 s t
   hold_none none =
       let below = stands.below (s.pc + 4 + 4 + 4 + 4 + 4) _ has.1.1.1.1.1.0 in
       let a = looks stands has.0 has.1.0 is_slot none in
@@ -62,12 +61,7 @@ module _ (code : Code) (pool : Pool) (view : View) (s : Processor) (stands : Sta
       let u = stepped (value s.registers 1) t in (
         u,
         record {
-          returns = record {
-            leads = leads-back t stands b has.1.1.1.1.1.0 refl way.aligned way.in_range;
-            back = refl;
-            registers = kept 0;
-            parts = refl;
-          };
+          returns = returns_by (leads-back t stands b has.1.1.1.1.1.0 refl way.aligned way.in_range) refl (kept 0) refl;
           cells = memory_with pool view s u memory refl refl refl refl refl view.held memory.held;
           memory = λ x away. refl;
           left = refl;
@@ -79,7 +73,7 @@ module _ (code : Code) (pool : Pool) (view : View) (s : Processor) (stands : Sta
       kept v x out = let a : x ≢ 5 = out.1.0 in grind (arith, nat_tests)
 
   hold_newest : (cell : ℕ) (fields : List ℕ) → word s.memory (value s.registers 10) ≡ cell → view.heap cell ≡ token fields → occurs cell (map (λ link. link.cell) view.held) ≡ 0 → occurs (value s.registers 10) (map (λ link. link.slot) view.held) ≡ 0
-      → (t : Processor) × AfterHold pool view (record { cell = cell; slot = value s.registers 10 } ∷ view.held) 6 cell 8 s t
+      → (t : Processor) × AfterHold code pool view (record { cell = cell; slot = value s.registers 10 } ∷ view.held) 6 cell 8 s t
   hold_newest cell fields holds is_token cells_apart slots_apart =
       let slot = value s.registers 10 in
       let next_fits = newest_below pool view s memory in
@@ -105,12 +99,7 @@ module _ (code : Code) (pool : Pool) (view : View) (s : Processor) (stands : Sta
       let u = stepped (value s.registers 1) t in (
         u,
         record {
-          returns = record {
-            leads = leads-back t stands e has.1.1.1.1.1.0 refl way.aligned way.in_range;
-            back = refl;
-            registers = kept cell;
-            parts = refl;
-          };
+          returns = returns_by (leads-back t stands e has.1.1.1.1.1.0 refl way.aligned way.in_range) refl (kept cell) refl;
           cells = memory_held pool view s u memory cell slot fields is_token is_slot holds cells_apart slots_apart next_fits refl refl refl refl refl refl;
           memory = outside cell (value s.registers 9) slot;
           left = refl;
@@ -125,14 +114,14 @@ module _ (code : Code) (pool : Pool) (view : View) (s : Processor) (stands : Sta
       outside cell next slot x (inl low) = byte-stored_apart (with_number cell 4 next s.memory) (cell + 4) slot x (inl (omega arith)) ∙ byte-stored_apart s.memory cell next x (inl low)
       outside cell next slot x (inr high) = byte-stored_apart (with_number cell 4 next s.memory) (cell + 4) slot x (inr (omega arith)) ∙ byte-stored_apart s.memory cell next x (inr (omega arith))
 
-  holds_by : (held : List Link) (count address bytes : ℕ) → Held view s.memory (value s.registers 10) held count address bytes → (t : Processor) × AfterHold pool view held count address bytes s t
+  holds_by : (held : List Link) (count address bytes : ℕ) → Held view s.memory (value s.registers 10) held count address bytes → (t : Processor) × AfterHold code pool view held count address bytes s t
   holds_by held count address bytes (no_token none) = hold_none none
   holds_by held count address bytes (newest {cell} {fields} holds is_token cells_apart slots_apart) = hold_newest cell fields holds is_token cells_apart slots_apart
 
 -- ---- unhold
 
 module _ (code : Code) (pool : Pool) (view : View) (s : Processor) (stands : Stands code s) (has : Has code s.pc unhold_code) (way : HasWayBack s) (memory : Memory pool view s) (is_slot : IsSlot pool s.parts (value s.registers 10)) where
-  unhold_none : word s.memory (value s.registers 10) ≡ 0 → (t : Processor) × AfterUnhold pool view view.held 3 s t
+  unhold_none : word s.memory (value s.registers 10) ≡ 0 → (t : Processor) × AfterUnhold code pool view view.held 3 s t
   unhold_none none =
       let below = stands.below (s.pc + 4 + 4 + 4) _ has.1.1.1.0 in
       let a = looks stands has.0 has.1.0 is_slot none in
@@ -141,12 +130,7 @@ module _ (code : Code) (pool : Pool) (view : View) (s : Processor) (stands : Sta
       let u = stepped (value s.registers 1) t in (
         u,
         record {
-          returns = record {
-            leads = leads-back t stands b has.1.1.1.0 refl way.aligned way.in_range;
-            back = refl;
-            registers = kept 0;
-            parts = refl;
-          };
+          returns = returns_by (leads-back t stands b has.1.1.1.0 refl way.aligned way.in_range) refl (kept 0) refl;
           cells = memory_with pool view s u memory refl refl refl refl refl view.held memory.held;
           memory = refl;
           left = refl;
@@ -157,7 +141,7 @@ module _ (code : Code) (pool : Pool) (view : View) (s : Processor) (stands : Sta
       kept : (v x : ℕ) → KeptBy Unhold x → value (put 5 v s.registers) x ≡ value s.registers x
       kept v x out = let a : x ≢ 5 = out.1.0 in grind (arith, nat_tests)
 
-  unhold_newest : (link : Link) (links : List Link) → view.held ≡ link ∷ links → link.slot ≡ value s.registers 10 → (t : Processor) × AfterUnhold pool view links 4 s t
+  unhold_newest : (link : Link) (links : List Link) → view.held ≡ link ∷ links → link.slot ≡ value s.registers 10 → (t : Processor) × AfterUnhold code pool view links 4 s t
   unhold_newest link links first slot_is =
       let chain = subst (IsHeldChain pool s.parts s.memory view.heap (value s.registers 9)) first memory.held in
       let holds = ap (word s.memory) (sym slot_is) ∙ chain.1.is_in_slot in
@@ -179,12 +163,7 @@ module _ (code : Code) (pool : Pool) (view : View) (s : Processor) (stands : Sta
       let u = stepped (value s.registers 1) t in (
         u,
         record {
-          returns = record {
-            leads = leads-back t stands c has.1.1.1.0 refl way.aligned way.in_range;
-            back = refl;
-            registers = kept (word s.memory link.cell) link.cell;
-            parts = refl;
-          };
+          returns = returns_by (leads-back t stands c has.1.1.1.0 refl way.aligned way.in_range) refl (kept (word s.memory link.cell) link.cell) refl;
           cells = memory_with pool view s u memory refl refl refl refl refl links chain.4;
           memory = refl;
           left = refl;
@@ -195,7 +174,7 @@ module _ (code : Code) (pool : Pool) (view : View) (s : Processor) (stands : Sta
       kept : (next cell x : ℕ) → KeptBy Unhold x → value (put 9 next (put 5 cell s.registers)) x ≡ value s.registers x
       kept next cell x out = let a : x ≢ 9 = out.0 in let b : x ≢ 5 = out.1.0 in grind (arith, nat_tests)
 
-  unholds_by : (held : List Link) (count : ℕ) → Unheld view s.memory (value s.registers 10) held count → (t : Processor) × AfterUnhold pool view held count s t
+  unholds_by : (held : List Link) (count : ℕ) → Unheld view s.memory (value s.registers 10) held count → (t : Processor) × AfterUnhold code pool view held count s t
   unholds_by held count (no_token none) = unhold_none none
   unholds_by held count (newest {link} {links} first slot_is) = unhold_newest link links first slot_is
 

@@ -9,10 +9,8 @@ use Rattle.rv_isa.specs.declared.instr.Instr.TheVariants.{Addi, Bne, Divu, Remu,
 use Rattle.rv_isa.specs.Arithmetic.{sum_word, quotient_unsigned, remainder_unsigned}
 use Rattle.rv_isa.specs.Bytes.{bytes_at, with_number}
 use Rattle.rv_isa.specs.Processor.{Processor, value, put, can_store}
-use Rattle.rv_isa.specs.Execution.{Leads}
-use Rattle.rv_isa.specs.Standing.{Code, Has, Stands}
-use Rattle.rv_isa.proofs.Runs.{Leads-then}
-use Rattle.rv_isa.proofs.Standing.{Stands-leads, next-is}
+use Rattle.rv_isa.specs.Standing.{Code, Has, Stands, LeadsIn}
+use Rattle.rv_isa.proofs.Standing.{LeadsIn-stands, next-is, LeadsIn-then}
 use Rattle.rv_isa.proofs.Memory.{bytes_at-one, bytes_at-add, byte-same, byte-apart}
 use Rattle.rv_isa.proofs.Instructions.{leads-addi, leads-sb, leads-divu, leads-remu, leads-bne_taken, leads-bne_not_taken}
 use Rattle.rv_isa.proofs.Registers.{x0, x5, x6, x7, x11}
@@ -38,8 +36,8 @@ pub record AtDigits (code : Code) (at n p low : ℕ) (s : Processor) : Type 0 wh
   pub room : MayStore s.parts low p
 
 -- so many instructions lead to the machine, which has gone on at an address: the digits end before p, and begin at the address in x5
-pub record Wrote (count next : ℕ) (digits : List ℕ) (p : ℕ) (s t : Processor) : Type 0 where
-  pub leads : Leads count s t
+pub record Wrote (code : Code) (count next : ℕ) (digits : List ℕ) (p : ℕ) (s t : Processor) : Type 0 where
+  pub leads : LeadsIn code count s t
   pub pc_is : t.pc ≡ next
   pub place : value t.registers 5 + length digits ≡ p
   pub bytes : bytes_at t.memory (value t.registers 5) (length digits) ≡ digits
@@ -63,7 +61,7 @@ less-ten n = omega arith
 
 module _ (code : Code) (at low : ℕ) (after : Instr) (later : List Instr) (has : Has code at (digits_code (after ∷ later))) where
   module _ (n q : ℕ) (s : Processor) (here : AtDigits code at n (suc q) low s) (above : low ≤ q) where
-    stored : Leads 5 s (record (turned n q (at + 4 + 4 + 4 + 4 + 4) s) { executed = s.executed + 1 + 1 + 1 + 1 + 1 })
+    stored : LeadsIn code 5 s (record (turned n q (at + 4 + 4 + 4 + 4 + 4) s) { executed = s.executed + 1 + 1 + 1 + 1 + 1 })
     stored =
         let stands = here.stands in
         let number = here.number in
@@ -82,12 +80,12 @@ module _ (code : Code) (at low : ℕ) (after : Instr) (later : List Instr) (has 
         let d = then_one stands c (λ on. leads-addi on {v = q} has.1.1.1.0 place_is (next-is stands (at + 4 + 4 + 4) _ has.1.1.1.1.0)) in
         then_one stands d (λ on. leads-sb on {at = q} {v = 48 + n % 10} has.1.1.1.1.0 to refl (here.room.byte q above (omega arith)) (next-is stands (at + 4 + 4 + 4 + 4) _ has.1.1.1.1.1.0))
 
-    goes_back : n / 10 ≢ 0 → Leads 6 s (turned n q at s)
+    goes_back : n / 10 ≢ 0 → LeadsIn code 6 s (turned n q at s)
     goes_back some =
         let below = here.stands.below (at + 4 + 4 + 4 + 4 + 4) _ has.1.1.1.1.1.0 in
         then_one here.stands stored (λ on. leads-bne_taken on has.1.1.1.1.1.0 some (omega arith) (here.stands.aligned at _ has.0))
 
-    goes_on : n / 10 ≡ 0 → Leads 6 s (turned n q (at + 4 + 4 + 4 + 4 + 4 + 4) s)
+    goes_on : n / 10 ≡ 0 → LeadsIn code 6 s (turned n q (at + 4 + 4 + 4 + 4 + 4 + 4) s)
     goes_on none =
         then_one here.stands stored (λ on. leads-bne_not_taken on has.1.1.1.1.1.0 none (next-is here.stands (at + 4 + 4 + 4 + 4 + 4) _ has.1.1.1.1.1.1.0))
 
@@ -102,7 +100,7 @@ module _ (code : Code) (at low : ℕ) (after : Instr) (later : List Instr) (has 
 
     again : n / 10 ≢ 0 → AtDigits code at (n / 10) q low (turned n q at s)
     again some = let below = here.below in record {
-      stands = Stands-leads (goes_back some) here.stands;
+      stands = LeadsIn-stands (goes_back some) here.stands;
       pc_is = refl;
       number = refl;
       ten = kept at 6 (λ e. cc) (λ e. cc) (λ e. cc) ∙ here.ten;
@@ -113,7 +111,7 @@ module _ (code : Code) (at low : ℕ) (after : Instr) (later : List Instr) (has 
 
   -- what is to be shown of a number and its digits
   abbrev Writes : ℕ → List ℕ → Type 0
-  Writes n digits = (s : Processor) (p : ℕ) → AtDigits code at n p low s → low + length digits ≤ p → (t : Processor) × Wrote (6 * length digits) (at + 4 + 4 + 4 + 4 + 4 + 4) digits p s t
+  Writes n digits = (s : Processor) (p : ℕ) → AtDigits code at n p low s → low + length digits ≤ p → (t : Processor) × Wrote code (6 * length digits) (at + 4 + 4 + 4 + 4 + 4 + 4) digits p s t
 
   one_digit : (n : ℕ) → n < 10 → Writes n ((48 + n) ∷ [])
   one_digit n small s p here room =
@@ -162,7 +160,7 @@ module _ (code : Code) (at low : ℕ) (after : Instr) (later : List Instr) (has 
       ap (λ a. bytes_at t.memory a 1) place ∙ bytes_at-one t.memory q ∙ ap (λ byte. byte ∷ []) digit_is in (
         t,
         record {
-          leads = subst (λ count. Leads count s t) (sym counts) (Leads-then back wrote.leads);
+          leads = subst (λ count. LeadsIn code count s t) (sym counts) (LeadsIn-then back wrote.leads);
           pc_is = wrote.pc_is;
           place = omega arith;
           bytes = ap (bytes_at t.memory (value t.registers 5)) size ∙ bytes_at-add t.memory (value t.registers 5) (length digits) 1

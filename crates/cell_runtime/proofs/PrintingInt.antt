@@ -13,10 +13,8 @@ use Rattle.rv_isa.specs.Arithmetic.{signed, sum_word, difference_word}
 use Rattle.rv_isa.specs.Bytes.{bytes_at, with_number}
 use Rattle.rv_isa.specs.Processor.{Processor, value, put, can_load, can_store}
 use Rattle.rv_isa.specs.Environment.{stepped}
-use Rattle.rv_isa.specs.Execution.{Leads}
-use Rattle.rv_isa.specs.Standing.{Code, Has, Stands}
-use Rattle.rv_isa.proofs.Runs.{Leads-then}
-use Rattle.rv_isa.proofs.Standing.{Stands-leads, next-is}
+use Rattle.rv_isa.specs.Standing.{Code, Has, Stands, LeadsIn}
+use Rattle.rv_isa.proofs.Standing.{LeadsIn-stands, next-is, LeadsIn-then}
 use Rattle.rv_isa.proofs.Memory.{bytes_at-more, bytes_at-one, bytes_at-add, bytes_at-with_number_apart, byte-same, byte-apart}
 use Rattle.rv_isa.proofs.Instructions.{leads-lui, leads-addi, leads-add, leads-sub, leads-sb, leads-bge_taken, leads-bge_not_taken, leads-write}
 use Rattle.rv_isa.specs.declared.placed.Native.TheVariants.{Address}
@@ -27,7 +25,7 @@ use Rattle.cell_runtime.specs.Prints.{IsPrintInt, BeforePrintInt, AfterPrintInt,
 use Rattle.rv_isa.proofs.Registers.{x0, x1, x5, x6, x7, x10, x11, x12, x17}
 use Rattle.cell_runtime.proofs.Operands.{imm_0, imm_1, imm_10, imm_45, imm_64, imm_minus_1, forward_8, forward_16}
 use Rattle.cell_runtime.proofs.Spelling.{plain, address_makes}
-use Rattle.cell_runtime.proofs.Calling.{leads-back, then_one}
+use Rattle.cell_runtime.proofs.Calling.{leads-back, then_one, returns_by}
 use Rattle.cell_runtime.proofs.Ranges.{can-within}
 use Rattle.cell_runtime.proofs.PrintingDigits.{digits_code, MayStore, AtDigits, Wrote, writes_digits}
 
@@ -73,7 +71,7 @@ told from count piece s = record s {
 
 module _ (code : Code) (at from count : ℕ) (has : Has code at put_code) where
   puts : (piece : List ℕ) (s : Processor) → Stands code s → s.pc ≡ at → value s.registers 5 ≡ from → value s.registers 12 ≡ from + count → from + count < 2 ^ 32 → count ≢ 0
-      → can_load s.parts from count ≡ true → bytes_at s.memory from count ≡ piece → HasWayBack s → Leads 6 s (stepped (value s.registers 1) (told from count piece s))
+      → can_load s.parts from count ≡ true → bytes_at s.memory from count ≡ piece → HasWayBack s → LeadsIn code 6 s (stepped (value s.registers 1) (told from count piece s))
   puts piece s stands pc_is from_is end_is below some allowed bytes way =
       let size_is : difference_word (value s.registers 12) (value s.registers 5) ≡ count = rw (end_is, from_is) (omega arith) in
       let copied : sum_word (value s.registers 5) 0 ≡ from = rw from_is (omega arith) in
@@ -97,8 +95,8 @@ signed_at q next t = record t {
 
 module _ (code : Code) (at : ℕ) (has : Has code at sign_code) where
   -- none before the digits of a number that is not negative
-  no_sign : (count p n : ℕ) (digits : List ℕ) (s t : Processor) → Stands code s → Wrote count at digits p s t → value t.registers 10 ≡ n → n < 2 ^ 31
-      → (u : Processor) × Wrote (count + 1) (at + 4 + 4 + 4 + 4) digits p s u
+  no_sign : (count p n : ℕ) (digits : List ℕ) (s t : Processor) → Stands code s → Wrote code count at digits p s t → value t.registers 10 ≡ n → n < 2 ^ 31
+      → (u : Processor) × Wrote code (count + 1) (at + 4 + 4 + 4 + 4) digits p s u
   no_sign count p n digits s t stands wrote number low =
       let holds : int_lt (signed (value t.registers 10)) (signed 0) ≡ false = ap (λ v. int_lt (signed v) (signed 0)) number ∙ not_negative n low in
       let below = stands.below (at + 4 + 4 + 4 + 4) _ has.1.1.1.1.0 in
@@ -118,25 +116,25 @@ module _ (code : Code) (at : ℕ) (has : Has code at sign_code) where
       )
 
   -- `-` before those of a negative number
-  module _ (count p low n q : ℕ) (digits : List ℕ) (s t : Processor) (stands : Stands code s) (wrote : Wrote count at digits p s t)
+  module _ (count p low n q : ℕ) (digits : List ℕ) (s t : Processor) (stands : Stands code s) (wrote : Wrote code count at digits p s t)
       (number : value t.registers 10 ≡ n) (high : 2 ^ 31 ≤ n) (fits : n < 2 ^ 32) (place : value t.registers 5 ≡ suc q) (below : suc q < 2 ^ 32) (may : can_store t.parts q 1 ≡ true) where
-    signs : Leads (count + 4) s (signed_at q (at + 4 + 4 + 4 + 4) t)
+    signs : LeadsIn code (count + 4) s (signed_at q (at + 4 + 4 + 4 + 4) t)
     signs =
         let holds : int_lt (signed (value t.registers 10)) (signed 0) ≡ true = ap (λ v. int_lt (signed v) (signed 0)) number ∙ negative n high fits in
         let place_is : sum_word (value t.registers 5) (2 ^ 32 - 1) ≡ q = rw place (omega arith) in
         let to : sum_word q 0 ≡ q = omega arith in
-        let here = Stands-leads wrote.leads stands in
+        let here = LeadsIn-stands wrote.leads stands in
         let a = leads-bge_not_taken here (ap code wrote.pc_is ∙ has.0) holds (ap (λ p. sum_word p 4) wrote.pc_is ∙ next-is stands at _ has.1.0) in
         let b = then_one here a (λ on. leads-addi on {v = 45} has.1.0 refl (next-is stands (at + 4) _ has.1.1.0)) in
         let c = then_one here b (λ on. leads-addi on {v = q} has.1.1.0 place_is (next-is stands (at + 4 + 4) _ has.1.1.1.0)) in
-        Leads-then wrote.leads (then_one here c (λ on. leads-sb on {at = q} {v = 45} has.1.1.1.0 to refl may (next-is stands (at + 4 + 4 + 4) _ has.1.1.1.1.0)))
+        LeadsIn-then wrote.leads (then_one here c (λ on. leads-sb on {at = q} {v = 45} has.1.1.1.0 to refl may (next-is stands (at + 4 + 4 + 4) _ has.1.1.1.1.0)))
 
     behind_sign : bytes_at (with_number q 1 45 t.memory) (suc q) (length digits) ≡ digits
     behind_sign =
         bytes_at-with_number_apart q 1 45 t.memory (suc q) (length digits) (inr (omega arith))
         ∙ ap (λ a. bytes_at t.memory a (length digits)) (sym place) ∙ wrote.bytes
 
-    with_sign : (u : Processor) × Wrote (count + 4) (at + 4 + 4 + 4 + 4) (45 ∷ digits) p s u
+    with_sign : (u : Processor) × Wrote code (count + 4) (at + 4 + 4 + 4 + 4) (45 ∷ digits) p s u
     with_sign =
         let where_is = wrote.place in (
           signed_at q (at + 4 + 4 + 4 + 4) t,
@@ -173,7 +171,7 @@ fronted upper end registers =
 
 -- at the digits' loop, with the size of the number in x7: so many instructions have stored the line end, and x12 is where the piece stops
 record Front (code : Code) (at size end buffer count : ℕ) (s h : Processor) : Type 0 where
-  leads : Leads count s h
+  leads : LeadsIn code count s h
   at_digits : AtDigits code at size end buffer h
   line : h.memory end ≡ 10
   outside : (x : ℕ) → x ≢ end → h.memory x ≡ s.memory x
@@ -188,7 +186,7 @@ module _ (code : Code) (u : UpperImmediate) (l : Immediate) (buffer end : ℕ) (
   stores : (x : ℕ) → buffer ≤ x → x < buffer + buffer_bytes → can_store s.parts x 1 ≡ true
   stores x low high = can-within (λ part. part.writable) s.parts buffer buffer_bytes x 1 (lit< tt) low (omega arith) before.stored
 
-  to_test : Leads 6 s (record s { registers = fronted u.word end s.registers; pc = s.pc + 4 + 4 + 4 + 4 + 4 + 4; memory = with_number end 1 10 s.memory; executed = s.executed + 1 + 1 + 1 + 1 + 1 + 1 })
+  to_test : LeadsIn code 6 s (record s { registers = fronted u.word end s.registers; pc = s.pc + 4 + 4 + 4 + 4 + 4 + 4; memory = with_number end 1 10 s.memory; executed = s.executed + 1 + 1 + 1 + 1 + 1 + 1 })
   to_test =
       let in_range = before.in_range in
       let choice = before.choice in
@@ -227,13 +225,13 @@ module _ (code : Code) (u : UpperImmediate) (l : Immediate) (buffer end : ℕ) (
     executed = executed;
   }
 
-  front_with : (registers : ℕ → ℕ) (executed size count : ℕ) → Leads count s (at_loop registers executed) → value registers 7 ≡ size → value registers 6 ≡ 10 → value registers 5 ≡ end → value registers 12 ≡ end + value s.registers 11
+  front_with : (registers : ℕ → ℕ) (executed size count : ℕ) → LeadsIn code count s (at_loop registers executed) → value registers 7 ≡ size → value registers 6 ≡ 10 → value registers 5 ≡ end → value registers 12 ≡ end + value s.registers 11
       → ((x : ℕ) → x ≢ 5 → x ≢ 6 → x ≢ 7 → x ≢ 12 → value registers x ≡ value s.registers x) → (h : Processor) × Front code (s.pc + 4 + 4 + 4 + 4 + 4 + 4 + 4 + 4) size end buffer count s h
   front_with registers executed size count leads number ten place stop others = (
     at_loop registers executed,
     record {
       leads = leads;
-      at_digits = record { stands = Stands-leads leads stands; pc_is = refl; number = number; ten = ten; place = place; below = below_end; room = room };
+      at_digits = record { stands = LeadsIn-stands leads stands; pc_is = refl; number = number; ten = ten; place = place; below = below_end; room = room };
       line = line_there;
       outside = λ x other. byte-apart end 10 s.memory x other;
       stop = stop;
@@ -281,7 +279,7 @@ piece_there memory from end (suc (suc n)) digits few place bytes line = absurd (
 -- so many digits and a sign have at most 11 bytes
 module _ (code : Code) (buffer end size c0 c1 : ℕ) (end_is : end ≡ buffer + 11) (s h t : Processor) (stands : Stands code s) (before : BeforePrintInt buffer s)
     (at digits_at : ℕ) (has : Has code at put_code) (front : Front code digits_at size end buffer c0 s h)
-    (digits : List ℕ) (wrote : Wrote c1 at digits end h t) (short : length digits ≤ 11) (some : 0 < length digits)
+    (digits : List ℕ) (wrote : Wrote code c1 at digits end h t) (short : length digits ≤ 11) (some : 0 < length digits)
     (spelt : digits ≡ signed_decimal (signed (value s.registers 10))) (count_is : c0 + c1 + 6 ≡ int_count (signed (value s.registers 10))) where
   choice : ℕ
   choice = value s.registers 11
@@ -331,15 +329,15 @@ module _ (code : Code) (buffer end size c0 c1 : ℕ) (end_is : end ≡ buffer + 
       piece_there t.memory (value t.registers 5) end (value s.registers 11) digits before.choice wrote.place wrote.bytes (wrote.outside end (inr (omega arith)) ∙ front.line)
       ∙ ap (λ ds. ds ++ (if nat_eq (value s.registers 11) 0 then [] else 10 ∷ [])) spelt
 
-  put_leads : Leads 6 t (stepped (value t.registers 1) (told (value t.registers 5) (length digits + value s.registers 11) (int_piece (value s.registers 10) (value s.registers 11)) t))
+  put_leads : LeadsIn code 6 t (stepped (value t.registers 1) (told (value t.registers 5) (length digits + value s.registers 11) (int_piece (value s.registers 10) (value s.registers 11)) t))
   put_leads =
       let place = wrote.place in
       let few = before.choice in
       let in_range = before.in_range in
       puts code at (value t.registers 5) (length digits + value s.registers 11) has (int_piece (value s.registers 10) (value s.registers 11)) t
-      (Stands-leads (Leads-then front.leads wrote.leads) stands) wrote.pc_is refl stops (omega arith) (omega arith) may_load piece_is way_back
+      (LeadsIn-stands (LeadsIn-then front.leads wrote.leads) stands) wrote.pc_is refl stops (omega arith) (omega arith) may_load piece_is way_back
 
-  finishes : (u : Processor) × AfterPrintInt buffer s u
+  finishes : (u : Processor) × AfterPrintInt code buffer s u
   finishes =
       let from = value t.registers 5 in
       let count = length digits + value s.registers 11 in
@@ -347,12 +345,7 @@ module _ (code : Code) (buffer end size c0 c1 : ℕ) (end_is : end ≡ buffer + 
       let u = stepped (value t.registers 1) (told from count piece t) in (
         u,
         record {
-          returns = record {
-            leads = subst (λ n. Leads n s u) count_is (Leads-then (Leads-then front.leads wrote.leads) put_leads);
-            back = way_kept;
-            registers = λ x out. kept_put from count x out.1.1.1.0 out.1.1.1.1.0 out.1.1.1.1.1.0 out.1.1.1.1.1.1.1.0 ∙ registers_kept x out.0 out.1.0 out.1.1.0 out.1.1.1.1.0 out.1.1.1.1.1.0;
-            parts = wrote.parts ∙ front.parts;
-          };
+          returns = returns_by (subst (λ n. LeadsIn code n s u) count_is (LeadsIn-then (LeadsIn-then front.leads wrote.leads) put_leads)) way_kept (λ x out. kept_put from count x out.1.1.1.0 out.1.1.1.1.0 out.1.1.1.1.1.0 out.1.1.1.1.1.1.1.0 ∙ registers_kept x out.0 out.1.0 out.1.1.0 out.1.1.1.1.0 out.1.1.1.1.1.0) (wrote.parts ∙ front.parts);
           trace = ap (λ trace. trace ++ output piece ∷ []) (wrote.trace ∙ front.trace);
           left = wrote.left ∙ front.left;
           memory = memory_kept;
@@ -373,14 +366,14 @@ module _ (code : Code) (u : UpperImmediate) (l : Immediate) (buffer : ℕ) (sum 
   has_sign : Has code sign_at sign_code
   has_sign = has_digits.1.1.1.1.1.1
 
-  print_low : value s.registers 10 < 2 ^ 31 → (t : Processor) × AfterPrintInt buffer s t
+  print_low : value s.registers 10 < 2 ^ 31 → (t : Processor) × AfterPrintInt code buffer s t
   print_low low =
       let n = value s.registers 10 in
       let short = length-decimal-le 10 n (lit< tt) (omega arith) (omega arith) in
       let some = decimal_nonempty n (omega arith) in
       let front = front_low code u l buffer (buffer + 11) refl sum s stands has before low in
       let h = front.0 in
-      let here = Stands-leads front.1.leads stands in
+      let here = LeadsIn-stands front.1.leads stands in
       let wrote = writes_digits code digits_place buffer (Bge x10 x0 forward_16) minus_code has_digits n (omega arith) h (buffer + 11) front.1.at_digits (omega arith) in
       let same = wrote.1.registers 10 (λ e. cc) (λ e. cc) (λ e. cc) ∙ front.1.registers 10 (λ e. cc) (λ e. cc) (λ e. cc) (λ e. cc) in
       let signed_is = no_sign code sign_at has_sign (6 * length (decimal n)) (buffer + 11) n (decimal n) h wrote.0 here wrote.1 same low in
@@ -388,7 +381,7 @@ module _ (code : Code) (u : UpperImmediate) (l : Immediate) (buffer : ℕ) (sum 
       finishes code buffer (buffer + 11) n 7 (6 * length (decimal n) + 1) refl s h signed_is.0 stands before (sign_at + 4 + 4 + 4 + 4) digits_place has_sign.1.1.1.1 front.1 (decimal n) signed_is.1 (omega arith) some
       (ap signed_decimal (sym (signed_low n low))) (counts ∙ ap int_count (sym (signed_low n low)))
 
-  print_high : 2 ^ 31 ≤ value s.registers 10 → (t : Processor) × AfterPrintInt buffer s t
+  print_high : 2 ^ 31 ≤ value s.registers 10 → (t : Processor) × AfterPrintInt code buffer s t
   print_high high =
       let n = value s.registers 10 in
       let fits = before.word in
@@ -400,7 +393,7 @@ module _ (code : Code) (u : UpperImmediate) (l : Immediate) (buffer : ℕ) (sum 
       let in_range = before.in_range in
       let front = front_high code u l buffer (buffer + 11) refl sum s stands has before high in
       let h = front.0 in
-      let here = Stands-leads front.1.leads stands in
+      let here = LeadsIn-stands front.1.leads stands in
       let at_digits = subst (λ m. AtDigits code digits_place m (buffer + 11) buffer h) (sym size_is) front.1.at_digits in
       let wrote = writes_digits code digits_place buffer (Bge x10 x0 forward_16) minus_code has_digits (suc k) (omega arith) h (buffer + 11) at_digits (omega arith) in
       let place = wrote.1.place in
@@ -413,7 +406,7 @@ module _ (code : Code) (u : UpperImmediate) (l : Immediate) (buffer : ℕ) (sum 
       finishes code buffer (buffer + 11) (2 ^ 32 - n) 8 (6 * length (decimal (suc k)) + 4) refl s h signed_is.0 stands before (sign_at + 4 + 4 + 4 + 4) digits_place has_sign.1.1.1.1 front.1 (45 ∷ decimal (suc k)) signed_is.1 (omega arith) (omega arith)
       (ap signed_decimal (sym (signed_high n high fits))) (counts ∙ ap int_count (sym (signed_high n high fits)))
 
-  by_sign : (value s.registers 10 < 2 ^ 31) ⊎ (2 ^ 31 ≤ value s.registers 10) → (t : Processor) × AfterPrintInt buffer s t
+  by_sign : (value s.registers 10 < 2 ^ 31) ⊎ (2 ^ 31 ≤ value s.registers 10) → (t : Processor) × AfterPrintInt code buffer s t
   by_sign (inl low) = print_low low
   by_sign (inr high) = print_high high
 

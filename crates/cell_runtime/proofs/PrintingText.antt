@@ -8,11 +8,9 @@ use Rattle.rv_isa.specs.Arithmetic.{sum_word}
 use Rattle.rv_isa.specs.Bytes.{bytes_at}
 use Rattle.rv_isa.specs.Processor.{Processor, value, put, can_load}
 use Rattle.rv_isa.specs.Environment.{stepped}
-use Rattle.rv_isa.specs.Execution.{Leads}
-use Rattle.rv_isa.proofs.Runs.{Leads-then}
 use Rattle.rv_isa.proofs.Memory.{bytes_at-none, bytes_at-more}
-use Rattle.rv_isa.specs.Standing.{Code, Has, Stands}
-use Rattle.rv_isa.proofs.Standing.{Stands-leads, next-is}
+use Rattle.rv_isa.specs.Standing.{Code, Has, Stands, LeadsIn}
+use Rattle.rv_isa.proofs.Standing.{LeadsIn-stands, next-is, LeadsIn-then}
 use Rattle.rv_isa.proofs.Instructions.{leads-addi, leads-write, leads-write_none}
 use Rattle.rv_isa.specs.declared.routine.Routine.TheVariants.{PrintText}
 use Rattle.rv_isa.specs.declared.placed.Symbol.TheVariants.{Routine}
@@ -22,7 +20,7 @@ use Rattle.cell_runtime.specs.Prints.{IsPrintText, BeforePrintText, AfterPrintTe
 use Rattle.rv_isa.proofs.Registers.{x0, x1, x10, x11, x12, x17}
 use Rattle.cell_runtime.proofs.Operands.{imm_0, imm_1, imm_64}
 use Rattle.cell_runtime.proofs.Spelling.{plain, plain_makes}
-use Rattle.cell_runtime.proofs.Calling.{leads-back, then_one}
+use Rattle.cell_runtime.proofs.Calling.{leads-back, then_one, returns_by}
 
 abbrev pub print_text_code : List Instr
 print_text_code =
@@ -48,7 +46,7 @@ told count s = record s {
 }
 
 module _ (code : Code) (s : Processor) (stands : Stands code s) (has : Has code s.pc print_text_code) (before : BeforePrintText s) where
-  to_call : Leads 4 s (asking s)
+  to_call : LeadsIn code 4 s (asking s)
   to_call =
       let address = before.address in
       let count = before.count in
@@ -60,7 +58,7 @@ module _ (code : Code) (s : Processor) (stands : Stands code s) (has : Has code 
       then_one stands c (λ on. leads-addi on {v = 64} has.1.1.1.0 refl (next-is stands (s.pc + 4 + 4 + 4) _ has.1.1.1.1.0))
 
   called : Stands code (asking s)
-  called = Stands-leads to_call stands
+  called = LeadsIn-stands to_call stands
 
   kept : (count x : ℕ) → KeptBy (Routine PrintText) x → value (told count s).registers x ≡ value s.registers x
   kept count x out =
@@ -70,19 +68,19 @@ module _ (code : Code) (s : Processor) (stands : Stands code s) (has : Has code 
       let d : x ≢ 17 = out.1.1.1.1.1.0 in
       grind (arith, nat_tests)
 
-  back_from : (t : Processor) → Leads 5 s t → t.pc ≡ s.pc + 4 + 4 + 4 + 4 + 4 → value t.registers 1 ≡ value s.registers 1 → Leads 6 s (stepped (value s.registers 1) t)
+  back_from : (t : Processor) → LeadsIn code 5 s t → t.pc ≡ s.pc + 4 + 4 + 4 + 4 + 4 → value t.registers 1 ≡ value s.registers 1 → LeadsIn code 6 s (stepped (value s.registers 1) t)
   back_from t leads at way =
       leads-back t stands leads (ap code at ∙ has.1.1.1.1.1.0) way before.way_back.aligned before.way_back.in_range
 
   -- by the number of bytes
-  by_count : (count : ℕ) → value s.registers 11 ≡ count → (t : Processor) × AfterPrintText s t
+  by_count : (count : ℕ) → value s.registers 11 ≡ count → (t : Processor) × AfterPrintText code s t
   by_count zero none =
       let allowed : can_load s.parts (value s.registers 10) 0 ≡ true = subst (λ n. can_load s.parts (value s.registers 10) n ≡ true) none before.loaded in
-      let put = Leads-then to_call (leads-write_none called {next = s.pc + 4 + 4 + 4 + 4 + 4} has.1.1.1.1.0 refl refl none allowed (next-is stands (s.pc + 4 + 4 + 4 + 4) _ has.1.1.1.1.1.0)) in
+      let put = LeadsIn-then to_call (leads-write_none called {next = s.pc + 4 + 4 + 4 + 4 + 4} has.1.1.1.1.0 refl refl none allowed (next-is stands (s.pc + 4 + 4 + 4 + 4) _ has.1.1.1.1.1.0)) in
       let nothing : bytes_at s.memory (value s.registers 10) (value s.registers 11) ≡ [] = ap (bytes_at s.memory (value s.registers 10)) none ∙ bytes_at-none s.memory (value s.registers 10) in (
         stepped (value s.registers 1) (told 0 s),
         record {
-          returns = record { leads = back_from (told 0 s) put refl refl; back = refl; registers = kept 0; parts = refl };
+          returns = returns_by (back_from (told 0 s) put refl refl) refl (kept 0) refl;
           trace = sym (append-nil s.trace) ∙ ap (λ piece. s.trace ++ put_of piece) (sym nothing);
           left = refl;
           memory = refl;
@@ -93,11 +91,11 @@ module _ (code : Code) (s : Processor) (stands : Stands code s) (has : Has code 
       let allowed : can_load s.parts at (suc n) ≡ true = subst (λ c. can_load s.parts at c ≡ true) count_is before.loaded in
       let piece_is : bytes_at s.memory at (value s.registers 11) ≡ s.memory at ∷ bytes_at s.memory (suc at) n = ap (bytes_at s.memory at) count_is ∙ bytes_at-more s.memory at n in
       let some : suc n ≢ 0 = λ e. cc in
-      let put = Leads-then to_call (leads-write called {next = s.pc + 4 + 4 + 4 + 4 + 4} has.1.1.1.1.0 refl refl refl count_is some allowed (bytes_at-more s.memory at n) (next-is stands (s.pc + 4 + 4 + 4 + 4) _ has.1.1.1.1.1.0)) in
+      let put = LeadsIn-then to_call (leads-write called {next = s.pc + 4 + 4 + 4 + 4 + 4} has.1.1.1.1.0 refl refl refl count_is some allowed (bytes_at-more s.memory at n) (next-is stands (s.pc + 4 + 4 + 4 + 4) _ has.1.1.1.1.1.0)) in
       let t = record (told (suc n) s) { trace = s.trace ++ output (s.memory at ∷ bytes_at s.memory (suc at) n) ∷ [] } in (
         stepped (value s.registers 1) t,
         record {
-          returns = record { leads = back_from t put refl refl; back = refl; registers = kept (suc n); parts = refl };
+          returns = returns_by (back_from t put refl refl) refl (kept (suc n)) refl;
           trace = ap (λ piece. s.trace ++ put_of piece) (sym piece_is);
           left = refl;
           memory = refl;

@@ -10,9 +10,8 @@ use Rattle.rv_isa.specs.Arithmetic.{sum_word}
 use Rattle.rv_isa.specs.Bytes.{with_bytes}
 use Rattle.rv_isa.specs.Processor.{Processor, value, put}
 use Rattle.rv_isa.specs.Environment.{stepped}
-use Rattle.rv_isa.specs.Execution.{Leads}
 use Rattle.rv_isa.proofs.Memory.{with_byte-same, with_byte-apart}
-use Rattle.rv_isa.specs.Standing.{Code, Has, Stands}
+use Rattle.rv_isa.specs.Standing.{Code, Has, Stands, LeadsIn}
 use Rattle.rv_isa.proofs.Standing.{next-is}
 use Rattle.rv_isa.proofs.Instructions.{leads-lui, leads-addi, leads-bne_taken, leads-bne_not_taken, leads-lbu, leads-read_byte, leads-read_end, value-put_other}
 use Rattle.rv_isa.specs.declared.routine.Routine.TheVariants.{ReadByte}
@@ -25,7 +24,7 @@ use Rattle.cell_runtime.specs.Prints.{IsReadByte, BeforeReadByte, TakesNext, Aft
 use Rattle.rv_isa.proofs.Registers.{x0, x1, x10, x11, x12, x17}
 use Rattle.cell_runtime.proofs.Operands.{imm_0, imm_1, imm_63, imm_minus_1, forward_8}
 use Rattle.cell_runtime.proofs.Spelling.{plain, address_makes}
-use Rattle.cell_runtime.proofs.Calling.{leads-back, then_one}
+use Rattle.cell_runtime.proofs.Calling.{leads-back, then_one, returns_by}
 
 abbrev pub read_byte_code : List Instr
 read_byte_code =
@@ -37,7 +36,7 @@ abbrev asked : ℕ → ℕ → (ℕ → ℕ) → ℕ → ℕ
 asked upper buffer registers = put 17 63 (put 10 0 (put 12 1 (put 11 buffer (put 11 upper registers))))
 
 module _ (code : Code) (buffer : ℕ) (u : UpperImmediate) (l : Immediate) (sum : sum_word u.word l.word ≡ buffer) (s : Processor) (stands : Stands code s) (has : Has code s.pc (Lui x11 u ∷ Addi x11 x11 l ∷ read_byte_code)) where
-  asking : Leads 5 s (record s { registers = asked u.word buffer s.registers; pc = s.pc + 4 + 4 + 4 + 4 + 4; executed = s.executed + 1 + 1 + 1 + 1 + 1 })
+  asking : LeadsIn code 5 s (record s { registers = asked u.word buffer s.registers; pc = s.pc + 4 + 4 + 4 + 4 + 4; executed = s.executed + 1 + 1 + 1 + 1 + 1 })
   asking =
       let a = leads-lui stands {v = u.word} has.0 refl (next-is stands s.pc _ has.1.0) in
       let b = then_one stands a (λ here. leads-addi here {v = buffer} has.1.0 sum (next-is stands (s.pc + 4) _ has.1.1.0)) in
@@ -68,7 +67,7 @@ module _ (code : Code) (buffer : ℕ) (u : UpperImmediate) (l : Immediate) (sum 
 
   -- from behind the call, where x10 has its word, to the jump back
   module _ (before : BeforeReadByte buffer s) where
-    at_end : s.left ≡ [] → (t : Processor) × AfterReadByte buffer s t
+    at_end : s.left ≡ [] → (t : Processor) × AfterReadByte code buffer s t
     at_end none =
         let asked_end = then_one stands asking (λ here. leads-read_end here {next = s.pc + 4 + 4 + 4 + 4 + 4 + 4} has.1.1.1.1.1.0 refl refl (λ e. cc) before.stored none (next-is stands (s.pc + 4 + 4 + 4 + 4 + 4) _ has.1.1.1.1.1.1.0)) in
         let less = then_one stands asked_end (λ here. leads-addi here {v = 2 ^ 32 - 1} behind.0 refl (next-is stands (s.pc + 4 + 4 + 4 + 4 + 4 + 4) _ behind.1.0)) in
@@ -83,13 +82,8 @@ module _ (code : Code) (buffer : ℕ) (u : UpperImmediate) (l : Immediate) (sum 
         } in (
           stepped (value s.registers 1) t,
           record {
-            takes = subst (λ left. TakesNext left s (stepped (value s.registers 1) t)) (sym none) (
-              record {
-                leads = leads-back t stands over behind.1.1.1.0 refl before.way_back.aligned before.way_back.in_range;
-                back = refl;
-                registers = λ x out. kept_twice (2 ^ 32 - 1) 0 x out;
-                parts = refl;
-              },
+            takes = subst (λ left. TakesNext code left s (stepped (value s.registers 1) t)) (sym none) (
+              returns_by (leads-back t stands over behind.1.1.1.0 refl before.way_back.aligned before.way_back.in_range) refl (λ x out. kept_twice (2 ^ 32 - 1) 0 x out) refl,
               refl,
               refl,
               none,
@@ -98,7 +92,7 @@ module _ (code : Code) (buffer : ℕ) (u : UpperImmediate) (l : Immediate) (sum 
           },
         )
 
-    takes_byte : (byte : ℕ) (rest : List ℕ) → s.left ≡ byte ∷ rest → (t : Processor) × AfterReadByte buffer s t
+    takes_byte : (byte : ℕ) (rest : List ℕ) → s.left ≡ byte ∷ rest → (t : Processor) × AfterReadByte code buffer s t
     takes_byte byte rest some =
         let allowed = before.loaded in
         let below = before.in_range in
@@ -117,13 +111,8 @@ module _ (code : Code) (buffer : ℕ) (u : UpperImmediate) (l : Immediate) (sum 
         } in (
           stepped (value s.registers 1) t,
           record {
-            takes = subst (λ left. TakesNext left s (stepped (value s.registers 1) t)) (sym some) (
-              record {
-                leads = leads-back t stands loaded behind.1.1.1.0 refl before.way_back.aligned before.way_back.in_range;
-                back = refl;
-                registers = λ x out. kept_thrice byte 0 1 x out;
-                parts = refl;
-              },
+            takes = subst (λ left. TakesNext code left s (stepped (value s.registers 1) t)) (sym some) (
+              returns_by (leads-back t stands loaded behind.1.1.1.0 refl before.way_back.aligned before.way_back.in_range) refl (λ x out. kept_thrice byte 0 1 x out) refl,
               refl,
               refl,
               refl,
@@ -132,7 +121,7 @@ module _ (code : Code) (buffer : ℕ) (u : UpperImmediate) (l : Immediate) (sum 
           },
         )
 
-    by_left : (left : List ℕ) → s.left ≡ left → (t : Processor) × AfterReadByte buffer s t
+    by_left : (left : List ℕ) → s.left ≡ left → (t : Processor) × AfterReadByte code buffer s t
     by_left [] none = at_end none
     by_left (byte ∷ rest) some = takes_byte byte rest some
 

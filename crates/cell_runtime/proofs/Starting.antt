@@ -84,7 +84,7 @@ start_items layout = Address x2 Data layout.stack_end ∷ Address x18 Data layou
 module _ (code : Code) (s : Processor) (stands : Stands code s) (a b c : UpperImmediate) (d e f : Immediate)
     (has : Has code s.pc (Lui x2 a ∷ Addi x2 x2 d ∷ Lui x18 b ∷ Addi x18 x18 e ∷ Lui x19 c ∷ Addi x19 x19 f ∷ start_code)) where
   starts : (pool : Pool) (stack_end : ℕ) → sum_word a.word d.word ≡ stack_end → sum_word b.word e.word ≡ pool.first → sum_word c.word f.word ≡ end_of pool
-      → IsUsable pool s.parts → s.pc + 440 < 2 ^ 32 → (t : Processor) × AfterStart pool stack_end (s.pc + 440) s.pc s t
+      → IsUsable pool s.parts → s.pc + 440 < 2 ^ 32 → (t : Processor) × AfterStart code pool stack_end (s.pc + 440) s.pc s t
   starts pool stack_end stack first end usable below =
       let main_aligned = whole-words s.pc (stands.aligned s.pc _ has.0) in
       let to : sum_word (s.pc + 4 + 4 + 4 + 4 + 4 + 4 + 4 + 4) 408 ≡ s.pc + 440 = omega arith in
@@ -105,7 +105,8 @@ module _ (code : Code) (s : Processor) (stands : Stands code s) (a b c : UpperIm
       } in (
         t,
         record {
-          leads = v;
+          leads = v.leads;
+          inside = v.inside;
           goes_to = refl;
           way_back = refl;
           stack = refl;
@@ -150,7 +151,7 @@ module _ (layout : Layout) (memory : ℕ) (is : List Instr) (code : Code) (at : 
   does pool first end s here usable below =
       let pc_is = here.pc_is in
       let low : s.pc + 440 < 2 ^ 32 = omega arith in
-      subst (λ a. (t : Processor) × AfterStart pool (memory + layout.stack_end) (a + 440) a s t) pc_is
+      subst (λ a. (t : Processor) × AfterStart code pool (memory + layout.stack_end) (a + 440) a s t) pc_is
       (starts code s here.stands spells.0 second.0 third.0 spells.1 second.1 third.1
       (subst (Has code s.pc) is_whole (subst (λ a. Has code a is) (sym pc_is) has))
       pool (memory + layout.stack_end) spells.3 (second.3 ∙ sym first) (third.3 ∙ sym end) usable low)

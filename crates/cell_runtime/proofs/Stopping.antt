@@ -7,9 +7,8 @@ use Rattle.rv_isa.specs.declared.instr.Instr.TheVariants.{Addi, Ecall}
 use Rattle.rv_isa.specs.Arithmetic.{sum_word}
 use Rattle.rv_isa.specs.Processor.{Processor, value, put}
 use Rattle.rv_isa.specs.Environment.{stepped}
-use Rattle.rv_isa.proofs.Runs.{Leads-then}
 use Rattle.rv_isa.specs.Standing.{Code, Has, Stands}
-use Rattle.rv_isa.proofs.Standing.{Stands-leads, next-is}
+use Rattle.rv_isa.proofs.Standing.{LeadsIn-stands, next-is, LeadsIn-then, LeadsIn-inside, inside-one}
 use Rattle.rv_isa.proofs.Instructions.{leads-addi}
 use Rattle.cell_runtime.specs.declared.stop.Ending.{Ending}
 use Rattle.cell_runtime.specs.declared.stop.Ending.TheVariants.{Ended, HeapFull, StackFull}
@@ -42,15 +41,16 @@ module _ (code : Code) (imm : Immediate) (number : ℕ) (number_is : imm.word �
   kept : (s : Processor) (x : ℕ) → KeptBy Stop x → value (asking number s).registers x ≡ value s.registers x
   kept s x out = let a : x ≢ 10 = out.0 in let b : x ≢ 17 = out.1.0 in grind (arith, nat_tests)
 
-  pub stop_exits : (s : Processor) → Stands code s → Has code s.pc (stop_code imm) → Exits number 3 s
+  pub stop_exits : (s : Processor) → Stands code s → Has code s.pc (stop_code imm) → Exits code number 3 s
   stop_exits s stands has =
       let set : sum_word 0 imm.word ≡ number = omega arith in
       let first = leads-addi stands {v = number} has.0 set (next-is stands s.pc _ has.1.0) in
-      let ready = Leads-then first (leads-addi (Stands-leads first stands) {v = 93} has.1.0 refl (next-is stands (s.pc + 4) _ has.1.1.0)) in
+      let ready = LeadsIn-then first (leads-addi (LeadsIn-stands first stands) {v = 93} has.1.0 refl (next-is stands (s.pc + 4) _ has.1.1.0)) in
       let told : number % 256 ≡ number = omega arith in
       record {
         last = stepped (sum_word (s.pc + 4 + 4) 4) (asking number s);
         ends = ends-exit (asking number s) stands ready has.1.1.0 refl told;
+        inside = LeadsIn-inside ready (inside-one code (asking number s) has.1.1.0);
         executed = omega arith;
         trace = refl;
         memory = refl;

@@ -8,10 +8,9 @@ use Rattle.rv_isa.specs.Arithmetic.{sum_word}
 use Rattle.rv_isa.specs.Bytes.{with_number}
 use Rattle.rv_isa.specs.Processor.{Processor, value, put}
 use Rattle.rv_isa.specs.Environment.{stepped}
-use Rattle.rv_isa.specs.Execution.{Leads}
-use Rattle.rv_isa.specs.Standing.{Code, Has, Stands}
+use Rattle.rv_isa.specs.Standing.{Code, Has, Stands, LeadsIn}
 use Rattle.rv_isa.proofs.Memory.{word-same}
-use Rattle.rv_isa.proofs.Standing.{Stands-leads, next-is}
+use Rattle.rv_isa.proofs.Standing.{LeadsIn-stands, next-is}
 use Rattle.rv_isa.proofs.Instructions.{leads-addi, leads-lw, leads-sw, leads-beq_taken, leads-beq_not_taken}
 use Rattle.cell_heap.specs.Cells.{token, changed, free}
 use Rattle.cell_heap.specs.Pool.{Pool, end_of}
@@ -27,7 +26,7 @@ use Rattle.cell_runtime.specs.Takes.{from_chain, at_border, from_held, IsFull, A
 use Rattle.rv_isa.proofs.Registers.{x0, x1, x5, x8, x9, x10, x18, x19}
 use Rattle.cell_runtime.proofs.Operands.{imm_0, imm_4, imm_32, imm_101, forward_16, forward_24}
 use Rattle.cell_runtime.proofs.Spelling.{plain, plain_makes}
-use Rattle.cell_runtime.proofs.Calling.{leads-back, then_one, exits-after}
+use Rattle.cell_runtime.proofs.Calling.{leads-back, then_one, exits-after, returns_by}
 use Rattle.cell_runtime.proofs.Stopping.{stop_code, stop_exits}
 use Rattle.cell_runtime.proofs.TakingCells.{first_is, first_free, memory_chained, memory_fresh, newest_is, newest_held, newest_cell, memory_taken_back}
 
@@ -47,11 +46,11 @@ emptied s slot = record s { memory = with_number slot 4 0 s.memory }
 
 module _ (code : Code) (pool : Pool) (view : View) (s : Processor) (stands : Stands code s) (has : Has code s.pc take_code) (way : HasWayBack s) (memory : Memory pool view s) where
   abbrev Served : Type 0
-  Served = ((t : Processor) × AfterTake pool view s t) ⊎ (IsFull pool view × Exits 101 6 s)
+  Served = ((t : Processor) × AfterTake code pool view s t) ⊎ (IsFull pool view × Exits code 101 6 s)
 
   -- ---- from the chain
 
-  chained : (cell : ℕ) (frees : List ℕ) → view.frees ≡ cell ∷ frees → (t : Processor) × AfterTake pool view s t
+  chained : (cell : ℕ) (frees : List ℕ) → view.frees ≡ cell ∷ frees → (t : Processor) × AfterTake code pool view s t
   chained cell frees first =
       let is = first_is pool view s s memory refl refl refl refl cell frees first in
       let is_free = first_free pool view s s memory refl refl refl refl cell frees first in
@@ -78,12 +77,7 @@ module _ (code : Code) (pool : Pool) (view : View) (s : Processor) (stands : Sta
           slot = None;
           count = 4;
           taken = from_chain first;
-          returns = record {
-            leads = leads-back t stands c has.1.1.1.0 refl way.aligned way.in_range;
-            back = refl;
-            registers = kept (word s.memory cell) cell;
-            parts = refl;
-          };
+          returns = returns_by (leads-back t stands c has.1.1.1.0 refl way.aligned way.in_range) refl (kept (word s.memory cell) cell) refl;
           gives = refl;
           cells = memory_chained pool view s u memory refl refl refl refl cell frees first refl refl;
           memory = refl;
@@ -100,7 +94,7 @@ module _ (code : Code) (pool : Pool) (view : View) (s : Processor) (stands : Sta
     no_chain = subst (IsChain s.memory view.heap (value s.registers 8)) none memory.chain
 
     -- at the test of the border
-    to_border : Leads 1 s (stepped (s.pc + 4 + 4 + 4 + 4) s)
+    to_border : LeadsIn code 1 s (stepped (s.pc + 4 + 4 + 4 + 4) s)
     to_border =
         let below = stands.below (s.pc + 4 + 4 + 4 + 4) _ has.1.1.1.1.0 in
         leads-beq_taken stands has.0 no_chain (omega arith) (stands.aligned (s.pc + 4 + 4 + 4 + 4) _ has.1.1.1.1.0)
@@ -110,7 +104,7 @@ module _ (code : Code) (pool : Pool) (view : View) (s : Processor) (stands : Sta
 
     -- ---- at the border
 
-    fresh : view.border < end_of pool → (t : Processor) × AfterTake pool view s t
+    fresh : view.border < end_of pool → (t : Processor) × AfterTake code pool view s t
     fresh before =
         let border_is = memory.border in
         let end_is = memory.end in
@@ -135,12 +129,7 @@ module _ (code : Code) (pool : Pool) (view : View) (s : Processor) (stands : Sta
             slot = None;
             count = 5;
             taken = at_border none before;
-            returns = record {
-              leads = leads-back t stands c has_border.1.1.1.0 refl way.aligned way.in_range;
-              back = refl;
-              registers = kept (view.border + 32) view.border;
-              parts = refl;
-            };
+            returns = returns_by (leads-back t stands c has_border.1.1.1.0 refl way.aligned way.in_range) refl (kept (view.border + 32) view.border) refl;
             gives = refl;
             cells = memory_fresh pool view s u memory refl refl refl refl none before refl refl;
             memory = refl;
@@ -157,7 +146,7 @@ module _ (code : Code) (pool : Pool) (view : View) (s : Processor) (stands : Sta
 
     module _ (used : end_of pool ≤ view.border) where
       -- at the test of the held tokens
-      to_held : Leads 2 s (record s { pc = s.pc + 4 + 4 + 4 + 4 + 4 + 4 + 4 + 4; executed = s.executed + 1 + 1 })
+      to_held : LeadsIn code 2 s (record s { pc = s.pc + 4 + 4 + 4 + 4 + 4 + 4 + 4 + 4; executed = s.executed + 1 + 1 })
       to_held =
           let border_is = memory.border in
           let end_is = memory.end in
@@ -171,7 +160,7 @@ module _ (code : Code) (pool : Pool) (view : View) (s : Processor) (stands : Sta
 
       -- ---- from the held chain
 
-      back : (link : Link) (links : List Link) → view.held ≡ link ∷ links → (t : Processor) × AfterTake pool view s t
+      back : (link : Link) (links : List Link) → view.held ≡ link ∷ links → (t : Processor) × AfterTake code pool view s t
       back link links newest =
           let held = newest_held pool view s (emptied s link.slot) memory link links newest refl refl in
           let is = newest_is pool view s (emptied s link.slot) memory link links newest refl refl in
@@ -204,12 +193,7 @@ module _ (code : Code) (pool : Pool) (view : View) (s : Processor) (stands : Sta
               slot = Some link.slot;
               count = 8;
               taken = from_held none used newest;
-              returns = record {
-                leads = leads-back t stands e has_held.1.1.1.1.1.0 refl way.aligned way.in_range;
-                back = refl;
-                registers = kept (word s.memory link.cell) link.slot link.cell;
-                parts = refl;
-              };
+              returns = returns_by (leads-back t stands e has_held.1.1.1.1.1.0 refl way.aligned way.in_range) refl (kept (word s.memory link.cell) link.slot link.cell) refl;
               gives = refl;
               cells = memory_taken_back pool view s u memory link links newest refl refl refl refl refl refl;
               memory = (word-same link.slot 0 s.memory (lit< tt), λ x away. apart link.slot x away);
@@ -231,7 +215,7 @@ module _ (code : Code) (pool : Pool) (view : View) (s : Processor) (stands : Sta
 
       -- ---- from none
 
-      full : view.held ≡ [] → IsFull pool view × Exits 101 6 s
+      full : view.held ≡ [] → IsFull pool view × Exits code 101 6 s
       full no_token =
           let no_held : value s.registers 9 ≡ 0 = subst (IsHeldChain pool s.parts s.memory view.heap (value s.registers 9)) no_token memory.held in
           let has_stop = has_held.1.1.1.1.1.1 in
@@ -239,7 +223,7 @@ module _ (code : Code) (pool : Pool) (view : View) (s : Processor) (stands : Sta
           let leads = then_one stands to_held (λ on. leads-beq_taken on {next = s.pc + 4 + 4 + 4 + 4 + 4 + 4 + 4 + 4 + 4 + 4 + 4 + 4 + 4 + 4} has_held.0 no_held (omega arith) (stands.aligned (s.pc + 4 + 4 + 4 + 4 + 4 + 4 + 4 + 4 + 4 + 4 + 4 + 4 + 4 + 4) _ has_stop.0)) in
           let t = record s { pc = s.pc + 4 + 4 + 4 + 4 + 4 + 4 + 4 + 4 + 4 + 4 + 4 + 4 + 4 + 4; executed = s.executed + 1 + 1 + 1 } in (
             record { chain = none; border = used; held = no_token },
-            exits-after {t = t} leads refl refl refl refl (omega arith) (stop_exits code imm_101 101 refl (omega arith) t (Stands-leads leads stands) has_stop),
+            exits-after {t = t} leads refl refl refl refl (omega arith) (stop_exits code imm_101 101 refl (omega arith) t (LeadsIn-stands leads stands) has_stop),
           )
 
       by_held : (links : List Link) → view.held ≡ links → Served

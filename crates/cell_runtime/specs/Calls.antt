@@ -1,8 +1,8 @@
 -- What a call of a routine comes to: a way back, or the end of the run.
 use Rattle.std.specs.Prelude.{◌≡◌, ℕ, ◌+◌, ◌%◌, ◌^◌, ◌<◌, ◌≤◌, ◌⊎◌}
 use Rattle.rv_isa.specs.Processor.{Processor, exited, value}
-use Rattle.rv_isa.specs.Execution.{run, Leads}
-use Rattle.rv_isa.specs.Standing.{Code, Stands}
+use Rattle.rv_isa.specs.Execution.{run, Leads, Along}
+use Rattle.rv_isa.specs.Standing.{Code, Stands, Inside}
 use Rattle.rv_isa.specs.declared.placed.Symbol.{Symbol}
 use Rattle.rv_isa.specs.declared.placed.Symbol.TheVariants.{Stop}
 use Rattle.cell_runtime.specs.Registers.{KeptBy}
@@ -17,10 +17,11 @@ pub record HasWayBack (s : Processor) : Type 0 where
   pub aligned : value s.registers 1 % 4 ≡ 0
   pub in_range : value s.registers 1 < 2 ^ 32
 
--- from one machine the routine at a symbol comes to another by so many instructions: it is back, and keeps the registers that the table says, the parts
--- of memory and what is left of the input
-pub record Returns (symbol : Symbol) (count : ℕ) (s t : Processor) : Type 0 where
+-- from one machine the routine at a symbol comes to another by so many instructions, each of them one of the code: it is back, and
+-- keeps the registers that the table says and the parts of memory
+pub record Returns (code : Code) (symbol : Symbol) (count : ℕ) (s t : Processor) : Type 0 where
   pub leads : Leads count s t
+  pub inside : Along (Inside code) count s
   pub back : t.pc ≡ value s.registers 1
   pub registers : (x : ℕ) → KeptBy symbol x → value t.registers x ≡ value s.registers x
   pub parts : t.parts ≡ s.parts
@@ -29,11 +30,12 @@ pub record Returns (symbol : Symbol) (count : ℕ) (s t : Processor) : Type 0 wh
 abbrev pub KeepsOutside : ℕ → ℕ → Processor → Processor → Type 0
 KeepsOutside at count s t = (x : ℕ) → (x < at) ⊎ (at + count ≤ x) → t.memory x ≡ s.memory x
 
--- By so many instructions the run exits with a number, and stays there. The exit tells no event and changes neither memory nor any register
--- but those that the table says.
-pub record Exits (number count : ℕ) (s : Processor) : Type 0 where
+-- By so many instructions, each of them one of the code, the run exits with a number, and stays there. The exit tells no event and
+-- changes neither memory nor any register but those that the table says.
+pub record Exits (code : Code) (number count : ℕ) (s : Processor) : Type 0 where
   pub last : Processor
   pub ends : (more : ℕ) → run (count + more) s ≡ record { processor = last; ending = exited number }
+  pub inside : Along (Inside code) count s
   pub executed : last.executed ≡ s.executed + count
   pub trace : last.trace ≡ s.trace
   pub memory : last.memory ≡ s.memory

@@ -31,10 +31,10 @@ pub record BeforeDrop (pool : Pool) (reference : ℕ) (view : View) (dropped : D
 
 -- The heap and the chain of free cells are exactly those that the turns come to. Border, held tokens and every byte of memory that is none of a
 -- count stay. That takes 8 instructions at most for each reference that is given up, 52 for each cell that is freed, and 5
-pub record AfterDrop (pool : Pool) (view : View) (dropped : Dropped) (s t : Processor) : Type 0 where
+pub record AfterDrop (code : Code) (pool : Pool) (view : View) (dropped : Dropped) (s t : Processor) : Type 0 where
   pub count : ℕ
   pub memory : Memory pool (record view { heap = dropped.heap; frees = dropped.frees }) t
-  pub returns : Returns (Routine Drop) count s t
+  pub returns : Returns code (Routine Drop) count s t
   pub bounded : count ≤ 8 * dropped.gave + 52 * dropped.freed + 5
   pub trace : t.trace ≡ s.trace
   pub left : t.left ≡ s.left
@@ -42,4 +42,5 @@ pub record AfterDrop (pool : Pool) (view : View) (dropped : Dropped) (s t : Proc
 
 abbrev pub IsDrop : Code → ℕ → Type 0
 IsDrop code at =
-    (pool : Pool) (reference : ℕ) (view : View) (dropped : Dropped) (s : Processor) → IsAt code at s → BeforeDrop pool reference view dropped s → (t : Processor) × AfterDrop pool view dropped s t
+    (pool : Pool) (reference : ℕ) (view : View) (dropped : Dropped) (s : Processor) → IsAt code at s
+    → BeforeDrop pool reference view dropped s → (t : Processor) × AfterDrop code pool view dropped s t

@@ -40,15 +40,15 @@ pub record BeforePrintInt (buffer : ℕ) (s : Processor) : Type 0 where
   pub stored : can_store s.parts buffer buffer_bytes ≡ true
   pub loaded : can_load s.parts buffer buffer_bytes ≡ true
 
-pub record AfterPrintInt (buffer : ℕ) (s t : Processor) : Type 0 where
-  pub returns : Returns (Routine PrintInt) (int_count (signed (value s.registers 10))) s t
+pub record AfterPrintInt (code : Code) (buffer : ℕ) (s t : Processor) : Type 0 where
+  pub returns : Returns code (Routine PrintInt) (int_count (signed (value s.registers 10))) s t
   pub trace : t.trace ≡ s.trace ++ output (int_piece (value s.registers 10) (value s.registers 11)) ∷ []
   pub left : t.left ≡ s.left
   pub memory : KeepsOutside buffer buffer_bytes s t
 
 abbrev pub IsPrintInt : ℕ → Code → ℕ → Type 0
 IsPrintInt buffer code at =
-    (s : Processor) → IsAt code at s → BeforePrintInt buffer s → (t : Processor) × AfterPrintInt buffer s t
+    (s : Processor) → IsAt code at s → BeforePrintInt buffer s → (t : Processor) × AfterPrintInt code buffer s t
 
 -- ---- print-text
 
@@ -59,14 +59,14 @@ pub record BeforePrintText (s : Processor) : Type 0 where
   pub count : value s.registers 11 < 2 ^ 32
   pub loaded : can_load s.parts (value s.registers 10) (value s.registers 11) ≡ true
 
-pub record AfterPrintText (s t : Processor) : Type 0 where
-  pub returns : Returns (Routine PrintText) 6 s t
+pub record AfterPrintText (code : Code) (s t : Processor) : Type 0 where
+  pub returns : Returns code (Routine PrintText) 6 s t
   pub trace : t.trace ≡ s.trace ++ put_of (bytes_at s.memory (value s.registers 10) (value s.registers 11))
   pub left : t.left ≡ s.left
   pub memory : t.memory ≡ s.memory
 
 abbrev pub IsPrintText : Code → ℕ → Type 0
-IsPrintText code at = (s : Processor) → IsAt code at s → BeforePrintText s → (t : Processor) × AfterPrintText s t
+IsPrintText code at = (s : Processor) → IsAt code at s → BeforePrintText s → (t : Processor) × AfterPrintText code s t
 
 -- ---- read-byte
 
@@ -78,16 +78,18 @@ pub record BeforeReadByte (buffer : ℕ) (s : Processor) : Type 0 where
   pub loaded : can_load s.parts buffer 1 ≡ true
 
 -- by what is left of the input: its next byte comes to x10; at its end x10 is -1
-abbrev pub TakesNext : List ℕ → Processor → Processor → Type 0
-TakesNext [] s t =
-    Returns (Routine ReadByte) 9 s t × (value t.registers 10 ≡ 2 ^ 32 - 1) × (t.trace ≡ s.trace ++ input_end ∷ []) × (t.left ≡ [])
-TakesNext (byte ∷ rest) s t =
-    Returns (Routine ReadByte) 10 s t × (value t.registers 10 ≡ byte) × (t.trace ≡ s.trace ++ input byte ∷ []) × (t.left ≡ rest)
+abbrev pub TakesNext : Code → List ℕ → Processor → Processor → Type 0
+TakesNext code [] s t =
+    Returns code (Routine ReadByte) 9 s t × (value t.registers 10 ≡ 2 ^ 32 - 1)
+    × (t.trace ≡ s.trace ++ input_end ∷ []) × (t.left ≡ [])
+TakesNext code (byte ∷ rest) s t =
+    Returns code (Routine ReadByte) 10 s t × (value t.registers 10 ≡ byte)
+    × (t.trace ≡ s.trace ++ input byte ∷ []) × (t.left ≡ rest)
 
-pub record AfterReadByte (buffer : ℕ) (s t : Processor) : Type 0 where
-  pub takes : TakesNext s.left s t
+pub record AfterReadByte (code : Code) (buffer : ℕ) (s t : Processor) : Type 0 where
+  pub takes : TakesNext code s.left s t
   pub memory : KeepsOutside buffer 1 s t
 
 abbrev pub IsReadByte : ℕ → Code → ℕ → Type 0
 IsReadByte buffer code at =
-    (s : Processor) → IsAt code at s → BeforeReadByte buffer s → (t : Processor) × AfterReadByte buffer s t
+    (s : Processor) → IsAt code at s → BeforeReadByte buffer s → (t : Processor) × AfterReadByte code buffer s t

@@ -1,8 +1,8 @@
 -- The start of an image.
 use Rattle.std.specs.Prelude.{◌≡◌, ℕ, ◌+◌, ◌*◌, ◌%◌, ◌^◌, ◌<◌, [], ◌&&◌, if◌then◌else◌, nat_eq, nat_le, nat_lt}
 use Rattle.rv_isa.specs.Processor.{Processor, value}
-use Rattle.rv_isa.specs.Execution.{Leads}
-use Rattle.rv_isa.specs.Standing.{Code}
+use Rattle.rv_isa.specs.Execution.{Leads, Along}
+use Rattle.rv_isa.specs.Standing.{Code, Inside}
 use Rattle.cell_heap.specs.Cells.{no_cell, free, Heap}
 use Rattle.cell_heap.specs.Pool.{Pool, end_of, IsUsable}
 use Rattle.cell_heap.specs.View.{View}
@@ -21,9 +21,11 @@ all_free pool at =
 abbrev pub first_view : Pool → View
 first_view pool = record { heap = all_free pool; frees = []; border = pool.first; held = [] }
 
--- nine instructions, however many cells there are, lead to `main`: x1 is the way back to the stop behind them, and x2 the end of the stack
-pub record AfterStart (pool : Pool) (stack_end main at : ℕ) (s t : Processor) : Type 0 where
+-- nine instructions of the code, however many cells there are, lead to `main`: x1 is the way back to the stop behind them, and x2 the end
+-- of the stack
+pub record AfterStart (code : Code) (pool : Pool) (stack_end main at : ℕ) (s t : Processor) : Type 0 where
   pub leads : Leads 9 s t
+  pub inside : Along (Inside code) 9 s
   pub goes_to : t.pc ≡ main
   pub way_back : value t.registers 1 ≡ at + 36
   pub stack : value t.registers 2 ≡ stack_end
@@ -36,7 +38,8 @@ pub record AfterStart (pool : Pool) (stack_end main at : ℕ) (s t : Processor) 
 
 abbrev pub IsStart : Pool → ℕ → ℕ → Code → ℕ → Type 0
 IsStart pool stack_end main code at =
-    (s : Processor) → IsAt code at s → IsUsable pool s.parts → main < 2 ^ 32 → (t : Processor) × AfterStart pool stack_end main at s t
+    (s : Processor) → IsAt code at s → IsUsable pool s.parts → main < 2 ^ 32
+    → (t : Processor) × AfterStart code pool stack_end main at s t
 
 -- `main` stands behind the runtime, and the cells and the stack where the layout says
 abbrev pub IsStartOf : Layout → ℕ → Code → ℕ → Type 0

@@ -13,4 +13,4 @@ number_of HeapFull = 101
 number_of StackFull = 102
 
 abbrev pub IsStop : Ending → Code → ℕ → Type 0
-IsStop ending code at = (s : Processor) → IsAt code at s → Exits (number_of ending) 3 s
+IsStop ending code at = (s : Processor) → IsAt code at s → Exits code (number_of ending) 3 s

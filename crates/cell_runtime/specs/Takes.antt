@@ -31,13 +31,13 @@ abbrev pub EmptiesSlot : Option ℕ → Processor → Processor → Type 0
 EmptiesSlot None s t = t.memory ≡ s.memory
 EmptiesSlot (Some slot) s t = (word t.memory slot ≡ 0) × KeepsOutside slot 4 s t
 
-pub record AfterTake (pool : Pool) (view : View) (s t : Processor) : Type 0 where
+pub record AfterTake (code : Code) (pool : Pool) (view : View) (s t : Processor) : Type 0 where
   pub cell : ℕ
   pub then_view : View
   pub slot : Option ℕ
   pub count : ℕ
   pub taken : Taken pool view cell then_view slot count
-  pub returns : Returns (Routine Take) count s t
+  pub returns : Returns code (Routine Take) count s t
   pub gives : value t.registers 10 ≡ cell
   pub cells : Memory pool then_view t
   pub memory : EmptiesSlot slot s t
@@ -47,7 +47,7 @@ pub record AfterTake (pool : Pool) (view : View) (s t : Processor) : Type 0 wher
 abbrev pub IsTake : Pool → Code → ℕ → Type 0
 IsTake pool code at =
     (view : View) (s : Processor) → IsAt code at s → HasWayBack s → Memory pool view s
-    → ((t : Processor) × AfterTake pool view s t) ⊎ (IsFull pool view × Exits 101 6 s)
+    → ((t : Processor) × AfterTake code pool view s t) ⊎ (IsFull pool view × Exits code 101 6 s)
 
 -- the code of a take does not depend on where the cells are
 abbrev pub IsTakeOfPools : Code → ℕ → Type 0

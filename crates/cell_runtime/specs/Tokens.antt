@@ -19,8 +19,9 @@ pub data Held (view : View) (memory : ℕ → ℕ) (slot : ℕ) : List Link → 
       → occurs cell (map (λ link. link.cell) view.held) ≡ 0 → occurs slot (map (λ link. link.slot) view.held) ≡ 0
       → Held view memory slot (record { cell = cell; slot = slot } ∷ view.held) 6 cell 8
 
-pub record AfterHold (pool : Pool) (view : View) (held : List Link) (count changed bytes : ℕ) (s t : Processor) : Type 0 where
-  pub returns : Returns Hold count s t
+pub record AfterHold (code : Code) (pool : Pool) (view : View) (held : List Link) (count changed bytes : ℕ)
+    (s t : Processor) : Type 0 where
+  pub returns : Returns code Hold count s t
   pub cells : Memory pool (record view { held = held }) t
   pub memory : KeepsOutside changed bytes s t
   pub left : t.left ≡ s.left
@@ -30,7 +31,7 @@ abbrev pub IsHold : Pool → Code → ℕ → Type 0
 IsHold pool code at =
     (view : View) (held : List Link) (count changed bytes : ℕ) (s : Processor) → IsAt code at s → HasWayBack s → Memory pool view s
     → IsSlot pool s.parts (value s.registers 10) → Held view s.memory (value s.registers 10) held count changed bytes
-    → (t : Processor) × AfterHold pool view held count changed bytes s t
+    → (t : Processor) × AfterHold code pool view held count changed bytes s t
 
 -- ---- unhold
 
@@ -40,8 +41,8 @@ pub data Unheld (view : View) (memory : ℕ → ℕ) (slot : ℕ) : List Link �
   no_token : word memory slot ≡ 0 → Unheld view memory slot view.held 3
   newest : {link : Link} {links : List Link} → view.held ≡ link ∷ links → link.slot ≡ slot → Unheld view memory slot links 4
 
-pub record AfterUnhold (pool : Pool) (view : View) (held : List Link) (count : ℕ) (s t : Processor) : Type 0 where
-  pub returns : Returns Unhold count s t
+pub record AfterUnhold (code : Code) (pool : Pool) (view : View) (held : List Link) (count : ℕ) (s t : Processor) : Type 0 where
+  pub returns : Returns code Unhold count s t
   pub cells : Memory pool (record view { held = held }) t
   pub memory : t.memory ≡ s.memory
   pub left : t.left ≡ s.left
@@ -51,7 +52,7 @@ abbrev pub IsUnhold : Pool → Code → ℕ → Type 0
 IsUnhold pool code at =
     (view : View) (held : List Link) (count : ℕ) (s : Processor) → IsAt code at s → HasWayBack s → Memory pool view s
     → IsSlot pool s.parts (value s.registers 10) → Unheld view s.memory (value s.registers 10) held count
-    → (t : Processor) × AfterUnhold pool view held count s t
+    → (t : Processor) × AfterUnhold code pool view held count s t
 
 -- the code of neither depends on where the cells are
 abbrev pub IsHoldOfPools : Code → ℕ → Type 0

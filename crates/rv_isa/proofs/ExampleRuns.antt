@@ -6,12 +6,12 @@ use Rattle.rv_isa.specs.Arithmetic.{sum_word}
 use Rattle.rv_isa.specs.declared.instr.Instr.{Instr}
 use Rattle.rv_isa.specs.declared.instr.Instr.TheVariants.{Bne, Addi, Add, Ecall}
 use Rattle.rv_isa.specs.Processor.{Processor, going, exited, value, put}
-use Rattle.rv_isa.specs.Execution.{run, Leads}
+use Rattle.rv_isa.specs.Execution.{run}
 use Rattle.rv_isa.proofs.Registers.{x0, x5, x6, x7}
 use Rattle.rv_isa.proofs.Examples.{minus_one, back_four}
-use Rattle.rv_isa.proofs.Runs.{Leads-none, Leads-then, Leads-ended}
-use Rattle.rv_isa.specs.Standing.{Code, Has, Stands}
-use Rattle.rv_isa.proofs.Standing.{Stands-leads, next-is}
+use Rattle.rv_isa.proofs.Runs.{Leads-none, Leads-ended}
+use Rattle.rv_isa.specs.Standing.{Code, Has, Stands, LeadsIn}
+use Rattle.rv_isa.proofs.Standing.{LeadsIn-then, LeadsIn-stands, next-is}
 use Rattle.rv_isa.proofs.Instructions.{leads-addi, leads-add, leads-bne_taken, leads-bne_not_taken, step-exit}
 
 abbrev two : Immediate
@@ -32,17 +32,17 @@ sum_of_two_after s = record s {
 }
 
 module _ {code : Code} {s : Processor} (stands : Stands code s) (after : Instr) (has : Has code s.pc (sum_of_two after)) where
-  sum_of_two-leads : Leads 3 s (sum_of_two_after s)
+  sum_of_two-leads : LeadsIn code 3 s (sum_of_two_after s)
   sum_of_two-leads =
       let first = leads-addi stands {v = 2} has.0 refl (next-is stands s.pc (Addi x6 x0 three) has.1.0) in
-      let stands_first = Stands-leads first stands in
+      let stands_first = LeadsIn-stands first stands in
       let second = leads-addi stands_first {v = 3} has.1.0 refl (next-is stands (s.pc + 4) (Add x7 x5 x6) has.1.1.0) in
-      let stands_second = Stands-leads second stands_first in
+      let stands_second = LeadsIn-stands second stands_first in
       let third = leads-add stands_second {v = 5} has.1.1.0 refl (next-is stands (s.pc + 4 + 4) after has.1.1.1.0) in
-      Leads-then first (Leads-then second third)
+      LeadsIn-then first (LeadsIn-then second third)
 
   sum_of_two-stands : Stands code (sum_of_two_after s)
-  sum_of_two-stands = Stands-leads sum_of_two-leads stands
+  sum_of_two-stands = LeadsIn-stands sum_of_two-leads stands
 
 -- addi x5, x5, -1; bne x5, x0, -4; and one more, which is not executed
 abbrev count_down : Instr → List Instr
@@ -60,7 +60,7 @@ abbrev turned : ℕ → ℕ → Processor → Processor
 turned n next s = record s { registers = put 5 n s.registers; pc = next; executed = s.executed + 1 + 1 }
 
 module _ {code : Code} (at : ℕ) (after : Instr) (has : Has code at (count_down after)) where
-  count_down-lowers : (n : ℕ) (s : Processor) → Down code at n s → Leads 1 s (record s { registers = put 5 n s.registers; pc = at + 4; executed = s.executed + 1 })
+  count_down-lowers : (n : ℕ) (s : Processor) → Down code at n s → LeadsIn code 1 s (record s { registers = put 5 n s.registers; pc = at + 4; executed = s.executed + 1 })
   count_down-lowers n s down =
       let holds = down.holds in
       let fits = down.fits in
@@ -68,33 +68,33 @@ module _ {code : Code} (at : ℕ) (after : Instr) (has : Has code at (count_down
       leads-addi down.stands (ap code down.pc_is ∙ has.0) lower (ap (λ a. sum_word a 4) down.pc_is ∙ next-is down.stands at _ has.1.0)
 
   -- a turn goes back to its first instruction, or past its last
-  count_down-turns : (n : ℕ) (s : Processor) → Down code at (suc n) s → Leads 2 s (turned (suc n) at s)
+  count_down-turns : (n : ℕ) (s : Processor) → Down code at (suc n) s → LeadsIn code 2 s (turned (suc n) at s)
   count_down-turns n s down =
       let first = count_down-lowers (suc n) s down in
-      let stands = Stands-leads first down.stands in
+      let stands = LeadsIn-stands first down.stands in
       let below = down.stands.below (at + 4) _ has.1.0 in
-      Leads-then first (leads-bne_taken stands has.1.0 (omega arith) (omega arith) (down.stands.aligned at _ has.0))
+      LeadsIn-then first (leads-bne_taken stands has.1.0 (omega arith) (omega arith) (down.stands.aligned at _ has.0))
 
-  count_down-ends : (s : Processor) → Down code at 0 s → Leads 2 s (turned 0 (at + 4 + 4) s)
+  count_down-ends : (s : Processor) → Down code at 0 s → LeadsIn code 2 s (turned 0 (at + 4 + 4) s)
   count_down-ends s down =
       let first = count_down-lowers 0 s down in
-      let stands = Stands-leads first down.stands in
-      Leads-then first (leads-bne_not_taken stands has.1.0 refl (next-is down.stands (at + 4) _ has.1.1.0))
+      let stands = LeadsIn-stands first down.stands in
+      LeadsIn-then first (leads-bne_not_taken stands has.1.0 refl (next-is down.stands (at + 4) _ has.1.1.0))
 
   -- so x5 comes to 0, and memory stays
-  count_down-leads : (n : ℕ) (s : Processor) → Down code at n s → (t : Processor) × Leads (2 * suc n) s t × (t.pc ≡ at + 8) × (value t.registers 5 ≡ 0) × (t.memory ≡ s.memory)
+  count_down-leads : (n : ℕ) (s : Processor) → Down code at n s → (t : Processor) × LeadsIn code (2 * suc n) s t × (t.pc ≡ at + 8) × (value t.registers 5 ≡ 0) × (t.memory ≡ s.memory)
   count_down-leads zero s down = (turned 0 (at + 4 + 4) s, count_down-ends s down, omega arith, refl, refl)
   count_down-leads (suc n) s down =
       let turn = count_down-turns n s down in
       let fits = down.fits in
       let rest = count_down-leads n (turned (suc n) at s) record {
-        stands = Stands-leads turn down.stands;
+        stands = LeadsIn-stands turn down.stands;
         pc_is = refl;
         holds = refl;
         fits = omega arith;
       } in
       let sum : 2 + 2 * suc n ≡ 2 * suc (suc n) = omega arith in
-      (rest.0, rw (sym sum) (Leads-then turn rest.1), rest.2, rest.3, rest.4)
+      (rest.0, rw (sym sum) (LeadsIn-then turn rest.1), rest.2, rest.3, rest.4)
 
 -- ecall, with the number of exit in x17 and 258 in x10: the run has ended with 2, after any count from one on
 exit-ends : {code : Code} {s : Processor} → Stands code s → code s.pc ≡ Some Ecall → value s.registers 17 ≡ EXIT → value s.registers 10 ≡ 258

@@ -1,5 +1,7 @@
 -- Runs over an instruction set, one after the other: a run in two parts is one run, and what has ended stays.
-use Rattle.std.proofs.Common.{◌≡◌, ◌≢◌, ℕ, zero, suc, ◌+◌, refl, sym, ap, ◌∙◌, arith, add_assoc, add-zero, zero-add}
+use Rattle.std.proofs.Common.{◌≡◌, ◌≢◌, ◌<◌, inl, inr, ℕ, zero, suc, ◌+◌, ◌-◌}
+use Rattle.std.proofs.Common.{refl, sym, ap, ◌∙◌, subst, arith, add_assoc, add-zero, zero-add}
+use Rattle.std.proofs.lemmas.Bool.{cases_lt}
 use Rattle.rv_isa.specs.Processor.{Processor, Ending, going, exited, trapped, Progress, goes}
 use Rattle.rv_isa.specs.InstructionSet.{InstructionSet, step_over, resumes, go_on, run_over, LeadsOver}
 
@@ -83,3 +85,15 @@ module _ {I : Type 0} {set : InstructionSet I} where
   pub Leads-ended : {n : ℕ} {s t : Processor} {after : Progress} → LeadsOver set n s t → step_over set t ≡ after → after.ending ≢ going → (more : ℕ) → run_over set (n + suc more) s ≡ after
   Leads-ended {n} {s} {t} {after} leads is ended more =
       leads.by (suc more) ∙ run-suc set more t ∙ rw is (go_on-ended after (run_over set more) ended)
+
+  -- what is so of each progress of two runs, the one behind the other, is so of each of the whole
+  pub Leads-each : (P : Progress → Type 0) {n k : ℕ} {s t : Processor} → LeadsOver set n s t
+      → ((j : ℕ) → j < n → P (run_over set j s)) → ((j : ℕ) → j < k → P (run_over set j t))
+      → (j : ℕ) → j < n + k → P (run_over set j s)
+  Leads-each P {n} {k} {s} {t} leads before behind j less =
+      elim (cases_lt j n) [
+        | inl near ↦ before j near
+        | inr far ↦
+            (let whole : n + (j - n) ≡ j = omega arith in
+            subst (λ (m : ℕ). P (run_over set m s)) whole (subst P (sym (leads.by (j - n))) (behind (j - n) (omega arith))))
+      ]

@@ -8,11 +8,11 @@ use Rattle.rv_isa.specs.Read.{read}
 use Rattle.rv_isa.specs.Operands.{rd_of}
 use Rattle.rv_isa.specs.Bytes.{Apart, number_at}
 use Rattle.rv_isa.specs.Arithmetic.{sum_word}
-use Rattle.rv_isa.specs.Processor.{Processor, Ending, going, exited, trapped, Progress, value, can_fetch, can_store}
+use Rattle.rv_isa.specs.Processor.{Processor, Ending, going, exited, trapped, Progress, goes, value, can_fetch, can_store}
 use Rattle.rv_isa.specs.InstructionSet.{resumes}
-use Rattle.rv_isa.specs.Execution.{rv32im, acts, effect_at, decodes, step, run, Leads}
-use Rattle.rv_isa.specs.Standing.{Code, Has, code_of, Stands}
-use Rattle.rv_isa.proofs.Runs.{run-zero, run-suc, Leads-run}
+use Rattle.rv_isa.specs.Execution.{rv32im, acts, effect_at, decodes, step, run, Leads, Along}
+use Rattle.rv_isa.specs.Standing.{Code, Has, code_of, Stands, Inside, LeadsIn}
+use Rattle.rv_isa.proofs.Runs.{run-zero, run-suc, Leads-run, Leads-step, Leads-then, Leads-each}
 use Rattle.rv_isa.proofs.Steps.{step-fetched, decodes-some, executes-aligned}
 use Rattle.rv_isa.proofs.Cases.{step-by, step-parts}
 use Rattle.rv_isa.proofs.Memory.{number_at-apart, number_at-with_bytes_apart}
@@ -169,6 +169,26 @@ Stands-run {code} (suc n) s stands =
 pub Stands-leads : {code : Code} {n : ℕ} {s t : Processor} → Leads n s t → Stands code s → Stands code t
 Stands-leads {code} {n} {s} {t} leads stands =
     subst (λ after. Stands code after.processor) (Leads-run leads) (Stands-run n s stands)
+
+-- ---- runs that stay at instructions of the code
+
+-- one instruction of the code, the runs of two rows of them, and the code stands behind them
+pub inside-one : (code : Code) (s : Processor) {i : Instr} → code s.pc ≡ Some i → Along (Inside code) 1 s
+inside-one code s here zero less = rw (run-zero rv32im s, here) refl
+inside-one code s here (suc k) less = absurd (omega arith)
+
+module _ {code : Code} where
+  pub LeadsIn-step : {i : Instr} {s t : Processor} → code s.pc ≡ Some i → step s ≡ goes t → LeadsIn code 1 s t
+  LeadsIn-step {s = s} here is = record { leads = Leads-step is; inside = inside-one code s here }
+
+  pub LeadsIn-inside : {n k : ℕ} {s t : Processor} → LeadsIn code n s t → Along (Inside code) k t → Along (Inside code) (n + k) s
+  LeadsIn-inside leads rest = Leads-each (λ progress. Inside code progress.processor) leads.leads leads.inside rest
+
+  pub LeadsIn-then : {n k : ℕ} {s t u : Processor} → LeadsIn code n s t → LeadsIn code k t u → LeadsIn code (n + k) s u
+  LeadsIn-then first second = record { leads = Leads-then first.leads second.leads; inside = LeadsIn-inside first second.inside }
+
+  pub LeadsIn-stands : {n : ℕ} {s t : Processor} → LeadsIn code n s t → Stands code s → Stands code t
+  LeadsIn-stands leads = Stands-leads leads.leads
 
 -- ---- the next instruction
 

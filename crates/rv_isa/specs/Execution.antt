@@ -1,5 +1,5 @@
 -- The execution of RV32IM: the instruction set, and what InstructionSet says over it.
-use Rattle.std.specs.Prelude.{ℕ, List, Option}
+use Rattle.std.specs.Prelude.{ℕ, ◌<◌, List, Option}
 use Rattle.std.specs.Int.{w32}
 use Rattle.kk_base.specs.Memory.{Part}
 use Rattle.rv_isa.specs.declared.act.Act.{Act}
@@ -42,3 +42,7 @@ image_after parts entry input count = image_after_over rv32im parts entry input 
 -- so many instructions lead from one state to another
 abbrev pub Leads : ℕ → Processor → Processor → Type 0
 Leads count from to = LeadsOver rv32im count from to
+
+-- something is so of each of the first states of a run, so many of them
+abbrev pub Along : (Processor → Type 0) → ℕ → Processor → Type 0
+Along P count s = (k : ℕ) → k < count → P (run k s).processor

@@ -1,10 +1,12 @@
 -- Code that stands in a machine's memory: what a run that executes it rests on.
-use Rattle.std.specs.Prelude.{◌≡◌, ℕ, ◌+◌, ◌-◌, ◌/◌, ◌%◌, ◌^◌, ◌<◌, List, [], ◌∷◌, Option, Some, None, true, ◌&&◌, if◌then◌else◌, nat_eq, nat_le}
+use Rattle.std.specs.Prelude.{◌≡◌, ℕ, ◌+◌, ◌-◌, ◌/◌, ◌%◌, ◌^◌, ◌<◌, List, [], ◌∷◌}
+use Rattle.std.specs.Prelude.{Option, Some, None, IsSome, true, ◌&&◌, if◌then◌else◌, nat_eq, nat_le}
 use Rattle.std.specs.List.{slice_get}
 use Rattle.rv_isa.specs.declared.instr.Instr.{Instr}
 use Rattle.rv_isa.specs.Read.{read}
 use Rattle.rv_isa.specs.Bytes.{Apart, number_at}
 use Rattle.rv_isa.specs.Processor.{Processor, can_fetch, can_store}
+use Rattle.rv_isa.specs.Execution.{Along, Leads}
 
 -- the instruction at each address, where there is one
 abbrev pub Code : Type 0
@@ -28,3 +30,12 @@ pub record Stands (code : Code) (s : Processor) : Type 0 where
   pub fetched : (at : ℕ) (i : Instr) → code at ≡ Some i → can_fetch s.parts at 4 ≡ true
   pub holds : (at : ℕ) (i : Instr) → code at ≡ Some i → read (number_at s.memory at 4) ≡ Some i
   pub kept : (at : ℕ) (i : Instr) → code at ≡ Some i → (x count : ℕ) → can_store s.parts x count ≡ true → 0 < count → Apart x count at 4
+
+-- the program counter is at an instruction of the code
+abbrev pub Inside : Code → Processor → Type 0
+Inside code s = IsSome (code s.pc)
+
+-- so many instructions, each of them one of the code, lead from one state to another
+pub record LeadsIn (code : Code) (count : ℕ) (from to : Processor) : Type 0 where
+  pub leads : Leads count from to
+  pub inside : Along (Inside code) count from
