@@ -152,13 +152,13 @@ module _ (table : Table) where
 
   -- ---- forms
 
-  NoCells : List TypeTree → Type 0
-  NoCells [] = Unit {0}
-  NoCells (t ∷ ts) = (cells t ≡ false) × NoCells ts
+  WithoutCells : List TypeTree → Type 0
+  WithoutCells [] = Unit {0}
+  WithoutCells (t ∷ ts) = (cells t ≡ false) × WithoutCells ts
 
-  none_marked : (holds : ℕ → Bool) (xs : List ℕ) (ts : List TypeTree) → HaveMarks holds xs (map cells ts) → NoCells ts
+  none_marked : (holds : ℕ → Bool) (xs : List ℕ) (ts : List TypeTree) → HaveMarks holds xs (map cells ts) → WithoutCells ts
       → AreUnmarked holds xs
-  unfolding NoCells
+  unfolding WithoutCells
   none_marked holds [] [] have none = tt
   none_marked holds [] (t ∷ ts) have none = absurd have
   none_marked holds (x ∷ xs) [] have none = absurd have
@@ -201,27 +201,27 @@ module _ (table : Table) where
       (xs : List ℕ)
       (ts : List TypeTree) (t : TypeTree) → HaveMarks holds xs (map cells ts) → IsFormTyped table form ts t → holds x ≡ cells t
       → IsFormMarked (marks_of_types table) holds form xs (holds x)
-  unfolding NoCells
+  unfolding WithoutCells
   form_marked ground truths holds x (Number n) xs ts t have is mark =
-      (none_marked holds xs ts have (subst NoCells (sym is.0) tt), mark ∙ (ap cells is.1 ∙ int_none))
+      (none_marked holds xs ts have (subst WithoutCells (sym is.0) tt), mark ∙ (ap cells is.1 ∙ int_none))
   form_marked ground truths holds x Nothing xs ts t have is mark =
-      (none_marked holds xs ts have (subst NoCells (sym is.0) tt), mark ∙ (ap cells is.1 ∙ unit_none))
+      (none_marked holds xs ts have (subst WithoutCells (sym is.0) tt), mark ∙ (ap cells is.1 ∙ unit_none))
   form_marked ground truths holds x ReadByte xs ts t have is mark =
-      (none_marked holds xs ts have (subst NoCells (sym is.0) tt), mark ∙ (ap cells is.1 ∙ int_none))
+      (none_marked holds xs ts have (subst WithoutCells (sym is.0) tt), mark ∙ (ap cells is.1 ∙ int_none))
   form_marked ground truths holds x (PrintText form text) xs ts t have is mark =
-      (none_marked holds xs ts have (subst NoCells (sym is.0) tt), mark ∙ (ap cells is.1 ∙ unit_none))
+      (none_marked holds xs ts have (subst WithoutCells (sym is.0) tt), mark ∙ (ap cells is.1 ∙ unit_none))
   form_marked ground truths holds x (Unary operator) xs ts t have is mark = (
-    none_marked holds xs ts have (subst NoCells (sym is.0) (unary_none truths operator, tt)),
+    none_marked holds xs ts have (subst WithoutCells (sym is.0) (unary_none truths operator, tt)),
     mark ∙
         (ap cells is.1 ∙ unary_none truths operator),
   )
   form_marked ground truths holds x (Binary operator) xs ts t have is mark = (
-    none_marked holds xs ts have (subst NoCells (sym is.0) (int_none, (int_none, tt))),
+    none_marked holds xs ts have (subst WithoutCells (sym is.0) (int_none, (int_none, tt))),
     mark ∙
         (ap cells is.1 ∙ binary_none truths operator),
   )
   form_marked ground truths holds x (Print form) xs ts t have is mark =
-      (none_marked holds xs ts have (subst NoCells (sym is.0) (int_none, tt)), mark ∙ (ap cells is.1 ∙ unit_none))
+      (none_marked holds xs ts have (subst WithoutCells (sym is.0) (int_none, tt)), mark ∙ (ap cells is.1 ∙ unit_none))
   form_marked ground truths holds x (Construct c) xs ts t have is mark =
       (subst (HaveMarks holds xs) (sym (field_marks_are ground t ts c is)) have, mark ∙ made_mark_is ground t ts c xs holds is have)
   form_marked ground truths holds x (Call f) xs ts t have is mark =
