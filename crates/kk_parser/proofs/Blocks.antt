@@ -30,7 +30,7 @@ block_from-behind : (v : PhraseValue items) (more : List (PhraseValue items)) �
 block_from-behind v [] = refl
 block_from-behind v (next ∷ more) = refl
 
-block_of-append : (ss ts : List WrittenStatement) (last : Written) → block_of (ss ++ ts) last ≡ block_of ss (block_of ts last)
+pub block_of-append : (ss ts : List WrittenStatement) (last : Written) → block_of (ss ++ ts) last ≡ block_of ss (block_of ts last)
 block_of-append [] ts last = refl
 block_of-append (s ∷ ss) ts last = ap (sequence s.binder s.value) (block_of-append ss ts last)
 

@@ -1,19 +1,18 @@
 -- A program's trees are as shallow as the levels make them that its text opens.
-use Rattle.std.proofs.Common.{◌≡◌, ℕ, zero, suc, ◌+◌, ◌*◌, ◌-◌, ◌≤◌, max, List, [], ◌∷◌, map, Option, Some, None, inl, inr, refl, sym, ap, ◌∙◌, subst, arith}
-use Rattle.std.specs.Prelude.{All, IfSome}
+use Rattle.std.proofs.Common.{◌≡◌, ℕ, zero, suc, ◌+◌, ◌*◌, ◌-◌, ◌≤◌, max, List, [], ◌∷◌, map, Option, Some, None, inl, inr, refl, sym, ◌∙◌, subst, arith}
+use Rattle.std.specs.Prelude.{All}
 use Rattle.std.proofs.lemmas.List.Elements.{All-nil, All-cons}
-use Rattle.kk_syntax.specs.declared.token.LocatedToken.{LocatedToken}
 use Rattle.kk_syntax.specs.declared.tree.Identifier.{Identifier}
 use Rattle.kk_syntax.specs.declared.token.Keyword.TheVariants.{Then, Elif, Else}
 use Rattle.kk_syntax.specs.declared.token.Symbol.TheVariants.{Comma, Dot}
-use Rattle.kk_syntax.specs.Surface.{Written, binary, dot_call, construct, writtens_of, WrittenStatement, block_of, WrittenDeclaration, WrittenConstructor, WrittenParameter, WrittenPattern, patterns_of, WrittenRow, rows_of, WrittenType, types_of}
+use Rattle.kk_syntax.specs.Surface.{Written, sequence, binary, dot_call, construct, writtens_of, block_of, WrittenDeclaration, WrittenParameter, patterns_of, rows_of, types_of}
 use Rattle.kk_parser.specs.Classes.{word, main as main_name}
-use Rattle.kk_parser.specs.Depths.{type_depth, types_depth, pattern_depth, patterns_depth, written_depth, writtens_depth, rows_depth, IsShallow}
+use Rattle.kk_parser.specs.Depths.{type_depth, types_depth, pattern_depth, patterns_depth, with_rest, written_depth, writtens_depth, rows_depth, IsShallow}
 use Rattle.kk_parser.specs.Kinds.{keyword, symbol, name, name_in, name_but_main}
 use Rattle.kk_parser.specs.Phrases.{Nonterminal, program, decl, con, param, effect, eff, type, result_type, expr, block, stmt, if_, match_, row, pat, or, and, cmp, add, mul, un, post, atom, say, args, Meant, Phrase, token, opener, ◌▸◌, either, many, optional, level, rule, each, perhaps, quoted_or, PhraseValue}
-use Rattle.kk_parser.specs.Grammar.{semicolons, some_semicolons, bracketed, no_arguments, parameters, fields, fields_of, result, type_of, type_arguments, type_arguments_of, bracketed_type, print_word, comparison, sum_operator, product_operator, unary_operator, sum_operator_of, product_operator_of, to_left, listed, listed_of, arguments_of, named_of, dotted, if_of, binder, function_of, parts, parts_of, production, meaning, program_grammar}
+use Rattle.kk_parser.specs.Grammar.{semicolons, some_semicolons, bracketed, no_arguments, parameters, fields, fields_of, result, type_of, type_arguments, type_arguments_of, bracketed_type, comparison, sum_operator, product_operator, unary_operator, sum_operator_of, product_operator_of, to_left, listed, listed_of, arguments_of, named_of, dotted, if_of, binder, function_of, parts, parts_of, production, meaning, program_grammar}
 use Rattle.kk_parser.specs.Parses.{AtMost, SpellsProgram}
-use Rattle.kk_parser.specs.Spells.{Marked, tokens_of, Spells, by_token, by_opener, by_both, by_first, by_second, by_none, by_more, by_absence, by_presence, by_level, by_rule, by_no_more, by_each, by_nothing, by_something, by_quoted, by_unquoted}
+use Rattle.kk_parser.specs.Spells.{Marked, Spells, by_token, by_opener, by_both, by_first, by_second, by_none, by_more, by_absence, by_presence, by_level, by_rule, by_no_more, by_each, by_nothing, by_something, by_quoted, by_unquoted}
 
 -- the depth that an expression has at most where so many more levels may be opened
 abbrev deepest : ℕ → ℕ
@@ -257,8 +256,17 @@ rows_deep limit n m (((_, ss), r) ∷ more) (k, (j, (i, first, semis), one), oth
     let same : n ≡ j = first ∙ semicolons_level limit i j ss semis in
     (omega (arith, same, one.0, one.1, one.2, rest.0, room_falls limit n j (omega (arith, same)), room_falls limit n k (omega (arith, same, one.2))), same ∙ one.2 ∙ rest.1)
 
-block_deep : (limit n m : ℕ) (ss : PhraseValue (many (rule stmt ▸ some_semicolons))) (last : Written) → Within limit (many (rule stmt ▸ some_semicolons)) n ss m → written_depth last ≤ room limit m → (written_depth (block_of (map (λ s. s.0) ss) last) ≤ room limit n + 1) × (n ≡ m)
-block_deep limit n m [] last w h = (omega (arith, room_falls limit n m (omega arith)), w)
+pub with_rest_least : (t : Written) (n : ℕ) → n ≤ with_rest t n
+with_rest_least (sequence binder first rest) n = omega arith
+with_rest_least _ n = omega arith
+
+with_rest_most : (t : Written) (n : ℕ) → with_rest t n ≤ n + 1
+with_rest_most (sequence binder first rest) n = omega arith
+with_rest_most _ n = omega arith
+
+block_deep : (limit n m : ℕ) (ss : PhraseValue (many (rule stmt ▸ some_semicolons))) (last : Written) → Within limit (many (rule stmt ▸ some_semicolons)) n ss m → written_depth last ≤ room limit m
+    → (with_rest (block_of (map (λ s. s.0) ss) last) (written_depth (block_of (map (λ s. s.0) ss) last)) ≤ room limit n + 1) × (n ≡ m)
+block_deep limit n m [] last w h = (omega (arith, h, with_rest_most last (written_depth last), room_falls limit n m (omega (arith, w))), w)
 block_deep limit n m ((s, (_, semis)) ∷ more) last (k, (j, one, (i, first, others)), w) h =
     let rest = block_deep limit k m more last w h in
     let same : n ≡ k = one.1 ∙ first ∙ semicolons_level limit i k semis others in
@@ -350,7 +358,8 @@ module _ (limit n m : ℕ) (up : n ≤ m) (most : m ≤ limit) where
   meant_deep block (_, (before, (ss, (last, (behind, _))))) (a, opened, (b, semis, (c, w, (d, one, (e, ends, closed))))) =
       let same : a ≡ b = semicolons_level limit a b before semis in
       let list = block_deep limit b c ss last w one.0 in
-      (omega (arith, opened.0, same, list.0, list.1, one.1, semicolons_level limit d e behind ends, closed, room_falls limit (n + 1) b (omega (arith, opened.0, same))), up, most)
+      let whole = block_of (map (λ s. s.0) ss) last in
+      (omega (arith, opened.0, same, list.0, with_rest_least whole (written_depth whole), list.1, one.1, semicolons_level limit d e behind ends, closed, room_falls limit (n + 1) b (omega (arith, opened.0, same))), up, most)
   meant_deep stmt (inl (_, (bound, (_, value)))) (a, begun, (b, w, (c, equals, one))) =
       let same : n ≡ c = begun ∙ binder_level limit a b bound w ∙ equals in
       (omega (arith, same, one.0, room_falls limit n c (omega (arith, same))), same ∙ one.1)

@@ -14,6 +14,7 @@ pub mod Laws
 pub mod Lists
 pub mod Local
 pub mod Lookahead
+pub mod MemoryDepths
 pub mod OneOutcome
 pub mod Operators
 pub mod Passing

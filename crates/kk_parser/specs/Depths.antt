@@ -1,7 +1,14 @@
--- How deep the trees of a program are, and how deep they may be within some levels of nesting.
-use Rattle.std.specs.Prelude.{ℕ, ◌+◌, ◌*◌, ◌-◌, ◌≤◌, max, All, IfSome}
+-- How deep the trees of a program are, how deep they may be within some levels of nesting, and when an expression is no
+-- deeper in memory.
+use Rattle.std.specs.Prelude.{ℕ, ◌+◌, ◌*◌, ◌-◌, ◌≤◌, max, List, All, IfSome}
+use Rattle.kk_syntax.specs.declared.tree.SurfaceExpr.{SurfaceExpr}
+use Rattle.kk_syntax.specs.declared.tree.SurfaceRow.{SurfaceRow}
+use Rattle.kk_syntax.specs.declared.tree.SurfaceStatement.{SurfaceStatement}
+use Rattle.kk_syntax.specs.declared.tree.Declaration.{Declaration}
+use Rattle.kk_syntax.specs.declared.tree.Declaration.TheVariants as OfDeclaration
+use Rattle.kk_syntax.specs.Depths.{surface_depth}
 pub use Rattle.kk_syntax.specs.Depths.{pattern_depth, patterns_depth}
-use Rattle.kk_syntax.specs.Surface.{WrittenType, unit_type, type_variable, named, WrittenTypes, no_type, type, Written, number, unit, variable, call, dot_call, construct, unary, binary, both, either, print_text, branch, branch_alone, match, sequence, Writtens, no_written, written, WrittenRows, no_row, row, WrittenDeclaration, type_declaration, function_declaration}
+use Rattle.kk_syntax.specs.Surface.{written_expr, WrittenType, unit_type, type_variable, named, WrittenTypes, no_type, type, Written, number, unit, variable, call, dot_call, construct, unary, binary, both, either, print_text, branch, branch_alone, match, sequence, Writtens, no_written, written, WrittenRows, no_row, row, WrittenDeclaration, type_declaration, function_declaration}
 
 abbrev mutual
   pub type_depth : WrittenType → ℕ
@@ -13,7 +20,12 @@ abbrev mutual
   types_depth no_type = 0
   types_depth (type first rest) = max (type_depth first) (types_depth rest)
 
--- the statements of a block, and the expression behind them, stand side by side
+-- how deep what stands behind a statement makes its block, from its own depth: more statements are of the same block
+abbrev pub with_rest : Written → ℕ → ℕ
+with_rest (sequence binder first rest) depth = depth
+with_rest _ depth = depth + 1
+
+-- the statements of a block, and the expression behind them, stand side by side, one deeper than the block
 abbrev mutual
   pub written_depth : Written → ℕ
   written_depth (number value) = 1
@@ -30,7 +42,7 @@ abbrev mutual
   written_depth (branch condition positive negative) = max (written_depth condition) (max (written_depth positive) (written_depth negative)) + 1
   written_depth (branch_alone condition positive) = max (written_depth condition) (written_depth positive) + 1
   written_depth (match scrutinee rows) = max (written_depth scrutinee) (rows_depth rows) + 1
-  written_depth (sequence binder first rest) = max (written_depth first + 1) (written_depth rest)
+  written_depth (sequence binder first rest) = max (written_depth first + 1) (with_rest rest (written_depth rest))
 
   pub writtens_depth : Writtens → ℕ
   writtens_depth no_written = 0
@@ -46,3 +58,26 @@ abbrev mutual
 abbrev pub IsShallow : ℕ → WrittenDeclaration → Type 0
 IsShallow levels (type_declaration name parameters constructors) = All (λ c. All (λ field. type_depth field.of_type ≤ levels) c.fields) constructors
 IsShallow levels (function_declaration name parameters effects result body) = All (λ p. type_depth p.of_type ≤ levels) parameters × IfSome result (λ t. type_depth t ≤ levels) × (2 * written_depth body ≤ levels * (levels - 1) + 2)
+
+-- ---- in memory
+
+-- an expression is no deeper in memory than the expression that it stands for
+abbrev pub IsNoDeeper : SurfaceExpr → Type 0
+IsNoDeeper e = surface_depth e ≤ written_depth (written_expr e)
+
+abbrev pub AreNoDeeper : List SurfaceExpr → Type 0
+AreNoDeeper es = All IsNoDeeper es
+
+abbrev pub RowsAreNoDeeper : List SurfaceRow → Type 0
+RowsAreNoDeeper rows = All (λ r. IsNoDeeper r.body) rows
+
+abbrev pub StatementsAreNoDeeper : List SurfaceStatement → Type 0
+StatementsAreNoDeeper statements = All (λ s. IsNoDeeper s.value) statements
+
+abbrev pub BodyIsNoDeeper : Declaration → Type 0
+BodyIsNoDeeper (OfDeclaration.Type d) = Unit {0}
+BodyIsNoDeeper (OfDeclaration.Function d) = IsNoDeeper d.body
+
+-- how deep the body of a function is at most within 200 levels
+abbrev pub deepest_body : ℕ
+deepest_body = 19901

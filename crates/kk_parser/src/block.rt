@@ -1,6 +1,7 @@
-ghost use Rattle.std.specs.Prelude.{◌≡◌, ◌+◌, ◌≤◌, [], ◌∷◌, map, length, OnOk};
+ghost use Rattle.std.specs.Prelude.{◌≡◌, ◌+◌, ◌≤◌, [], ◌∷◌, map, length, IfOk, OnOk};
 ghost use Rattle.kk_syntax.specs.Surface.{written_statement};
 ghost use Rattle.kk_parser.specs.Classes.{is_at};
+ghost use Rattle.kk_parser.specs.Depths.{IsNoDeeper, StatementsAreNoDeeper};
 ghost use Rattle.kk_parser.specs.Forms.{binding as OfBinding, binding_of, items as OfItems};
 ghost use Rattle.kk_parser.specs.Grammar.{binder as OfBinder, binder_of};
 ghost use Rattle.kk_parser.specs.Methods.{ReadsPhrase, ReadsFor, ReadsAs, ReadsItems};
@@ -20,6 +21,7 @@ impl<'a> Parser<'a> {
     pub fn block(&mut self) -> Result<Box<SurfaceExpr>, Fault>
         ensures reads { ReadsPhrase (rule OfBlock) boxed_expr result self.old self.new }
         ensures left { length self.new.rest.now ≤ length self.old.rest.now }
+        ensures depth { IfOk result (λ e. IsNoDeeper e.value) }
     {
         self.open(Symbol::OpenBrace)?;
         self.skip_semicolons();
@@ -45,6 +47,7 @@ impl<'a> Parser<'a> {
     fn items(&mut self, statements: &mut Vec<SurfaceStatement>) -> Result<Box<SurfaceExpr>, Fault>
         ensures reads { ReadsItems (map written_statement statements.old.items) (map written_statement statements.new.items) result self.old self.new }
         ensures left { length self.new.rest.now ≤ length self.old.rest.now }
+        ensures depth { StatementsAreNoDeeper statements.old.items → IfOk result (λ value. StatementsAreNoDeeper statements.new.items × IsNoDeeper value.value) }
     {
         while self.is_at_keyword(Keyword::Val) {
             let (binder, value) = self.binding()?;
@@ -68,6 +71,7 @@ impl<'a> Parser<'a> {
         ensures reads { ReadsAs OfBinding binding_of binding_view result self.old self.new }
         ensures left { length self.new.rest.now ≤ length self.old.rest.now }
         ensures passed { OnOk result (length self.new.rest.now + 1 ≤ length self.old.rest.now) }
+        ensures depth { IfOk result (λ b. IsNoDeeper b.1.value) }
     {
         self.expect_keyword(Keyword::Val)?;
         let binder = self.binder()?;

@@ -1,5 +1,6 @@
-ghost use Rattle.std.specs.Prelude.{◌≡◌, ◌≤◌, length, map};
+ghost use Rattle.std.specs.Prelude.{◌≡◌, ◌≤◌, length, map, IfOk};
 ghost use Rattle.kk_syntax.specs.Surface.{written_constructor, written_parameter};
+ghost use Rattle.kk_parser.specs.Depths.{BodyIsNoDeeper};
 ghost use Rattle.kk_parser.specs.Forms.{separated, separated_of, typed, typed_of};
 ghost use Rattle.kk_parser.specs.Grammar.{fields as OfFields, fields_of, some_listed, some_listed_of, type_parameters, type_parameters_of};
 ghost use Rattle.kk_parser.specs.Kinds.{type_variable_name};
@@ -20,6 +21,7 @@ impl<'a> Parser<'a> {
     pub fn type_declaration(&mut self) -> Result<Box<Declaration>, Fault>
         ensures reads { ReadsAs typed typed_of boxed_declaration result self.old self.new }
         ensures left { length self.new.rest.now ≤ length self.old.rest.now }
+        ensures depth { IfOk result (λ d. BodyIsNoDeeper d.value) }
     {
         self.expect_keyword(Keyword::Type)?;
         let name = self.identifier(Names::OfTypes)?;

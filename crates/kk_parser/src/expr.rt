@@ -1,6 +1,7 @@
-ghost use Rattle.std.specs.Prelude.{◌≡◌, ◌+◌, ◌≤◌, [], ◌∷◌, map, length, IfOk, OnOk};
+ghost use Rattle.std.specs.Prelude.{◌≡◌, ◌+◌, ◌≤◌, [], ◌∷◌, map, length, IfSome, IfOk, OnOk};
 ghost use Rattle.kk_syntax.specs.Surface.{written_expr, unit as OfUnit, construct as OfConstruct, writtens_of};
 ghost use Rattle.kk_parser.specs.Classes.{is_at};
+ghost use Rattle.kk_parser.specs.Depths.{IsNoDeeper, AreNoDeeper};
 ghost use Rattle.kk_parser.specs.Forms.{branches, branches_of, in_brackets, inside, spoken as OfSpoken, spoken_of, printed as OfPrinted, printed_of};
 ghost use Rattle.kk_parser.specs.Grammar.{arguments_of, arguments_given, bracketed, if_of, named_of, print_form, no_arguments};
 ghost use Rattle.kk_parser.specs.Kinds.{constructor, name_but_print};
@@ -24,6 +25,7 @@ impl<'a> Parser<'a> {
     pub fn expr(&mut self) -> Result<Box<SurfaceExpr>, Fault>
         ensures reads { ReadsPhrase (rule OfExpr) boxed_expr result self.old self.new }
         ensures left { length self.new.rest.now ≤ length self.old.rest.now }
+        ensures depth { IfOk result (λ e. IsNoDeeper e.value) }
     {
         let depth = self.depth;
         if self.is_at(Symbol::OpenBrace) {
@@ -51,6 +53,7 @@ impl<'a> Parser<'a> {
     fn if_(&mut self) -> Result<Box<SurfaceExpr>, Fault>
         ensures reads { ReadsPhrase (rule OfIf) boxed_expr result self.old self.new }
         ensures left { length self.new.rest.now ≤ length self.old.rest.now }
+        ensures depth { IfOk result (λ e. IsNoDeeper e.value) }
     {
         self.open_keyword(Keyword::If)?;
         self.branches()
@@ -61,6 +64,7 @@ impl<'a> Parser<'a> {
     fn branches(&mut self) -> Result<Box<SurfaceExpr>, Fault>
         ensures reads { ReadsAs branches branches_of boxed_expr result self.old self.new }
         ensures left { length self.new.rest.now ≤ length self.old.rest.now }
+        ensures depth { IfOk result (λ e. IsNoDeeper e.value) }
     {
         let condition = self.or()?;
         self.expect_keyword(Keyword::Then)?;
@@ -83,6 +87,7 @@ impl<'a> Parser<'a> {
     pub fn or(&mut self) -> Result<Box<SurfaceExpr>, Fault>
         ensures reads { ReadsPhrase (rule OfOr) boxed_expr result self.old self.new }
         ensures left { length self.new.rest.now ≤ length self.old.rest.now }
+        ensures depth { IfOk result (λ e. IsNoDeeper e.value) }
     {
         let left = self.and()?;
         if !self.is_at(Symbol::OrOr) {
@@ -98,6 +103,7 @@ impl<'a> Parser<'a> {
     fn and(&mut self) -> Result<Box<SurfaceExpr>, Fault>
         ensures reads { ReadsPhrase (rule OfAnd) boxed_expr result self.old self.new }
         ensures left { length self.new.rest.now ≤ length self.old.rest.now }
+        ensures depth { IfOk result (λ e. IsNoDeeper e.value) }
     {
         let left = self.cmp()?;
         if !self.is_at(Symbol::AndAnd) {
@@ -113,6 +119,7 @@ impl<'a> Parser<'a> {
     fn cmp(&mut self) -> Result<Box<SurfaceExpr>, Fault>
         ensures reads { ReadsPhrase (rule OfCmp) boxed_expr result self.old self.new }
         ensures left { length self.new.rest.now ≤ length self.old.rest.now }
+        ensures depth { IfOk result (λ e. IsNoDeeper e.value) }
     {
         let left = self.add()?;
         let Some(operator) = self.comparison()? else {
@@ -127,6 +134,7 @@ impl<'a> Parser<'a> {
     fn add(&mut self) -> Result<Box<SurfaceExpr>, Fault>
         ensures reads { ReadsPhrase (rule OfAdd) boxed_expr result self.old self.new }
         ensures left { length self.new.rest.now ≤ length self.old.rest.now }
+        ensures depth { IfOk result (λ e. IsNoDeeper e.value) }
     {
         let mut left = self.mul()?;
         while let Some(operator) = self.sum_operator()? {
@@ -141,6 +149,7 @@ impl<'a> Parser<'a> {
     fn mul(&mut self) -> Result<Box<SurfaceExpr>, Fault>
         ensures reads { ReadsPhrase (rule OfMul) boxed_expr result self.old self.new }
         ensures left { length self.new.rest.now ≤ length self.old.rest.now }
+        ensures depth { IfOk result (λ e. IsNoDeeper e.value) }
     {
         let mut left = self.un()?;
         while let Some(operator) = self.product_operator()? {
@@ -155,6 +164,7 @@ impl<'a> Parser<'a> {
     fn un(&mut self) -> Result<Box<SurfaceExpr>, Fault>
         ensures reads { ReadsPhrase (rule OfUn) boxed_expr result self.old self.new }
         ensures left { length self.new.rest.now ≤ length self.old.rest.now }
+        ensures depth { IfOk result (λ e. IsNoDeeper e.value) }
     {
         let Some(operator) = self.unary_operator()? else {
             return self.post();
@@ -168,6 +178,7 @@ impl<'a> Parser<'a> {
     fn post(&mut self) -> Result<Box<SurfaceExpr>, Fault>
         ensures reads { ReadsPhrase (rule OfPost) boxed_expr result self.old self.new }
         ensures left { length self.new.rest.now ≤ length self.old.rest.now }
+        ensures depth { IfOk result (λ e. IsNoDeeper e.value) }
     {
         let mut first = self.atom()?;
         while self.is_at(Symbol::Dot) {
@@ -188,6 +199,7 @@ impl<'a> Parser<'a> {
     fn atom(&mut self) -> Result<Box<SurfaceExpr>, Fault>
         ensures reads { ReadsPhrase (rule OfAtom) boxed_expr result self.old self.new }
         ensures left { length self.new.rest.now ≤ length self.old.rest.now }
+        ensures depth { IfOk result (λ e. IsNoDeeper e.value) }
     {
         if let Some(value) = self.number() {
             return number(self.alloc, value);
@@ -212,6 +224,7 @@ impl<'a> Parser<'a> {
     fn in_brackets(&mut self) -> Result<Box<SurfaceExpr>, Fault>
         ensures reads { ReadsAs (in_brackets (rule OfExpr)) (inside OfUnit (λ e. e)) boxed_expr result self.old self.new }
         ensures left { length self.new.rest.now ≤ length self.old.rest.now }
+        ensures depth { IfOk result (λ e. IsNoDeeper e.value) }
     {
         self.open(Symbol::OpenParenthesis)?;
         if self.is_at(Symbol::CloseParenthesis) {
@@ -227,6 +240,7 @@ impl<'a> Parser<'a> {
     fn spoken(&mut self) -> Result<Box<SurfaceExpr>, Fault>
         ensures reads { ReadsAs OfSpoken spoken_of boxed_expr result self.old self.new }
         ensures left { length self.new.rest.now ≤ length self.old.rest.now }
+        ensures depth { IfOk result (λ e. IsNoDeeper e.value) }
     {
         let text = self.string()?;
         self.open(Symbol::Dot)?;
@@ -253,6 +267,7 @@ impl<'a> Parser<'a> {
     fn printed(&mut self) -> Result<Box<SurfaceExpr>, Fault>
         ensures reads { ReadsAs OfPrinted printed_of boxed_expr result self.old self.new }
         ensures left { length self.new.rest.now ≤ length self.old.rest.now }
+        ensures depth { IfOk result (λ e. IsNoDeeper e.value) }
     {
         let (form, name) = self.print_word()?;
         if !self.is_at(Symbol::OpenParenthesis) {
@@ -295,6 +310,7 @@ impl<'a> Parser<'a> {
     fn named(&mut self) -> Result<Box<SurfaceExpr>, Fault>
         ensures reads { ReadsAs (token name_but_print ▸ optional (bracketed (rule OfArgs))) (λ v. named_of v.0 v.1) boxed_expr result self.old self.new }
         ensures left { length self.new.rest.now ≤ length self.old.rest.now }
+        ensures depth { IfOk result (λ e. IsNoDeeper e.value) }
     {
         let name = self.identifier(Names::ButPrints)?;
         match self.arguments()? {
@@ -308,6 +324,7 @@ impl<'a> Parser<'a> {
     fn constructed(&mut self) -> Result<Box<SurfaceExpr>, Fault>
         ensures reads { ReadsAs (token constructor ▸ optional (bracketed (rule OfArgs))) (λ v. OfConstruct v.0 (writtens_of (arguments_of v.1))) boxed_expr result self.old self.new }
         ensures left { length self.new.rest.now ≤ length self.old.rest.now }
+        ensures depth { IfOk result (λ e. IsNoDeeper e.value) }
     {
         let name = self.constructor()?;
         match self.arguments()? {
@@ -321,6 +338,7 @@ impl<'a> Parser<'a> {
     fn arguments(&mut self) -> Result<Option<Vec<SurfaceExpr>>, Fault>
         ensures reads { ReadsAs (optional (bracketed (rule OfArgs))) arguments_given arguments_view result self.old self.new }
         ensures left { length self.new.rest.now ≤ length self.old.rest.now }
+        ensures depth { IfOk result (λ given. IfSome given (λ es. AreNoDeeper es.items)) }
     {
         if !self.is_at(Symbol::OpenParenthesis) {
             return Ok(None);
@@ -336,6 +354,7 @@ impl<'a> Parser<'a> {
     fn args(&mut self) -> Result<Vec<SurfaceExpr>, Fault>
         ensures reads { ReadsPhrase (rule OfArgs) (λ es. map written_expr es.items) result self.old self.new }
         ensures left { length self.new.rest.now ≤ length self.old.rest.now }
+        ensures depth { IfOk result (λ es. AreNoDeeper es.items) }
     {
         let mut arguments = Vec::new(self.alloc);
         if !self.is_at_expr() {

@@ -1,7 +1,8 @@
 //! Expressions made of their parts. They stand in boxes: so a method that gives one up frees it by one call.
 
-ghost use Rattle.std.specs.Prelude.{◌≡◌, ◌<◌, ◌++◌, ◌∷◌, [], length, map, OnOk};
+ghost use Rattle.std.specs.Prelude.{◌≡◌, ◌++◌, ◌∷◌, [], map, IfOk, OnOk};
 ghost use Rattle.kk_syntax.specs.Surface.{number, unit, variable, call, construct, print_text, unary as OfUnary, binary as OfBinary, both, either, branch, branch_alone, dot_call, writtens_of, block_of, match, rows_of, written_expr, written_row, written_statement, anything, pattern_variable, exactly, constructor as OfConstructor, patterns_of, written_pattern};
+ghost use Rattle.kk_parser.specs.Depths.{IsNoDeeper, AreNoDeeper, RowsAreNoDeeper, StatementsAreNoDeeper};
 ghost use Rattle.kk_parser.specs.Methods.{Makes};
 ghost use Rattle.kk_parser.specs.Views.{boxed_expr, boxed_pattern};
 
@@ -32,21 +33,24 @@ pub fn put<T: Drop>(items: &mut Vec<T>, item: T) -> Result<(), NoMemory>
 
 /// A number.
 pub fn number(alloc: Global, value: i32) -> Result<Box<SurfaceExpr>, Fault>
-    ensures { Makes boxed_expr (number value) result }
+    ensures made { Makes boxed_expr (number value) result }
+    ensures depth { IfOk result (λ e. IsNoDeeper e.value) }
 {
     boxed(alloc, SurfaceExpr::Number(value))
 }
 
 /// `()`
 pub fn unit(alloc: Global) -> Result<Box<SurfaceExpr>, Fault>
-    ensures { Makes boxed_expr unit result }
+    ensures made { Makes boxed_expr unit result }
+    ensures depth { IfOk result (λ e. IsNoDeeper e.value) }
 {
     boxed(alloc, SurfaceExpr::Unit)
 }
 
 /// A variable.
 pub fn variable(alloc: Global, name: Identifier) -> Result<Box<SurfaceExpr>, Fault>
-    ensures { Makes boxed_expr (variable name) result }
+    ensures made { Makes boxed_expr (variable name) result }
+    ensures depth { IfOk result (λ e. IsNoDeeper e.value) }
 {
     boxed(alloc, SurfaceExpr::Variable(name))
 }
@@ -57,7 +61,8 @@ pub fn construct(
     name: Identifier,
     arguments: Vec<SurfaceExpr>,
 ) -> Result<Box<SurfaceExpr>, Fault>
-    ensures { Makes boxed_expr (construct name (writtens_of (map written_expr arguments.items))) result }
+    ensures made { Makes boxed_expr (construct name (writtens_of (map written_expr arguments.items))) result }
+    ensures depth { AreNoDeeper arguments.items → IfOk result (λ e. IsNoDeeper e.value) }
 {
     boxed(alloc, SurfaceExpr::Construct(name, arguments))
 }
@@ -68,7 +73,8 @@ pub fn call(
     name: Identifier,
     arguments: Vec<SurfaceExpr>,
 ) -> Result<Box<SurfaceExpr>, Fault>
-    ensures { Makes boxed_expr (call name (writtens_of (map written_expr arguments.items))) result }
+    ensures made { Makes boxed_expr (call name (writtens_of (map written_expr arguments.items))) result }
+    ensures depth { AreNoDeeper arguments.items → IfOk result (λ e. IsNoDeeper e.value) }
 {
     boxed(alloc, SurfaceExpr::Call(name, arguments))
 }
@@ -79,7 +85,8 @@ pub fn print_text(
     form: PrintForm,
     text: StringLiteral,
 ) -> Result<Box<SurfaceExpr>, Fault>
-    ensures { Makes boxed_expr (print_text form text) result }
+    ensures made { Makes boxed_expr (print_text form text) result }
+    ensures depth { IfOk result (λ e. IsNoDeeper e.value) }
 {
     boxed(alloc, SurfaceExpr::PrintText(form, text))
 }
@@ -90,7 +97,8 @@ pub fn unary(
     operator: UnaryOperator,
     operand: Box<SurfaceExpr>,
 ) -> Result<Box<SurfaceExpr>, Fault>
-    ensures { Makes boxed_expr (OfUnary operator (boxed_expr operand)) result }
+    ensures made { Makes boxed_expr (OfUnary operator (boxed_expr operand)) result }
+    ensures depth { IsNoDeeper operand.value → IfOk result (λ e. IsNoDeeper e.value) }
 {
     boxed(alloc, SurfaceExpr::Unary(operator, operand))
 }
@@ -102,7 +110,8 @@ pub fn binary(
     left: Box<SurfaceExpr>,
     right: Box<SurfaceExpr>,
 ) -> Result<Box<SurfaceExpr>, Fault>
-    ensures { Makes boxed_expr (OfBinary operator (boxed_expr left) (boxed_expr right)) result }
+    ensures made { Makes boxed_expr (OfBinary operator (boxed_expr left) (boxed_expr right)) result }
+    ensures depth { IsNoDeeper left.value → IsNoDeeper right.value → IfOk result (λ e. IsNoDeeper e.value) }
 {
     boxed(alloc, SurfaceExpr::Binary(operator, left, right))
 }
@@ -113,7 +122,8 @@ pub fn both(
     left: Box<SurfaceExpr>,
     right: Box<SurfaceExpr>,
 ) -> Result<Box<SurfaceExpr>, Fault>
-    ensures { Makes boxed_expr (both (boxed_expr left) (boxed_expr right)) result }
+    ensures made { Makes boxed_expr (both (boxed_expr left) (boxed_expr right)) result }
+    ensures depth { IsNoDeeper left.value → IsNoDeeper right.value → IfOk result (λ e. IsNoDeeper e.value) }
 {
     boxed(alloc, SurfaceExpr::And(left, right))
 }
@@ -124,7 +134,8 @@ pub fn either(
     left: Box<SurfaceExpr>,
     right: Box<SurfaceExpr>,
 ) -> Result<Box<SurfaceExpr>, Fault>
-    ensures { Makes boxed_expr (either (boxed_expr left) (boxed_expr right)) result }
+    ensures made { Makes boxed_expr (either (boxed_expr left) (boxed_expr right)) result }
+    ensures depth { IsNoDeeper left.value → IsNoDeeper right.value → IfOk result (λ e. IsNoDeeper e.value) }
 {
     boxed(alloc, SurfaceExpr::Or(left, right))
 }
@@ -136,7 +147,8 @@ pub fn branch(
     positive: Box<SurfaceExpr>,
     negative: Box<SurfaceExpr>,
 ) -> Result<Box<SurfaceExpr>, Fault>
-    ensures { Makes boxed_expr (branch (boxed_expr condition) (boxed_expr positive) (boxed_expr negative)) result }
+    ensures made { Makes boxed_expr (branch (boxed_expr condition) (boxed_expr positive) (boxed_expr negative)) result }
+    ensures depth { IsNoDeeper condition.value → IsNoDeeper positive.value → IsNoDeeper negative.value → IfOk result (λ e. IsNoDeeper e.value) }
 {
     boxed(alloc, SurfaceExpr::If(condition, positive, Some(negative)))
 }
@@ -147,7 +159,8 @@ pub fn branch_alone(
     condition: Box<SurfaceExpr>,
     positive: Box<SurfaceExpr>,
 ) -> Result<Box<SurfaceExpr>, Fault>
-    ensures { Makes boxed_expr (branch_alone (boxed_expr condition) (boxed_expr positive)) result }
+    ensures made { Makes boxed_expr (branch_alone (boxed_expr condition) (boxed_expr positive)) result }
+    ensures depth { IsNoDeeper condition.value → IsNoDeeper positive.value → IfOk result (λ e. IsNoDeeper e.value) }
 {
     boxed(alloc, SurfaceExpr::If(condition, positive, None))
 }
@@ -159,7 +172,8 @@ pub fn dot_call(
     name: Identifier,
     others: Vec<SurfaceExpr>,
 ) -> Result<Box<SurfaceExpr>, Fault>
-    ensures { Makes boxed_expr (dot_call (boxed_expr first) name (writtens_of (map written_expr others.items))) result }
+    ensures made { Makes boxed_expr (dot_call (boxed_expr first) name (writtens_of (map written_expr others.items))) result }
+    ensures depth { IsNoDeeper first.value → AreNoDeeper others.items → IfOk result (λ e. IsNoDeeper e.value) }
 {
     boxed(alloc, SurfaceExpr::DotCall(first, name, others))
 }
@@ -170,7 +184,8 @@ pub fn match_of(
     scrutinee: Box<SurfaceExpr>,
     rows: Vec<SurfaceRow>,
 ) -> Result<Box<SurfaceExpr>, Fault>
-    ensures { Makes boxed_expr (match (boxed_expr scrutinee) (rows_of (map written_row rows.items))) result }
+    ensures made { Makes boxed_expr (match (boxed_expr scrutinee) (rows_of (map written_row rows.items))) result }
+    ensures depth { IsNoDeeper scrutinee.value → RowsAreNoDeeper rows.items → IfOk result (λ e. IsNoDeeper e.value) }
 {
     boxed(alloc, SurfaceExpr::Match(scrutinee, rows))
 }
@@ -207,28 +222,34 @@ pub fn constructor_pattern(
     boxed(alloc, SurfacePattern::Constructor(name, parts))
 }
 
-/// Statements and the value behind them; a value without statements is no block.
+/// Statements and the value behind them. A value without statements is no block, and a block that is the value is no block
+/// inside of this one: its statements stand behind the others.
 pub fn block_of(
     alloc: Global,
-    statements: Vec<SurfaceStatement>,
+    mut statements: Vec<SurfaceStatement>,
     value: Box<SurfaceExpr>,
 ) -> Result<Box<SurfaceExpr>, Fault>
-    ensures { Makes boxed_expr (block_of (map written_statement statements.items) (boxed_expr value)) result }
+    ensures made { Makes boxed_expr (block_of (map written_statement statements.items) (boxed_expr value)) result }
+    ensures depth { StatementsAreNoDeeper statements.items → IsNoDeeper value.value → IfOk result (λ e. IsNoDeeper e.value) }
 {
     if statements.is_empty() {
         return Ok(value);
     }
-    block(alloc, statements, value)
+    match Box::into_inner(value) {
+        SurfaceExpr::Block(more, last) => {
+            put_all(&mut statements, more)?;
+            boxed(alloc, SurfaceExpr::Block(statements, last))
+        }
+        value => {
+            let value = boxed(alloc, value)?;
+            boxed(alloc, SurfaceExpr::Block(statements, value))
+        }
+    }
 }
 
-// A block of at least one statement. No other function makes one.
-fn block(
-    alloc: Global,
-    statements: Vec<SurfaceStatement>,
-    value: Box<SurfaceExpr>,
-) -> Result<Box<SurfaceExpr>, Fault>
-    requires { 0 < length statements.items }
-    ensures { Makes boxed_expr (block_of (map written_statement statements.items) (boxed_expr value)) result }
+// Puts items behind others.
+fn put_all<T: Drop>(items: &mut Vec<T>, mut more: Vec<T>) -> Result<(), NoMemory>
+    ensures { OnOk result (items.new.items ≡ items.old.items ++ more.items) }
 {
-    boxed(alloc, SurfaceExpr::Block(statements, value))
+    Ok(items.append(&mut more)?)
 }

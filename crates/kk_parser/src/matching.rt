@@ -1,6 +1,7 @@
-ghost use Rattle.std.specs.Prelude.{◌≡◌, ◌≤◌, length, map};
+ghost use Rattle.std.specs.Prelude.{◌≡◌, ◌≤◌, length, map, IfOk, OnOk};
 ghost use Rattle.kk_syntax.specs.Surface.{written_pattern, written_row};
 ghost use Rattle.kk_parser.specs.Classes.{is_at};
+ghost use Rattle.kk_parser.specs.Depths.{IsNoDeeper, RowsAreNoDeeper};
 ghost use Rattle.kk_parser.specs.Forms.{separated, separated_of, open_pattern, pattern_of, constructor_of};
 ghost use Rattle.kk_parser.specs.Grammar.{bracketed, listed, listed_of, parts as OfParts, parts_of};
 ghost use Rattle.kk_parser.specs.Kinds.{constructor};
@@ -21,6 +22,7 @@ impl<'a> Parser<'a> {
     pub fn match_(&mut self) -> Result<Box<SurfaceExpr>, Fault>
         ensures reads { ReadsPhrase (rule OfMatch) boxed_expr result self.old self.new }
         ensures left { length self.new.rest.now ≤ length self.old.rest.now }
+        ensures depth { IfOk result (λ e. IsNoDeeper e.value) }
     {
         self.expect_keyword(Keyword::Match)?;
         let scrutinee = self.or()?;
@@ -35,6 +37,7 @@ impl<'a> Parser<'a> {
     fn rows(&mut self) -> Result<Vec<SurfaceRow>, Fault>
         ensures reads { ReadsAs (separated (rule OfRow)) separated_of (λ rows. map written_row rows.items) result self.old self.new }
         ensures left { length self.new.rest.now ≤ length self.old.rest.now }
+        ensures depth { IfOk result (λ rows. RowsAreNoDeeper rows.items) }
     {
         self.skip_semicolons();
         let mut rows = Vec::new(self.alloc);
@@ -53,6 +56,7 @@ impl<'a> Parser<'a> {
     fn row(&mut self, rows: &mut Vec<SurfaceRow>) -> Result<(), Fault>
         ensures reads { ReadsRow (map written_row rows.old.items) (map written_row rows.new.items) result self.old self.new }
         ensures left { length self.new.rest.now ≤ length self.old.rest.now }
+        ensures depth { RowsAreNoDeeper rows.old.items → OnOk result (RowsAreNoDeeper rows.new.items) }
     {
         let pattern = self.pattern()?;
         self.expect(Symbol::Arrow)?;

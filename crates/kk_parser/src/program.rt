@@ -1,7 +1,8 @@
 ghost use Rattle.std.specs.Prelude.{◌≡◌, ◌-◌, ◌*◌, ◌≤◌, [], length, map, All, IfOk, OnOk};
 ghost use Rattle.kk_syntax.specs.Surface.{written_declaration, written_expr, written_parameter};
 ghost use Rattle.kk_syntax.specs.WrittenNodes.{nodes_in};
-ghost use Rattle.kk_parser.specs.Depths.{IsShallow};
+ghost use Rattle.kk_syntax.specs.Depths.{body_depth};
+ghost use Rattle.kk_parser.specs.Depths.{IsShallow, IsNoDeeper, BodyIsNoDeeper, deepest_body};
 ghost use Rattle.kk_parser.specs.Forms.{head as OfHead, head_of};
 ghost use Rattle.kk_parser.specs.Grammar.{parameters as OfParameters, declared_function, function_of as OfFunction, listed, listed_of, some_listed, some_listed_of};
 ghost use Rattle.kk_parser.specs.Methods.{ReadsPhrase, ReadsFor, ReadsAs, error_for};
@@ -36,6 +37,9 @@ pub fn parse(alloc: Global, tokens: &Tokens) -> Result<Tree, ParseError>
     // Its trees are as shallow as 200 levels make them: its types at most 200 deep, its body at most 19,901.
     ensures shallow { IfOk result (λ tree.
         All (λ declaration. IsShallow 200 declaration) (map written_declaration tree.declarations.items)) }
+
+    // In memory its bodies are no deeper, each block counted.
+    ensures depth { IfOk result (λ tree. All (λ declaration. body_depth declaration ≤ deepest_body) tree.declarations.items) }
 {
     let mut parser = Parser {
         alloc,
@@ -106,6 +110,7 @@ impl<'a> Parser<'a> {
     fn program(&mut self) -> Result<Vec<Declaration>, Fault>
         ensures reads { ReadsPhrase (rule OfProgram) (λ declarations. map written_declaration declarations.items) result self.old self.new }
         ensures left { length self.new.rest.now ≤ length self.old.rest.now }
+        ensures depth { IfOk result (λ declarations. All BodyIsNoDeeper declarations.items) }
     {
         self.skip_semicolons();
         let mut declarations = Vec::new(self.alloc);
@@ -135,6 +140,7 @@ impl<'a> Parser<'a> {
     fn declaration(&mut self) -> Result<Box<Declaration>, Fault>
         ensures reads { ReadsPhrase (rule OfDecl) boxed_declaration result self.old self.new }
         ensures left { length self.new.rest.now ≤ length self.old.rest.now }
+        ensures depth { IfOk result (λ d. BodyIsNoDeeper d.value) }
     {
         let depth = self.depth;
         if self.is_at_keyword(Keyword::Type) {
@@ -151,6 +157,7 @@ impl<'a> Parser<'a> {
     fn function(&mut self) -> Result<Box<Declaration>, Fault>
         ensures reads { ReadsAs declared_function (λ v. OfFunction v.1.0 v.1.1) boxed_declaration result self.old self.new }
         ensures left { length self.new.rest.now ≤ length self.old.rest.now }
+        ensures depth { IfOk result (λ d. BodyIsNoDeeper d.value) }
     {
         self.expect_keyword(Keyword::Fun)?;
         let head = self.head()?;
@@ -246,7 +253,8 @@ impl<'a> Parser<'a> {
 
 // The declaration of a function.
 fn function_of(head: Head, body: SurfaceExpr) -> Declaration
-    ensures { written_declaration result ≡ declaration_of (head_view head) (written_expr body) }
+    ensures made { written_declaration result ≡ declaration_of (head_view head) (written_expr body) }
+    ensures depth { IsNoDeeper body → BodyIsNoDeeper result }
 {
     let Head {
         name,

@@ -7,6 +7,7 @@ use Rattle.kk_parser.specs.Phrases.{program, rule}
 use Rattle.kk_parser.specs.Reading.{Finds}
 use Rattle.kk_parser.proofs.Depths.{shallow}
 use Rattle.kk_parser.proofs.FewNodes.{few_nodes}
+use Rattle.kk_parser.proofs.MemoryDepths.{bodies_under}
 use Rattle.kk_parser.proofs.Whole.{has_tree}
 use Rattle.kk_parser.proofs.Told.{found_all, left_answered, fault_answered}
 use Rattle.kk_parser.proofs.program.parse.Goals.{In-Ok}
@@ -35,6 +36,11 @@ pub returns-then-is_empty-clause-shallow : goal.returns-then-is_empty-clause-sha
 returns-then-is_empty-clause-shallow c =
     let tree = has_tree (subst (λ us. Finds 200 (rule program) 0 c.args.tokens.now.items (map written_declaration c.in-Ok.declarations.items) c.program.new.self.depth us) (none_left c.program.new.self.rest.now c.is_empty.result c.is_empty.ensures c.if-is_empty.true) (read (goal.at.returns-then-is_empty-clause-shallow c).In-Ok)) in
     shallow 200 tree.program tree.shallow
+
+pub returns-then-is_empty-clause-depth : goal.returns-then-is_empty-clause-depth
+returns-then-is_empty-clause-depth c =
+    let tree = has_tree (subst (λ us. Finds 200 (rule program) 0 c.args.tokens.now.items (map written_declaration c.in-Ok.declarations.items) c.program.new.self.depth us) (none_left c.program.new.self.rest.now c.is_empty.result c.is_empty.ensures c.if-is_empty.true) (read (goal.at.returns-then-is_empty-clause-depth c).In-Ok)) in
+    bodies_under c.in-Ok.declarations.items c.in-Ok.ensures.depth (shallow 200 tree.program tree.shallow)
 
 pub returns-else-is_empty-clause-parsed : goal.returns-else-is_empty-clause-parsed
 returns-else-is_empty-clause-parsed c =

@@ -1,11 +1,16 @@
 use Rattle.std.proofs.Common.{◌≡◌, [], ◌∷◌, ◌++◌, map, Some, None, Ok, sym, ◌∙◌, refl, ap, subst, inl, inr, arith, rules}
 use Rattle.std.proofs.lemmas.List.{append-nil}
+use Rattle.std.proofs.lemmas.List.Elements.{All-nil, All-cons}
+use Rattle.std.specs.Global.{Vec}
 use Rattle.std.proofs.lemmas.Int.{to_z-of_z}
 use mir.Syntax.{w32}
 use mir.Val.{SFits}
 use Rattle.kk_syntax.specs.Surface.{written_expr, written_row, written_statement, match, rows_of, unary, binary, branch, variable, call, construct, print_text, unit, writtens_of, number as OfNumber}
+use Rattle.kk_syntax.specs.declared.tree.SurfaceBinder.TheVariants.{Nothing}
+use Rattle.kk_syntax.specs.declared.tree.SurfaceExpr.{SurfaceExpr}
 use Rattle.kk_syntax.specs.declared.token.Keyword.TheVariants.{If, Match, Then, Elif, Else, Val}
 use Rattle.kk_syntax.specs.declared.token.Symbol.TheVariants.{OpenParenthesis, CloseParenthesis, OpenBrace, CloseBrace, Semicolon, Comma, Dot, Equals, Arrow, OrOr, AndAnd}
+use Rattle.kk_parser.specs.Depths.{IsNoDeeper, AreNoDeeper, RowsAreNoDeeper, StatementsAreNoDeeper}
 use Rattle.kk_parser.specs.Forms.{separated, separated_of, branches, branches_of, inside, spoken_of, printed, printed_of, binding, binding_of, bindings_of, items}
 use Rattle.kk_parser.specs.Grammar.{print_word, comparison, sum_operator, sum_operator_of, product_operator, product_operator_of, unary_operator, to_left, bracketed, arguments_of, arguments_given, named_of, binder, some_semicolons}
 use Rattle.kk_parser.specs.Kinds.{keyword, symbol, name, name_but_print, constructor}
@@ -17,6 +22,7 @@ use Rattle.kk_parser.proofs.Arguments.{given-some, given-none, given-view-some, 
 use Rattle.kk_parser.proofs.ReadAtoms.{brackets, construction, construction-means, other_name, atom_but_number, spoken-means, named-means}
 use Rattle.kk_parser.proofs.Blocks.{block_begins, block_goes_on, block_passes, stated, bound, items_go_on, items_end}
 use Rattle.kk_parser.proofs.Lists.{Separated, separated_one, separated_more, separated_passed, separated_end}
+use Rattle.kk_parser.proofs.MemoryDepths.{given_under, one_more_under}
 use Rattle.kk_parser.proofs.Rows.{gives_up_row, put_row}
 use Rattle.kk_parser.proofs.Branches.{other_branches, behind_first, continues_elif, turn, turn-means, perhaps_found, perhaps_failed, if-means}
 use Rattle.kk_parser.proofs.Steps.{gives_up_in, gives_up_as, gives_up_as_in, gives_up_items, reads_made, reads_made_as, passed_on, too_deep_failed, deepen_reads_keyword, symbol_read, keyword_read, continues_rule, continues_left, continues_to, continues_many, continues_as, ends_many, first_next, first_absent, front_read, read_to, reads_on, reads_as_on}
@@ -101,7 +107,7 @@ match_-returns-in_err-expect-clause-reads t c =
 pub match_-returns-clause-reads : goal.match_-returns-clause-reads
 match_-returns-clause-reads t c =
     let list = c.in_ok-rows.ensures.reads in
-    reads_made (rule match_) boxed_expr _ c.match_of.result c.args.self.now c.expect.new.self c.match_of.ensures
+    reads_made (rule match_) boxed_expr _ c.match_of.result c.args.self.now c.expect.new.self c.match_of.ensures.made
     (subst (λ rows. Read (rule match_) (match (boxed_expr c.in_ok-scrutinee.scrutinee) (rows_of rows)) c.args.self.now c.expect.new.self) list.1
     (finds_rule (finds_both c.in_ok-expect_keyword.ensures.reads (finds_both c.in_ok-scrutinee.ensures.reads (finds_both c.in_ok-open.ensures.reads (finds_both list.2 c.in_ok-expect.ensures.reads))))))
 
@@ -118,6 +124,7 @@ rows-loop-self-init t c =
     record {
       left = omega (arith, c.in_ok-row.ensures.left);
       read = subst (λ rs. Separated (rule row) rs c.args.self.now c.row.new.self) (sym is) (separated_one (rule row) semis.0 r.0 c.args.self.now c.skip_semicolons.new.self c.row.new.self semis.1 r.2);
+      depth = c.in_ok-row.ensures.depth (subst RowsAreNoDeeper (sym c.new-rows.ensures.items) (All-nil (λ r. IsNoDeeper r.body)));
     }
 
 pub rows-returns-in_err-row-2-clause-reads : goal.rows-returns-in_err-row-2-clause-reads
@@ -138,6 +145,7 @@ rows-loop-self-preserved-in-Continue-branch-2 t c =
       left = omega (arith, c.in_ok-row-2.ensures.left);
       read = subst (λ rs. Separated (rule row) rs c.args.self.now c.row-then-is_at_pattern.new.self) (sym r.1)
           (separated_more (rule row) (map written_row c.loop-self.rows.items) r.0 c.args.self.now c.loop-self.self c.advance.new.self c.row-then-is_at_pattern.new.self c.loop-self.invariant.read h semi g r.2);
+      depth = c.in_ok-row-2.ensures.depth c.loop-self.invariant.depth;
     }
 
 pub rows-loop-self-preserved : goal.rows-loop-self-preserved
@@ -148,6 +156,7 @@ rows-loop-self-preserved t c =
     record {
       left = omega arith;
       read = separated_passed (rule row) (map written_row c.loop-self.rows.items) c.args.self.now c.loop-self.self c.advance.new.self c.loop-self.invariant.read h semi g;
+      depth = c.loop-self.invariant.depth;
     }
 
 pub rows-returns-clause-reads : goal.rows-returns-clause-reads
@@ -222,7 +231,7 @@ branches-returns-then-is_at_keyword-clause-reads t c =
     let positive = boxed_expr c.in_ok-positive.positive in
     let n = c.in_ok-negative.ensures.reads in
     let new = c.branches.new.self in
-    reads_made_as branches branches_of boxed_expr (condition, (tt, (positive, turn n.0))) _ c.branch-self.result c.args.self.now new c.branch-self.ensures (turn-means condition positive n.0 ∙ ap (branch condition positive) n.1)
+    reads_made_as branches branches_of boxed_expr (condition, (tt, (positive, turn n.0))) _ c.branch-self.result c.args.self.now new c.branch-self.ensures.made (turn-means condition positive n.0 ∙ ap (branch condition positive) n.1)
     (front.found (turn n.0) new.depth new.rest.now (elif.found n.0 new.depth new.rest.now n.2))
 
 pub branches-returns-in_err-negative-2-clause-reads : goal.branches-returns-in_err-negative-2-clause-reads
@@ -242,7 +251,7 @@ branches-returns-then-is_at_keyword-2-clause-reads t c =
     let else = keyword_read Else c.expr.new.self c.advance.new.self h c.advance.ensures.rest c.advance.ensures.depth in
     let negative = boxed_expr c.in_ok-negative-2.negative in
     let new = c.expr-then-is_at_keyword-2.new.self in
-    reads_made_as branches branches_of boxed_expr (boxed_expr c.in_ok-condition.condition, (tt, (boxed_expr c.in_ok-positive.positive, ([], Some negative)))) _ c.branch-self-then-is_at_keyword-2.result c.args.self.now new c.branch-self-then-is_at_keyword-2.ensures (refl)
+    reads_made_as branches branches_of boxed_expr (boxed_expr c.in_ok-condition.condition, (tt, (boxed_expr c.in_ok-positive.positive, ([], Some negative)))) _ c.branch-self-then-is_at_keyword-2.result c.args.self.now new c.branch-self-then-is_at_keyword-2.ensures.made (refl)
     (front.found ([], Some negative) new.depth new.rest.now (finds_both (finds_no_more h1) (perhaps_found else c.in_ok-negative-2.ensures.reads)))
 
 pub branches-returns-clause-reads : goal.branches-returns-clause-reads
@@ -251,7 +260,7 @@ branches-returns-clause-reads t c =
     let here = c.expr.new.self in
     let h1 = sym c.is_at_keyword.ensures.value ∙ c.if-is_at_keyword.false in
     let h2 = sym c.is_at_keyword-2.ensures.value ∙ c.if-is_at_keyword-2.false in
-    reads_made_as branches branches_of boxed_expr (boxed_expr c.in_ok-condition.condition, (tt, (boxed_expr c.in_ok-positive.positive, ([], None)))) _ c.branch_alone.result c.args.self.now here c.branch_alone.ensures (refl)
+    reads_made_as branches branches_of boxed_expr (boxed_expr c.in_ok-condition.condition, (tt, (boxed_expr c.in_ok-positive.positive, ([], None)))) _ c.branch_alone.result c.args.self.now here c.branch_alone.ensures.made (refl)
     (front.found ([], None) here.depth here.rest.now (finds_both (finds_no_more h1) (finds_nothing h2)))
 
 pub or-returns-in_err-left-clause-reads : goal.or-returns-in_err-left-clause-reads
@@ -275,7 +284,7 @@ or-returns-in_err-right-clause-reads t c =
 pub or-returns-clause-reads : goal.or-returns-clause-reads
 or-returns-clause-reads t c =
     let h = sym c.is_at.ensures.value ∙ c.if-not-is_at.false in
-    reads_made (rule or) boxed_expr _ c.either.result c.args.self.now c.or.new.self c.either.ensures
+    reads_made (rule or) boxed_expr _ c.either.result c.args.self.now c.or.new.self c.either.ensures.made
     (finds_rule (finds_both c.in_ok-left.ensures.reads (finds_presence h (finds_both c.in_ok-open.ensures.reads c.in_ok-right.ensures.reads))))
 
 pub and-returns-in_err-left-clause-reads : goal.and-returns-in_err-left-clause-reads
@@ -299,7 +308,7 @@ and-returns-in_err-right-clause-reads t c =
 pub and-returns-clause-reads : goal.and-returns-clause-reads
 and-returns-clause-reads t c =
     let h = sym c.is_at.ensures.value ∙ c.if-not-is_at.false in
-    reads_made (rule and) boxed_expr _ c.both.result c.args.self.now c.and.new.self c.both.ensures
+    reads_made (rule and) boxed_expr _ c.both.result c.args.self.now c.and.new.self c.both.ensures.made
     (finds_rule (finds_both c.in_ok-left.ensures.reads (finds_presence h (finds_both c.in_ok-open.ensures.reads c.in_ok-right.ensures.reads))))
 
 pub cmp-returns-in_err-left-clause-reads : goal.cmp-returns-in_err-left-clause-reads
@@ -326,7 +335,7 @@ cmp-returns-clause-reads t c =
     let o = rw c.in-Some.is at c.in_ok-operator.ensures.reads in
     let l = boxed_expr c.in_ok-left.left in
     let r = boxed_expr c.in_ok-right.right in
-    reads_made (rule cmp) boxed_expr _ c.binary.result c.args.self.now c.add-2.new.self c.binary.ensures
+    reads_made (rule cmp) boxed_expr _ c.binary.result c.args.self.now c.add-2.new.self c.binary.ensures.made
     (subst (λ tree. Read (rule cmp) tree c.args.self.now c.add-2.new.self) (ap (λ operator. binary operator l r) o.2)
     (finds_rule (finds_both c.in_ok-left.ensures.reads (finds_presence o.0 (finds_both o.3 c.in_ok-right.ensures.reads)))))
 
@@ -339,6 +348,7 @@ add-loop-operator-init t c =
     record {
       left = omega (arith, c.in_ok-left.ensures.left);
       read = front_read c.mul.new.self (continues_rule add c.args.self.now) c.in_ok-left.ensures.reads;
+      depth = c.in_ok-left.ensures.depth;
     }
 
 pub add-returns-in_err-operator-clause-reads : goal.add-returns-in_err-operator-clause-reads
@@ -357,7 +367,8 @@ add-loop-operator-preserved t c =
     record {
       left = omega (arith, c.in_ok-right.ensures.left, c.in_ok-operator.ensures.left);
       read = continues_left (to_left sum_operator_of) (boxed_expr c.loop-operator.left) (boxed_expr c.in_ok-left-2.left) c.args.self.now c.loop-operator.self c.sum_operator.new.self c.mul-in-Some.new.self c.loop-operator.invariant.read o.0 o.3 c.in_ok-right.ensures.reads
-          (λ vs. ap (λ left. to_left sum_operator_of left vs) (ap (λ operator. binary operator (boxed_expr c.loop-operator.left) (boxed_expr c.in_ok-right.right)) o.2 ∙ sym c.in_ok-left-2.ensures));
+          (λ vs. ap (λ left. to_left sum_operator_of left vs) (ap (λ operator. binary operator (boxed_expr c.loop-operator.left) (boxed_expr c.in_ok-right.right)) o.2 ∙ sym c.in_ok-left-2.ensures.made));
+      depth = c.in_ok-left-2.ensures.depth c.loop-operator.invariant.depth c.in_ok-right.ensures.depth;
     }
 
 pub add-returns-clause-reads : goal.add-returns-clause-reads
@@ -374,6 +385,7 @@ mul-loop-operator-init t c =
     record {
       left = omega (arith, c.in_ok-left.ensures.left);
       read = front_read c.un.new.self (continues_rule mul c.args.self.now) c.in_ok-left.ensures.reads;
+      depth = c.in_ok-left.ensures.depth;
     }
 
 pub mul-returns-in_err-operator-clause-reads : goal.mul-returns-in_err-operator-clause-reads
@@ -392,7 +404,8 @@ mul-loop-operator-preserved t c =
     record {
       left = omega (arith, c.in_ok-right.ensures.left, c.in_ok-operator.ensures.left);
       read = continues_left (to_left product_operator_of) (boxed_expr c.loop-operator.left) (boxed_expr c.in_ok-left-2.left) c.args.self.now c.loop-operator.self c.product_operator.new.self c.un-in-Some.new.self c.loop-operator.invariant.read o.0 o.3 c.in_ok-right.ensures.reads
-          (λ vs. ap (λ left. to_left product_operator_of left vs) (ap (λ operator. binary operator (boxed_expr c.loop-operator.left) (boxed_expr c.in_ok-right.right)) o.2 ∙ sym c.in_ok-left-2.ensures));
+          (λ vs. ap (λ left. to_left product_operator_of left vs) (ap (λ operator. binary operator (boxed_expr c.loop-operator.left) (boxed_expr c.in_ok-right.right)) o.2 ∙ sym c.in_ok-left-2.ensures.made));
+      depth = c.in_ok-left-2.ensures.depth c.loop-operator.invariant.depth c.in_ok-right.ensures.depth;
     }
 
 pub mul-returns-clause-reads : goal.mul-returns-clause-reads
@@ -421,7 +434,7 @@ pub un-returns-clause-reads : goal.un-returns-clause-reads
 un-returns-clause-reads t c =
     let o = rw c.in-Some.is at c.in_ok-operator.ensures.reads in
     let operand = boxed_expr c.in_ok-operand.operand in
-    reads_made (rule un) boxed_expr _ c.unary.result c.args.self.now c.un.new.self c.unary.ensures
+    reads_made (rule un) boxed_expr _ c.unary.result c.args.self.now c.un.new.self c.unary.ensures.made
     (subst (λ tree. Read (rule un) tree c.args.self.now c.un.new.self) (ap (λ operator. unary operator operand) o.2)
     (finds_rule (finds_first o.0 (finds_both o.3 c.in_ok-operand.ensures.reads))))
 
@@ -434,6 +447,7 @@ post-loop-self-init t c =
     record {
       left = omega (arith, c.in_ok-first.ensures.left);
       read = front_read c.atom.new.self (continues_rule post c.args.self.now) c.in_ok-first.ensures.reads;
+      depth = c.in_ok-first.ensures.depth;
     }
 
 pub post-returns-in_err-open-clause-reads : goal.post-returns-in_err-open-clause-reads
@@ -462,10 +476,15 @@ post-loop-self-preserved t c =
       | post-in-Some w ↦ given-view-some a.0 c.in_ok-given.given w.in-Some.others a.1 w.in-Some.is ∙ ap (λ v. map written_expr v.items) (sym w.others-is)
       | post-in-None w ↦ given-view-none a.0 c.in_ok-given.given a.1 w.in-None.is ∙ ap (map written_expr) (sym (ap (λ v. v.items) w.others-is ∙ w.new-others.ensures.items))
     ] in
+    let under : AreNoDeeper others.items = elim c.match-given.branch [
+      | post-in-Some w ↦ subst (λ (es : Vec SurfaceExpr). AreNoDeeper es.items) (sym w.others-is) (given_under c.in_ok-given.given w.in-Some.others c.in_ok-given.ensures.depth w.in-Some.is)
+      | post-in-None w ↦ subst AreNoDeeper (sym (ap (λ v. v.items) w.others-is ∙ w.new-others.ensures.items)) (All-nil IsNoDeeper)
+    ] in
     record {
       left = omega (arith, c.in_ok-given.ensures.left, c.in_ok-name.ensures.left, c.in_ok-open.ensures.left);
       read = continues_dot (boxed_expr c.loop-self.first) c.in_ok-name.name a.0 (map written_expr others.items) (boxed_expr c.in_ok-first-2.first) c.args.self.now c.loop-self.self c.open.new.self c.identifier.new.self c.arguments.new.self
-          c.loop-self.invariant.read h c.in_ok-open.ensures.reads c.in_ok-name.ensures.reads a.2 is c.in_ok-first-2.ensures;
+          c.loop-self.invariant.read h c.in_ok-open.ensures.reads c.in_ok-name.ensures.reads a.2 is c.in_ok-first-2.ensures.made;
+      depth = c.in_ok-first-2.ensures.depth c.loop-self.invariant.depth under;
     }
 
 pub post-returns-clause-reads : goal.post-returns-clause-reads
@@ -475,7 +494,7 @@ pub atom-returns-in-Some-clause-reads : goal.atom-returns-in-Some-clause-reads
 atom-returns-in-Some-clause-reads t c =
     let n = rw c.in-Some.is at c.number.ensures.takes in
     let fits : SFits w32 c.in-Some.value = search rules in
-    reads_made (rule atom) boxed_expr _ c.number-in-Some.result c.args.self.now c.number.new.self c.number-in-Some.ensures
+    reads_made (rule atom) boxed_expr _ c.number-in-Some.result c.args.self.now c.number.new.self c.number-in-Some.ensures.made
     (subst (λ tree. Read (rule atom) tree c.args.self.now c.number.new.self) (ap OfNumber (sym (to_z-of_z w32 c.in-Some.value fits)))
     (finds_rule (finds_first n.0 n.1)))
 
@@ -511,7 +530,7 @@ in_brackets-returns-in_err-open-clause-reads t c =
 pub in_brackets-returns-then-is_at-clause-reads : goal.in_brackets-returns-then-is_at-clause-reads
 in_brackets-returns-then-is_at-clause-reads t c =
     let h = sym c.is_at.ensures.value ∙ c.if-is_at.true in
-    reads_made_as brackets (inside unit (λ e. e)) boxed_expr (tt, inl tt) _ c.unit.result c.args.self.now c.advance.new.self c.unit.ensures (refl)
+    reads_made_as brackets (inside unit (λ e. e)) boxed_expr (tt, inl tt) _ c.unit.result c.args.self.now c.advance.new.self c.unit.ensures.made (refl)
     (finds_both c.in_ok-open.ensures.reads (finds_first h (symbol_read CloseParenthesis c.open.new.self c.advance.new.self h c.advance.ensures.rest c.advance.ensures.depth)))
 
 pub in_brackets-returns-in_err-inner-clause-reads : goal.in_brackets-returns-in_err-inner-clause-reads
@@ -537,7 +556,7 @@ printed-returns-in_err-form-clause-reads t c =
 pub printed-returns-then-not-is_at-clause-reads : goal.printed-returns-then-not-is_at-clause-reads
 printed-returns-then-not-is_at-clause-reads t c =
     let w = c.in_ok-form.ensures.reads in
-    reads_made_as printed printed_of boxed_expr (w.0, None) _ c.variable.result c.args.self.now c.print_word.new.self c.variable.ensures (ap (λ p. variable p.1) w.1)
+    reads_made_as printed printed_of boxed_expr (w.0, None) _ c.variable.result c.args.self.now c.print_word.new.self c.variable.ensures.made (ap (λ p. variable p.1) w.1)
     (finds_both w.2 (finds_absence (sym c.is_at.ensures.value ∙ c.if-not-is_at.true)))
 
 pub printed-returns-in_err-open-clause-reads : goal.printed-returns-in_err-open-clause-reads
@@ -560,7 +579,7 @@ printed-returns-then-is_at_quoted-clause-reads t c =
     let h = sym c.is_at.ensures.value ∙ c.if-not-is_at.false in
     let q = sym c.is_at_quoted.ensures ∙ c.if-is_at_quoted.true in
     let text = c.in_ok-text.text in
-    reads_made_as printed printed_of boxed_expr (w.0, Some (tt, inl text)) _ c.print_text.result c.args.self.now c.expect.new.self c.print_text.ensures (ap (λ p. print_text p.0 text) w.1)
+    reads_made_as printed printed_of boxed_expr (w.0, Some (tt, inl text)) _ c.print_text.result c.args.self.now c.expect.new.self c.print_text.ensures.made (ap (λ p. print_text p.0 text) w.1)
     (finds_both w.2 (finds_presence h (finds_both c.in_ok-open.ensures.reads (finds_quoted q (finds_both c.in_ok-text.ensures.reads c.in_ok-expect.ensures.reads)))))
 
 pub printed-returns-in_err-arguments-clause-reads : goal.printed-returns-in_err-arguments-clause-reads
@@ -586,7 +605,7 @@ printed-returns-clause-reads t c =
     let q = sym c.is_at_quoted.ensures ∙ c.if-is_at_quoted.false in
     let arguments = c.in_ok-arguments.arguments in
     let given = map written_expr arguments.items in
-    reads_made_as printed printed_of boxed_expr (w.0, Some (tt, inr (given, tt))) _ c.call.result c.args.self.now c.expect-2.new.self c.call.ensures (ap (λ p. call p.1 (writtens_of given)) w.1)
+    reads_made_as printed printed_of boxed_expr (w.0, Some (tt, inr (given, tt))) _ c.call.result c.args.self.now c.expect-2.new.self c.call.ensures.made (ap (λ p. call p.1 (writtens_of given)) w.1)
     (finds_both w.2 (finds_presence h (finds_both c.in_ok-open.ensures.reads (finds_unquoted q (finds_both c.in_ok-arguments.ensures.reads c.in_ok-expect-2.ensures.reads)))))
 
 pub named-returns-in_err-name-clause-reads : goal.named-returns-in_err-name-clause-reads
@@ -602,14 +621,14 @@ pub named-returns-in-Some-clause-reads : goal.named-returns-in-Some-clause-reads
 named-returns-in-Some-clause-reads t c =
     let a = rw c.in-Some.is at c.in_ok-arguments.ensures.reads in
     let called = c.in_ok-name.name in
-    reads_made_as other_name (λ v. named_of v.0 v.1) boxed_expr (called, a.0) _ c.call.result c.args.self.now c.arguments.new.self c.call.ensures (named-some called a.0 (map written_expr c.in-Some.arguments.items) a.1)
+    reads_made_as other_name (λ v. named_of v.0 v.1) boxed_expr (called, a.0) _ c.call.result c.args.self.now c.arguments.new.self c.call.ensures.made (named-some called a.0 (map written_expr c.in-Some.arguments.items) a.1)
     (finds_both c.in_ok-name.ensures.reads a.2)
 
 pub named-returns-in-None-clause-reads : goal.named-returns-in-None-clause-reads
 named-returns-in-None-clause-reads t c =
     let a = rw c.in-None.is at c.in_ok-arguments.ensures.reads in
     let called = c.in_ok-name.name in
-    reads_made_as other_name (λ v. named_of v.0 v.1) boxed_expr (called, a.0) _ c.variable.result c.args.self.now c.arguments.new.self c.variable.ensures (named-none called a.0 a.1)
+    reads_made_as other_name (λ v. named_of v.0 v.1) boxed_expr (called, a.0) _ c.variable.result c.args.self.now c.arguments.new.self c.variable.ensures.made (named-none called a.0 a.1)
     (finds_both c.in_ok-name.ensures.reads a.2)
 
 pub constructed-returns-in_err-name-clause-reads : goal.constructed-returns-in_err-name-clause-reads
@@ -625,7 +644,7 @@ pub constructed-returns-in-Some-clause-reads : goal.constructed-returns-in-Some-
 constructed-returns-in-Some-clause-reads t c =
     let a = rw c.in-Some.is at c.in_ok-arguments.ensures.reads in
     let called = c.in_ok-name.name in
-    reads_made_as construction (λ v. construct v.0 (writtens_of (arguments_of v.1))) boxed_expr (called, a.0) _ c.construct.result c.args.self.now c.arguments.new.self c.construct.ensures
+    reads_made_as construction (λ v. construct v.0 (writtens_of (arguments_of v.1))) boxed_expr (called, a.0) _ c.construct.result c.args.self.now c.arguments.new.self c.construct.ensures.made
     (ap (λ es. construct called (writtens_of es)) (given-some a.0 (map written_expr c.in-Some.arguments.items) a.1))
     (finds_both c.in_ok-name.ensures.reads a.2)
 
@@ -633,7 +652,7 @@ pub constructed-returns-in-None-clause-reads : goal.constructed-returns-in-None-
 constructed-returns-in-None-clause-reads t c =
     let a = rw c.in-None.is at c.in_ok-arguments.ensures.reads in
     let called = c.in_ok-name.name in
-    reads_made_as construction (λ v. construct v.0 (writtens_of (arguments_of v.1))) boxed_expr (called, a.0) _ c.construct-in-None.result c.args.self.now c.arguments.new.self c.construct-in-None.ensures
+    reads_made_as construction (λ v. construct v.0 (writtens_of (arguments_of v.1))) boxed_expr (called, a.0) _ c.construct-in-None.result c.args.self.now c.arguments.new.self c.construct-in-None.ensures.made
     (ap (λ es. construct called (writtens_of es)) (given-none a.0 a.1 ∙ sym (ap (map written_expr) c.new.ensures.items)))
     (finds_both c.in_ok-name.ensures.reads a.2)
 
@@ -684,6 +703,7 @@ args-loop-self-init t c =
       read = continues_as (rule args) more_args (λ vs. boxed_expr first ∷ map (λ m. m.1) vs) (λ vs. map written_expr c.put.new.items.items ++ map (λ m. m.1) vs) old c.expr.new.self
           (λ vs. one_more [] c.put.new.items.items first.value (map (λ m. m.1) vs) is)
           (record { found = λ v m us s. finds_rule (finds_presence h (finds_both r s)); failed = λ f s. fails_rule (fails_presence h (fails_behind r s)) });
+      depth = subst AreNoDeeper (sym is) (All-cons IsNoDeeper first.value [] c.in_ok-first.ensures.depth (All-nil IsNoDeeper));
     }
 
 pub args-returns-in_err-next-clause-reads : goal.args-returns-in_err-next-clause-reads
@@ -705,6 +725,7 @@ args-loop-self-preserved t c =
       read = continues_as (rule args) more_args (λ vs. map written_expr before ++ (boxed_expr next ∷ map (λ m. m.1) vs)) (λ vs. map written_expr after ++ map (λ m. m.1) vs) c.args.self.now new
           (λ vs. one_more before after next.value (map (λ m. m.1) vs) (c.in_ok-put-2.ensures ∙ ap (λ e. before ++ e ∷ []) c.into_inner-in-loop-self.ensures))
           (continues_many (rule args) (token (symbol Comma) ▸ rule expr) (λ vs. map written_expr before ++ map (λ m. m.1) vs) (tt, boxed_expr next) c.args.self.now c.loop-self.self new c.loop-self.invariant.read h (finds_both comma c.in_ok-next.ensures.reads));
+      depth = one_more_under IsNoDeeper before after next.value (c.in_ok-put-2.ensures ∙ ap (λ e. before ++ e ∷ []) c.into_inner-in-loop-self.ensures) c.loop-self.invariant.depth c.in_ok-next.ensures.depth;
     }
 
 pub args-returns-clause-reads : goal.args-returns-clause-reads
@@ -770,6 +791,7 @@ items-loop-self-preserved t c =
         bound (map written_statement c.args.statements.now.items) c.loop-self.statements.items c.put.new.items.items c.in_ok-binder.binder c.in_ok-binder.value c.into_inner-value.result read.0 s.0 e.0 read.1 c.into_inner-value.ensures c.in_ok-put.ensures s.1,
         items_go_on read.0 (s.0, e.0) c.args.self.now c.loop-self.self c.some_semicolons.new.self read.2 h (finds_both s.2 e.2),
       );
+      depth = λ h. one_more_under (λ s. IsNoDeeper s.value) c.loop-self.statements.items c.put.new.items.items (record { binder = c.in_ok-binder.binder; value = c.into_inner-value.result }) c.in_ok-put.ensures (c.loop-self.invariant.depth h) (subst IsNoDeeper (sym c.into_inner-value.ensures) c.in_ok-binder.ensures.depth);
     }
 
 pub items-returns-clause-reads : goal.items-returns-clause-reads
@@ -795,6 +817,7 @@ block-loop-self-init t c =
       left = omega (arith, c.in_ok-value.ensures.left);
       read = block_begins semis.0 v.0 _ (boxed_expr c.in_ok-value.value) c.args.self.now c.open.new.self c.skip_semicolons.new.self c.items.new.self c.in_ok-open.ensures.reads semis.1 v.3
           (v.1 ∙ ap (λ ss. map written_statement ss ++ bindings_of v.0.0) c.new-statements.ensures.items) v.2;
+      depth = c.in_ok-value.ensures.depth (subst StatementsAreNoDeeper (sym c.new-statements.ensures.items) (All-nil (λ s. IsNoDeeper s.value)));
     }
 
 pub block-returns-in_err-value-2-clause-reads : goal.block-returns-in_err-value-2-clause-reads
@@ -815,6 +838,7 @@ block-loop-self-preserved-then-is_at_item t c =
       left = omega (arith, c.in_ok-value-2.ensures.left);
       read = block_goes_on (map written_statement c.loop-self.statements.items) _ (boxed_expr c.loop-self.value) (boxed_expr c.in_ok-value-2.value) v.0 c.args.self.now c.loop-self.self c.advance.new.self c.items-then-is_at_item.new.self c.loop-self.invariant.read h semi hs v.3
           (v.1 ∙ ap (λ ss. ss ++ bindings_of v.0.0) (stated c.loop-self.statements.items c.put.new.items.items c.loop-self.value c.into_inner.result c.into_inner.ensures c.in_ok-put.ensures)) v.2;
+      depth = c.in_ok-value-2.ensures.depth (one_more_under (λ s. IsNoDeeper s.value) c.loop-self.statements.items c.put.new.items.items (record { binder = Nothing; value = c.into_inner.result }) c.in_ok-put.ensures c.loop-self.invariant.depth.0 (subst IsNoDeeper (sym c.into_inner.ensures) c.loop-self.invariant.depth.1));
     }
 
 pub block-loop-self-preserved : goal.block-loop-self-preserved
@@ -825,6 +849,7 @@ block-loop-self-preserved t c =
     record {
       left = omega arith;
       read = block_passes (map written_statement c.loop-self.statements.items) (boxed_expr c.loop-self.value) c.args.self.now c.loop-self.self c.advance.new.self c.loop-self.invariant.read h semi hs;
+      depth = c.loop-self.invariant.depth;
     }
 
 pub block-returns-in_err-expect-clause-reads : goal.block-returns-in_err-expect-clause-reads
@@ -835,5 +860,5 @@ block-returns-in_err-expect-clause-reads t c =
 pub block-returns-clause-reads : goal.block-returns-clause-reads
 block-returns-clause-reads t c =
     let h = sym c.is_at.ensures.value ∙ c.loop-self-test.false in
-    reads_made (rule block) boxed_expr _ c.block_of.result c.args.self.now c.expect.new.self c.block_of.ensures
+    reads_made (rule block) boxed_expr _ c.block_of.result c.args.self.now c.expect.new.self c.block_of.ensures.made
     (c.loop-self.invariant.read.found ([], tt) c.expect.new.self.depth c.expect.new.self.rest.now (finds_both (finds_none h) c.in_ok-expect.ensures.reads))

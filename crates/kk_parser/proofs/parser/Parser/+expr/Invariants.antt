@@ -1,6 +1,7 @@
 use Rattle.std.proofs.Common.{◌≡◌, ◌≤◌, length, ◌+◌, ◌*◌, ◌++◌, map}
 use Rattle.kk_syntax.specs.Surface.{written_expr, written_row, written_statement}
 use Rattle.kk_syntax.specs.declared.token.Symbol.TheVariants.{Comma, Dot}
+use Rattle.kk_parser.specs.Depths.{IsNoDeeper, AreNoDeeper, RowsAreNoDeeper, StatementsAreNoDeeper}
 use Rattle.kk_parser.specs.Forms.{items, binding, bindings_of}
 use Rattle.kk_parser.specs.Grammar.{sum_operator, sum_operator_of, product_operator, product_operator_of, to_left, dotted, bracketed, some_semicolons}
 use Rattle.kk_parser.specs.Kinds.{symbol, name}
@@ -45,6 +46,7 @@ abbrev pub invariant-rows-loop-self : goal.invariant-rows-loop-self
 invariant-rows-loop-self l = record {
   left : length l.self.rest.now ≤ length l.fn.self.rest.now;
   read : Separated (rule row) (map written_row l.rows.items) l.fn.self l.self;
+  depth : RowsAreNoDeeper l.rows.items;
 }
 
 abbrev pub decreases-rows-loop-self : goal.decreases-rows-loop-self
@@ -93,6 +95,7 @@ abbrev pub invariant-add-loop-operator : goal.invariant-add-loop-operator
 invariant-add-loop-operator l = record {
   left : length l.self.rest.now ≤ length l.fn.self.rest.now;
   read : Continues (rule add) (many (sum_operator ▸ rule mul)) (to_left sum_operator_of (boxed_expr l.left)) l.fn.self l.self;
+  depth : IsNoDeeper l.left.value;
 }
 
 abbrev pub decreases-add-loop-operator : goal.decreases-add-loop-operator
@@ -102,6 +105,7 @@ abbrev pub invariant-mul-loop-operator : goal.invariant-mul-loop-operator
 invariant-mul-loop-operator l = record {
   left : length l.self.rest.now ≤ length l.fn.self.rest.now;
   read : Continues (rule mul) (many (product_operator ▸ rule un)) (to_left product_operator_of (boxed_expr l.left)) l.fn.self l.self;
+  depth : IsNoDeeper l.left.value;
 }
 
 abbrev pub decreases-mul-loop-operator : goal.decreases-mul-loop-operator
@@ -111,6 +115,7 @@ abbrev pub invariant-post-loop-self : goal.invariant-post-loop-self
 invariant-post-loop-self l = record {
   left : length l.self.rest.now ≤ length l.fn.self.rest.now;
   read : Continues (rule post) (many (opener (symbol Dot) ▸ token name ▸ optional (bracketed (rule args)))) (dotted (boxed_expr l.first)) l.fn.self l.self;
+  depth : IsNoDeeper l.first.value;
 }
 
 abbrev pub decreases-post-loop-self : goal.decreases-post-loop-self
@@ -120,6 +125,7 @@ abbrev pub invariant-args-loop-self : goal.invariant-args-loop-self
 invariant-args-loop-self l = record {
   left : length l.self.rest.now ≤ length l.fn.self.rest.now;
   read : Continues (rule args) (many (token (symbol Comma) ▸ rule expr)) (λ vs. map written_expr l.arguments.items ++ map (λ m. m.1) vs) l.fn.self l.self;
+  depth : AreNoDeeper l.arguments.items;
 }
 
 abbrev pub decreases-args-loop-self : goal.decreases-args-loop-self
@@ -129,6 +135,7 @@ abbrev pub invariant-block-loop-self : goal.invariant-block-loop-self
 invariant-block-loop-self l = record {
   left : length l.self.rest.now ≤ length l.fn.self.rest.now;
   read : Continues (rule block) block_end (block_says (map written_statement l.statements.items) (boxed_expr l.value)) l.fn.self l.self;
+  depth : StatementsAreNoDeeper l.statements.items × IsNoDeeper l.value.value;
 }
 
 abbrev pub decreases-block-loop-self : goal.decreases-block-loop-self
@@ -138,6 +145,7 @@ abbrev pub invariant-items-loop-self : goal.invariant-items-loop-self
 invariant-items-loop-self l = record {
   left : length l.self.rest.now ≤ length l.fn.self.rest.now;
   read : (front : PhraseValue (many (binding ▸ some_semicolons))) × (map written_statement l.statements.items ≡ map written_statement l.fn.statements.items ++ bindings_of front) × Continues items items (λ v. (front ++ v.0, v.1)) l.fn.self l.self;
+  depth : StatementsAreNoDeeper l.fn.statements.items → StatementsAreNoDeeper l.statements.items;
 }
 
 abbrev pub decreases-items-loop-self : goal.decreases-items-loop-self

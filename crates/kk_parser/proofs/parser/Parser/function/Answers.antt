@@ -1,6 +1,7 @@
-use Rattle.std.proofs.Common.{sym, ◌∙◌, ap}
+use Rattle.std.proofs.Common.{sym, ◌∙◌, ap, subst}
 use Rattle.kk_syntax.specs.declared.token.Keyword.TheVariants.{Fun}
 use Rattle.kk_syntax.specs.Surface.{written_expr}
+use Rattle.kk_parser.specs.Depths.{IsNoDeeper, BodyIsNoDeeper}
 use Rattle.kk_parser.specs.Forms.{head}
 use Rattle.kk_parser.specs.Grammar.{declared_function, function_of}
 use Rattle.kk_parser.specs.Kinds.{keyword}
@@ -8,6 +9,7 @@ use Rattle.kk_parser.specs.Phrases.{rule, expr, token}
 use Rattle.kk_parser.specs.Reading.{fails_front, fails_behind, finds_both}
 use Rattle.kk_parser.specs.Views.{declaration_of, head_view, boxed_expr, boxed_declaration}
 use Rattle.kk_parser.proofs.Declarations.{of_head, declaration_boxed}
+use Rattle.kk_parser.proofs.MemoryDepths.{in_box_under}
 use Rattle.kk_parser.proofs.Steps.{gives_up_as_in, reads_made_as}
 use Rattle.kk_parser.proofs.parser.Parser.function.Goals as goal
 
@@ -39,5 +41,9 @@ returns-clause-reads c =
     c.args.self.now c.expr.new.self (declaration_boxed c.boxed.result _ c.boxed.ensures)
     (of_head head.0 body ∙ ap (λ h. declaration_of h body) head.1 ∙ ap
     (λ e. declaration_of (head_view c.in_ok-head.head) (written_expr e)) (sym c.into_inner.ensures) ∙ sym
-    c.function_of-declaration.ensures)
+    c.function_of-declaration.ensures.made)
     (finds_both c.in_ok-expect_keyword.ensures.reads (finds_both head.2 c.in_ok-body.ensures.reads))
+
+pub returns-clause-depth : goal.returns-clause-depth
+returns-clause-depth c =
+    in_box_under BodyIsNoDeeper c.boxed.result _ c.boxed.ensures (c.function_of-declaration.ensures.depth (subst IsNoDeeper (sym c.into_inner.ensures) c.in_ok-body.ensures.depth))

@@ -1,13 +1,17 @@
 use Rattle.std.proofs.Common.{◌≡◌, ◌∷◌, [], ◌++◌, Some, None, map, sym, ◌∙◌, ap, subst, append_assoc, arith}
 use Rattle.std.proofs.lemmas.List.{append-nil, map-append}
+use Rattle.std.specs.Prelude.{All}
+use Rattle.std.proofs.lemmas.List.Elements.{All-nil, All-cons}
 use Rattle.kk_syntax.specs.declared.token.Symbol.TheVariants.{Semicolon}
 use Rattle.kk_syntax.specs.Surface.{written_declaration}
+use Rattle.kk_parser.specs.Depths.{BodyIsNoDeeper}
 use Rattle.kk_parser.specs.Forms.{and_more, those_given}
 use Rattle.kk_parser.specs.Kinds.{symbol}
 use Rattle.kk_parser.specs.Methods.{Read}
 use Rattle.kk_parser.specs.Phrases.{rule, program, decl, token, optional, ◌▸◌}
 use Rattle.kk_parser.specs.Reading.{fails_rule, fails_front, fails_behind, fails_one, fails_presence, finds_rule, finds_both, finds_absence, finds_presence}
 use Rattle.kk_parser.specs.Views.{boxed_declaration}
+use Rattle.kk_parser.proofs.MemoryDepths.{one_more_under}
 use Rattle.kk_parser.proofs.Steps.{Continues, continues_as, continues_many, ends_many, gives_up_in, symbol_read}
 use Rattle.kk_parser.proofs.parser.Parser.program.Goals as goal
 
@@ -36,6 +40,7 @@ loop-self-init c =
     record {
       left = omega (arith, c.in_ok-first.ensures.left);
       read = subst (λ ds. Continues (rule program) (and_more (rule decl)) (λ more. map written_declaration ds ++ those_given more) old new) (sym is) starts;
+      depth = subst (All BodyIsNoDeeper) (sym is) (All-cons BodyIsNoDeeper first.value [] c.in_ok-first.ensures.depth (All-nil BodyIsNoDeeper));
     }
 
 pub returns-in_err-next-clause-reads : goal.returns-in_err-next-clause-reads
@@ -61,6 +66,7 @@ loop-self-preserved-in-Continue-branch-4 c =
       read = continues_as (rule program) (and_more (rule decl)) (λ more. before ++ d ∷ those_given more) (λ more. after ++ those_given more) c.args.self.now c.declaration-then-is_at_declaration.new.self
           (λ more. sym (append_assoc before (d ∷ []) (those_given more)) ∙ ap (λ ds. ds ++ those_given more) (sym is))
           (continues_many (rule program) (token (symbol Semicolon) ▸ optional (rule decl)) (λ more. before ++ those_given more) (tt, Some d) c.args.self.now c.loop-self.self c.declaration-then-is_at_declaration.new.self c.loop-self.invariant.read h (finds_both semi (finds_presence g c.in_ok-next.ensures.reads)));
+      depth = one_more_under BodyIsNoDeeper c.loop-self.declarations.items c.put-then-is_at_declaration.new.items.items next.value (c.in_ok-put-2.ensures ∙ ap (λ e. c.loop-self.declarations.items ++ e ∷ []) c.into_inner-then-is_at_declaration.ensures) c.loop-self.invariant.depth c.in_ok-next.ensures.depth;
     }
 
 pub loop-self-preserved : goal.loop-self-preserved
@@ -72,6 +78,7 @@ loop-self-preserved c =
     record {
       left = omega arith;
       read = continues_many (rule program) (token (symbol Semicolon) ▸ optional (rule decl)) (λ more. before ++ those_given more) (tt, None) c.args.self.now c.loop-self.self c.advance.new.self c.loop-self.invariant.read h (finds_both semi (finds_absence g));
+      depth = c.loop-self.invariant.depth;
     }
 
 pub returns-clause-reads : goal.returns-clause-reads

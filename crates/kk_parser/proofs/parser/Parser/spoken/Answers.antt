@@ -33,5 +33,5 @@ pub returns-clause-reads : goal.returns-clause-reads
 returns-clause-reads c =
     let word = c.in_ok-form.ensures.reads in
     let end = c.in_ok-no_arguments.ensures.reads in
-    reads_made_as spoken spoken_of boxed_expr (c.in_ok-text.text, (tt, (word.0, end.0))) _ c.print_text.result c.args.self.now c.no_arguments.new.self c.print_text.ensures (ap (λ w. print_text w.0 c.in_ok-text.text) word.1)
+    reads_made_as spoken spoken_of boxed_expr (c.in_ok-text.text, (tt, (word.0, end.0))) _ c.print_text.result c.args.self.now c.no_arguments.new.self c.print_text.ensures.made (ap (λ w. print_text w.0 c.in_ok-text.text) word.1)
     (finds_both c.in_ok-text.ensures.reads (finds_both c.in_ok-open.ensures.reads (finds_both word.2 end.2)))

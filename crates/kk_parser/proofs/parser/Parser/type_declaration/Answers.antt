@@ -2,6 +2,7 @@ use Rattle.std.proofs.Common.{ap, ◌∙◌}
 use Rattle.kk_syntax.specs.declared.token.Keyword.TheVariants as Keyword
 use Rattle.kk_syntax.specs.declared.token.Symbol.TheVariants.{OpenBrace, CloseBrace}
 use Rattle.kk_syntax.specs.Surface.{type_declaration}
+use Rattle.kk_parser.specs.Depths.{BodyIsNoDeeper}
 use Rattle.kk_parser.specs.Forms.{separated, separated_of, typed, typed_of}
 use Rattle.kk_parser.specs.Grammar.{type_parameters}
 use Rattle.kk_parser.specs.Kinds.{keyword, symbol, type_name}
@@ -9,6 +10,7 @@ use Rattle.kk_parser.specs.Phrases.{token, opener, optional, rule, con}
 use Rattle.kk_parser.specs.Reading.{fails_front, fails_behind, finds_both}
 use Rattle.kk_parser.specs.Views.{boxed_declaration}
 use Rattle.kk_parser.proofs.Declarations.{declaration_boxed}
+use Rattle.kk_parser.proofs.MemoryDepths.{in_box_under}
 use Rattle.kk_parser.proofs.Steps.{gives_up_as_in, reads_made_as}
 use Rattle.kk_parser.proofs.parser.Parser.type_declaration.Goals as goal
 
@@ -69,3 +71,6 @@ returns-clause-reads c =
     (λ cs. type_declaration called c.in_ok-parameters.parameters.items cs) list.1)
     (finds_both c.in_ok-expect_keyword.ensures.reads (finds_both c.in_ok-name.ensures.reads
     (finds_both given.2 (finds_both c.in_ok-open.ensures.reads (finds_both list.2 c.in_ok-expect.ensures.reads)))))
+
+pub returns-clause-depth : goal.returns-clause-depth
+returns-clause-depth c = in_box_under BodyIsNoDeeper c.boxed.result _ c.boxed.ensures tt
