@@ -87,7 +87,8 @@ module _ (positions : PositionTable) where
             arms_open rest left all,
           )
 
-  function_opens : (f : ℕ) (function : FunctionCode) → openings (inserted_function positions f function).body ≤ unpackings function.body
+  function_opens : (f : ℕ) (function : FunctionCode)
+      → openings (inserted_function positions f function).body ≤ unpackings function.body
   function_opens f function =
       let lent : List ℕ = lent_of positions f function in
       omega (

@@ -1,4 +1,5 @@
--- A core form opens fewer cells on a path than the body that it is made of has nodes: one at most for each constructor in a pattern.
+-- A core form opens fewer cells on a path than the body that it is made of has nodes: at most one for each constructor in a
+-- pattern.
 use Rattle.std.proofs.Common.{◌≡◌, ℕ, zero, suc, ◌+◌, ◌-◌, ◌≤◌, true, List, [], ◌∷◌, length, Some, refl, ap, subst, arith}
 use Rattle.std.specs.Prelude.{slice_get}
 use Rattle.kk_syntax.specs.declared.program.Form.{Form}
