@@ -15,3 +15,4 @@ pub mod Looks
 pub mod Needed
 pub mod NeverStuck
 pub mod Sizes
+pub mod Unpackings

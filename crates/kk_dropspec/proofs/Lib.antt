@@ -7,3 +7,4 @@ pub mod SpecialKinds
 pub mod Lowered
 pub mod SpecialLengths
 pub mod NumberForms
+mod Opens

@@ -11,6 +11,7 @@ ghost use Rattle.kk_counted.specs.Lengths.{AreShort};
 ghost use Rattle.kk_counted.specs.Lowerable.{AreLowerable};
 ghost use Rattle.kk_counted.specs.Marks.{CellMarks, IsMarked};
 ghost use Rattle.kk_counted.specs.Spending.{IsSpent};
+ghost use Rattle.kk_counted.specs.TokenCosts.{OpenAtMost};
 ghost use Rattle.kk_counted.specs.TokenedCodes.{Tokened};
 ghost use Rattle.kk_counted.specs.BareForms.{bare};
 ghost use Rattle.kk_counted.specs.TokenSpending.{SpendsTokens};
@@ -66,4 +67,9 @@ pub fn specialised_code_can_be_lowered()
         → AreLowerable table (map special_function functions) }
     ensures little { (program : CountedProgram) (n : ℕ) → AllSpendAtMost program n → AllSpendAtMost (special_program program) n }
     ensures short { (functions : List CountedFunction) → AreShort functions → AreShort (map special_function functions) }
+{}
+
+/// Specialised code has as many openings on a path as the code that it is made of. It is a law, and does nothing.
+pub fn specialised_code_opens_as_often()
+    ensures { (most : ℕ) (program : CountedProgram) → OpenAtMost most program → OpenAtMost most (special_program program) }
 {}

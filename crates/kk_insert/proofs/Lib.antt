@@ -32,3 +32,4 @@ pub mod Gains
 pub mod Lowering
 pub mod Below
 pub mod Short
+mod Opens

@@ -12,6 +12,7 @@ ghost use Rattle.kk_core.specs.CoreTyping.{IsCoreTyped, IsSmall};
 ghost use Rattle.kk_core.specs.Kinds as Core;
 ghost use Rattle.kk_core.specs.Kinds.{MakeOneType, field_count};
 ghost use Rattle.kk_core.specs.NeverStuck.{NeverStuck};
+ghost use Rattle.kk_core.specs.Unpackings.{UnpackAtMost};
 ghost use Rattle.kk_counted.specs.CountedStates.{CountedState};
 ghost use Rattle.kk_counted.specs.Keeping.{FitsAlways, HasShapeAlways};
 ghost use Rattle.kk_counted.specs.Kinds.{HasKindsAlways};
@@ -20,6 +21,7 @@ ghost use Rattle.kk_counted.specs.Lengths.{AreShort};
 ghost use Rattle.kk_counted.specs.Lowerable.{AreLowerable};
 ghost use Rattle.kk_counted.specs.Marks.{AreMarked};
 ghost use Rattle.kk_counted.specs.Spending.{IsSpent};
+ghost use Rattle.kk_counted.specs.TokenCosts.{OpenAtMost};
 ghost use Rattle.kk_insert.specs.Insertion.{inserted};
 ghost use Rattle.kk_insert.specs.Limits.{HaveFewFields, most_spent};
 ghost use Rattle.kk_insert.specs.MarkTables.{marks_of_types, marks_of_core, AreGround};
@@ -108,4 +110,10 @@ pub fn inserted_code_can_be_lowered()
 pub fn inserted_code_is_short()
     ensures { (positions : PositionTable) (table : Table) (code : ProgramCode) → IsCoreTyped table code → IsSmall code
         → HaveFewFields table.constructors → AreShort (inserted positions code).functions }
+{}
+
+/// Inserted code has no more openings on a path than the core code that it is made of. It is a law, and does nothing.
+pub fn inserted_code_opens_no_more()
+    ensures { (positions : PositionTable) (most : ℕ) (code : ProgramCode) → UnpackAtMost most code
+        → OpenAtMost most (inserted positions code) }
 {}

@@ -11,7 +11,9 @@ pub use law::{
     core_constructors_are_consistent, owned_positions_of_instances_are_closed,
     tail_calls_of_core_forms_lend_on,
 };
-pub use lowering::{compiled_programs_are_short, compiled_programs_can_be_lowered};
+pub use lowering::{
+    compiled_programs_are_short, compiled_programs_can_be_lowered, compiled_programs_open_few_cells,
+};
 pub use meaning::{
     compiled_programs_are_marked, compiled_programs_have_their_kinds,
     compiled_programs_keep_meaning,

@@ -28,6 +28,7 @@ pub mod Scopes
 pub mod Simulation
 pub mod Steps
 pub mod TypeNumbers
+mod Unpackings
 pub mod Variables
 pub mod Waits
 pub mod Weights

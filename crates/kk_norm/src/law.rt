@@ -1,9 +1,12 @@
+ghost use Rattle.std.specs.Prelude.{◌-◌, ◌≤◌, ℕ};
 ghost use Rattle.kk_syntax.specs.GroundTyping.{table_of, IsGroundTyped};
 ghost use Rattle.kk_syntax.specs.Programs.{ProgramTree};
+ghost use Rattle.kk_syntax.specs.Shapes.{greatest_nodes};
 ghost use Rattle.kk_core.specs.Kinds.{AllAskTyped};
 ghost use Rattle.kk_core.specs.Cases.{CasesAreWhole};
 ghost use Rattle.kk_core.specs.Codes.{ProgramCode};
 ghost use Rattle.kk_core.specs.CoreTyping.{IsCoreTyped, IsSmall};
+ghost use Rattle.kk_core.specs.Unpackings.{UnpackAtMost};
 ghost use Rattle.kk_norm.specs.Meaning.{KeepsMeaningByCells, CostsLittle};
 ghost use Rattle.kk_norm.specs.Normal.{IsWithin};
 ghost use Rattle.kk_norm.specs.Normalized.{IsCoreForm};
@@ -45,4 +48,11 @@ pub fn core_forms_of_typed_programs_are_typed()
 /// Each case of a core form has an arm for each row of its decisions. It is a law, and does nothing.
 pub fn core_forms_are_whole()
     ensures { (program : ProgramTree) (code : ProgramCode) → IsCoreForm program code → CasesAreWhole code }
+{}
+
+/// A core form opens fewer cells on a path than the greatest body of its program has nodes: at most one for each constructor in a
+/// pattern. It is a law, and does nothing.
+pub fn core_forms_open_few_cells()
+    ensures { (program : ProgramTree) (code : ProgramCode) → IsCoreForm program code
+        → (nodes : ℕ) → greatest_nodes program ≤ nodes → UnpackAtMost (nodes - 1) code }
 {}

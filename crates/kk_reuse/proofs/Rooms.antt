@@ -3,7 +3,7 @@
 use Rattle.std.proofs.Common.{◌≡◌, ◌≤◌, ℕ, zero, suc, ◌+◌, ◌-◌, ◌*◌, Bool, true, false, if◌then◌else◌, List, [], ◌∷◌, map, length, max, Some, refl, subst, arith}
 use Rattle.std.specs.Prelude.{slice_get}
 use Rattle.kk_syntax.specs.declared.program.Form.{Form}
-use Rattle.kk_syntax.specs.declared.program.Form.TheVariants.{Number, Unit as Nothing, ReadByte, PrintText, Unary, Binary, Print, Construct, Call}
+use Rattle.kk_syntax.specs.declared.program.Form.TheVariants.{Construct, Call}
 use Rattle.kk_counted.specs.CountedCodes.{Counted, give, tail_call, branch, case, compute, inside, read, open_cell, if_unique, dup, drop, CountedArms, no_arm, arm, CountedFunction, CountedProgram}
 use Rattle.kk_counted.specs.TokenCosts.{tokens_ahead, room_needed, arms_need_room, HasRoom, openings, openings_of, OpenAtMost}
 use Rattle.kk_counted.specs.TokenedCodes.{Tokened, TokenedFunction}
@@ -155,26 +155,10 @@ module _ (most : ℕ) where
 
   form_ahead : (n x : ℕ) (form : Form) (arguments : List ℕ) (rest : Tokened) → n ≤ most
       → tokens_ahead (paired_form n x form arguments rest) ≤ 12 * n + 12 * most
-  form_ahead zero x (Call f) arguments rest few = omega arith
-  form_ahead (suc n) x (Call f) arguments rest few =
-      omega (arith, (holds_before (suc n) (Tokened.compute x (Call f) arguments [] (unholds (suc n) rest))).ahead)
   form_ahead (suc n) x (Construct c) (first ∷ arguments) rest few = omega (arith, few, slots_many n)
-  form_ahead (suc n) x (Construct c) [] rest few = omega arith
-  form_ahead zero x (Construct c) arguments rest few = omega arith
-  form_ahead zero x (Number k) arguments rest few = omega arith
-  form_ahead zero x Nothing arguments rest few = omega arith
-  form_ahead zero x ReadByte arguments rest few = omega arith
-  form_ahead zero x (PrintText how text) arguments rest few = omega arith
-  form_ahead zero x (Unary operator) arguments rest few = omega arith
-  form_ahead zero x (Binary operator) arguments rest few = omega arith
-  form_ahead zero x (Print how) arguments rest few = omega arith
-  form_ahead (suc n) x (Number k) arguments rest few = omega arith
-  form_ahead (suc n) x Nothing arguments rest few = omega arith
-  form_ahead (suc n) x ReadByte arguments rest few = omega arith
-  form_ahead (suc n) x (PrintText how text) arguments rest few = omega arith
-  form_ahead (suc n) x (Unary operator) arguments rest few = omega arith
-  form_ahead (suc n) x (Binary operator) arguments rest few = omega arith
-  form_ahead (suc n) x (Print how) arguments rest few = omega arith
+  form_ahead n x (Call f) arguments rest few =
+      omega (arith, (holds_before n (Tokened.compute x (Call f) arguments [] (unholds n rest))).ahead)
+  form_ahead n x form arguments rest few = omega arith
 
   paired_ahead : (code : Counted) (behind : Bool) (l n : ℕ) → n ≤ most → l ≤ most
       → tokens_ahead (paired behind l n code) ≤ 12 * n + 12 * most
@@ -219,25 +203,9 @@ module _ (most : ℕ) where
 
   form_needed : (n x : ℕ) (form : Form) (arguments : List ℕ) (rest : Tokened) → n ≤ most → tokens_ahead rest ≤ 24 * most
       → room_needed rest ≤ 36 * most → room_needed (paired_form n x form arguments rest) ≤ 36 * most
-  form_needed zero x (Call f) arguments rest few ahead needed = call_needed zero x f arguments rest few ahead needed
-  form_needed (suc n) x (Call f) arguments rest few ahead needed = call_needed (suc n) x f arguments rest few ahead needed
   form_needed (suc n) x (Construct c) (first ∷ arguments) rest few ahead needed = omega (arith, few, slots_many n, needed)
-  form_needed (suc n) x (Construct c) [] rest few ahead needed = omega (arith, needed)
-  form_needed zero x (Construct c) arguments rest few ahead needed = omega (arith, needed)
-  form_needed zero x (Number k) arguments rest few ahead needed = omega (arith, needed)
-  form_needed zero x Nothing arguments rest few ahead needed = omega (arith, needed)
-  form_needed zero x ReadByte arguments rest few ahead needed = omega (arith, needed)
-  form_needed zero x (PrintText how text) arguments rest few ahead needed = omega (arith, needed)
-  form_needed zero x (Unary operator) arguments rest few ahead needed = omega (arith, needed)
-  form_needed zero x (Binary operator) arguments rest few ahead needed = omega (arith, needed)
-  form_needed zero x (Print how) arguments rest few ahead needed = omega (arith, needed)
-  form_needed (suc n) x (Number k) arguments rest few ahead needed = omega (arith, needed)
-  form_needed (suc n) x Nothing arguments rest few ahead needed = omega (arith, needed)
-  form_needed (suc n) x ReadByte arguments rest few ahead needed = omega (arith, needed)
-  form_needed (suc n) x (PrintText how text) arguments rest few ahead needed = omega (arith, needed)
-  form_needed (suc n) x (Unary operator) arguments rest few ahead needed = omega (arith, needed)
-  form_needed (suc n) x (Binary operator) arguments rest few ahead needed = omega (arith, needed)
-  form_needed (suc n) x (Print how) arguments rest few ahead needed = omega (arith, needed)
+  form_needed n x (Call f) arguments rest few ahead needed = call_needed n x f arguments rest few ahead needed
+  form_needed n x form arguments rest few ahead needed = omega (arith, needed)
 
   -- whatever the number of tokens is with which a code begins
   abbrev FitsRoom : Counted → Bool → ℕ → Type 0

@@ -1,0 +1,38 @@
+-- Specialised code has as many openings on a path as the code that it is made of.
+use Rattle.std.proofs.Common.{◌≡◌, ℕ, zero, suc, ◌≤◌, List, [], ◌∷◌, map, Some, refl, ap, subst, arith}
+use Rattle.std.specs.Prelude.{slice_get}
+use Rattle.kk_counted.specs.CountedCodes.{Counted, give, tail_call, branch, case, compute, inside, read, open_cell, if_unique, dup, drop, CountedArms, no_arm, arm, CountedFunction, CountedProgram}
+use Rattle.kk_counted.specs.TokenCosts.{openings, openings_of, OpenAtMost}
+use Rattle.kk_dropspec.specs.Specialised.{special, special_arms, special_function, special_program}
+
+mutual
+  same_openings : (code : Counted) → openings (special code) ≡ openings code
+  same_openings (give x) = refl
+  same_openings (tail_call f arguments) = refl
+  same_openings (branch x positive negative) =
+      let one = same_openings positive in let two = same_openings negative in omega (arith, one, two)
+  same_openings (case x decisions arms) = same_arms_openings arms
+  same_openings (compute x form arguments rest) = same_openings rest
+  same_openings (inside x block rest) = let one = same_openings block in let two = same_openings rest in omega (arith, one, two)
+  same_openings (read x c fields rest) = same_openings rest
+  same_openings (open_cell x c fields used rest) = ap suc (same_openings rest)
+  same_openings (if_unique x c fields used rest) = ap suc (same_openings rest)
+  same_openings (dup x rest) = same_openings rest
+  same_openings (drop x rest) = same_openings rest
+
+  same_arms_openings : (arms : CountedArms) → openings_of (special_arms arms) ≡ openings_of arms
+  same_arms_openings no_arm = refl
+  same_arms_openings (arm body rest) =
+      let one = same_openings body in let two = same_arms_openings rest in omega (arith, one, two)
+
+pub special_opens : (most : ℕ) (program : CountedProgram) → OpenAtMost most program → OpenAtMost most (special_program program)
+special_opens most program few f function is = by program.functions few f is
+  where
+    by : (functions : List CountedFunction)
+        → ((f : ℕ) (function : CountedFunction) → slice_get functions f ≡ Some function → openings function.body ≤ most)
+        → (f : ℕ) → slice_get (map special_function functions) f ≡ Some function → openings function.body ≤ most
+    by [] few f is = cc is
+    by (first ∷ functions) few zero is =
+        let same : special_function first ≡ function = cc is in
+        subst (λ (g : CountedFunction). openings g.body ≤ most) same (omega (arith, same_openings first.body, few zero first refl))
+    by (first ∷ functions) few (suc f) is = by functions (λ g other there. few (suc g) other there) f is

@@ -1,0 +1,5 @@
+use Rattle.kk_dropspec.proofs.Opens.{special_opens}
+use Rattle.kk_dropspec.proofs.law.specialised_code_opens_as_often.Goals as goal
+
+pub returns : goal.returns
+returns c = special_opens
