@@ -1,5 +1,5 @@
 -- A line between its loads and its stores: its operands stand where its action takes and gives them, and it fits.
-use Rattle.std.proofs.Common.{◌≡◌, ◌≢◌, ◌==◌, ◌||◌, ◌&&◌, ◌⊎◌, ◌<◌, ◌≤◌, ◌+◌, ℕ, zero, suc, List, [], ◌∷◌, ◌++◌, Option, Some, None, Bool, true, false, not, All, refl, sym, ◌∙◌, ap, subst, inl, inr, arith, eq-eqb, map, option_map, length, is_some}
+use Rattle.std.proofs.Common.{◌≡◌, ◌≢◌, ◌==◌, ◌&&◌, ◌⊎◌, ◌<◌, ◌≤◌, ◌+◌, ℕ, zero, suc, List, [], ◌∷◌, ◌++◌, Option, Some, None, Bool, true, false, not, All, refl, sym, ◌∙◌, ap, subst, inl, inr, arith, eq-eqb, map, option_map, length, is_some}
 use Rattle.std.specs.List.{AllByRecursion}
 use Rattle.std.proofs.lemmas.Bool.{eqb-true, eqb-false, cond-true, or_cases, or_left, or_right, and_from, and_parts, not-true, not_from_false, false≢true, cases_Bool, cond_both, false_from_ne_true, le-leb}
 use Rattle.rv_isa.specs.declared.asm.Action.{Action}

@@ -2,13 +2,12 @@
 use Rattle.std.proofs.Common.{◌≡◌, ◌==◌, ◌||◌, ◌&&◌, ◌⊎◌, ℕ, List, [], ◌∷◌, ◌++◌, Option, Some, None, Bool, true, false, not, cond, length, drop, refl, sym, ◌∙◌, ap, subst, inl, inr, map}
 use Rattle.std.specs.List.{AllByRecursion}
 use Rattle.std.proofs.Math.Seq.{drop-append_seam}
-use Rattle.std.proofs.lemmas.Bool.{or_cases, or_left, or_right, and_from, not_from_false, false≢true, false_from_ne_true, cases_Bool}
+use Rattle.std.proofs.lemmas.Bool.{or_cases, or_left, or_right, and_from, not_from_false, false≢true, false_from_ne_true}
 use Rattle.std.proofs.lemmas.List.Folds.{list_any-append}
 use Rattle.rv_isa.specs.declared.asm.Action.{Action}
 use Rattle.rv_isa.specs.declared.asm.Action.TheVariants.{Compute, Label, Jump, Branch, Call, TailCall, Return, Routine, Hold, Unhold}
 use Rattle.rv_isa.specs.declared.placed.Place.{Place}
 use Rattle.rv_isa.specs.declared.placed.Place.TheVariants.{Slot as slot}
-use Rattle.rv_isa.specs.declared.placed.Operand.{Operand}
 use Rattle.rv_isa.specs.declared.placed.Listed.{Listed}
 use Rattle.rv_isa.specs.AsmCode.{Line}
 use Rattle.rv_isa.specs.Frames.{is_among}
@@ -16,7 +15,7 @@ use Rattle.rv_isa.specs.WellFormed.{is_written, is_alive, is_alive_behind, goes_
 use Rattle.rv_regs.specs.declared.slots.Loaded.{Loaded}
 use Rattle.rv_regs.specs.Alive.{held_before, held_values}
 use Rattle.rv_regs.specs.Listings.{is_read_in, marks}
-use Rattle.rv_regs.specs.Plain.{place_in, listing_at, operand_at, load_from, first_register, loaded_for}
+use Rattle.rv_regs.specs.Plain.{place_in, listing_at, operand_at, first_register, loaded_for}
 use Rattle.rv_regs.proofs.InRegisters.{all_weaker, place_slot, load_values}
 
 among_append : (v : ℕ) (xs ys : List ℕ) → is_among v (xs ++ ys) ≡ (is_among v xs || is_among v ys)

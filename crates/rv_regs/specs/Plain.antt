@@ -1,6 +1,6 @@
 -- The plainest places. Each value has a slot of its own. It stands in a register while a line reads or writes it: it is loaded
 -- before the line, and stored behind it where it is still alive. A token that is held or taken back stays in its slot.
-use Rattle.std.specs.Prelude.{ℕ, suc, ◌%◌, ◌^◌, ◌==◌, List, [], ◌∷◌, ◌++◌, Option, Some, None, Bool, not, cond, false, ◌&&◌, map, option_map}
+use Rattle.std.specs.Prelude.{ℕ, suc, ◌%◌, ◌^◌, ◌==◌, List, [], ◌∷◌, ◌++◌, Option, Some, None, Bool, not, cond, ◌&&◌, map, option_map}
 use Rattle.std.specs.List.{filter}
 use Rattle.std.proofs.Common.{lit<}
 use Rattle.std.proofs.Math.Nat.{mod-lt}
