@@ -43,6 +43,7 @@ use Rattle.rv_lower.specs.Lines.{sets, copies_to, acts}
 use Rattle.rv_lower.proofs.Formed.{
   Each,
   Readable,
+  formed_more,
   Good,
   HasRoom,
   room_more,
@@ -64,19 +65,17 @@ use Rattle.rv_cells.specs.CellLines.{ConstructLines, OpenLines}
 good_effect : (B : ℕ → Type 0) (operation : Operation) (args : List ℕ) (rest : List Line) → length args ≤ 2 → Each B args
     → ((v : ℕ) → B v → v < most_values) → Good B rest → Good B (acts (Compute operation) args ∷ rest)
 good_effect B operation args rest few each small good = record {
-  formed = (
-    record {
-      labels = tt;
-      holds_none = tt;
-      few = few;
-      gives = λ is. absurd (false≢true is);
-      distinct = λ is. absurd (false≢true is);
-      spent = λ is. absurd (false≢true is);
-      args_small = all_each B (λ v. v < most_values) args small each;
-      into_small = λ v is. absurd (none_some is);
-    },
-    good.formed,
-  );
+  formed = formed_more (acts (Compute operation) args) rest
+      (record {
+        labels = tt;
+        few = few;
+        gives = λ is. absurd (false≢true is);
+        distinct = λ is. absurd (false≢true is);
+        spent = λ is. absurd (false≢true is);
+        args_small = all_each B (λ v. v < most_values) args small each;
+        into_small = λ v is. absurd (none_some is);
+      })
+      tt good.formed;
   alive = alive_line B (acts (Compute operation) args) rest each (λ v other is. good.alive v is);
 }
 
@@ -214,19 +213,17 @@ module _ (base : ℕ) where
     no_label = λ l. (refl, tt);
     few = omega arith;
     good = λ rest good. record {
-      formed = (
-        record {
-          labels = tt;
-          holds_none = tt;
-          few = omega arith;
-          gives = λ _. refl;
-          distinct = λ _. tt;
-          spent = λ _. All-nil (IsSpent (record { action = Routine Take; args = []; into = Some x }) rest);
-          args_small = All-nil (λ v. v < most_values);
-          into_small = λ v is. subst (λ (y : ℕ). y < most_values) (some_same is) (omega (arith, less, has.room));
-        },
-        good.formed,
-      );
+      formed = formed_more (record { action = Routine Take; args = []; into = Some x }) rest
+          (record {
+            labels = tt;
+            few = omega arith;
+            gives = λ _. refl;
+            distinct = λ _. tt;
+            spent = λ _. All-nil (IsSpent (record { action = Routine Take; args = []; into = Some x }) rest);
+            args_small = All-nil (λ v. v < most_values);
+            into_small = λ v is. subst (λ (y : ℕ). y < most_values) (some_same is) (omega (arith, less, has.room));
+          })
+          tt good.formed;
       alive = alive_line (Bound bound) (record { action = Routine Take; args = []; into = Some x }) rest tt
           (λ v other is. other_bound v other (good.alive v is));
     };

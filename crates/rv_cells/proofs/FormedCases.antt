@@ -5,10 +5,10 @@ use Rattle.kk_syntax.specs.Shapes.{is_among as is_bound}
 use Rattle.kk_core.specs.Decisions.{NodeTree, AreOrderly}
 use Rattle.rv_isa.specs.declared.asm.Action.TheVariants.{Label}
 use Rattle.rv_isa.specs.AsmCode.{Line}
-use Rattle.rv_isa.specs.WellFormed.{is_alive, AreLinesFormed}
+use Rattle.rv_isa.specs.WellFormed.{is_alive}
 use Rattle.rv_lower.specs.Lines.{acts}
 use Rattle.rv_lower.specs.Lowered.{Goal}
-use Rattle.rv_lower.proofs.Formed.{Readable, Good, HasRoom}
+use Rattle.rv_lower.proofs.Formed.{Readable, AreFormed, Good, HasRoom}
 use Rattle.rv_lower.proofs.AbsentLabels.{HasNo, has_no_append, found_here, alive_at_here, other_label}
 use Rattle.rv_lower.proofs.Codes.{Ahead, Fits, good_label, goal_up, goal_later}
 use Rattle.rv_cells.specs.Layout.{Layout}
@@ -19,7 +19,7 @@ use Rattle.rv_cells.proofs.FormedNodes.{NameLater, nodes_none, nodes_good}
 
 -- the arms before well-formed code: their labels stand there, and where there is an arm only what is bound is alive before them
 pub record ArmsGood (base : ℕ) (bound : List ℕ) (label rows : ℕ) (code : List Line) : Type 0 where
-  pub formed : AreLinesFormed code
+  pub formed : AreFormed code
   pub stands : (row : ℕ) → row < rows → StandsAhead (Readable base base bound) (label + row) code
   pub alive : 0 < rows → (v : ℕ) → is_alive v code ≡ true → Readable base base bound v
 

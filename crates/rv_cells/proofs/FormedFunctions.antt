@@ -50,7 +50,7 @@ module _ (layout : Layout) (texts : Texts) (table : CellMarks) (f : ℕ) (functi
 
   good : Good (Readable setting.base setting.base parameters) lines.code
   good = subst (Good (Readable setting.base setting.base parameters)) (append-nil lines.code)
-      (fits.good [] (record { formed = tt; fresh = λ l le less. tt; goal_ahead = tt }))
+      (fits.good [] (record { formed = record { lines = tt; tokens = refl }; fresh = λ l le less. tt; goal_ahead = tt }))
 
   small : All (λ v. v < most_values) (from_to 0 function.parameters)
   small = all_each (λ v. v < most_values) (λ v. v < most_values) (from_to 0 function.parameters) (λ v is. is)
@@ -63,7 +63,8 @@ module _ (layout : Layout) (texts : Texts) (table : CellMarks) (f : ℕ) (functi
 
   function_formed : IsWellFormed lines
   function_formed = record {
-    lines = good.formed;
+    lines = good.formed.lines;
+    tokens = good.formed.tokens;
     params = subst AreDistinct (sym is.lowered.params) (from_to_distinct 0 function.parameters);
     few_params = subst (λ (params : List ℕ). length params ≤ 8) (sym is.lowered.params)
         (let size = from_to_length 0 function.parameters in let few = may.few_parameters in omega (arith, size, few));

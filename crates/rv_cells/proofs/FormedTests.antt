@@ -16,7 +16,7 @@ use Rattle.rv_isa.specs.AsmCode.{Line}
 use Rattle.rv_isa.specs.AsmMachine.{is_label}
 use Rattle.rv_isa.specs.WellFormed.{is_alive, is_alive_at, is_alive_behind, most_values, AreDistinct, IsSpent}
 use Rattle.rv_lower.specs.Lines.{computes, acts}
-use Rattle.rv_lower.proofs.Formed.{Each, Readable, Good, HasRoom, weaker, all_each}
+use Rattle.rv_lower.proofs.Formed.{Each, Readable, formed_more, Good, HasRoom, weaker, all_each}
 use Rattle.rv_lower.proofs.Formed.{alive_line, good_computes, readable_small, readable_more, to_temporary, none_some}
 use Rattle.rv_lower.proofs.AbsentLabels.{HasNo, has_no_append, found_past, alive_at_past}
 use Rattle.rv_lower.proofs.Labels.{found_label}
@@ -43,20 +43,18 @@ good_branch : (B C : ℕ → Type 0) (condition : Condition) (label : ℕ) (args
     → AreDistinct args → Each B args → Each (λ v. C v → ⊥) args → ((v : ℕ) → C v → B v) → ((v : ℕ) → B v → v < most_values)
     → StandsAhead C label rest → Good C rest → Good B (acts (Branch condition label) args ∷ rest)
 good_branch B C condition label args rest few distinct each lost into small ahead good = record {
-  formed = (
-    record {
-      labels = ahead.0;
-      holds_none = tt;
-      few = few;
-      gives = λ is. absurd (false≢true is);
-      distinct = λ _. distinct;
-      spent = λ _. all_each (λ v. C v → ⊥) (IsSpent (acts (Branch condition label) args) rest) args
-          (λ v lost. false_from_ne_true (is_alive_behind v (Branch condition label) rest) (λ is. lost (behind v is))) lost;
-      args_small = all_each B (λ v. v < most_values) args small each;
-      into_small = λ v is. absurd (none_some is);
-    },
-    good.formed,
-  );
+  formed = formed_more (acts (Branch condition label) args) rest
+      (record {
+        labels = ahead.0;
+        few = few;
+        gives = λ is. absurd (false≢true is);
+        distinct = λ _. distinct;
+        spent = λ _. all_each (λ v. C v → ⊥) (IsSpent (acts (Branch condition label) args) rest) args
+            (λ v lost. false_from_ne_true (is_alive_behind v (Branch condition label) rest) (λ is. lost (behind v is))) lost;
+        args_small = all_each B (λ v. v < most_values) args small each;
+        into_small = λ v is. absurd (none_some is);
+      })
+      tt good.formed;
   alive = alive_line B (acts (Branch condition label) args) rest each (λ v other is. into v (behind v is));
 }
   where

@@ -19,3 +19,4 @@ pub mod Same
 pub mod Standing
 pub mod Steps
 pub mod Calls
+pub mod TokensHeld

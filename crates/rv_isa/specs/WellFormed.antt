@@ -1,5 +1,5 @@
 -- When assembler code over values is well formed: what anyone may rely on who gives the values their places.
-use Rattle.std.specs.Prelude.{◌≡◌, ◌==◌, ◌||◌, ◌&&◌, ◌+◌, ◌≤◌, ◌<◌, ℕ, List, [], ◌∷◌, Option, Some, None, Bool, true, false, not, cond, length, All, IsSome}
+use Rattle.std.specs.Prelude.{◌≡◌, ◌==◌, ◌||◌, ◌&&◌, ◌+◌, ◌≤◌, ◌<◌, ◌++◌, ℕ, List, [], ◌∷◌, Option, Some, None, Bool, true, false, not, cond, length, All, IsSome}
 use Rattle.rv_isa.specs.declared.asm.Action.{Action}
 use Rattle.rv_isa.specs.declared.asm.Action.TheVariants.{Compute, Label, Jump, Branch, Call, TailCall, Return, Routine, Hold, Unhold}
 use Rattle.rv_isa.specs.declared.asm.Operation.TheVariants.{Sw, Dup, Free}
@@ -78,12 +78,6 @@ may_give (Call f) = true
 may_give (Routine routine) = has_value (given_by routine)
 may_give _ = false
 
--- tokens are not held yet
-abbrev pub HoldsNone : Action → Type 0
-HoldsNone Hold = ⊥
-HoldsNone Unhold = ⊥
-HoldsNone _ = Unit {0}
-
 -- whether the arguments of an action are handed over: their places are lost
 abbrev pub hands_over : Action → Bool
 hands_over (Compute operation) = false
@@ -103,7 +97,6 @@ IsSpent line rest v = (not (is_written line.into v) && is_alive_behind v line.ac
 -- a line, and the code that follows
 pub record IsLineFormed (line : Line) (rest : List Line) : Type 0 where
   pub labels : AreLabelsAhead line.action rest
-  pub holds_none : HoldsNone line.action
   pub few : length line.args ≤ most_args line.action
   pub gives : has_value line.into ≡ true → may_give line.action ≡ true
   pub distinct : hands_over line.action ≡ true → AreDistinct line.args
@@ -115,9 +108,41 @@ abbrev pub AreLinesFormed : List Line → Type 0
 AreLinesFormed [] = Unit {0}
 AreLinesFormed (line ∷ rest) = IsLineFormed line rest × AreLinesFormed rest
 
--- a function: what is alive at its start are parameters
+-- ---- tokens
+
+-- whether an action goes on at the next line alone, and no jump comes to it
+abbrev pub goes_straight_on : Action → Bool
+goes_straight_on (Label l) = false
+goes_straight_on (Jump l) = false
+goes_straight_on (Branch condition l) = false
+goes_straight_on (TailCall f) = false
+goes_straight_on Return = false
+goes_straight_on _ = true
+
+-- The values that are held before an action and behind it, the newest first: a Hold puts its argument in front, an Unhold takes it
+-- from there. Where one is held, code goes straight on.
+abbrev pub ChangesHeld : Action → List ℕ → List ℕ → List ℕ → Type 0
+ChangesHeld Hold args before behind = behind ≡ args ++ before
+ChangesHeld Unhold args before behind = before ≡ args ++ behind
+ChangesHeld action args before behind = (before ≡ behind) × (goes_straight_on action ≡ false → before ≡ [])
+
+-- what is held before a line and behind it is neither read nor written there
+abbrev pub LeavesHeld : Line → List ℕ → List ℕ → Type 0
+LeavesHeld line before behind =
+    (v : ℕ) → is_among v before ≡ true → is_among v behind ≡ true → (is_among v line.args ≡ false) × (is_written line.into v ≡ false)
+
+-- Code before which these values are held, the newest first: each is held up to its Unhold.
+abbrev pub AreTokensHeld : List ℕ → List Line → Type 0
+AreTokensHeld held [] = held ≡ []
+AreTokensHeld held (line ∷ rest) =
+    (behind : List ℕ) × (ChangesHeld line.action line.args held behind × (LeavesHeld line held behind × AreTokensHeld behind rest))
+
+-- ---- functions
+
+-- a function: what is alive at its start are parameters, and nothing is held there
 pub record IsWellFormed (function : Lines) : Type 0 where
   pub lines : AreLinesFormed function.code
+  pub tokens : AreTokensHeld [] function.code
   pub params : AreDistinct function.params
   pub few_params : length function.params ≤ 8
   pub params_small : All (λ v. v < most_values) function.params

@@ -8,10 +8,11 @@ use Rattle.rv_isa.specs.declared.asm.Action.TheVariants.{Label, Jump, Branch, Ta
 use Rattle.rv_isa.specs.declared.asm.Condition.TheVariants.{NotEqual}
 use Rattle.rv_isa.specs.declared.asm.Operation.TheVariants as Op
 use Rattle.rv_isa.specs.AsmCode.{Line}
-use Rattle.rv_isa.specs.WellFormed.{is_alive, is_alive_at, most_values, IsSpent, AreLinesFormed, AreLabelsAhead, HoldsNone, is_alive_behind}
+use Rattle.rv_isa.specs.WellFormed.{is_alive, is_alive_at, most_values, IsSpent, AreLabelsAhead, is_alive_behind}
+use Rattle.rv_isa.proofs.TokensHeld.{HoldsNone}
 use Rattle.rv_lower.specs.Lines.{sets, copies_to, acts, copies, temporaries, constant_word}
 use Rattle.rv_lower.specs.Lowered.{Goal, returns, joins, goal_lines, test_lines}
-use Rattle.rv_lower.proofs.Formed.{AllBound, none_some, Readable, Good, HasRoom, weaker, alive_line, to_variable, good_hands, readable_more}
+use Rattle.rv_lower.proofs.Formed.{AllBound, none_some, Readable, AreFormed, formed_more, Good, HasRoom, weaker, alive_line, to_variable, good_hands, readable_more}
 use Rattle.rv_lower.proofs.AbsentLabels.{HasNo, has_no_append, found_none, found_past, found_here, alive_at_past, alive_at_here, other_label}
 use Rattle.rv_lower.proofs.Labels.{found_label}
 use Rattle.rv_lower.proofs.Operations.{Leads, copied, next_temporary, only_bound}
@@ -24,7 +25,7 @@ IsGoalAhead base bound (joins y label) low tail =
 
 -- well-formed code that follows, without the labels from `low` on, below `high`
 pub record Ahead (base : ℕ) (bound : List ℕ) (goal : Goal) (low high : ℕ) (tail : List Line) : Type 0 where
-  pub formed : AreLinesFormed tail
+  pub formed : AreFormed tail
   pub fresh : (l : ℕ) → low ≤ l → l < high → HasNo l tail
   pub goal_ahead : IsGoalAhead base bound goal low tail
 
@@ -59,22 +60,20 @@ goal_up base bound returns low later tail le ahead = tt
 goal_up base bound (joins y label) low later tail le ahead = (omega (arith, le, ahead.0), ahead.1, ahead.2, ahead.3)
 
 -- an action that reads and writes nothing
-pub good_alone : (B : ℕ → Type 0) (action : Action) (rest : List Line) → AreLabelsAhead action rest → HoldsNone action → ((v : ℕ) → is_alive_behind v action rest ≡ true → B v) → AreLinesFormed rest
+pub good_alone : (B : ℕ → Type 0) (action : Action) (rest : List Line) → AreLabelsAhead action rest → HoldsNone action → ((v : ℕ) → is_alive_behind v action rest ≡ true → B v) → AreFormed rest
     → Good B (acts action [] ∷ rest)
 good_alone B action rest labels none alive formed = record {
-  formed = (
-    record {
-      labels = labels;
-      holds_none = none;
-      few = omega arith;
-      gives = λ is. absurd (false≢true is);
-      distinct = λ _. tt;
-      spent = λ _. All-nil (IsSpent (acts action []) rest);
-      args_small = All-nil (λ v. v < most_values);
-      into_small = λ v is. absurd (none_some is);
-    },
-    formed,
-  );
+  formed = formed_more (acts action []) rest
+      (record {
+        labels = labels;
+        few = omega arith;
+        gives = λ is. absurd (false≢true is);
+        distinct = λ _. tt;
+        spent = λ _. All-nil (IsSpent (acts action []) rest);
+        args_small = All-nil (λ v. v < most_values);
+        into_small = λ v is. absurd (none_some is);
+      })
+      none formed;
   alive = alive_line B (acts action []) rest tt (λ v other is. alive v is);
 }
 
@@ -106,21 +105,19 @@ module _ (base : ℕ) (bound : List ℕ) (goal : Goal) (low middle high m : ℕ)
 
 -- the end of a code
 module _ (base : ℕ) (bound : List ℕ) (has : HasRoom base bound) where
-  good_return : (x : ℕ) (tail : List Line) → is_bound bound x ≡ true → AreLinesFormed tail → Good (Readable base base bound) (acts Return (x ∷ []) ∷ tail)
+  good_return : (x : ℕ) (tail : List Line) → is_bound bound x ≡ true → AreFormed tail → Good (Readable base base bound) (acts Return (x ∷ []) ∷ tail)
   good_return x tail is formed = record {
-    formed = (
-      record {
-        labels = tt;
-        holds_none = tt;
-        few = omega arith;
-        gives = λ is. absurd (false≢true is);
-        distinct = λ _. (refl, tt);
-        spent = λ _. All-cons (IsSpent (acts Return (x ∷ [])) tail) x [] refl (All-nil (IsSpent (acts Return (x ∷ [])) tail));
-        args_small = All-cons (λ v. v < most_values) x [] (let low = has.low x is in let room = has.room in omega (arith, low, room)) (All-nil (λ v. v < most_values));
-        into_small = λ v is. absurd (none_some is);
-      },
-      formed,
-    );
+    formed = formed_more (acts Return (x ∷ [])) tail
+        (record {
+          labels = tt;
+          few = omega arith;
+          gives = λ is. absurd (false≢true is);
+          distinct = λ _. (refl, tt);
+          spent = λ _. All-cons (IsSpent (acts Return (x ∷ [])) tail) x [] refl (All-nil (IsSpent (acts Return (x ∷ [])) tail));
+          args_small = All-cons (λ v. v < most_values) x [] (let low = has.low x is in let room = has.room in omega (arith, low, room)) (All-nil (λ v. v < most_values));
+          into_small = λ v is. absurd (none_some is);
+        })
+        tt formed;
     alive = alive_line (Readable base base bound) (acts Return (x ∷ [])) tail (inl is, tt) (λ v other is. absurd (false≢true is));
   }
 

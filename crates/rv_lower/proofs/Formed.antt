@@ -9,7 +9,8 @@ use Rattle.rv_isa.specs.declared.asm.Operation.{Operation}
 use Rattle.rv_isa.specs.declared.asm.Operation.TheVariants.{Mv}
 use Rattle.rv_isa.specs.AsmCode.{Line}
 use Rattle.rv_isa.specs.Frames.{is_among}
-use Rattle.rv_isa.specs.WellFormed.{is_written, is_alive, is_alive_behind, most_values, AreLabelsAhead, most_args, has_value, may_give, HoldsNone, AreDistinct, IsSpent, AreLinesFormed}
+use Rattle.rv_isa.specs.WellFormed.{is_written, is_alive, is_alive_behind, most_values, AreLabelsAhead, most_args, has_value, may_give, AreDistinct, IsSpent, IsLineFormed, AreLinesFormed, AreTokensHeld}
+use Rattle.rv_isa.proofs.TokensHeld.{HoldsNone, none_held_before}
 use Rattle.rv_lower.specs.Lines.{computes, copies, temporaries}
 
 -- a value that may be read: of a variable that is bound, or a temporary that was written
@@ -25,9 +26,18 @@ Each B (x ∷ xs) = B x × Each B xs
 abbrev pub AllBound : List ℕ → List ℕ → Type 0
 AllBound bound xs = Each (λ v. is_bound bound v ≡ true) xs
 
+-- well-formed lines, before which no token is held
+pub record AreFormed (code : List Line) : Type 0 where
+  pub lines : AreLinesFormed code
+  pub tokens : AreTokensHeld [] code
+
+-- a line more, which holds no token and takes none back
+pub formed_more : (line : Line) (rest : List Line) → IsLineFormed line rest → HoldsNone line.action → AreFormed rest → AreFormed (line ∷ rest)
+formed_more line rest formed none more = record { lines = (formed, more.lines); tokens = none_held_before line rest none more.tokens }
+
 -- well-formed code, before which only such values are alive
 pub record Good (B : ℕ → Type 0) (code : List Line) : Type 0 where
-  pub formed : AreLinesFormed code
+  pub formed : AreFormed code
   pub alive : (v : ℕ) → is_alive v code ≡ true → B v
 
 -- variables are below the temporaries, of which there is room for eight
@@ -87,19 +97,17 @@ pub good_computes : (B C : ℕ → Type 0) (operation : Operation) (args : List 
     → may_give (Compute operation) ≡ true → length args ≤ 2 → Each B args → ((v : ℕ) → B v → v < most_values) → x < most_values
     → ((v : ℕ) → C v → (x == v) ≡ false → B v) → Good C rest → Good B (computes operation args x ∷ rest)
 good_computes B C operation args x rest gives few all small into_small more good = record {
-  formed = (
-    record {
-      labels = tt;
-      holds_none = tt;
-      few = few;
-      gives = λ _. gives;
-      distinct = λ is. absurd (false≢true is);
-      spent = λ is. absurd (false≢true is);
-      args_small = all_each B (λ v. v < most_values) args small all;
-      into_small = λ v is. subst (λ (y : ℕ). y < most_values) (some_same is) into_small;
-    },
-    good.formed,
-  );
+  formed = formed_more (computes operation args x) rest
+      (record {
+        labels = tt;
+        few = few;
+        gives = λ _. gives;
+        distinct = λ is. absurd (false≢true is);
+        spent = λ is. absurd (false≢true is);
+        args_small = all_each B (λ v. v < most_values) args small all;
+        into_small = λ v is. subst (λ (y : ℕ). y < most_values) (some_same is) into_small;
+      })
+      tt good.formed;
   alive = alive_line B (computes operation args x) rest all (λ v other is. more v (good.alive v is) other);
 }
 
@@ -185,22 +193,20 @@ pub good_hands : (base : ℕ) (bound : List ℕ) (xs : List ℕ) (action : Actio
     → AreLabelsAhead action rest → HoldsNone action → length xs ≤ most_args action → length xs ≤ 8 → (has_value into ≡ true → may_give action ≡ true)
     → ((v : ℕ) → into ≡ Some v → v < most_values)
     → ((v : ℕ) → is_written into v ≡ false → is_alive_behind v action rest ≡ true → is_bound bound v ≡ true)
-    → AreLinesFormed rest
+    → AreFormed rest
     → Good (Readable base (base + length xs) bound) (record { action = action; args = temporaries base xs; into = into } ∷ rest)
 good_hands base bound xs action into rest has labels none few eight gives into_small behind formed = record {
-  formed = (
-    record {
-      labels = labels;
-      holds_none = none;
-      few = subst (λ (n : ℕ). n ≤ most_args action) (sym (temporaries_length base xs)) few;
-      gives = gives;
-      distinct = λ _. temporaries_distinct base xs;
-      spent = λ _. all_temporaries (IsSpent (record { action = action; args = temporaries base xs; into = into }) rest) base xs (λ v le less. spent v (is_written into v) refl le);
-      args_small = all_temporaries (λ v. v < most_values) base xs (λ v le less. omega (arith, less, eight, has.room));
-      into_small = into_small;
-    },
-    formed,
-  );
+  formed = formed_more (record { action = action; args = temporaries base xs; into = into }) rest
+      (record {
+        labels = labels;
+        few = subst (λ (n : ℕ). n ≤ most_args action) (sym (temporaries_length base xs)) few;
+        gives = gives;
+        distinct = λ _. temporaries_distinct base xs;
+        spent = λ _. all_temporaries (IsSpent (record { action = action; args = temporaries base xs; into = into }) rest) base xs (λ v le less. spent v (is_written into v) refl le);
+        args_small = all_temporaries (λ v. v < most_values) base xs (λ v le less. omega (arith, less, eight, has.room));
+        into_small = into_small;
+      })
+      none formed;
   alive = alive_line (Readable base (base + length xs) bound) (record { action = action; args = temporaries base xs; into = into }) rest
       (temporaries_each (Readable base (base + length xs) bound) base xs (λ v le less. inr (le, less))) (λ v other is. inl (behind v other is));
 }

@@ -1,5 +1,5 @@
 -- A line between its loads and its stores: its operands stand where its action takes and gives them, and it fits.
-use Rattle.std.proofs.Common.{◌≡◌, ◌≢◌, ◌==◌, ◌||◌, ◌&&◌, ◌⊎◌, ◌<◌, ◌≤◌, ◌+◌, ℕ, zero, suc, List, [], ◌∷◌, ◌++◌, Option, Some, None, true, false, not, All, refl, sym, ◌∙◌, ap, subst, inl, inr, arith, eq-eqb, map, option_map, length, is_some}
+use Rattle.std.proofs.Common.{◌≡◌, ◌≢◌, ◌==◌, ◌&&◌, ◌⊎◌, ◌<◌, ◌≤◌, ◌+◌, ℕ, zero, suc, List, [], ◌∷◌, ◌++◌, Option, Some, None, Bool, true, false, not, All, refl, sym, ◌∙◌, ap, subst, inl, inr, arith, eq-eqb, map, option_map, length, is_some}
 use Rattle.std.specs.List.{AllByRecursion}
 use Rattle.std.proofs.lemmas.Bool.{eqb-true, eqb-false, cond-true, or_cases, or_left, or_right, and_from, and_parts, not-true, not_from_false, false≢true, cases_Bool, cond_both, false_from_ne_true, le-leb}
 use Rattle.rv_isa.specs.declared.asm.Action.{Action}
@@ -14,18 +14,19 @@ use Rattle.rv_isa.specs.AsmCode.{Line}
 use Rattle.rv_isa.specs.AsmMachine.{is_label}
 use Rattle.rv_isa.specs.PlacedCode.{PlacedLine, does}
 use Rattle.rv_isa.specs.PlacedMachine.{is_label_line}
-use Rattle.rv_isa.specs.Conventions.{is_handed_out, is_register, takes_at, gives_at, take_from, gives_into, conforms, spoils}
+use Rattle.rv_isa.specs.Conventions.{is_handed_out, is_register, is_slot, takes_at, gives_at, take_from, gives_into, conforms, spoils}
 use Rattle.rv_isa.specs.Frames.{is_among, found}
-use Rattle.rv_isa.specs.WellFormed.{is_written, is_alive, is_alive_at, is_alive_behind, most_args, has_value, may_give, hands_over, HoldsNone, AreDistinct, IsSpent, IsLineFormed}
+use Rattle.rv_isa.specs.WellFormed.{is_written, is_alive, is_alive_at, is_alive_behind, most_args, has_value, may_give, hands_over, goes_straight_on, AreDistinct, IsSpent, IsLineFormed}
 use Rattle.rv_regs.specs.declared.slots.Loaded.{Loaded}
-use Rattle.rv_regs.specs.Alive.{values_before, values_behind, alive_values, alive_values_at}
-use Rattle.rv_regs.specs.Listings.{first_alive, both_of, is_read_in, marks}
-use Rattle.rv_regs.specs.Conditions.{IsAtPlace, IsNeeded, IsListed, IsListedIn, IsWritten, IsNew, IsClearOf, IsSafe, IsKept, WriteIsHandedOut, Fits, LineFits}
-use Rattle.rv_regs.specs.Plain.{numbered, place_in, listing_at, listings, operand_at, first_register, result_register, load_from, falls_to, given, stays, left_in, pending}
+use Rattle.rv_regs.specs.Alive.{values_before, values_behind, alive_values, alive_values_at, held_values, PointLists, lists_before}
+use Rattle.rv_regs.specs.Listings.{first_alive, listed_as, both_of, marks}
+use Rattle.rv_regs.specs.Conditions.{IsAtPlace, IsNeeded, IsListed, IsListedIn, IsWritten, IsNew, IsClearOf, IsSafe, IsKept, StaysHeld, WriteIsHandedOut, Fits, LineFits}
+use Rattle.rv_regs.specs.Plain.{numbered, place_in, listing_at, listings, operand_at, first_register, result_register, load_from, loaded_for, falls_to, given, stays, left_in, pending}
 use Rattle.rv_regs.proofs.Lists.{all_made, each_among, among_with_values}
 use Rattle.rv_regs.proofs.Aliveness.{alive_exact, alive_behind_exact, among_before, alive_distinct}
-use Rattle.rv_regs.proofs.InRegisters.{all_weaker, all_both, all_kept, none_kept, Differ, AreLoads, AreAmong, place_same, place_other, place_ne, no_slot, places_apart, places_handed, loads_kept, place_left, left_among, left_unwritten, load_values, load_numbers, number_is, loads_are, place_unloaded, place_loaded, once_loaded}
-use Rattle.rv_regs.proofs.Fitting.{is_listed, stands_there, Stays, all_kept_next, act_fits}
+use Rattle.rv_regs.proofs.InRegisters.{all_weaker, all_both, all_kept, none_kept, Differ, AreLoads, AreAmong, place_same, place_other, place_ne, place_slot, no_slot, places_apart, places_handed, loads_kept, place_left, left_among, left_unwritten, load_values, load_numbers, number_is, loads_are, place_loaded, once_loaded}
+use Rattle.rv_regs.proofs.Held.{HoldsRight, ReadsNoneHeld, AreFree, read_among, marked, none_behind, free_behind, result_free, held_in_slot}
+use Rattle.rv_regs.proofs.Fitting.{is_listed, listed_there, stands_there, Stays, all_kept_next, safe_place, in_slot, act_fits}
 
 -- ---- the registers of an action
 
@@ -64,39 +65,52 @@ registers_handed (Routine routine) k low high = handed_argument k low (omega (ar
 registers_handed Hold k low high = handed_argument k (omega arith) (omega (arith, most_registers Hold))
 registers_handed Unhold k low high = handed_argument k (omega arith) (omega (arith, most_registers Unhold))
 
-pub action_loads : (action : Action) (args : List ℕ) → length args ≤ most_args action → AreLoads (load_from (first_register action) args)
+-- what holds of each argument holds of each that is loaded
+pub loaded_values : (P : ℕ → Type 0) (action : Action) (args : List ℕ) → ((v : ℕ) → is_among v args ≡ true → P v) → AllByRecursion (λ (l : Loaded). P l.value) (loaded_for action args)
+loaded_values P Hold args h = tt
+loaded_values P Unhold args h = tt
+loaded_values P action args h = load_values P (first_register action) args h
+
+-- a value that is no argument is in its slot
+unloaded : (action : Action) (args : List ℕ) (v : ℕ) → is_among v args ≡ false → place_in (loaded_for action args) v ≡ slot v
+unloaded action args v none =
+    place_slot v (loaded_for action args) (loaded_values (λ u. v ≢ u) action args (λ u there same. false≢true (sym none ∙ ap (λ w. is_among w args) same ∙ there)))
+
+pub action_loads : (action : Action) (args : List ℕ) → length args ≤ most_args action → AreLoads (loaded_for action args)
+action_loads Hold args few = tt
+action_loads Unhold args few = tt
 action_loads action args few =
     loads_are (first_register action) args (omega (arith, most_registers action)) (λ k low high. registers_handed action k low (omega (arith, high, few)))
 
 -- ---- operands stand where their action takes and gives them
 
-takes_number : (action : Action) (n : ℕ) → n < most_args action → HoldsNone action → takes_at action n (register (numbered (first_register action + n))) ≡ true
-takes_number (Compute operation) n few none = refl
-takes_number (Branch condition l) n few none = refl
-takes_number (Label l) n few none = absurd (omega (arith, few))
-takes_number (Jump l) n few none = absurd (omega (arith, few))
-takes_number (Call f) n few none = eq-eqb _ _ (number_is (10 + n) (omega (arith, few)))
-takes_number (TailCall f) n few none = eq-eqb _ _ (number_is (10 + n) (omega (arith, few)))
-takes_number Return n few none = eq-eqb _ _ (number_is (10 + n) (omega (arith, few)))
-takes_number (Routine Take) n few none = absurd (omega (arith, few))
-takes_number (Routine Drop) zero few none = refl
-takes_number (Routine Drop) (suc n) few none = absurd (omega (arith, few))
-takes_number (Routine PrintInt) zero few none = refl
-takes_number (Routine PrintInt) (suc zero) few none = refl
-takes_number (Routine PrintInt) (suc (suc n)) few none = absurd (omega (arith, few))
-takes_number (Routine PrintText) zero few none = refl
-takes_number (Routine PrintText) (suc zero) few none = refl
-takes_number (Routine PrintText) (suc (suc n)) few none = absurd (omega (arith, few))
-takes_number (Routine ReadByte) n few none = absurd (omega (arith, few))
-takes_number Hold n few none = absurd none
-takes_number Unhold n few none = absurd none
+takes_number : (action : Action) (n : ℕ) → n < most_args action → hands_over action ≡ true → takes_at action n (register (numbered (first_register action + n))) ≡ true
+takes_number (Compute operation) n few over = refl
+takes_number (Branch condition l) n few over = refl
+takes_number (Label l) n few over = absurd (omega (arith, few))
+takes_number (Jump l) n few over = absurd (omega (arith, few))
+takes_number (Call f) n few over = eq-eqb _ _ (number_is (10 + n) (omega (arith, few)))
+takes_number (TailCall f) n few over = eq-eqb _ _ (number_is (10 + n) (omega (arith, few)))
+takes_number Return n few over = eq-eqb _ _ (number_is (10 + n) (omega (arith, few)))
+takes_number (Routine Take) n few over = absurd (omega (arith, few))
+takes_number (Routine Drop) zero few over = refl
+takes_number (Routine Drop) (suc n) few over = absurd (omega (arith, few))
+takes_number (Routine PrintInt) zero few over = refl
+takes_number (Routine PrintInt) (suc zero) few over = refl
+takes_number (Routine PrintInt) (suc (suc n)) few over = absurd (omega (arith, few))
+takes_number (Routine PrintText) zero few over = refl
+takes_number (Routine PrintText) (suc zero) few over = refl
+takes_number (Routine PrintText) (suc (suc n)) few over = absurd (omega (arith, few))
+takes_number (Routine ReadByte) n few over = absurd (omega (arith, few))
+takes_number Hold n few over = absurd (false≢true over)
+takes_number Unhold n few over = absurd (false≢true over)
 
-takes_any : (action : Action) (loaded : List Loaded) (n : ℕ) (vs : List ℕ) → ((k : ℕ) (place : Place) → is_register place ≡ true → takes_at action k place ≡ true)
-    → ((v : ℕ) → is_among v vs ≡ true → is_register (place_in loaded v) ≡ true) → take_from action n (map (operand_at (place_in loaded)) vs) ≡ true
-takes_any action loaded n [] takes stand = refl
-takes_any action loaded n (v ∷ vs) takes stand =
+takes_any : (action : Action) (fits : Place → Bool) (loaded : List Loaded) (n : ℕ) (vs : List ℕ) → ((k : ℕ) (place : Place) → fits place ≡ true → takes_at action k place ≡ true)
+    → ((v : ℕ) → is_among v vs ≡ true → fits (place_in loaded v) ≡ true) → take_from action n (map (operand_at (place_in loaded)) vs) ≡ true
+takes_any action fits loaded n [] takes stand = refl
+takes_any action fits loaded n (v ∷ vs) takes stand =
     and_from _ _ (takes n (place_in loaded v) (stand v (or_left (v == v) (is_among v vs) (eq-eqb v v refl))))
-    (takes_any action loaded (suc n) vs takes (λ u t. stand u (or_right (v == u) (is_among u vs) t)))
+    (takes_any action fits loaded (suc n) vs takes (λ u t. stand u (or_right (v == u) (is_among u vs) t)))
 
 takes_row : (action : Action) (first : ℕ) (loaded : List Loaded) (n : ℕ) (vs : List ℕ) → AreDistinct vs
     → ((k : ℕ) → n ≤ k → k < n + length vs → takes_at action k (register (numbered (first + k))) ≡ true)
@@ -115,17 +129,17 @@ takes_row action first loaded n (v ∷ vs) distinct takes stand =
     ∙ place_other l (load_from (suc (first + n)) vs) u (λ same. false≢true (sym distinct.0 ∙ ap (λ w. is_among w vs) same ∙ t))
     ∙ ap (λ m. place_in (load_from m vs) u) next))
 
-takes_args : (action : Action) (args : List ℕ) → length args ≤ most_args action → HoldsNone action → (hands_over action ≡ true → AreDistinct args)
-    → take_from action 0 (map (operand_at (place_in (load_from (first_register action) args))) args) ≡ true
-takes_args (Compute operation) args few none distinct = takes_any (Compute operation) (load_from 5 args) 0 args (λ k place t. t) (λ v t. place_loaded 5 args v t)
-takes_args Hold args few none distinct = absurd none
-takes_args Unhold args few none distinct = absurd none
-takes_args action args few none distinct = in_row action args few none (distinct refl)
+takes_args : (action : Action) (args : List ℕ) → length args ≤ most_args action → (hands_over action ≡ true → AreDistinct args)
+    → take_from action 0 (map (operand_at (place_in (loaded_for action args))) args) ≡ true
+takes_args (Compute operation) args few distinct = takes_any (Compute operation) is_register (load_from 5 args) 0 args (λ k place t. t) (λ v t. place_loaded 5 args v t)
+takes_args Hold args few distinct = takes_any Hold is_slot [] 0 args (λ k place t. t) (λ v t. refl)
+takes_args Unhold args few distinct = takes_any Unhold is_slot [] 0 args (λ k place t. t) (λ v t. refl)
+takes_args action args few distinct = in_row action args few refl (distinct refl)
   where
-    in_row : (action : Action) (args : List ℕ) → length args ≤ most_args action → HoldsNone action → AreDistinct args
+    in_row : (action : Action) (args : List ℕ) → length args ≤ most_args action → hands_over action ≡ true → AreDistinct args
         → take_from action 0 (map (operand_at (place_in (load_from (first_register action) args))) args) ≡ true
-    in_row action args few none distinct =
-        takes_row action (first_register action) (load_from (first_register action) args) 0 args distinct (λ k low high. takes_number action k (omega (arith, high, few)) none)
+    in_row action args few over distinct =
+        takes_row action (first_register action) (load_from (first_register action) args) 0 args distinct (λ k low high. takes_number action k (omega (arith, high, few)) over)
         (λ v t. ap (λ n. place_in (load_from n args) v) (omega arith))
 
 -- where the result comes, as an operand
@@ -172,11 +186,6 @@ none_given action (Some v) none gives = absurd (false≢true (sym none ∙ gives
 
 -- ---- what is alive behind a line
 
-unmarked : (action : Action) (reads : List Operand) (l : Listed) → HoldsNone action → marks (Some action) reads l ≡ l
-unmarked Hold reads l none = absurd none
-unmarked Unhold reads l none = absurd none
-unmarked action reads l none = refl
-
 pub alive_falling : (action : Action) (rest : List Line) (v : ℕ) → is_among v (falls_to action (alive_values rest)) ≡ true → is_alive_behind v action rest ≡ true
 alive_falling (Jump l) rest v t = absurd (false≢true t)
 alive_falling (TailCall f) rest v t = absurd (false≢true t)
@@ -189,33 +198,58 @@ alive_falling (Routine routine) rest v t = sym (alive_exact v rest) ∙ t
 alive_falling Hold rest v t = sym (alive_exact v rest) ∙ t
 alive_falling Unhold rest v t = sym (alive_exact v rest) ∙ t
 
-read_among : (place_of : ℕ → Place) (args : List ℕ) (v : ℕ) → is_read_in (map (operand_at place_of) args) v ≡ is_among v args
-read_among place_of [] v = refl
-read_among place_of (x ∷ xs) v = ap (λ b. (x == v) || b) (read_among place_of xs v)
-
 written_is : (f : ℕ → Place) (into : Option ℕ) (v : ℕ) → IsWritten (option_map (operand_at f) into) v → is_written into v ≡ true
 written_is f None v w = absurd w
 written_is f (Some x) v w = eq-eqb x v w
 
 -- not in the register of the result
-clear_of_result : (action : Action) (args : List ℕ) (u : ℕ) → length args ≤ most_args action → HoldsNone action → (hands_over action ≡ true → place_in (load_from (first_register action) args) u ≡ slot u)
-    → register (numbered (result_register action)) ≢ place_in (load_from (first_register action) args) u
-clear_of_result (Compute operation) args u few none at_slot same =
+clear_of_result : (action : Action) (args : List ℕ) (u : ℕ) → length args ≤ most_args action → (hands_over action ≡ true → place_in (loaded_for action args) u ≡ slot u)
+    → register (numbered (result_register action)) ≢ place_in (loaded_for action args) u
+clear_of_result (Compute operation) args u few at_slot same =
     place_ne (numbered 7) (load_from 5 args) u (load_numbers (λ k. 7 ≢ k) 5 args (λ k low high e. omega (arith, e, number_is k (omega (arith, high, few)), high, few))) (sym same)
-clear_of_result Hold args u few none at_slot same = absurd none
-clear_of_result Unhold args u few none at_slot same = absurd none
-clear_of_result action args u few none at_slot same = no_slot (numbered (result_register action)) u (sym (same ∙ at_slot refl))
+clear_of_result Hold args u few at_slot same = no_slot (numbered 10) u (sym same)
+clear_of_result Unhold args u few at_slot same = no_slot (numbered 10) u (sym same)
+clear_of_result action args u few at_slot same = no_slot (numbered (result_register action)) u (sym (same ∙ at_slot refl))
 
-safe_in : (action : Action) (place : Place) (u : ℕ) → HoldsNone action → (hands_over action ≡ true → place ≡ slot u) → IsSafe (spoils action) place
-safe_in (Compute operation) (register r) u none at_slot = refl
-safe_in (Compute operation) (slot k) u none at_slot = tt
-safe_in Hold place u none at_slot = absurd none
-safe_in Unhold place u none at_slot = absurd none
-safe_in action place u none at_slot = subst (IsSafe (spoils action)) (sym (at_slot refl)) tt
+safe_in : (action : Action) (args : List ℕ) (u : ℕ) → (hands_over action ≡ true → place_in (loaded_for action args) u ≡ slot u) → IsSafe (spoils action) (place_in (loaded_for action args) u)
+safe_in (Compute operation) args u at_slot = safe_place (place_in (load_from 5 args) u)
+safe_in Hold args u at_slot = tt
+safe_in Unhold args u at_slot = tt
+safe_in action args u at_slot = subst (IsSafe (spoils action)) (sym (at_slot refl)) tt
 
-module _ (action : Action) (args : List ℕ) (into : Option ℕ) (rest : List Line) (formed : IsLineFormed (record { action = action; args = args; into = into }) rest) where
+-- what is alive at a label, where nothing is held
+abbrev pub lists_at : ℕ → List Line → PointLists
+lists_at l code = record { alive = alive_values_at l code; held = [] }
+
+-- what is stored behind a line is not held there
+pub pending_free : (line : Line) (rest : List Line) → IsLineFormed line rest → HoldsRight line rest
+    → AreFree (held_values rest) (pending line.action line.into (alive_values rest) (loaded_for line.action line.args))
+pending_free line rest formed right = go line.into refl
+  where
+    kept : (o : Option ℕ) → AreFree (held_values rest) (left_in o (falls_to line.action (alive_values rest)) (loaded_for line.action line.args))
+    kept o =
+        all_kept (λ (l : Loaded). is_among l.value (held_values rest) ≡ false) (stays o (falls_to line.action (alive_values rest))) (loaded_for line.action line.args)
+        (free_behind line.action line.args (held_values (line ∷ rest)) (held_values rest) right.changes (λ v before behind. (right.leaves v before behind).0))
+
+    go : (o : Option ℕ) → line.into ≡ o
+        → AreFree (held_values rest) (given line.action o (falls_to line.action (alive_values rest)) ++ left_in o (falls_to line.action (alive_values rest)) (loaded_for line.action line.args))
+    go None is = kept None
+    go (Some v) is =
+        cond_both (is_among v (falls_to line.action (alive_values rest))) (record { value = v; register = numbered (result_register line.action) } ∷ []) []
+        (λ (ls : List Loaded). AreFree (held_values rest) (ls ++ left_in (Some v) (falls_to line.action (alive_values rest)) (loaded_for line.action line.args)))
+        (λ t. (
+          result_free line.action line.args (held_values (line ∷ rest)) (held_values rest) line.into v formed.gives right.changes right.leaves (ap (λ o. is_written o v) is ∙ eq-eqb v v refl),
+          kept (Some v),
+        ))
+        (λ t. kept (Some v))
+
+module _ (action : Action) (args : List ℕ) (into : Option ℕ) (rest : List Line) (formed : IsLineFormed (record { action = action; args = args; into = into }) rest)
+    (right : HoldsRight (record { action = action; args = args; into = into }) rest) where
+  abbrev line_here : Line
+  line_here = record { action = action; args = args; into = into }
+
   abbrev loaded_here : List Loaded
-  loaded_here = load_from (first_register action) args
+  loaded_here = loaded_for action args
 
   abbrev behind_here : List ℕ
   behind_here = values_behind action (alive_values rest) (λ l. alive_values_at l rest)
@@ -223,22 +257,25 @@ module _ (action : Action) (args : List ℕ) (into : Option ℕ) (rest : List Li
   abbrev before_here : List ℕ
   before_here = values_before args into behind_here
 
+  abbrev point_here : PointLists
+  point_here = lists_before (line_here ∷ rest)
+
   abbrev reads_here : List Operand
   reads_here = map (operand_at (place_in loaded_here)) args
 
   -- a value that is handed over is alive behind the line only if it is written there
   spent_there : hands_over action ≡ true → (u : ℕ) → is_among u args ≡ true → is_alive_behind u action rest ≡ true → is_written into u ≡ false → ⊥
   spent_there over u arg alive unwritten =
-      false≢true (sym (each_among (IsSpent (record { action = action; args = args; into = into }) rest) args u (formed.spent over) arg)
+      false≢true (sym (each_among (IsSpent line_here rest) args u (formed.spent over) arg)
       ∙ and_from (not (is_written into u)) (is_alive_behind u action rest) (not_from_false (is_written into u) unwritten) alive)
 
   at_slot : (u : ℕ) → is_alive_behind u action rest ≡ true → is_written into u ≡ false → hands_over action ≡ true → place_in loaded_here u ≡ slot u
-  at_slot u alive unwritten over = place_unloaded (first_register action) args u (false_from_ne_true (is_among u args) (λ arg. spent_there over u arg alive unwritten))
+  at_slot u alive unwritten over = unloaded action args u (false_from_ne_true (is_among u args) (λ arg. spent_there over u arg alive unwritten))
 
-  clear_here : (u : ℕ) → is_alive_behind u action rest ≡ true → is_written into u ≡ false → IsClearOf (result_of action into) (listing_at (place_in loaded_here) u)
-  clear_here u alive unwritten = go into unwritten (clear_of_result action args u formed.few formed.holds_none (at_slot u alive unwritten))
+  clear_here : (held : List ℕ) (u : ℕ) → is_alive_behind u action rest ≡ true → is_written into u ≡ false → IsClearOf (result_of action into) (listing_at (place_in loaded_here) held u)
+  clear_here held u alive unwritten = go into unwritten (clear_of_result action args u formed.few (at_slot u alive unwritten))
     where
-      go : (o : Option ℕ) → is_written o u ≡ false → register (numbered (result_register action)) ≢ place_in loaded_here u → IsClearOf (result_of action o) (listing_at (place_in loaded_here) u)
+      go : (o : Option ℕ) → is_written o u ≡ false → register (numbered (result_register action)) ≢ place_in loaded_here u → IsClearOf (result_of action o) (listing_at (place_in loaded_here) held u)
       go None none clear = tt
       go (Some v) none clear = (eqb-false v u none, clear)
 
@@ -249,16 +286,17 @@ module _ (action : Action) (args : List ℕ) (into : Option ℕ) (rest : List Li
       (and_from (not (is_written into u)) (is_among u behind_here) (not_from_false (is_written into u) unwritten) (alive_behind_exact u action rest ∙ alive))
 
   -- a value that is not written stays where it is, if it is there
-  stays_here : (place_next : ℕ → Place) (u : ℕ) → is_alive_behind u action rest ≡ true → is_written into u ≡ false → place_next u ≡ place_in loaded_here u
-      → Stays before_here (place_in loaded_here) (result_of action into) (spoils action) place_next u
-  stays_here place_next u alive unwritten same =
-      inr (stays_before u alive unwritten, same, clear_here u alive unwritten, safe_in action (place_in loaded_here u) u formed.holds_none (at_slot u alive unwritten))
+  stays_here : (held : List ℕ) (place_next : ℕ → Place) (u : ℕ) → is_alive_behind u action rest ≡ true → is_written into u ≡ false → place_next u ≡ place_in loaded_here u
+      → Stays before_here (place_in loaded_here) (result_of action into) (spoils action) held place_next u
+  stays_here held place_next u alive unwritten same =
+      inr (stays_before u alive unwritten, same, clear_here held u alive unwritten, safe_in action args u (at_slot u alive unwritten))
 
   abbrev pending_here : List Loaded
   pending_here = pending action into (alive_values rest) loaded_here
 
   -- what is alive at the next line
-  at_next : (u : ℕ) → is_among u (falls_to action (alive_values rest)) ≡ true → Stays before_here (place_in loaded_here) (result_of action into) (spoils action) (place_in pending_here) u
+  at_next : (u : ℕ) → is_among u (falls_to action (alive_values rest)) ≡ true
+      → Stays before_here (place_in loaded_here) (result_of action into) (spoils action) (held_values rest) (place_in pending_here) u
   at_next u there = by_case (cases_Bool (is_written into u))
     where
       next : List ℕ
@@ -267,13 +305,14 @@ module _ (action : Action) (args : List ℕ) (into : Option ℕ) (rest : List Li
       alive : is_alive_behind u action rest ≡ true
       alive = alive_falling action rest u there
 
-      new : (o : Option ℕ) → is_written o u ≡ true → IsNew (result_of action o) (listing_at (place_in (given action o next ++ left_in o next loaded_here)) u)
-      new None w = absurd (false≢true w)
-      new (Some v) w =
+      new : (o : Option ℕ) → is_written o u ≡ true → is_among u (held_values rest) ≡ false
+          → IsNew (result_of action o) (listing_at (place_in (given action o next ++ left_in o next loaded_here)) (held_values rest) u)
+      new None w free = absurd (false≢true w)
+      new (Some v) w free =
           let same : v ≡ u = eqb-true v u w in
           let l : Loaded = record { value = v; register = numbered (result_register action) } in
           let is_given : given action (Some v) next ≡ l ∷ [] = cond-true (is_among v next) (l ∷ []) [] (ap (λ x. is_among x next) same ∙ there) in
-          (same, sym (ap (λ (ls : List Loaded). place_in (ls ++ left_in (Some v) next loaded_here) u) is_given ∙ place_same l (left_in (Some v) next loaded_here) u same), refl)
+          (same, sym (ap (λ (ls : List Loaded). place_in (ls ++ left_in (Some v) next loaded_here) u) is_given ∙ place_same l (left_in (Some v) next loaded_here) u same), free)
 
       old : (o : Option ℕ) → is_written o u ≡ false → place_in (given action o next ++ left_in o next loaded_here) u ≡ place_in loaded_here u
       old None w = place_left None next loaded_here u there w
@@ -283,52 +322,84 @@ module _ (action : Action) (args : List ℕ) (into : Option ℕ) (rest : List Li
           (λ t. place_other l (left_in (Some v) next loaded_here) u (eqb-false v u w) ∙ place_left (Some v) next loaded_here u there w)
           (λ t. place_left (Some v) next loaded_here u there w)
 
-      by_case : (is_written into u ≡ true) ⊎ (is_written into u ≡ false) → Stays before_here (place_in loaded_here) (result_of action into) (spoils action) (place_in pending_here) u
-      by_case (inl written) = inl (new into written)
-      by_case (inr unwritten) = stays_here (place_in pending_here) u alive unwritten (old into unwritten)
+      by_case : (is_written into u ≡ true) ⊎ (is_written into u ≡ false)
+          → Stays before_here (place_in loaded_here) (result_of action into) (spoils action) (held_values rest) (place_in pending_here) u
+      by_case (inl written) = inl (new into written (result_free action args point_here.held (held_values rest) into u formed.gives right.changes right.leaves written))
+      by_case (inr unwritten) = stays_here (held_values rest) (place_in pending_here) u alive unwritten (old into unwritten)
 
   abbrev KeptBy : List Listed → Type 0
-  KeptBy next = All (IsKept (listings (place_in loaded_here) before_here) (marks (Some action) reads_here) (result_of action into) (spoils action)) next
+  KeptBy next = All (IsKept (listings (place_in loaded_here) point_here) (marks (Some action) reads_here) (result_of action into) (spoils action)) next
 
-  kept_at_next : (next : List Listed) → next ≡ listings (place_in pending_here) (alive_values rest) → falls_to action (alive_values rest) ≡ alive_values rest → KeptBy next
+  reads_none : ReadsNoneHeld args point_here.held (held_values rest)
+  reads_none v before behind = (right.leaves v before behind).0
+
+  marks_here : (v : ℕ) → marks (Some action) reads_here (listing_at (place_in loaded_here) point_here.held v) ≡ listing_at (place_in loaded_here) (held_values rest) v
+  marks_here v = marked action args point_here.held (held_values rest) (place_in loaded_here) (place_in loaded_here) right.changes reads_none v
+
+  kept_at_next : (next : List Listed) → next ≡ listings (place_in pending_here) (lists_before rest) → falls_to action (alive_values rest) ≡ alive_values rest → KeptBy next
   kept_at_next next is falls =
       subst KeptBy (sym is)
-      (all_kept_next before_here (alive_values rest) (place_in loaded_here) (place_in pending_here) (marks (Some action) reads_here) (result_of action into) (spoils action)
-      (λ l. unmarked action reads_here l formed.holds_none) (λ v there. at_next v (ap (is_among v) falls ∙ there)))
+      (all_kept_next point_here (lists_before rest) (place_in loaded_here) (place_in pending_here) (marks (Some action) reads_here) (result_of action into) (spoils action)
+      marks_here (λ v there. at_next v (ap (is_among v) falls ∙ there)))
 
   -- what is alive at a label where the line may go on
-  kept_at_label : (l : ℕ) (next : List Listed) → next ≡ listings (place_in []) (alive_values_at l rest) → ((u : ℕ) → is_among u (alive_values_at l rest) ≡ true → is_alive_behind u action rest ≡ true)
-      → hands_over action ≡ true → may_give action ≡ false → KeptBy next
-  kept_at_label l next is alive over none =
+  kept_at_label : (l : ℕ) (next : List Listed) → next ≡ listings (place_in []) (lists_at l rest) → ((u : ℕ) → is_among u (alive_values_at l rest) ≡ true → is_alive_behind u action rest ≡ true)
+      → hands_over action ≡ true → may_give action ≡ false → goes_straight_on action ≡ false → KeptBy next
+  kept_at_label l next is alive over none bent =
       subst KeptBy (sym is)
-      (all_kept_next before_here (alive_values_at l rest) (place_in loaded_here) (place_in []) (marks (Some action) reads_here) (result_of action into) (spoils action)
-      (λ m. unmarked action reads_here m formed.holds_none)
+      (all_kept_next point_here (lists_at l rest) (place_in loaded_here) (place_in []) (marks (Some action) reads_here) (result_of action into) (spoils action)
+      (λ v. marks_here v ∙ ap (λ (held : List ℕ). listing_at (place_in loaded_here) held v) (none_behind action args point_here.held (held_values rest) right.changes bent))
       (λ v there.
       let unwritten : is_written into v ≡ false = ap (λ o. is_written o v) (none_given action into none formed.gives) in
-      stays_here (place_in []) v (alive v there) unwritten (sym (at_slot v (alive v there) unwritten over))))
+      stays_here [] (place_in []) v (alive v there) unwritten (sym (at_slot v (alive v there) unwritten over))))
+
+  -- what is held behind the line is listed so at each next point
+  abbrev ListHeld : List (List Listed) → Type 0
+  ListHeld nexts = (v : ℕ) → is_among v (held_values rest) ≡ true → AllByRecursion (λ next. listed_as v next ≡ Some (listing_at (place_in loaded_here) (held_values rest) v)) nexts
+
+  loaded_slot : (v : ℕ) → is_among v (held_values rest) ≡ true → place_in loaded_here v ≡ slot v
+  loaded_slot v held = held_in_slot (held_values rest) loaded_here v (free_behind action args point_here.held (held_values rest) right.changes reads_none) held
+
+  held_at_next : (next : List Listed) → next ≡ listings (place_in pending_here) (lists_before rest) → ListHeld (next ∷ [])
+  held_at_next next is v held =
+      let same : place_in pending_here v ≡ place_in loaded_here v = held_in_slot (held_values rest) pending_here v (pending_free line_here rest formed right) held ∙ sym (loaded_slot v held) in (
+        subst (λ (ls : List Listed). listed_as v ls ≡ Some (listing_at (place_in loaded_here) (held_values rest) v)) (sym is)
+            (listed_there (place_in pending_here) (lists_before rest) v (alive_exact v rest ∙ right.alive v held)
+            ∙ ap (λ (place : Place). Some (listing_at (λ (u : ℕ). place) (held_values rest) v)) same),
+        tt,
+      )
+
+  none_is_held : (nexts : List (List Listed)) → goes_straight_on action ≡ false → ListHeld nexts
+  none_is_held nexts bent v held =
+      absurd (false≢true (sym (ap (is_among v) (none_behind action args point_here.held (held_values rest) right.changes bent)) ∙ held))
+
+  stays_held : (nexts : List (List Listed)) → ListHeld nexts → (v : ℕ) → StaysHeld (marks (Some action) reads_here) nexts (listing_at (place_in loaded_here) point_here.held v)
+  stays_held nexts lists v held =
+      let there : is_among v (held_values rest) ≡ true = sym (ap (λ (l : Listed). l.held) (marks_here v)) ∙ held in (
+        in_slot (place_in loaded_here v) v (loaded_slot v there),
+        subst (λ (l : Listed). AllByRecursion (λ next. listed_as v next ≡ Some l) nexts) (sym (marks_here v)) (lists v there),
+      )
 
   abbrev FitsHere : List (List Listed) → Type 0
-  FitsHere nexts = (conforms action reads_here (result_of action into) ≡ true) × Fits (listings (place_in loaded_here) before_here) reads_here (result_of action into) (Some action) nexts
+  FitsHere nexts = (conforms action reads_here (result_of action into) ≡ true) × Fits (listings (place_in loaded_here) point_here) reads_here (result_of action into) (Some action) nexts
 
-  fits_by : (nexts : List (List Listed)) → ((v : ℕ) → is_among v behind_here ≡ true → IsListedIn nexts v) → AllByRecursion KeptBy nexts → FitsHere nexts
-  fits_by nexts listed kept = (
-    and_from _ _ (takes_args action args formed.few formed.holds_none formed.distinct) (gives_result action into formed.gives),
-    act_fits before_here (place_in loaded_here) reads_here (result_of action into) (Some action) nexts (distinct_before args into rest action)
+  fits_by : (nexts : List (List Listed)) → ((v : ℕ) → is_among v behind_here ≡ true → IsListedIn nexts v) → AllByRecursion KeptBy nexts → ListHeld nexts → FitsHere nexts
+  fits_by nexts listed kept lists = (
+    and_from _ _ (takes_args action args formed.few formed.distinct) (gives_result action into formed.gives),
+    act_fits point_here (place_in loaded_here) reads_here (result_of action into) (Some action) nexts (alive_distinct (line_here ∷ rest))
         (places_apart loaded_here (action_loads action args formed.few)) (λ v. places_handed loaded_here v (action_loads action args formed.few)) (result_handed action into)
-        (λ l. unmarked action reads_here l formed.holds_none)
+        (λ v there. stays_held nexts lists v)
         (λ v there. needed v (or_cases (is_among v args) (not (is_written into v) && is_among v behind_here) (sym (among_before args into behind_here v) ∙ there)))
-        (all_made (IsAtPlace (listings (place_in loaded_here) before_here)) (operand_at (place_in loaded_here)) args
-        (λ v arg. stands_there (place_in loaded_here) before_here v (args_before v arg)))
+        (all_made (IsAtPlace (listings (place_in loaded_here) point_here)) (operand_at (place_in loaded_here)) args
+        (λ v arg. stands_there (place_in loaded_here) point_here v (args_before v arg)))
         kept,
   )
     where
-      distinct_before : (args : List ℕ) (into : Option ℕ) (rest : List Line) (action : Action) → AreDistinct (values_before args into (values_behind action (alive_values rest) (λ l. alive_values_at l rest)))
-      distinct_before args into rest action = alive_distinct (record { action = action; args = args; into = into } ∷ rest)
-
       args_before : (v : ℕ) → is_among v args ≡ true → is_among v before_here ≡ true
       args_before v arg = among_before args into behind_here v ∙ or_left (is_among v args) (not (is_written into v) && is_among v behind_here) arg
 
-      needed : (v : ℕ) → (is_among v args ≡ true) ⊎ ((not (is_written into v) && is_among v behind_here) ≡ true) → IsNeeded reads_here (result_of action into) nexts (listing_at (place_in loaded_here) v)
+      needed : (v : ℕ) → (is_among v args ≡ true) ⊎ ((not (is_written into v) && is_among v behind_here) ≡ true)
+          → IsNeeded reads_here (result_of action into) nexts (listing_at (place_in loaded_here) point_here.held v)
       needed v (inl arg) = inl (read_among (place_in loaded_here) args v ∙ arg)
       needed v (inr later) =
           let parts = and_parts (not (is_written into v)) (is_among v behind_here) later in
@@ -339,62 +410,65 @@ module _ (action : Action) (args : List ℕ) (into : Option ℕ) (rest : List Li
 
 -- a line fits between its loads and its stores
 pub line_fits : (whole after : List PlacedLine) (action : Action) (args : List ℕ) (into : Option ℕ) (rest : List Line) (formed : IsLineFormed (record { action = action; args = args; into = into }) rest)
-    → ((l : ℕ) → is_some (found (λ line. is_label l line.action) rest) ≡ true → option_map first_alive (found (is_label_line l) whole) ≡ Some (listings (place_in []) (alive_values_at l rest)))
-    → first_alive after ≡ listings (place_in (pending action into (alive_values rest) (load_from (first_register action) args))) (alive_values rest)
+    (right : HoldsRight (record { action = action; args = args; into = into }) rest)
+    → ((l : ℕ) → is_some (found (λ line. is_label l line.action) rest) ≡ true → option_map first_alive (found (is_label_line l) whole) ≡ Some (listings (place_in []) (lists_at l rest)))
+    → first_alive after ≡ listings (place_in (pending action into (alive_values rest) (loaded_for action args))) (lists_before rest)
     → LineFits whole after
-    (does (listings (place_in (load_from (first_register action) args)) (values_before args into (values_behind action (alive_values rest) (λ l. alive_values_at l rest)))) action
-    (map (operand_at (place_in (load_from (first_register action) args))) args) (result_of action into))
-line_fits whole after (Jump l) args into rest formed labels first =
+    (does (listings (place_in (loaded_for action args)) (lists_before (record { action = action; args = args; into = into } ∷ rest))) action
+    (map (operand_at (place_in (loaded_for action args))) args) (result_of action into))
+line_fits whole after (Jump l) args into rest formed right labels first =
     let here = labels l formed.labels in
-    subst (λ (o : Option (List Listed)). FitsHere (Jump l) args into rest formed (both_of None o)) (sym here)
-    (fits_by (Jump l) args into rest formed (listings (place_in []) (alive_values_at l rest) ∷ []) (λ v there. inl (is_listed (place_in []) (alive_values_at l rest) v there))
-    (kept_at_label (Jump l) args into rest formed l (listings (place_in []) (alive_values_at l rest)) refl (λ u there. sym (alive_behind_exact u (Jump l) rest) ∙ there) refl refl, tt))
-line_fits whole after (Branch condition l) args into rest formed labels first =
+    subst (λ (o : Option (List Listed)). FitsHere (Jump l) args into rest formed right (both_of None o)) (sym here)
+    (fits_by (Jump l) args into rest formed right (listings (place_in []) (lists_at l rest) ∷ []) (λ v there. inl (is_listed (place_in []) (lists_at l rest) v there))
+    (kept_at_label (Jump l) args into rest formed right l (listings (place_in []) (lists_at l rest)) refl (λ u there. sym (alive_behind_exact u (Jump l) rest) ∙ there) refl refl refl, tt)
+    (none_is_held (Jump l) args into rest formed right (listings (place_in []) (lists_at l rest) ∷ []) refl))
+line_fits whole after (Branch condition l) args into rest formed right labels first =
     let here = labels l formed.labels in
-    subst (λ (o : Option (List Listed)). FitsHere (Branch condition l) args into rest formed (both_of (Some (first_alive after)) o)) (sym here)
-    (fits_by (Branch condition l) args into rest formed (first_alive after ∷ listings (place_in []) (alive_values_at l rest) ∷ [])
+    subst (λ (o : Option (List Listed)). FitsHere (Branch condition l) args into rest formed right (both_of (Some (first_alive after)) o)) (sym here)
+    (fits_by (Branch condition l) args into rest formed right (first_alive after ∷ listings (place_in []) (lists_at l rest) ∷ [])
     (λ v there.
     listed_in_two v (or_cases (is_among v (alive_values rest)) (is_among v (alive_values_at l rest)) (sym (among_with_values (alive_values rest) (alive_values_at l rest) v) ∙ there))) (
-      kept_at_next (Branch condition l) args into rest formed (first_alive after) first refl,
+      kept_at_next (Branch condition l) args into rest formed right (first_alive after) first refl,
       (
-        kept_at_label (Branch condition l) args into rest formed l (listings (place_in []) (alive_values_at l rest)) refl
+        kept_at_label (Branch condition l) args into rest formed right l (listings (place_in []) (lists_at l rest)) refl
             (λ u there.
             sym (alive_behind_exact u (Branch condition l) rest) ∙ among_with_values (alive_values rest) (alive_values_at l rest) u
             ∙ or_right (is_among u (alive_values rest)) (is_among u (alive_values_at l rest)) there)
-            refl refl,
+            refl refl refl,
         tt,
       ),
-    ))
+    ) (none_is_held (Branch condition l) args into rest formed right (first_alive after ∷ listings (place_in []) (lists_at l rest) ∷ []) refl))
   where
     listed_in_two : (v : ℕ) → (is_among v (alive_values rest) ≡ true) ⊎ (is_among v (alive_values_at l rest) ≡ true)
-        → IsListedIn (first_alive after ∷ listings (place_in []) (alive_values_at l rest) ∷ []) v
+        → IsListedIn (first_alive after ∷ listings (place_in []) (lists_at l rest) ∷ []) v
     listed_in_two v (inl there) =
-        inl (subst (λ (ls : List Listed). IsListed ls v) (sym first) (is_listed (place_in (pending_here (Branch condition l) args into rest formed)) (alive_values rest) v there))
-    listed_in_two v (inr there) = inr (inl (is_listed (place_in []) (alive_values_at l rest) v there))
-line_fits whole after (TailCall f) args into rest formed labels first = fits_by (TailCall f) args into rest formed [] (λ v there. absurd (false≢true there)) tt
-line_fits whole after Return args into rest formed labels first = fits_by Return args into rest formed [] (λ v there. absurd (false≢true there)) tt
-line_fits whole after Hold args into rest formed labels first = absurd formed.holds_none
-line_fits whole after Unhold args into rest formed labels first = absurd formed.holds_none
-line_fits whole after action args into rest formed labels first =
-    fits_by action args into rest formed (first_alive after ∷ [])
-    (λ v there. inl (subst (λ (ls : List Listed). IsListed ls v) (sym first) (is_listed (place_in (pending_here action args into rest formed)) (alive_values rest) v there)))
-    (kept_at_next action args into rest formed (first_alive after) first refl, tt)
+        inl (subst (λ (ls : List Listed). IsListed ls v) (sym first) (is_listed (place_in (pending_here (Branch condition l) args into rest formed right)) (lists_before rest) v there))
+    listed_in_two v (inr there) = inr (inl (is_listed (place_in []) (lists_at l rest) v there))
+line_fits whole after (TailCall f) args into rest formed right labels first =
+    fits_by (TailCall f) args into rest formed right [] (λ v there. absurd (false≢true there)) tt (none_is_held (TailCall f) args into rest formed right [] refl)
+line_fits whole after Return args into rest formed right labels first =
+    fits_by Return args into rest formed right [] (λ v there. absurd (false≢true there)) tt (none_is_held Return args into rest formed right [] refl)
+line_fits whole after action args into rest formed right labels first =
+    fits_by action args into rest formed right (first_alive after ∷ [])
+    (λ v there. inl (subst (λ (ls : List Listed). IsListed ls v) (sym first) (is_listed (place_in (pending_here action args into rest formed right)) (lists_before rest) v there)))
+    (kept_at_next action args into rest formed right (first_alive after) first refl, tt) (held_at_next action args into rest formed right (first_alive after) first)
 
 -- ---- what is stored behind a line
 
 -- what an action that hands its arguments over leaves in registers is its result alone
 pub none_left : (action : Action) (args : List ℕ) (into : Option ℕ) (rest : List Line) (formed : IsLineFormed (record { action = action; args = args; into = into }) rest) → hands_over action ≡ true
-    → left_in into (falls_to action (alive_values rest)) (load_from (first_register action) args) ≡ []
+    → left_in into (falls_to action (alive_values rest)) (loaded_for action args) ≡ []
 none_left action args into rest formed over =
-    none_kept (stays into (falls_to action (alive_values rest))) (load_from (first_register action) args)
-    (load_values (λ u. (is_among u (falls_to action (alive_values rest)) && not (is_written into u)) ≡ false) (first_register action) args
+    none_kept (stays into (falls_to action (alive_values rest))) (loaded_for action args)
+    (loaded_values (λ u. (is_among u (falls_to action (alive_values rest)) && not (is_written into u)) ≡ false) action args
     (λ u arg. false_from_ne_true (is_among u (falls_to action (alive_values rest)) && not (is_written into u))
     (λ t.
     let parts = and_parts (is_among u (falls_to action (alive_values rest))) (not (is_written into u)) t in
-    spent_there action args into rest formed over u arg (alive_falling action rest u parts.0) (not-true (is_written into u) parts.1))))
+    false≢true (sym (each_among (IsSpent (record { action = action; args = args; into = into }) rest) args u (formed.spent over) arg)
+    ∙ and_from (not (is_written into u)) (is_alive_behind u action rest) parts.1 (alive_falling action rest u parts.0)))))
 
 result_differs : (action : Action) (args : List ℕ) (into : Option ℕ) (rest : List Line) (formed : IsLineFormed (record { action = action; args = args; into = into }) rest) (v : ℕ) → into ≡ Some v
-    → AllByRecursion (Differ (record { value = v; register = numbered (result_register action) })) (left_in into (falls_to action (alive_values rest)) (load_from (first_register action) args))
+    → AllByRecursion (Differ (record { value = v; register = numbered (result_register action) })) (left_in into (falls_to action (alive_values rest)) (loaded_for action args))
 result_differs (Compute operation) args into rest formed v is =
     let l : Loaded = record { value = v; register = numbered 7 } in
     all_both (λ (m : Loaded). is_written into m.value ≡ false) (λ (m : Loaded). 7 ≢ m.register.number) (Differ l) (left_in into (alive_values rest) (load_from 5 args))
@@ -402,26 +476,26 @@ result_differs (Compute operation) args into rest formed v is =
     (left_unwritten into (alive_values rest) (load_from 5 args))
     (all_kept (λ (m : Loaded). 7 ≢ m.register.number) (stays into (alive_values rest)) (load_from 5 args)
     (load_numbers (λ k. 7 ≢ k) 5 args (λ k low high e. omega (arith, e, number_is k (omega (arith, high, formed.few)), high, formed.few))))
-result_differs Hold args into rest formed v is = absurd formed.holds_none
-result_differs Unhold args into rest formed v is = absurd formed.holds_none
+result_differs Hold args into rest formed v is = tt
+result_differs Unhold args into rest formed v is = tt
 result_differs action args into rest formed v is =
     subst (AllByRecursion (Differ (record { value = v; register = numbered (result_register action) }))) (sym (none_left action args into rest formed refl)) tt
 
 pub pending_loads : (action : Action) (args : List ℕ) (into : Option ℕ) (rest : List Line) (formed : IsLineFormed (record { action = action; args = args; into = into }) rest)
-    → AreLoads (pending action into (alive_values rest) (load_from (first_register action) args))
+    → AreLoads (pending action into (alive_values rest) (loaded_for action args))
 pending_loads action args into rest formed = go into refl
   where
-    kept : (o : Option ℕ) → AreLoads (left_in o (falls_to action (alive_values rest)) (load_from (first_register action) args))
-    kept o = loads_kept (stays o (falls_to action (alive_values rest))) (load_from (first_register action) args) (action_loads action args formed.few)
+    kept : (o : Option ℕ) → AreLoads (left_in o (falls_to action (alive_values rest)) (loaded_for action args))
+    kept o = loads_kept (stays o (falls_to action (alive_values rest))) (loaded_for action args) (action_loads action args formed.few)
 
-    go : (o : Option ℕ) → into ≡ o → AreLoads (given action o (falls_to action (alive_values rest)) ++ left_in o (falls_to action (alive_values rest)) (load_from (first_register action) args))
+    go : (o : Option ℕ) → into ≡ o → AreLoads (given action o (falls_to action (alive_values rest)) ++ left_in o (falls_to action (alive_values rest)) (loaded_for action args))
     go None is = kept None
     go (Some v) is =
         let l : Loaded = record { value = v; register = numbered (result_register action) } in
-        let left : List Loaded = left_in (Some v) (falls_to action (alive_values rest)) (load_from (first_register action) args) in
+        let left : List Loaded = left_in (Some v) (falls_to action (alive_values rest)) (loaded_for action args) in
         cond_both (is_among v (falls_to action (alive_values rest))) (l ∷ []) [] (λ (ls : List Loaded). AreLoads (ls ++ left))
         (λ t. (
-          subst (λ (x : Option ℕ). AllByRecursion (Differ l) (left_in x (falls_to action (alive_values rest)) (load_from (first_register action) args))) is (result_differs action args into rest formed v is),
+          subst (λ (x : Option ℕ). AllByRecursion (Differ l) (left_in x (falls_to action (alive_values rest)) (loaded_for action args))) is (result_differs action args into rest formed v is),
           (result_handed action (Some v), kept (Some v)),
         ))
         (λ t. kept (Some v))
@@ -445,9 +519,9 @@ pending_among action into behind loaded =
         (λ t. (t, left_among (Some v) (falls_to action behind) loaded)) (λ t. left_among (Some v) (falls_to action behind) loaded)
 
 -- the arguments of a line are alive before it
-pub args_alive : (line : Line) (rest : List Line) → AreAmong (alive_values (line ∷ rest)) (load_from (first_register line.action) line.args)
+pub args_alive : (line : Line) (rest : List Line) → AreAmong (alive_values (line ∷ rest)) (loaded_for line.action line.args)
 args_alive line rest =
-    load_values (λ u. is_among u (alive_values (line ∷ rest)) ≡ true) (first_register line.action) line.args
+    loaded_values (λ u. is_among u (alive_values (line ∷ rest)) ≡ true) line.action line.args
     (λ u arg.
     among_before line.args line.into (values_behind line.action (alive_values rest) (λ m. alive_values_at m rest)) u
     ∙ or_left (is_among u line.args) (not (is_written line.into u) && is_among u (values_behind line.action (alive_values rest) (λ m. alive_values_at m rest))) arg)

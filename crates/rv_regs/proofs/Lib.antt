@@ -11,6 +11,7 @@ pub mod Paying
 pub mod Lists
 pub mod Aliveness
 pub mod InRegisters
+pub mod Held
 pub mod Fitting
 pub mod Acting
 pub mod Plain

@@ -16,25 +16,26 @@ use Rattle.rv_isa.specs.PlacedCode.{PlacedLine, moves}
 use Rattle.rv_isa.specs.PlacedMachine.{is_label_line}
 use Rattle.rv_isa.specs.WellFormed.{AreLabelsAhead, AreDistinct, IsLineFormed, AreLinesFormed, IsWellFormed, AreWellFormed}
 use Rattle.rv_regs.specs.declared.slots.Loaded.{Loaded}
-use Rattle.rv_regs.specs.Alive.{values_before, values_behind, alive_values, alive_values_at}
+use Rattle.rv_regs.specs.Alive.{values_before, alive_values, alive_values_at, held_values, PointLists, lists_before}
 use Rattle.rv_regs.specs.Listings.{first_alive}
 use Rattle.rv_regs.specs.Conditions.{value_of, without_moves, IsPassed, AllFit, IsPlacing, ArePlacings}
-use Rattle.rv_regs.specs.Plain.{numbered, place_in, listing_at, listings, operand_at, first_register, load_from, left_in, stays, pending, loads, stores, line_and_stores, placed_row, placed_code, placed_function}
+use Rattle.rv_regs.specs.Plain.{numbered, place_in, listing_at, listings, operand_at, load_from, loaded_for, left_in, stays, pending, loads, stores, line_and_stores, placed_row, placed_code, placed_function}
 use Rattle.rv_regs.proofs.Lists.{all_made, without_none}
 use Rattle.rv_regs.proofs.Aliveness.{alive_exact, alive_distinct}
 use Rattle.rv_regs.proofs.InRegisters.{AreLoads, place_same, place_other, place_left, left_among, loads_kept, loads_are, number_is, once_loaded}
+use Rattle.rv_regs.proofs.Held.{HoldsRight, AllHoldRight, all_hold_right, held_exact, none_behind, AreFree, free_before}
 use Rattle.rv_regs.proofs.Fitting.{first_stores, first_loads, stores_fit, loads_fit, found_stores, found_loads}
-use Rattle.rv_regs.proofs.Acting.{result_of, none_given, action_loads, handed_argument, line_fits, pending_loads, pending_among, args_alive}
+use Rattle.rv_regs.proofs.Acting.{result_of, none_given, lists_at, action_loads, handed_argument, line_fits, pending_loads, pending_among, pending_free, args_alive}
 
 -- ---- without its moves the code is what it was
 
-without_stores : (values : List ℕ) (ls : List Loaded) (next : List PlacedLine) → without_moves (stores values ls next) ≡ without_moves next
-without_stores values [] next = refl
-without_stores values (l ∷ ls) next = without_stores values ls next
+without_stores : (point : PointLists) (ls : List Loaded) (next : List PlacedLine) → without_moves (stores point ls next) ≡ without_moves next
+without_stores point [] next = refl
+without_stores point (l ∷ ls) next = without_stores point ls next
 
-without_loads : (values : List ℕ) (ls : List Loaded) (after : List PlacedLine) → without_moves (loads values ls after) ≡ without_moves after
-without_loads values [] after = refl
-without_loads values (l ∷ ls) after = without_loads values ls (moves (listings (place_in ls) values) l.value (Load l.value l.register) ∷ after)
+without_loads : (point : PointLists) (ls : List Loaded) (after : List PlacedLine) → without_moves (loads point ls after) ≡ without_moves after
+without_loads point [] after = refl
+without_loads point (l ∷ ls) after = without_loads point ls (moves (listings (place_in ls) point) l.value (Load l.value l.register) ∷ after)
 
 values_of : (place_of : ℕ → Place) (args : List ℕ) → map value_of (map (operand_at place_of) args) ≡ args
 values_of place_of [] = refl
@@ -44,73 +45,74 @@ value_of_result : (action : Action) (into : Option ℕ) → option_map value_of 
 value_of_result action None = refl
 value_of_result action (Some v) = refl
 
-without_row : (action : Action) (args : List ℕ) (into : Option ℕ) (before behind : List ℕ) (next : List PlacedLine)
+without_row : (action : Action) (args : List ℕ) (into : Option ℕ) (before behind : PointLists) (next : List PlacedLine)
     → without_moves (placed_row action args into before behind next) ≡ record { action = action; args = args; into = into } ∷ without_moves next
 without_row action args into before behind next =
-    let loaded : List Loaded = load_from (first_register action) args in
+    let loaded : List Loaded = loaded_for action args in
     without_loads before loaded (line_and_stores action args into before behind next)
     ∙ ap (λ (more : List Line). record { action = action; args = map value_of (map (operand_at (place_in loaded)) args); into = option_map value_of (result_of action into) } ∷ more)
-    (without_stores behind (pending action into behind loaded) next)
+    (without_stores behind (pending action into behind.alive loaded) next)
     ∙ ap (λ vs. record { action = action; args = vs; into = option_map value_of (result_of action into) } ∷ without_moves next) (values_of (place_in loaded) args)
     ∙ ap (λ o. record { action = action; args = args; into = o } ∷ without_moves next) (value_of_result action into)
 
 code_is : (code : List Line) → without_moves (placed_code code) ≡ code
 code_is [] = refl
 code_is (line ∷ rest) =
-    without_row line.action line.args line.into (alive_values (line ∷ rest)) (alive_values rest) (placed_code rest) ∙ ap (λ (more : List Line). line ∷ more) (code_is rest)
+    without_row line.action line.args line.into (lists_before (line ∷ rest)) (lists_before rest) (placed_code rest) ∙ ap (λ (more : List Line). line ∷ more) (code_is rest)
 
 -- ---- what is alive at the begin of code, and at labels
 
-pub first_code : (code : List Line) → first_alive (placed_code code) ≡ listings (place_in []) (alive_values code)
+pub first_code : (code : List Line) → first_alive (placed_code code) ≡ listings (place_in []) (lists_before code)
 first_code [] = refl
 first_code (line ∷ rest) =
-    let loaded : List Loaded = load_from (first_register line.action) line.args in
-    first_loads (alive_values (line ∷ rest)) loaded (line_and_stores line.action line.args line.into (alive_values (line ∷ rest)) (alive_values rest) (placed_code rest)) refl
+    let loaded : List Loaded = loaded_for line.action line.args in
+    first_loads (lists_before (line ∷ rest)) loaded (line_and_stores line.action line.args line.into (lists_before (line ∷ rest)) (lists_before rest) (placed_code rest)) refl
 
-found_row : (l : ℕ) (action : Action) (args : List ℕ) (into : Option ℕ) (before behind : List ℕ) (next : List PlacedLine)
+found_row : (l : ℕ) (action : Action) (args : List ℕ) (into : Option ℕ) (before behind : PointLists) (next : List PlacedLine)
     → found (is_label_line l) (placed_row action args into before behind next) ≡ cond (is_label l action) (Some (line_and_stores action args into before behind next)) (found (is_label_line l) next)
 found_row l action args into before behind next =
-    let loaded : List Loaded = load_from (first_register action) args in
+    let loaded : List Loaded = loaded_for action args in
     found_loads l before loaded (line_and_stores action args into before behind next)
-    ∙ ap (λ (o : Option (List PlacedLine)). cond (is_label l action) (Some (line_and_stores action args into before behind next)) o) (found_stores l behind (pending action into behind loaded) next)
+    ∙ ap (λ (o : Option (List PlacedLine)). cond (is_label l action) (Some (line_and_stores action args into before behind next)) o) (found_stores l behind (pending action into behind.alive loaded) next)
 
 no_args : (args : List ℕ) → length args ≤ 0 → args ≡ []
 no_args [] few = refl
 no_args (v ∷ vs) few = absurd (omega (arith, few))
 
-label_row : (l : ℕ) (action : Action) (args : List ℕ) (into : Option ℕ) (rest : List Line) → IsLineFormed (record { action = action; args = args; into = into }) rest → is_label l action ≡ true
-    → listings (place_in (load_from (first_register action) args)) (values_before args into (values_behind action (alive_values rest) (λ m. alive_values_at m rest))) ≡ listings (place_in []) (alive_values rest)
-label_row l (Label m) args into rest formed is =
-    ap (λ vs. listings (place_in (load_from (argument 0) vs)) (values_before vs into (alive_values rest))) (no_args args formed.few)
-    ∙ ap (λ o. listings (place_in []) (values_before [] o (alive_values rest))) (none_given (Label m) into refl formed.gives)
-    ∙ ap (listings (place_in [])) (without_none (alive_values rest))
-label_row l action args into rest formed is = absurd (false≢true is)
+label_row : (l : ℕ) (action : Action) (args : List ℕ) (into : Option ℕ) (rest : List Line) → IsLineFormed (record { action = action; args = args; into = into }) rest
+    → HoldsRight (record { action = action; args = args; into = into }) rest → is_label l action ≡ true
+    → listings (place_in (loaded_for action args)) (lists_before (record { action = action; args = args; into = into } ∷ rest)) ≡ listings (place_in []) (lists_at l (record { action = action; args = args; into = into } ∷ rest))
+label_row l (Label m) args into rest formed right is =
+    ap (λ vs. listings (place_in (load_from (argument 0) vs)) (record { alive = values_before vs into (alive_values rest); held = held_values rest })) (no_args args formed.few)
+    ∙ ap (λ o. listings (place_in []) (record { alive = values_before [] o (alive_values rest); held = held_values rest })) (none_given (Label m) into refl formed.gives)
+    ∙ ap (λ vs. listings (place_in []) (record { alive = vs; held = held_values rest })) (without_none (alive_values rest))
+    ∙ ap (λ vs. listings (place_in []) (record { alive = alive_values rest; held = vs })) (none_behind (Label m) args (held_values rest) (held_values rest) right.changes refl)
+    ∙ ap (λ vs. listings (place_in []) (record { alive = vs; held = [] })) (sym (cond-true (is_label l (Label m)) (alive_values rest) (alive_values_at l rest) is))
+label_row l action args into rest formed right is = absurd (false≢true is)
 
--- at a label of the code its values are in their slots
-label_alive : (l : ℕ) (code : List Line) → AreLinesFormed code → is_some (found (λ (line : Line). is_label l line.action) code) ≡ true
-    → option_map first_alive (found (is_label_line l) (placed_code code)) ≡ Some (listings (place_in []) (alive_values_at l code))
-label_alive l [] formed there = absurd (false≢true there)
-label_alive l (line ∷ rest) formed there = go (label_alive l rest formed.1) (cases_Bool (is_label l line.action))
+-- at a label of the code its values are in their slots, and none is held
+label_alive : (l : ℕ) (code : List Line) → AreLinesFormed code → AllHoldRight code → is_some (found (λ (line : Line). is_label l line.action) code) ≡ true
+    → option_map first_alive (found (is_label_line l) (placed_code code)) ≡ Some (listings (place_in []) (lists_at l code))
+label_alive l [] formed right there = absurd (false≢true there)
+label_alive l (line ∷ rest) formed right there = go (label_alive l rest formed.1 right.1) (cases_Bool (is_label l line.action))
   where
-    row : option_map first_alive (found (is_label_line l) (placed_code (line ∷ rest)))
-        ≡ option_map first_alive (cond (is_label l line.action) (Some (line_and_stores line.action line.args line.into (alive_values (line ∷ rest)) (alive_values rest) (placed_code rest))) (found (is_label_line l) (placed_code rest)))
-    row = ap (λ (o : Option (List PlacedLine)). option_map first_alive o) (found_row l line.action line.args line.into (alive_values (line ∷ rest)) (alive_values rest) (placed_code rest))
+    placed_line : List PlacedLine
+    placed_line = line_and_stores line.action line.args line.into (lists_before (line ∷ rest)) (lists_before rest) (placed_code rest)
 
     at_line : (b : Bool) → is_label l line.action ≡ b
-        → option_map first_alive (cond (is_label l line.action) (Some (line_and_stores line.action line.args line.into (alive_values (line ∷ rest)) (alive_values rest) (placed_code rest))) (found (is_label_line l) (placed_code rest)))
-        ≡ option_map first_alive (cond b (Some (line_and_stores line.action line.args line.into (alive_values (line ∷ rest)) (alive_values rest) (placed_code rest))) (found (is_label_line l) (placed_code rest)))
+        → option_map first_alive (found (is_label_line l) (placed_code (line ∷ rest))) ≡ option_map first_alive (cond b (Some placed_line) (found (is_label_line l) (placed_code rest)))
     at_line b e =
-        ap (λ (c : Bool). option_map first_alive (cond c (Some (line_and_stores line.action line.args line.into (alive_values (line ∷ rest)) (alive_values rest) (placed_code rest))) (found (is_label_line l) (placed_code rest)))) e
+        ap (λ (o : Option (List PlacedLine)). option_map first_alive o) (found_row l line.action line.args line.into (lists_before (line ∷ rest)) (lists_before rest) (placed_code rest))
+        ∙ ap (λ (c : Bool). option_map first_alive (cond c (Some placed_line) (found (is_label_line l) (placed_code rest)))) e
 
-    go : (is_some (found (λ (m : Line). is_label l m.action) rest) ≡ true → option_map first_alive (found (is_label_line l) (placed_code rest)) ≡ Some (listings (place_in []) (alive_values_at l rest)))
-        → (is_label l line.action ≡ true) ⊎ (is_label l line.action ≡ false) → option_map first_alive (found (is_label_line l) (placed_code (line ∷ rest))) ≡ Some (listings (place_in []) (alive_values_at l (line ∷ rest)))
-    go later (inl is) =
-        row ∙ at_line true is ∙ ap (λ (ls : List Listed). Some ls) (label_row l line.action line.args line.into rest formed.0 is)
-        ∙ ap (λ vs. Some (listings (place_in []) vs)) (sym (cond-true (is_label l line.action) (alive_values rest) (alive_values_at l rest) is))
+    go : (is_some (found (λ (m : Line). is_label l m.action) rest) ≡ true → option_map first_alive (found (is_label_line l) (placed_code rest)) ≡ Some (listings (place_in []) (lists_at l rest)))
+        → (is_label l line.action ≡ true) ⊎ (is_label l line.action ≡ false) → option_map first_alive (found (is_label_line l) (placed_code (line ∷ rest))) ≡ Some (listings (place_in []) (lists_at l (line ∷ rest)))
+    go later (inl is) = at_line true is ∙ ap (λ (ls : List Listed). Some ls) (label_row l line.action line.args line.into rest formed.0 right.0 is)
     go later (inr other) =
         let in_rest : is_some (found (λ (m : Line). is_label l m.action) rest) ≡ true =
         ap (λ (o : Option (List Line)). is_some o) (sym (cond-false (is_label l line.action) (Some (line ∷ rest)) (found (λ (m : Line). is_label l m.action) rest) other)) ∙ there in
-        row ∙ at_line false other ∙ later in_rest ∙ ap (λ vs. Some (listings (place_in []) vs)) (sym (cond-false (is_label l line.action) (alive_values rest) (alive_values_at l rest) other))
+        at_line false other ∙ later in_rest
+        ∙ ap (λ vs. Some (listings (place_in []) (record { alive = vs; held = [] }))) (sym (cond-false (is_label l line.action) (alive_values rest) (alive_values_at l rest) other))
 
 some_is_not_none : {A : Type 0} (a : A) → Some a ≡ None → ⊥
 some_is_not_none a e = cc
@@ -124,8 +126,8 @@ label_none l (line ∷ rest) none = go (label_none l rest) (cases_Bool (is_label
     go later (inl is) =
         absurd (some_is_not_none (line ∷ rest) (sym (cond-true (is_label l line.action) (Some (line ∷ rest)) (found (λ (m : Line). is_label l m.action) rest) is) ∙ none))
     go later (inr other) =
-        found_row l line.action line.args line.into (alive_values (line ∷ rest)) (alive_values rest) (placed_code rest)
-        ∙ cond-false (is_label l line.action) (Some (line_and_stores line.action line.args line.into (alive_values (line ∷ rest)) (alive_values rest) (placed_code rest))) (found (is_label_line l) (placed_code rest)) other
+        found_row l line.action line.args line.into (lists_before (line ∷ rest)) (lists_before rest) (placed_code rest)
+        ∙ cond-false (is_label l line.action) (Some (line_and_stores line.action line.args line.into (lists_before (line ∷ rest)) (lists_before rest) (placed_code rest))) (found (is_label_line l) (placed_code rest)) other
         ∙ later (sym (cond-false (is_label l line.action) (Some (line ∷ rest)) (found (λ (m : Line). is_label l m.action) rest) other) ∙ none)
 
 -- ---- each line fits
@@ -147,25 +149,26 @@ ahead_next whole line rest labels ahead l alive e = go (cases_Bool (is_label l l
     go (inr other) =
         ahead l alive
         (ap (λ (o : Option (List PlacedLine)). option_map first_alive o)
-        (found_row l line.action line.args line.into (alive_values (line ∷ rest)) (alive_values rest) (placed_code rest)
-        ∙ cond-false (is_label l line.action) (Some (line_and_stores line.action line.args line.into (alive_values (line ∷ rest)) (alive_values rest) (placed_code rest))) (found (is_label_line l) (placed_code rest)) other)
+        (found_row l line.action line.args line.into (lists_before (line ∷ rest)) (lists_before rest) (placed_code rest)
+        ∙ cond-false (is_label l line.action) (Some (line_and_stores line.action line.args line.into (lists_before (line ∷ rest)) (lists_before rest) (placed_code rest))) (found (is_label_line l) (placed_code rest)) other)
         ∙ e)
 
-code_fits : (whole : List PlacedLine) (code : List Line) → AreLinesFormed code → AreAhead whole code → AllFit whole (placed_code code)
-code_fits whole [] formed ahead = tt
-code_fits whole (line ∷ rest) formed ahead =
-    let loaded : List Loaded = load_from (first_register line.action) line.args in
+code_fits : (whole : List PlacedLine) (code : List Line) → AreLinesFormed code → AllHoldRight code → AreAhead whole code → AllFit whole (placed_code code)
+code_fits whole [] formed right ahead = tt
+code_fits whole (line ∷ rest) formed right ahead =
+    let loaded : List Loaded = loaded_for line.action line.args in
+    let stored : List Loaded = pending line.action line.into (alive_values rest) loaded in
+    let after : List PlacedLine = stores (lists_before rest) stored (placed_code rest) in
     let ahead' : AreAhead whole rest = ahead_next whole line rest formed.0.labels ahead in
-    let behind_first : first_alive (stores (alive_values rest) (pending line.action line.into (alive_values rest) loaded) (placed_code rest)) ≡ listings (place_in (pending line.action line.into (alive_values rest) loaded)) (alive_values rest)
-    = first_stores (alive_values rest) (pending line.action line.into (alive_values rest) loaded) (placed_code rest) (first_code rest) in
-    loads_fit whole (alive_values (line ∷ rest)) loaded (line_and_stores line.action line.args line.into (alive_values (line ∷ rest)) (alive_values rest) (placed_code rest))
-    (alive_distinct (line ∷ rest)) (action_loads line.action line.args formed.0.few)
-    (args_alive line rest)
+    let behind_first : first_alive after ≡ listings (place_in stored) (lists_before rest) = first_stores (lists_before rest) stored (placed_code rest) (first_code rest) in
+    loads_fit whole (lists_before (line ∷ rest)) loaded (line_and_stores line.action line.args line.into (lists_before (line ∷ rest)) (lists_before rest) (placed_code rest))
+    (alive_distinct (line ∷ rest)) (action_loads line.action line.args formed.0.few) (args_alive line rest)
+    (free_before line.action line.args (held_values (line ∷ rest)) (held_values rest) right.0.changes (λ v before behind. (right.0.leaves v before behind).0))
     refl (
-      line_fits whole (stores (alive_values rest) (pending line.action line.into (alive_values rest) loaded) (placed_code rest)) line.action line.args line.into rest formed.0
-          (λ l there. ahead' l (listings (place_in []) (alive_values_at l rest)) (label_alive l rest formed.1 there)) behind_first,
-      stores_fit whole (alive_values rest) (pending line.action line.into (alive_values rest) loaded) (placed_code rest) (alive_distinct rest)
-          (pending_loads line.action line.args line.into rest formed.0) (pending_among line.action line.into (alive_values rest) loaded) (first_code rest) (code_fits whole rest formed.1 ahead'),
+      line_fits whole after line.action line.args line.into rest formed.0 right.0
+          (λ l there. ahead' l (listings (place_in []) (lists_at l rest)) (label_alive l rest formed.1 right.1 there)) behind_first,
+      stores_fit whole (lists_before rest) stored (placed_code rest) (alive_distinct rest) (pending_loads line.action line.args line.into rest formed.0)
+          (pending_among line.action line.into (alive_values rest) loaded) (pending_free line rest formed.0 right.0) (first_code rest) (code_fits whole rest formed.1 right.1 ahead'),
     )
 
 -- ---- the start
@@ -208,28 +211,38 @@ param_loads params alive few =
     loads_kept (stays None alive) (load_from (argument 0) params)
     (loads_are (argument 0) params (omega (arith, few)) (λ k low high. handed_argument k low (omega (arith, high, few))))
 
-starts_passed : (params alive : List ℕ) → AreDistinct params → length params ≤ 8 → ((v : ℕ) → is_among v alive ≡ true → is_among v params ≡ true)
-    → All (IsPassed params) (listings (place_in (left_in None alive (load_from (argument 0) params))) alive)
+starts_passed : (params : List ℕ) (point : PointLists) → AreDistinct params → length params ≤ 8 → ((v : ℕ) → is_among v point.alive ≡ true → is_among v params ≡ true) → point.held ≡ []
+    → All (IsPassed params) (listings (place_in (left_in None point.alive (load_from (argument 0) params))) point)
 unfolding IsPassed
-starts_passed params alive distinct few all =
-    all_made (IsPassed params) (listing_at (place_in (left_in None alive (load_from (argument 0) params)))) alive
+starts_passed params point distinct few all none =
+    subst (λ (held : List ℕ). All (IsPassed params) (listings (place_in (left_in None point.alive (load_from (argument 0) params))) (record { alive = point.alive; held = held }))) (sym none)
+    (all_made (IsPassed params) (listing_at (place_in (left_in None point.alive (load_from (argument 0) params))) []) point.alive
     (λ v there.
-    passed_in params v 0 (place_in (left_in None alive (load_from (argument 0) params)) v) distinct (omega (arith, few)) (all v there)
-    (place_left None alive (load_from (argument 0) params) v there refl))
+    passed_in params v 0 (place_in (left_in None point.alive (load_from (argument 0) params)) v) distinct (omega (arith, few)) (all v there)
+    (place_left None point.alive (load_from (argument 0) params) v there refl)))
+
+-- nothing is held, so no parameter is
+none_free : (held : List ℕ) (loaded : List Loaded) → held ≡ [] → AreFree held loaded
+none_free held loaded none = subst (λ (vs : List ℕ). AreFree vs loaded) (sym none) (free loaded)
+  where
+    free : (ls : List Loaded) → AreFree [] ls
+    free [] = tt
+    free (l ∷ ls) = (refl, free ls)
 
 pub is_placing : (f : Lines) → IsWellFormed f → IsPlacing f (placed_function f)
 is_placing f formed =
-    let alive : List ℕ = alive_values f.code in
-    let params : List Loaded = left_in None alive (load_from (argument 0) f.params) in
+    let point : PointLists = lists_before f.code in
+    let params : List Loaded = left_in None point.alive (load_from (argument 0) f.params) in
+    let none : held_values f.code ≡ [] = held_exact [] f.code formed.tokens in
     record {
       params = refl;
-      code = without_stores alive params (placed_code f.code) ∙ code_is f.code;
-      start = subst (All (IsPassed f.params)) (sym (first_stores alive params (placed_code f.code) (first_code f.code)))
-          (starts_passed f.params alive formed.params formed.few_params (λ v there. formed.start v (sym (alive_exact v f.code) ∙ there)));
-      fit = stores_fit (stores alive params (placed_code f.code)) alive params (placed_code f.code) (alive_distinct f.code) (param_loads f.params alive formed.few_params) (left_among None alive (load_from (argument 0) f.params))
-          (first_code f.code)
-          (code_fits (stores alive params (placed_code f.code)) f.code formed.lines
-          (λ l ls e. ap (λ (o : Option (List PlacedLine)). option_map first_alive o) (found_stores l alive params (placed_code f.code)) ∙ e));
+      code = without_stores point params (placed_code f.code) ∙ code_is f.code;
+      start = subst (All (IsPassed f.params)) (sym (first_stores point params (placed_code f.code) (first_code f.code)))
+          (starts_passed f.params point formed.params formed.few_params (λ v there. formed.start v (sym (alive_exact v f.code) ∙ there)) none);
+      fit = stores_fit (stores point params (placed_code f.code)) point params (placed_code f.code) (alive_distinct f.code) (param_loads f.params point.alive formed.few_params)
+          (left_among None point.alive (load_from (argument 0) f.params)) (none_free (held_values f.code) params none) (first_code f.code)
+          (code_fits (stores point params (placed_code f.code)) f.code formed.lines (all_hold_right [] f.code formed.tokens)
+          (λ l ls e. ap (λ (o : Option (List PlacedLine)). option_map first_alive o) (found_stores l point params (placed_code f.code)) ∙ e));
     }
 
 pub are_placings : (functions : List Lines) → AreWellFormed functions → ArePlacings functions (map placed_function functions)

@@ -17,10 +17,10 @@ use Rattle.rv_isa.specs.PlacedCode.{PlacedLine, moves, PlacedLines, placed_funct
 use Rattle.rv_isa.specs.WellFormed.{IsLineFormed, AreLinesFormed, IsWellFormed, AreWellFormed, most_args, most_values}
 use Rattle.rv_isa.specs.Costs.{argument_moves, result_moves, move_instructions, code_length, functions_length, placed_code_length, placed_functions_length}
 use Rattle.rv_regs.specs.declared.slots.Loaded.{Loaded}
-use Rattle.rv_regs.specs.Alive.{alive_values}
-use Rattle.rv_regs.specs.Plain.{numbered, place_in, listing_at, listings, operand_at, first_register, result_register, load_from, falls_to, given, left_in, stays, pending, loads, stores, line_and_stores, placed_code, placed_function}
+use Rattle.rv_regs.specs.Alive.{alive_values, PointLists, lists_before}
+use Rattle.rv_regs.specs.Plain.{numbered, place_in, listing_at, listings, operand_at, first_register, result_register, load_from, loaded_for, falls_to, given, left_in, stays, pending, loads, stores, line_and_stores, placed_code, placed_function}
 use Rattle.rv_regs.specs.Relation.{leading, first_args, stores_behind, FewMoves, FunctionFewMoves, AllFewMoves}
-use Rattle.rv_regs.specs.Shape.{IsBelow, IsResultBelow, AllSlotsBelow, LineHoldsNone, IsPlainlyPlaced}
+use Rattle.rv_regs.specs.Shape.{IsBelow, IsResultBelow, AllSlotsBelow, IsPlainlyPlaced}
 use Rattle.rv_regs.proofs.Lists.{all_made, each_among}
 use Rattle.rv_regs.proofs.Aliveness.{alive_small}
 use Rattle.rv_regs.proofs.InRegisters.{AreAmong, left_among}
@@ -33,6 +33,11 @@ few_loads n [] = omega arith
 few_loads n (v ∷ vs) =
     let later = few_loads (suc n) vs in
     cond_both (is_among v vs) (load_from (suc n) vs) (record { value = v; register = numbered n } ∷ load_from (suc n) vs) (λ (ls : List Loaded). length ls ≤ suc (length vs)) (λ t. omega (arith, later)) (λ t. omega (arith, later))
+
+few_loaded_for : (action : Action) (args : List ℕ) → length (loaded_for action args) ≤ length args
+few_loaded_for Hold args = omega arith
+few_loaded_for Unhold args = omega arith
+few_loaded_for action args = few_loads (first_register action) args
 
 few_kept : (test : Loaded → Bool) (ls : List Loaded) → length (filter test ls) ≤ length ls
 few_kept test [] = omega arith
@@ -61,50 +66,50 @@ moves_enough (TailCall f) count = omega arith
 moves_enough action count = omega arith
 
 few_left : (action : Action) (args : List ℕ) (into : Option ℕ) (rest : List Line) → IsLineFormed (record { action = action; args = args; into = into }) rest
-    → length (left_in into (falls_to action (alive_values rest)) (load_from (first_register action) args)) ≤ left_stores action (length args)
+    → length (left_in into (falls_to action (alive_values rest)) (loaded_for action args)) ≤ left_stores action (length args)
 few_left (Compute operation) args into rest formed = omega (arith, few_kept (stays into (alive_values rest)) (load_from 5 args), few_loads 5 args)
-few_left Hold args into rest formed = absurd formed.holds_none
-few_left Unhold args into rest formed = absurd formed.holds_none
+few_left Hold args into rest formed = omega arith
+few_left Unhold args into rest formed = omega arith
 few_left action args into rest formed = subst (λ (ls : List Loaded). length ls ≤ left_stores action (length args)) (sym (none_left action args into rest formed refl)) (omega arith)
 
 few_pending : (line : Line) (rest : List Line) → IsLineFormed line rest
-    → length (pending line.action line.into (alive_values rest) (load_from (first_register line.action) line.args)) ≤ left_stores line.action (length line.args) + result_moves line.into
+    → length (pending line.action line.into (alive_values rest) (loaded_for line.action line.args)) ≤ left_stores line.action (length line.args) + result_moves line.into
 few_pending line rest formed =
     omega (
       arith,
       few_given line.action line.into (falls_to line.action (alive_values rest)),
       few_left line.action line.args line.into rest formed,
-      length-append (given line.action line.into (falls_to line.action (alive_values rest))) (left_in line.into (falls_to line.action (alive_values rest)) (load_from (first_register line.action) line.args)),
+      length-append (given line.action line.into (falls_to line.action (alive_values rest))) (left_in line.into (falls_to line.action (alive_values rest)) (loaded_for line.action line.args)),
     )
 
 -- ---- moves in a row
 
-leading_stores : (values : List ℕ) (ls : List Loaded) (next : List PlacedLine) → leading (stores values ls next) ≡ length ls + leading next
-leading_stores values [] next = omega arith
-leading_stores values (l ∷ ls) next = omega (arith, leading_stores values ls next)
+leading_stores : (point : PointLists) (ls : List Loaded) (next : List PlacedLine) → leading (stores point ls next) ≡ length ls + leading next
+leading_stores point [] next = omega arith
+leading_stores point (l ∷ ls) next = omega (arith, leading_stores point ls next)
 
-leading_loads : (values : List ℕ) (ls : List Loaded) (after : List PlacedLine) → leading (loads values ls after) ≡ length ls + leading after
-leading_loads values [] after = omega arith
-leading_loads values (l ∷ ls) after = omega (arith, leading_loads values ls (moves (listings (place_in ls) values) l.value (Load l.value l.register) ∷ after))
+leading_loads : (point : PointLists) (ls : List Loaded) (after : List PlacedLine) → leading (loads point ls after) ≡ length ls + leading after
+leading_loads point [] after = omega arith
+leading_loads point (l ∷ ls) after = omega (arith, leading_loads point ls (moves (listings (place_in ls) point) l.value (Load l.value l.register) ∷ after))
 
-args_stores : (values : List ℕ) (ls : List Loaded) (next : List PlacedLine) → first_args (stores values ls next) ≡ first_args next
-args_stores values [] next = refl
-args_stores values (l ∷ ls) next = args_stores values ls next
+args_stores : (point : PointLists) (ls : List Loaded) (next : List PlacedLine) → first_args (stores point ls next) ≡ first_args next
+args_stores point [] next = refl
+args_stores point (l ∷ ls) next = args_stores point ls next
 
-args_loads : (values : List ℕ) (ls : List Loaded) (after : List PlacedLine) → first_args (loads values ls after) ≡ first_args after
-args_loads values [] after = refl
-args_loads values (l ∷ ls) after = args_loads values ls (moves (listings (place_in ls) values) l.value (Load l.value l.register) ∷ after)
+args_loads : (point : PointLists) (ls : List Loaded) (after : List PlacedLine) → first_args (loads point ls after) ≡ first_args after
+args_loads point [] after = refl
+args_loads point (l ∷ ls) after = args_loads point ls (moves (listings (place_in ls) point) l.value (Load l.value l.register) ∷ after)
 
-few_stores : (values : List ℕ) (ls : List Loaded) (next : List PlacedLine) → FewMoves next → FewMoves (stores values ls next)
-few_stores values [] next few = few
-few_stores values (l ∷ ls) next few = few_stores values ls next few
+few_stores : (point : PointLists) (ls : List Loaded) (next : List PlacedLine) → FewMoves next → FewMoves (stores point ls next)
+few_stores point [] next few = few
+few_stores point (l ∷ ls) next few = few_stores point ls next few
 
-few_loaded : (values : List ℕ) (ls : List Loaded) (after : List PlacedLine) → FewMoves after → FewMoves (loads values ls after)
-few_loaded values [] after few = few
-few_loaded values (l ∷ ls) after few = few_loaded values ls (moves (listings (place_in ls) values) l.value (Load l.value l.register) ∷ after) few
+few_loaded : (point : PointLists) (ls : List Loaded) (after : List PlacedLine) → FewMoves after → FewMoves (loads point ls after)
+few_loaded point [] after few = few
+few_loaded point (l ∷ ls) after few = few_loaded point ls (moves (listings (place_in ls) point) l.value (Load l.value l.register) ∷ after) few
 
 abbrev line_and_more : Line → List Line → List PlacedLine
-line_and_more line rest = line_and_stores line.action line.args line.into (alive_values (line ∷ rest)) (alive_values rest) (placed_code rest)
+line_and_more line rest = line_and_stores line.action line.args line.into (lists_before (line ∷ rest)) (lists_before rest) (placed_code rest)
 
 -- only the loads of its first statement stand at the front of code
 leading_code : (code : List Line) → leading (placed_code code) ≤ first_args (placed_code code)
@@ -112,15 +117,15 @@ leading_code [] = omega arith
 leading_code (line ∷ rest) =
     omega (
       arith,
-      leading_loads (alive_values (line ∷ rest)) (load_from (first_register line.action) line.args) (line_and_more line rest),
-      args_loads (alive_values (line ∷ rest)) (load_from (first_register line.action) line.args) (line_and_more line rest),
-      few_loads (first_register line.action) line.args,
-      length-map line.args (operand_at (place_in (load_from (first_register line.action) line.args))),
+      leading_loads (lists_before (line ∷ rest)) (loaded_for line.action line.args) (line_and_more line rest),
+      args_loads (lists_before (line ∷ rest)) (loaded_for line.action line.args) (line_and_more line rest),
+      few_loaded_for line.action line.args,
+      length-map line.args (operand_at (place_in (loaded_for line.action line.args))),
     )
 
 -- stores, so many, before such code
-leading_both : (values : List ℕ) (ls : List Loaded) (most : ℕ) (code : List Line) → length ls ≤ most → leading (stores values ls (placed_code code)) ≤ most + first_args (stores values ls (placed_code code))
-leading_both values ls most code few = omega (arith, few, leading_stores values ls (placed_code code), args_stores values ls (placed_code code), leading_code code)
+leading_both : (point : PointLists) (ls : List Loaded) (most : ℕ) (code : List Line) → length ls ≤ most → leading (stores point ls (placed_code code)) ≤ most + first_args (stores point ls (placed_code code))
+leading_both point ls most code few = omega (arith, few, leading_stores point ls (placed_code code), args_stores point ls (placed_code code), leading_code code)
 
 same_given : (action : Action) (into : Option ℕ) → result_moves (result_of action into) ≡ result_moves into
 same_given action None = refl
@@ -134,13 +139,13 @@ stores_enough action args into count results many same = omega (arith, same)
 few_code : (code : List Line) → AreLinesFormed code → FewMoves (placed_code code)
 few_code [] formed = tt
 few_code (line ∷ rest) formed =
-    let loaded : List Loaded = load_from (first_register line.action) line.args in
+    let loaded : List Loaded = loaded_for line.action line.args in
     let operands : List Operand = map (operand_at (place_in loaded)) line.args in
     let behind : left_stores line.action (length line.args) + result_moves line.into ≤ stores_behind line.action operands (result_of line.action line.into) =
     stores_enough line.action operands (result_of line.action line.into) (length line.args) (result_moves line.into) (length-map line.args (operand_at (place_in loaded))) (same_given line.action line.into) in
-    few_loaded (alive_values (line ∷ rest)) loaded (line_and_more line rest) (
-      leading_both (alive_values rest) (pending line.action line.into (alive_values rest) loaded) (stores_behind line.action operands (result_of line.action line.into)) rest (omega (arith, few_pending line rest formed.0, behind)),
-      few_stores (alive_values rest) (pending line.action line.into (alive_values rest) loaded) (placed_code rest) (few_code rest formed.1),
+    few_loaded (lists_before (line ∷ rest)) loaded (line_and_more line rest) (
+      leading_both (lists_before rest) (pending line.action line.into (alive_values rest) loaded) (stores_behind line.action operands (result_of line.action line.into)) rest (omega (arith, few_pending line rest formed.0, behind)),
+      few_stores (lists_before rest) (pending line.action line.into (alive_values rest) loaded) (placed_code rest) (few_code rest formed.1),
     )
 
 few_start : (params alive : List ℕ) → length (left_in None alive (load_from (argument 0) params)) ≤ length params
@@ -148,24 +153,24 @@ few_start params alive = omega (arith, few_kept (stays None alive) (load_from (a
 
 -- ---- how long
 
-length_stores : (values : List ℕ) (ls : List Loaded) (next : List PlacedLine) → placed_code_length (stores values ls next) ≡ length ls * move_instructions + placed_code_length next
-length_stores values [] next = omega arith
-length_stores values (l ∷ ls) next = omega (arith, length_stores values ls next)
+length_stores : (point : PointLists) (ls : List Loaded) (next : List PlacedLine) → placed_code_length (stores point ls next) ≡ length ls * move_instructions + placed_code_length next
+length_stores point [] next = omega arith
+length_stores point (l ∷ ls) next = omega (arith, length_stores point ls next)
 
-length_loads : (values : List ℕ) (ls : List Loaded) (after : List PlacedLine) → placed_code_length (loads values ls after) ≡ length ls * move_instructions + placed_code_length after
-length_loads values [] after = omega arith
-length_loads values (l ∷ ls) after = omega (arith, length_loads values ls (moves (listings (place_in ls) values) l.value (Load l.value l.register) ∷ after))
+length_loads : (point : PointLists) (ls : List Loaded) (after : List PlacedLine) → placed_code_length (loads point ls after) ≡ length ls * move_instructions + placed_code_length after
+length_loads point [] after = omega arith
+length_loads point (l ∷ ls) after = omega (arith, length_loads point ls (moves (listings (place_in ls) point) l.value (Load l.value l.register) ∷ after))
 
 length_code : (code : List Line) → AreLinesFormed code → placed_code_length (placed_code code) ≤ code_length code
 length_code [] formed = omega arith
 length_code (line ∷ rest) formed =
     omega (
       arith,
-      length_loads (alive_values (line ∷ rest)) (load_from (first_register line.action) line.args) (line_and_more line rest),
-      few_loads (first_register line.action) line.args,
+      length_loads (lists_before (line ∷ rest)) (loaded_for line.action line.args) (line_and_more line rest),
+      few_loaded_for line.action line.args,
       moves_enough line.action (length line.args),
       few_pending line rest formed.0,
-      length_stores (alive_values rest) (pending line.action line.into (alive_values rest) (load_from (first_register line.action) line.args)) (placed_code rest),
+      length_stores (lists_before rest) (pending line.action line.into (alive_values rest) (loaded_for line.action line.args)) (placed_code rest),
       length_code rest formed.1,
     )
 
@@ -173,7 +178,7 @@ length_function : (f : Lines) → IsWellFormed f → placed_code_length (placed_
 length_function f formed =
     omega (
       arith,
-      length_stores (alive_values f.code) (left_in None (alive_values f.code) (load_from (argument 0) f.params)) (placed_code f.code),
+      length_stores (lists_before f.code) (left_in None (alive_values f.code) (load_from (argument 0) f.params)) (placed_code f.code),
       few_start f.params (alive_values f.code),
       length_code f.code formed.lines,
     )
@@ -188,17 +193,17 @@ below_place : (most : ℕ) (ls : List Loaded) (v : ℕ) → v < most → IsBelow
 below_place most [] v small = small
 below_place most (l ∷ ls) v small = cond_both _ (register l.register) (place_in ls v) (IsBelow most) (λ t. tt) (λ t. below_place most ls v small)
 
-below_listed : (most : ℕ) (ls : List Loaded) (values : List ℕ) → ((v : ℕ) → is_among v values ≡ true → v < most) → All (λ (l : Listed). IsBelow most l.place) (listings (place_in ls) values)
-below_listed most ls values small = all_made (λ (l : Listed). IsBelow most l.place) (listing_at (place_in ls)) values (λ v there. below_place most ls v (small v there))
+below_listed : (most : ℕ) (ls : List Loaded) (point : PointLists) → ((v : ℕ) → is_among v point.alive ≡ true → v < most) → All (λ (l : Listed). IsBelow most l.place) (listings (place_in ls) point)
+below_listed most ls point small = all_made (λ (l : Listed). IsBelow most l.place) (listing_at (place_in ls) point.held) point.alive (λ v there. below_place most ls v (small v there))
 
-below_stores : (most : ℕ) (values : List ℕ) (ls : List Loaded) (next : List PlacedLine) → ((v : ℕ) → is_among v values ≡ true → v < most) → AreAmong values ls → AllSlotsBelow most next → AllSlotsBelow most (stores values ls next)
-below_stores most values [] next small among below = below
-below_stores most values (l ∷ ls) next small among below = ((below_listed most (l ∷ ls) values small, (tt, small l.value among.0)), below_stores most values ls next small among.1 below)
+below_stores : (most : ℕ) (point : PointLists) (ls : List Loaded) (next : List PlacedLine) → ((v : ℕ) → is_among v point.alive ≡ true → v < most) → AreAmong point.alive ls → AllSlotsBelow most next → AllSlotsBelow most (stores point ls next)
+below_stores most point [] next small among below = below
+below_stores most point (l ∷ ls) next small among below = ((below_listed most (l ∷ ls) point small, (tt, small l.value among.0)), below_stores most point ls next small among.1 below)
 
-below_loads : (most : ℕ) (values : List ℕ) (ls : List Loaded) (after : List PlacedLine) → ((v : ℕ) → is_among v values ≡ true → v < most) → AreAmong values ls → AllSlotsBelow most after → AllSlotsBelow most (loads values ls after)
-below_loads most values [] after small among below = below
-below_loads most values (l ∷ ls) after small among below =
-    below_loads most values ls (moves (listings (place_in ls) values) l.value (Load l.value l.register) ∷ after) small among.1 ((below_listed most ls values small, (small l.value among.0, tt)), below)
+below_loads : (most : ℕ) (point : PointLists) (ls : List Loaded) (after : List PlacedLine) → ((v : ℕ) → is_among v point.alive ≡ true → v < most) → AreAmong point.alive ls → AllSlotsBelow most after → AllSlotsBelow most (loads point ls after)
+below_loads most point [] after small among below = below
+below_loads most point (l ∷ ls) after small among below =
+    below_loads most point ls (moves (listings (place_in ls) point) l.value (Load l.value l.register) ∷ after) small among.1 ((below_listed most ls point small, (small l.value among.0, tt)), below)
 
 below_result : (most : ℕ) (action : Action) (into : Option ℕ) → IsResultBelow most (result_of action into)
 below_result most action None = tt
@@ -209,34 +214,16 @@ below_code [] formed = tt
 below_code (line ∷ rest) formed =
     let small : (v : ℕ) → is_among v (alive_values rest) ≡ true → v < most_values = λ v there. alive_small v rest formed.1 there in
     let small_before : (v : ℕ) → is_among v (alive_values (line ∷ rest)) ≡ true → v < most_values = λ v there. alive_small v (line ∷ rest) formed there in
-    let loaded : List Loaded = load_from (first_register line.action) line.args in
-    below_loads most_values (alive_values (line ∷ rest)) loaded (line_and_more line rest) small_before (args_alive line rest) (
+    let loaded : List Loaded = loaded_for line.action line.args in
+    below_loads most_values (lists_before (line ∷ rest)) loaded (line_and_more line rest) small_before (args_alive line rest) (
       (
-        below_listed most_values loaded (alive_values (line ∷ rest)) small_before,
+        below_listed most_values loaded (lists_before (line ∷ rest)) small_before,
         (
           all_made (λ (arg : Operand). IsBelow most_values arg.place) (operand_at (place_in loaded)) line.args (λ v arg. below_place most_values loaded v (each_among (λ u. u < most_values) line.args v formed.0.args_small arg)),
           below_result most_values line.action line.into,
         ),
       ),
-      below_stores most_values (alive_values rest) (pending line.action line.into (alive_values rest) loaded) (placed_code rest) small (pending_among line.action line.into (alive_values rest) loaded) (below_code rest formed.1),
-    )
-
--- ---- tokens
-
-none_in_stores : (values : List ℕ) (ls : List Loaded) (next : List PlacedLine) → AllByRecursion LineHoldsNone next → AllByRecursion LineHoldsNone (stores values ls next)
-none_in_stores values [] next none = none
-none_in_stores values (l ∷ ls) next none = (tt, none_in_stores values ls next none)
-
-none_in_loads : (values : List ℕ) (ls : List Loaded) (after : List PlacedLine) → AllByRecursion LineHoldsNone after → AllByRecursion LineHoldsNone (loads values ls after)
-none_in_loads values [] after none = none
-none_in_loads values (l ∷ ls) after none = none_in_loads values ls (moves (listings (place_in ls) values) l.value (Load l.value l.register) ∷ after) (tt, none)
-
-none_in_code : (code : List Line) → AreLinesFormed code → AllByRecursion LineHoldsNone (placed_code code)
-none_in_code [] formed = tt
-none_in_code (line ∷ rest) formed =
-    none_in_loads (alive_values (line ∷ rest)) (load_from (first_register line.action) line.args) (line_and_more line rest) (
-      formed.0.holds_none,
-      none_in_stores (alive_values rest) (pending line.action line.into (alive_values rest) (load_from (first_register line.action) line.args)) (placed_code rest) (none_in_code rest formed.1),
+      below_stores most_values (lists_before rest) (pending line.action line.into (alive_values rest) loaded) (placed_code rest) small (pending_among line.action line.into (alive_values rest) loaded) (below_code rest formed.1),
     )
 
 -- ---- all of it
@@ -248,7 +235,6 @@ of_each P (f ∷ fs) each formed = (each f formed.0, of_each P fs each formed.1)
 record HasPlainShape (functions : List Lines) (placed : List PlacedLines) : Type 0 where
   few_moves : AllFewMoves placed
   slots : AllByRecursion (λ (function : PlacedLines). AllSlotsBelow most_values function.code) placed
-  holds_none : AllByRecursion (λ (function : PlacedLines). AllByRecursion LineHoldsNone function.code) placed
   short : placed_functions_length placed ≤ functions_length functions
 
 plain_shape : (functions : List Lines) → AreWellFormed functions → HasPlainShape functions (map placed_function functions)
@@ -256,17 +242,14 @@ plain_shape functions formed =
     record {
       few_moves = of_each FunctionFewMoves functions
           (λ f well. (
-            leading_both (alive_values f.code) (left_in None (alive_values f.code) (load_from (argument 0) f.params)) (length f.params) f.code (few_start f.params (alive_values f.code)),
-            few_stores (alive_values f.code) (left_in None (alive_values f.code) (load_from (argument 0) f.params)) (placed_code f.code) (few_code f.code well.lines),
+            leading_both (lists_before f.code) (left_in None (alive_values f.code) (load_from (argument 0) f.params)) (length f.params) f.code (few_start f.params (alive_values f.code)),
+            few_stores (lists_before f.code) (left_in None (alive_values f.code) (load_from (argument 0) f.params)) (placed_code f.code) (few_code f.code well.lines),
           ))
           formed;
       slots = of_each (λ (p : PlacedLines). AllSlotsBelow most_values p.code) functions
           (λ f well.
-          below_stores most_values (alive_values f.code) (left_in None (alive_values f.code) (load_from (argument 0) f.params)) (placed_code f.code) (λ v there. alive_small v f.code well.lines there)
+          below_stores most_values (lists_before f.code) (left_in None (alive_values f.code) (load_from (argument 0) f.params)) (placed_code f.code) (λ v there. alive_small v f.code well.lines there)
           (left_among None (alive_values f.code) (load_from (argument 0) f.params)) (below_code f.code well.lines))
-          formed;
-      holds_none = of_each (λ (p : PlacedLines). AllByRecursion LineHoldsNone p.code) functions
-          (λ f well. none_in_stores (alive_values f.code) (left_in None (alive_values f.code) (load_from (argument 0) f.params)) (placed_code f.code) (none_in_code f.code well.lines))
           formed;
       short = all_length functions formed;
     }
@@ -276,4 +259,4 @@ pub plainly_placed : (functions : List Lines) (placed : Placed) → AreWellForme
     → IsPlainlyPlaced functions placed
 plainly_placed functions placed formed is memory =
     let shape : HasPlainShape functions (placed_functions placed) = subst (HasPlainShape functions) (sym is) (plain_shape functions formed) in
-    record { few_moves = shape.few_moves; slots = shape.slots; holds_none = shape.holds_none; short = shape.short; memory = memory }
+    record { few_moves = shape.few_moves; slots = shape.slots; short = shape.short; memory = memory }

@@ -17,9 +17,10 @@ use Rattle.rv_isa.specs.WellFormed.{AreLinesFormed}
 use Rattle.rv_regs.specs.declared.liveness.LabelPoint.{LabelPoint}
 use Rattle.rv_regs.specs.declared.walk.Walk.{Walk}
 use Rattle.rv_regs.specs.declared.slots.Loaded.{Loaded}
-use Rattle.rv_regs.specs.Alive.{with_values, values_behind, alive_values}
+use Rattle.rv_regs.specs.Alive.{with_values, values_behind, PointLists, lists_before}
 use Rattle.rv_regs.specs.Backwards.{backwards}
 use Rattle.rv_regs.specs.Plain.{place_in, listings, load_from, left_in, loads, stores, placed_code, placed_start_of}
+use Rattle.rv_regs.specs.Views.{lists_of}
 use Rattle.rv_regs.specs.Walks.{HasComeTo}
 use Rattle.rv_regs.specs.Tables.{last_at}
 use Rattle.rv_regs.proofs.Shapes.{few_args}
@@ -58,24 +59,24 @@ slice_is : {A : Type 0} (ls : List A) (j : ℕ) → take (length ls - j) (drop j
 slice_is {A} ls j = take_all (length ls - j) (drop j ls) (omega (arith, length-drop {A = A} j ls))
 
 -- one load more
-pub put_load : (values : List ℕ) (ls : List Loaded) (i : ℕ) (l : Loaded) (alive : List Listed) (before after all : List PlacedLine) → i < length ls → l ≡ get_or ls i l
-    → alive ≡ listings (place_in (take (length ls - (i + 1)) (drop (i + 1) ls))) values → after ≡ moves alive l.value (Load l.value l.register) ∷ before
-    → loads values (drop i ls) before ≡ all → loads values (drop (i + 1) ls) after ≡ all
-put_load values ls i l alive before after all lt is alive_is after_is written =
-    ap (loads values (drop (i + 1) ls))
-    (after_is ∙ ap (λ (a : List Listed). moves a l.value (Load l.value l.register) ∷ before) (alive_is ∙ ap (λ (ds : List Loaded). listings (place_in ds) values) (slice_is ls (i + 1))))
-    ∙ sym (ap (λ (ds : List Loaded). loads values ds before) (drop_is ls i (i + 1) l lt is (omega arith))) ∙ written
+pub put_load : (point : PointLists) (ls : List Loaded) (i : ℕ) (l : Loaded) (alive : List Listed) (before after all : List PlacedLine) → i < length ls → l ≡ get_or ls i l
+    → alive ≡ listings (place_in (take (length ls - (i + 1)) (drop (i + 1) ls))) point → after ≡ moves alive l.value (Load l.value l.register) ∷ before
+    → loads point (drop i ls) before ≡ all → loads point (drop (i + 1) ls) after ≡ all
+put_load point ls i l alive before after all lt is alive_is after_is written =
+    ap (loads point (drop (i + 1) ls))
+    (after_is ∙ ap (λ (a : List Listed). moves a l.value (Load l.value l.register) ∷ before) (alive_is ∙ ap (λ (ds : List Loaded). listings (place_in ds) point) (slice_is ls (i + 1))))
+    ∙ sym (ap (λ (ds : List Loaded). loads point ds before) (drop_is ls i (i + 1) l lt is (omega arith))) ∙ written
 
 -- one store more
-pub put_store : (values : List ℕ) (ls : List Loaded) (k : ℕ) (l : Loaded) (alive : List Listed) (before after all : List PlacedLine) → k ≤ length ls → 0 < k → l ≡ get_or ls (k - 1) l
-    → alive ≡ listings (place_in (take (length ls - (k - 1)) (drop (k - 1) ls))) values → after ≡ moves alive l.value (Store l.register l.value) ∷ before
-    → before ≡ stores values (drop k ls) all → after ≡ stores values (drop (k - 1) ls) all
-put_store values ls k l alive before after all within some is alive_is after_is written =
+pub put_store : (point : PointLists) (ls : List Loaded) (k : ℕ) (l : Loaded) (alive : List Listed) (before after all : List PlacedLine) → k ≤ length ls → 0 < k → l ≡ get_or ls (k - 1) l
+    → alive ≡ listings (place_in (take (length ls - (k - 1)) (drop (k - 1) ls))) point → after ≡ moves alive l.value (Store l.register l.value) ∷ before
+    → before ≡ stores point (drop k ls) all → after ≡ stores point (drop (k - 1) ls) all
+put_store point ls k l alive before after all within some is alive_is after_is written =
     let dropped : drop (k - 1) ls ≡ l ∷ drop k ls = drop_is ls (k - 1) k l (omega (arith, within, some)) is (omega (arith, some)) in
     after_is
-    ∙ ap (λ (a : List Listed). moves a l.value (Store l.register l.value) ∷ before) (alive_is ∙ ap (λ (ds : List Loaded). listings (place_in ds) values) (slice_is ls (k - 1) ∙ dropped))
-    ∙ ap (λ (more : List PlacedLine). moves (listings (place_in (l ∷ drop k ls)) values) l.value (Store l.register l.value) ∷ more) written
-    ∙ sym (ap (λ (ds : List Loaded). stores values ds all) dropped)
+    ∙ ap (λ (a : List Listed). moves a l.value (Store l.register l.value) ∷ before) (alive_is ∙ ap (λ (ds : List Loaded). listings (place_in ds) point) (slice_is ls (k - 1) ∙ dropped))
+    ∙ ap (λ (more : List PlacedLine). moves (listings (place_in (l ∷ drop k ls)) point) l.value (Store l.register l.value) ∷ more) written
+    ∙ sym (ap (λ (ds : List Loaded). stores point ds all) dropped)
 
 -- ---- the begin and the end of a walk
 
@@ -83,9 +84,13 @@ backwards_none : backwards [] ≡ []
 unfolding backwards
 backwards_none = refl
 
-pub come_to_end : (walk : Walk) (code : List Line) → walk.items.items ≡ [] → walk.alive.items ≡ [] → walk.labels.items ≡ [] → code ≡ [] → HasComeTo walk code
-come_to_end walk code items alive labels end =
-    subst (HasComeTo walk) (sym end) (record { items = ap backwards items ∙ backwards_none; alive = alive; labels = λ l. ap (λ (points : List LabelPoint). last_at l [] points) labels })
+pub come_to_end : (walk : Walk) (code : List Line) → walk.items.items ≡ [] → walk.point.alive.items ≡ [] → walk.point.held.items ≡ [] → walk.labels.items ≡ [] → code ≡ [] → HasComeTo walk code
+come_to_end walk code items alive held labels end =
+    subst (HasComeTo walk) (sym end) (record {
+      items = ap backwards items ∙ backwards_none;
+      lists = ap (λ vs. record { alive = vs; held = walk.point.held.items }) alive ∙ ap (λ vs. record { alive = []; held = vs }) held;
+      labels = λ l. ap (λ (points : List LabelPoint). last_at l [] points) labels;
+    })
 
 map_reversed : {A B : Type 0} (f : A → B) (xs : List A) → map f (reverse xs) ≡ reverse (map f xs)
 map_reversed f [] = refl
@@ -97,16 +102,17 @@ unfolding backwards
 in_order items = map_reversed placed_line_of items
 
 -- the lines of a whole function
-pub finished : (params : List ℕ) (walk : Walk) (code : List Line) → HasComeTo walk code → (loaded begun kept kept' loaded' : List Loaded) (alive alive' : List ℕ) (items ordered : List Item)
-    → loaded ≡ load_from (argument 0) params → begun ≡ [] → alive ≡ walk.alive.items → loaded' ≡ loaded → kept ≡ begun ++ left_in None alive loaded' → alive' ≡ walk.alive.items → kept' ≡ kept
-    → backwards items ≡ stores alive' kept' (backwards walk.items.items) → ordered ≡ reverse items → map placed_line_of ordered ≡ placed_start_of params (alive_values code) (placed_code code)
-finished params walk code come loaded begun kept kept' loaded' alive alive' items ordered loaded_is begun_is alive_is loaded_same kept_is alive_same kept_same stored ordered_is =
-    let kept_there : kept' ≡ left_in None (alive_values code) (load_from (argument 0) params) =
-    kept_same ∙ kept_is ∙ ap (λ (ls : List Loaded). ls ++ left_in None alive loaded') begun_is ∙ ap (λ vs. left_in None vs loaded') (alive_is ∙ come.alive)
-    ∙ ap (left_in None (alive_values code)) (loaded_same ∙ loaded_is) in
-    ap (λ (xs : List Item). map placed_line_of xs) ordered_is ∙ in_order items ∙ stored ∙ ap (λ vs. stores vs kept' (backwards walk.items.items)) (alive_same ∙ come.alive)
-    ∙ ap (λ (ls : List Loaded). stores (alive_values code) ls (backwards walk.items.items)) kept_there
-    ∙ ap (stores (alive_values code) (left_in None (alive_values code) (load_from (argument 0) params))) come.items
+pub finished : (params : List ℕ) (walk : Walk) (code : List Line) → HasComeTo walk code → (loaded begun kept kept' loaded' : List Loaded) (alive : List ℕ) (items ordered : List Item)
+    → loaded ≡ load_from (argument 0) params → begun ≡ [] → alive ≡ walk.point.alive.items → loaded' ≡ loaded → kept ≡ begun ++ left_in None alive loaded' → kept' ≡ kept
+    → backwards items ≡ stores (lists_of walk.point) kept' (backwards walk.items.items) → ordered ≡ reverse items → map placed_line_of ordered ≡ placed_start_of params (lists_before code) (placed_code code)
+finished params walk code come loaded begun kept kept' loaded' alive items ordered loaded_is begun_is alive_is loaded_same kept_is kept_same stored ordered_is =
+    let kept_there : kept' ≡ left_in None (lists_before code).alive (load_from (argument 0) params) =
+    kept_same ∙ kept_is ∙ ap (λ (ls : List Loaded). ls ++ left_in None alive loaded') begun_is
+    ∙ ap (λ vs. left_in None vs loaded') (alive_is ∙ ap (λ (point : PointLists). point.alive) come.lists)
+    ∙ ap (left_in None (lists_before code).alive) (loaded_same ∙ loaded_is) in
+    ap (λ (xs : List Item). map placed_line_of xs) ordered_is ∙ in_order items ∙ stored ∙ ap (λ (point : PointLists). stores point kept' (backwards walk.items.items)) come.lists
+    ∙ ap (λ (ls : List Loaded). stores (lists_before code) ls (backwards walk.items.items)) kept_there
+    ∙ ap (stores (lists_before code) (left_in None (lists_before code).alive (load_from (argument 0) params))) come.items
 
 -- no statement of formed code has more arguments than there are registers for
 pub all_few_args : (code : List Statement) → AreLinesFormed (map line_of code) → All (λ (s : Statement). length s.args.items ≤ 8) code

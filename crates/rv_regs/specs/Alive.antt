@@ -1,8 +1,8 @@
--- Which values are alive at each point of assembler code, as lists without repetition.
-use Rattle.std.specs.Prelude.{ℕ, List, [], ◌∷◌, ◌++◌, Option, not, cond}
+-- Which values are alive at each point of assembler code, as lists without repetition, and which are held tokens.
+use Rattle.std.specs.Prelude.{ℕ, List, [], ◌∷◌, ◌++◌, Option, not, cond, length, drop}
 use Rattle.std.specs.List.{filter}
 use Rattle.rv_isa.specs.declared.asm.Action.{Action}
-use Rattle.rv_isa.specs.declared.asm.Action.TheVariants.{Jump, Branch, TailCall, Return}
+use Rattle.rv_isa.specs.declared.asm.Action.TheVariants.{Jump, Branch, TailCall, Return, Hold, Unhold}
 use Rattle.rv_isa.specs.AsmCode.{Line}
 use Rattle.rv_isa.specs.AsmMachine.{is_label}
 use Rattle.rv_isa.specs.Frames.{is_among}
@@ -41,3 +41,22 @@ abbrev mutual
   pub alive_values_at : ℕ → List Line → List ℕ
   alive_values_at l [] = []
   alive_values_at l (line ∷ rest) = cond (is_label l line.action) (alive_values rest) (alive_values_at l rest)
+
+-- what is held before an action, the newest value first, by what is held behind it
+abbrev pub held_before : Action → List ℕ → List ℕ → List ℕ
+held_before Hold args behind = drop (length args) behind
+held_before Unhold args behind = args ++ behind
+held_before _ args behind = behind
+
+-- what is held before code: what it takes back that it does not hold itself
+abbrev pub held_values : List Line → List ℕ
+held_values [] = []
+held_values (line ∷ rest) = held_before line.action line.args (held_values rest)
+
+-- what is alive at a point, and what is held there
+pub record PointLists : Type 0 where
+  pub alive : List ℕ
+  pub held : List ℕ
+
+abbrev pub lists_before : List Line → PointLists
+lists_before code = record { alive = alive_values code; held = held_values code }

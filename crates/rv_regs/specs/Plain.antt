@@ -1,12 +1,12 @@
 -- The plainest places. Each value has a slot of its own. It stands in a register while a line reads or writes it: it is loaded
--- before the line, and stored behind it where it is still alive.
-use Rattle.std.specs.Prelude.{ℕ, suc, ◌%◌, ◌^◌, ◌==◌, List, [], ◌∷◌, ◌++◌, Option, Some, None, Bool, not, cond, false, ◌&&◌, map, option_map}
+-- before the line, and stored behind it where it is still alive. A token that is held or taken back stays in its slot.
+use Rattle.std.specs.Prelude.{ℕ, suc, ◌%◌, ◌^◌, ◌==◌, List, [], ◌∷◌, ◌++◌, Option, Some, None, Bool, not, cond, ◌&&◌, map, option_map}
 use Rattle.std.specs.List.{filter}
 use Rattle.std.proofs.Common.{lit<}
 use Rattle.std.proofs.Math.Nat.{mod-lt}
 use Rattle.rv_isa.specs.declared.register.Register.{Register}
 use Rattle.rv_isa.specs.declared.asm.Action.{Action}
-use Rattle.rv_isa.specs.declared.asm.Action.TheVariants.{Compute, Jump, Branch, TailCall, Return}
+use Rattle.rv_isa.specs.declared.asm.Action.TheVariants.{Compute, Jump, Branch, TailCall, Return, Hold, Unhold}
 use Rattle.rv_isa.specs.declared.placed.Place.{Place}
 use Rattle.rv_isa.specs.declared.placed.Place.TheVariants.{Register as register, Slot as slot}
 use Rattle.rv_isa.specs.declared.placed.Operand.{Operand}
@@ -18,7 +18,7 @@ use Rattle.rv_isa.specs.Frames.{is_among}
 use Rattle.rv_isa.specs.PlacedCode.{PlacedLine, does, moves, PlacedLines}
 use Rattle.rv_isa.specs.WellFormed.{is_written}
 use Rattle.rv_regs.specs.declared.slots.Loaded.{Loaded}
-use Rattle.rv_regs.specs.Alive.{alive_values}
+use Rattle.rv_regs.specs.Alive.{PointLists, lists_before}
 
 -- ---- places
 
@@ -31,12 +31,12 @@ abbrev pub place_in : List Loaded → ℕ → Place
 place_in [] v = slot v
 place_in (l ∷ loaded) v = cond (l.value == v) (register l.register) (place_in loaded v)
 
--- the listings of values, by where each stands
-abbrev pub listing_at : (ℕ → Place) → ℕ → Listed
-listing_at place_of v = record { value = v; place = place_of v; held = false }
+-- the listings of a point, by where each value stands
+abbrev pub listing_at : (ℕ → Place) → List ℕ → ℕ → Listed
+listing_at place_of held v = record { value = v; place = place_of v; held = is_among v held }
 
-abbrev pub listings : (ℕ → Place) → List ℕ → List Listed
-listings place_of values = map (listing_at place_of) values
+abbrev pub listings : (ℕ → Place) → PointLists → List Listed
+listings place_of point = map (listing_at place_of point.held) point.alive
 
 abbrev pub operand_at : (ℕ → Place) → ℕ → Operand
 operand_at place_of v = record { value = v; place = place_of v }
@@ -58,6 +58,12 @@ result_register _ = argument 0
 abbrev pub load_from : ℕ → List ℕ → List Loaded
 load_from n [] = []
 load_from n (v ∷ vs) = cond (is_among v vs) (load_from (suc n) vs) (record { value = v; register = numbered n } ∷ load_from (suc n) vs)
+
+-- what is loaded for an action: its arguments, unless it holds a token or takes one back
+abbrev pub loaded_for : Action → List ℕ → List Loaded
+loaded_for Hold args = []
+loaded_for Unhold args = []
+loaded_for action args = load_from (first_register action) args
 
 -- what is alive at the next line, if the action goes on there
 abbrev pub falls_to : Action → List ℕ → List ℕ
@@ -85,33 +91,33 @@ pending action into behind loaded = given action into (falls_to action behind) +
 -- ---- rows of lines
 
 -- the loads before a line; `after` begins with the line
-abbrev pub loads : List ℕ → List Loaded → List PlacedLine → List PlacedLine
-loads values [] after = after
-loads values (l ∷ loaded) after = loads values loaded (moves (listings (place_in loaded) values) l.value (Load l.value l.register) ∷ after)
+abbrev pub loads : PointLists → List Loaded → List PlacedLine → List PlacedLine
+loads point [] after = after
+loads point (l ∷ loaded) after = loads point loaded (moves (listings (place_in loaded) point) l.value (Load l.value l.register) ∷ after)
 
 -- the stores behind a line; `next` is the code that follows
-abbrev pub stores : List ℕ → List Loaded → List PlacedLine → List PlacedLine
-stores values [] next = next
-stores values (l ∷ loaded) next = moves (listings (place_in (l ∷ loaded)) values) l.value (Store l.register l.value) ∷ stores values loaded next
+abbrev pub stores : PointLists → List Loaded → List PlacedLine → List PlacedLine
+stores point [] next = next
+stores point (l ∷ loaded) next = moves (listings (place_in (l ∷ loaded)) point) l.value (Store l.register l.value) ∷ stores point loaded next
 
--- a line with its stores, by what is alive before it and at the next line
-abbrev pub line_and_stores : Action → List ℕ → Option ℕ → List ℕ → List ℕ → List PlacedLine → List PlacedLine
+-- a line with its stores, by what is alive and held before it and at the next line
+abbrev pub line_and_stores : Action → List ℕ → Option ℕ → PointLists → PointLists → List PlacedLine → List PlacedLine
 line_and_stores action args into before behind next =
-    let loaded = load_from (first_register action) args in
+    let loaded = loaded_for action args in
     does (listings (place_in loaded) before) action (map (operand_at (place_in loaded)) args) (option_map (operand_at (λ v. register (numbered (result_register action)))) into)
-    ∷ stores behind (pending action into behind loaded) next
+    ∷ stores behind (pending action into behind.alive loaded) next
 
 -- and with its loads
-abbrev pub placed_row : Action → List ℕ → Option ℕ → List ℕ → List ℕ → List PlacedLine → List PlacedLine
-placed_row action args into before behind next = loads before (load_from (first_register action) args) (line_and_stores action args into before behind next)
+abbrev pub placed_row : Action → List ℕ → Option ℕ → PointLists → PointLists → List PlacedLine → List PlacedLine
+placed_row action args into before behind next = loads before (loaded_for action args) (line_and_stores action args into before behind next)
 
 abbrev pub placed_code : List Line → List PlacedLine
 placed_code [] = []
-placed_code (line ∷ rest) = placed_row line.action line.args line.into (alive_values (line ∷ rest)) (alive_values rest) (placed_code rest)
+placed_code (line ∷ rest) = placed_row line.action line.args line.into (lists_before (line ∷ rest)) (lists_before rest) (placed_code rest)
 
 -- at the start of a function the parameters that are alive go to their slots
-abbrev pub placed_start_of : List ℕ → List ℕ → List PlacedLine → List PlacedLine
-placed_start_of params alive code = stores alive (left_in None alive (load_from (argument 0) params)) code
+abbrev pub placed_start_of : List ℕ → PointLists → List PlacedLine → List PlacedLine
+placed_start_of params point code = stores point (left_in None point.alive (load_from (argument 0) params)) code
 
 abbrev pub placed_function : Lines → PlacedLines
-placed_function f = record { params = f.params; code = placed_start_of f.params (alive_values f.code) (placed_code f.code) }
+placed_function f = record { params = f.params; code = placed_start_of f.params (lists_before f.code) (placed_code f.code) }

@@ -9,7 +9,7 @@ use Rattle.rv_isa.specs.declared.placed.Placed.{Placed}
 use Rattle.rv_isa.specs.AsmCode.{Lines}
 use Rattle.rv_isa.specs.PlacedCode.{PlacedLine, does, moves, PlacedLines, placed_functions, from_of, to_of}
 use Rattle.rv_isa.specs.Costs.{functions_length, placed_functions_length}
-use Rattle.rv_isa.specs.WellFormed.{HoldsNone, most_values}
+use Rattle.rv_isa.specs.WellFormed.{most_values}
 use Rattle.rv_regs.specs.Relation.{AllFewMoves}
 
 -- ---- slots
@@ -30,19 +30,11 @@ HasSlotsBelow most (moves alive value way) = All (λ (l : Listed). IsBelow most 
 abbrev pub AllSlotsBelow : ℕ → List PlacedLine → Type 0
 AllSlotsBelow most code = AllByRecursion (HasSlotsBelow most) code
 
--- ---- tokens
-
--- the line does not hold a token, and takes none back
-abbrev pub LineHoldsNone : PlacedLine → Type 0
-LineHoldsNone (does alive action args into) = HoldsNone action
-LineHoldsNone (moves alive value way) = Unit {0}
-
 -- ---- all of it
 
 -- a program in the plainest places, which has no memory of its own
 pub record IsPlainlyPlaced (functions : List Lines) (placed : Placed) : Type 0 where
   pub few_moves : AllFewMoves (placed_functions placed)
   pub slots : AllByRecursion (λ (function : PlacedLines). AllSlotsBelow most_values function.code) (placed_functions placed)
-  pub holds_none : AllByRecursion (λ (function : PlacedLines). AllByRecursion LineHoldsNone function.code) (placed_functions placed)
   pub short : placed_functions_length (placed_functions placed) ≤ functions_length functions
   pub memory : placed.memory ≡ record { size = 0; stack_bottom = 0 }

@@ -1,15 +1,22 @@
-// Which values are alive: the lists of a line, by those of what follows it.
+// Which values are alive, and which are held tokens: the lists of a line, by those of what follows it.
 
 ghost use Rattle.std.specs.Prelude.{◌≡◌, ◌==◌, ℕ, [], IfOk, OnOk, cond};
 ghost use Rattle.rv_isa.specs.AsmMachine.{is_label};
 ghost use Rattle.rv_isa.specs.Frames.{is_among};
 ghost use Rattle.rv_isa.specs.WellFormed.{is_written};
-ghost use Rattle.rv_regs.specs.Alive.{with_values, without, values_before, values_behind};
+ghost use Rattle.rv_regs.specs.Alive.{with_values, without, values_before, values_behind, held_before};
 ghost use Rattle.rv_regs.specs.Tables.{last_at};
 
 use kk_base::NoMemory;
 use rv_isa::Action;
 use std::alloc::Global;
+
+/// The values that are alive at a point of the code, and the tokens that are held there, the newest first.
+#[derive(Debug, Drop)]
+pub struct Point {
+    pub alive: Vec<u32>,
+    pub held: Vec<u32>,
+}
 
 /// The values that are alive at a label.
 #[derive(Debug, Drop)]
@@ -132,4 +139,24 @@ pub fn with_point(
         points.push(LabelPoint { label, alive })?;
     }
     Ok(points)
+}
+
+/// The tokens that are held before a statement, by those behind it, the newest first.
+pub fn held_before(
+    alloc: Global,
+    action: Action,
+    args: &[u32],
+    behind: &[u32],
+) -> Result<Vec<u32>, NoMemory>
+    ensures { IfOk result (λ held. held.items ≡ held_before action args.now behind.now) }
+{
+    match action {
+        Action::Hold => Ok(behind.iter().copied().skip(args.len()).collect(alloc)?),
+        Action::Unhold => {
+            let mut held = copy_of(alloc, args)?;
+            held.extend_from_slice(behind)?;
+            Ok(held)
+        }
+        _ => copy_of(alloc, behind),
+    }
 }

@@ -2,9 +2,10 @@
 
 ghost use Rattle.std.specs.Prelude.{◌≡◌, ◌+◌, ◌<◌, ◌≤◌, ◌++◌, IfOk, OnOk, length, map};
 ghost use Rattle.rv_isa.specs.Conventions.{argument};
-ghost use Rattle.rv_regs.specs.Plain.{numbered, place_in, listings, operand_at, first_register, result_register, load_from, falls_to, given, left_in, pending};
+ghost use Rattle.rv_regs.specs.Plain.{numbered, place_in, listings, operand_at, first_register, result_register, load_from, loaded_for, falls_to, given, left_in, pending};
+ghost use Rattle.rv_regs.specs.Views.{lists_of};
 
-use crate::liveness::{is_one_of, is_result};
+use crate::liveness::{Point, is_one_of, is_result};
 use kk_base::NoMemory;
 use rv_isa::{Action, Listed, Operand, Place, Register};
 use std::alloc::Global;
@@ -16,8 +17,8 @@ pub struct Loaded {
     pub register: Register,
 }
 
-/// The number of the register that the first argument of an action is loaded into.
-pub fn first_number(action: Action) -> u8
+// The number of the register that the first argument of an action is loaded into.
+fn first_number(action: Action) -> u8
     ensures { result ≡ first_register action }
 {
     match action {
@@ -61,6 +62,17 @@ pub fn loaded_from(alloc: Global, first: u8, values: &[u32]) -> Result<Vec<Loade
     Ok(loaded)
 }
 
+/// The arguments of an action in the registers that it takes them in. A token that is held or taken back stays in its slot.
+pub fn loaded_for(alloc: Global, action: Action, args: &[u32]) -> Result<Vec<Loaded>, NoMemory>
+    requires { length args.now ≤ 8 }
+    ensures { IfOk result (λ loaded. loaded.items ≡ loaded_for action args.now) }
+{
+    match action {
+        Action::Hold | Action::Unhold => Ok(Vec::new(alloc)),
+        _ => loaded_from(alloc, first_number(action), args),
+    }
+}
+
 fn place_of(loaded: &[Loaded], value: u32) -> Place
     ensures { result ≡ place_in loaded.now value }
 {
@@ -72,17 +84,19 @@ fn place_of(loaded: &[Loaded], value: u32) -> Place
     Place::Slot(value)
 }
 
-/// The listings of values, some of which are in registers.
-pub fn listed(alloc: Global, loaded: &[Loaded], values: &[u32]) -> Result<Vec<Listed>, NoMemory>
-    ensures { IfOk result (λ alive. alive.items ≡ listings (place_in loaded.now) values.now) }
+/// The listings of a point, some of whose values are in registers.
+pub fn listed(alloc: Global, loaded: &[Loaded], point: &Point) -> Result<Vec<Listed>, NoMemory>
+    ensures { IfOk result (λ alive. alive.items ≡ listings (place_in loaded.now) (lists_of point.now)) }
 {
+    let held: &[u32] = &point.held;
     Ok(
-        values
+        point
+            .alive
             .iter()
             .map(|value| Listed {
                 value: *value,
                 place: place_of(loaded, *value),
-                held: false,
+                held: is_one_of(*value, held),
             })
             .collect(alloc)?,
     )

@@ -6,24 +6,25 @@ ghost use Rattle.rv_isa.specs.AsmCode.{Line, line_of};
 ghost use Rattle.rv_isa.specs.PlacedCode.{placed_line_of};
 ghost use Rattle.rv_isa.specs.declared.placed.Place.TheVariants.{Register as register};
 ghost use Rattle.rv_regs.specs.Plain.{numbered, operand_at, result_register, loads, stores, placed_row, placed_code, placed_start_of};
-ghost use Rattle.rv_regs.specs.Alive.{alive_values};
+ghost use Rattle.rv_regs.specs.Alive.{lists_before};
 ghost use Rattle.rv_regs.specs.Backwards.{backwards};
+ghost use Rattle.rv_regs.specs.Views.{lists_of};
 ghost use Rattle.rv_regs.specs.Walks.{HasComeTo};
 
-use crate::liveness::{LabelPoint, alive_before, alive_behind, with_point};
+use crate::liveness::{LabelPoint, Point, alive_before, alive_behind, held_before, with_point};
 use crate::slots::{
-    Loaded, first_number, keep_left, left_behind, listed, loaded_from, operands, register_of_result,
+    Loaded, keep_left, left_behind, listed, loaded_for, loaded_from, operands, register_of_result,
 };
 use kk_base::NoMemory;
 use rv_isa::{Item, Operand, Place, Register, Statement, Way};
 use std::alloc::Global;
 
-/// A walk through the code of a function, from its end back: the lines so far, the last one first, and the values that are
-/// alive where the walk is and at the labels that it has passed.
+/// A walk through the code of a function, from its end back: the lines so far, the last one first, what is alive and held
+/// where the walk is, and what is alive at the labels that it has passed.
 #[derive(Debug, Drop)]
 pub struct Walk {
     pub items: Vec<Item>,
-    pub alive: Vec<u32>,
+    pub point: Point,
     pub labels: Vec<LabelPoint>,
 }
 
@@ -37,15 +38,15 @@ fn put_before(items: &mut Vec<Item>, item: Item) -> Result<(), NoMemory>
 fn put_stores(
     alloc: Global,
     items: &mut Vec<Item>,
-    values: &[u32],
+    point: &Point,
     pending: &[Loaded],
 ) -> Result<(), NoMemory>
-    ensures { OnOk result (backwards items.new.items ≡ stores values.now pending.now (backwards items.old.items)) }
+    ensures { OnOk result (backwards items.new.items ≡ stores (lists_of point.now) pending.now (backwards items.old.items)) }
 {
     let mut left = pending.len();
     while left > 0 {
         left -= 1;
-        let alive = listed(alloc, &pending[left..], values)?;
+        let alive = listed(alloc, &pending[left..], point)?;
         let stored = pending[left];
         let value = stored.value;
         let way = Way::Store {
@@ -60,13 +61,13 @@ fn put_stores(
 fn put_loads(
     alloc: Global,
     items: &mut Vec<Item>,
-    values: &[u32],
+    point: &Point,
     loaded: &[Loaded],
 ) -> Result<(), NoMemory>
-    ensures { OnOk result (backwards items.new.items ≡ loads values.now loaded.now (backwards items.old.items)) }
+    ensures { OnOk result (backwards items.new.items ≡ loads (lists_of point.now) loaded.now (backwards items.old.items)) }
 {
     for (index, next) in loaded.iter().enumerate() {
-        let alive = listed(alloc, &loaded[index + 1..], values)?;
+        let alive = listed(alloc, &loaded[index + 1..], point)?;
         let Loaded { value, register } = *next;
         let way = Way::Load {
             from: value,
@@ -93,15 +94,15 @@ fn put_row(
     alloc: Global,
     items: &mut Vec<Item>,
     statement: &Statement,
-    before: &[u32],
-    behind: &[u32],
+    before: &Point,
+    behind: &Point,
 ) -> Result<(), NoMemory>
     requires { length statement.now.args.items ≤ 8 }
-    ensures { OnOk result (backwards items.new.items ≡ placed_row statement.now.action statement.now.args.items statement.now.into before.now behind.now (backwards items.old.items)) }
+    ensures { OnOk result (backwards items.new.items ≡ placed_row statement.now.action statement.now.args.items statement.now.into (lists_of before.now) (lists_of behind.now) (backwards items.old.items)) }
 {
     let action = statement.action;
-    let loaded = loaded_from(alloc, first_number(action), &statement.args)?;
-    let pending = left_behind(alloc, action, statement.into, behind, &loaded)?;
+    let loaded = loaded_for(alloc, action, &statement.args)?;
+    let pending = left_behind(alloc, action, statement.into, &behind.alive, &loaded)?;
     put_stores(alloc, items, behind, &pending)?;
     let alive = listed(alloc, &loaded, before)?;
     let args = operands(alloc, &loaded, &statement.args)?;
@@ -123,16 +124,18 @@ fn step(alloc: Global, walk: Walk, statement: &Statement) -> Result<Walk, NoMemo
 {
     let Walk {
         mut items,
-        alive,
+        point,
         labels,
     } = walk;
-    let behind = alive_behind(alloc, statement.action, &alive, &labels)?;
-    let before = alive_before(alloc, &statement.args, statement.into, &behind)?;
-    put_row(alloc, &mut items, statement, &before, &alive)?;
-    let labels = with_point(labels, statement.action, alive)?;
+    let behind = alive_behind(alloc, statement.action, &point.alive, &labels)?;
+    let alive = alive_before(alloc, &statement.args, statement.into, &behind)?;
+    let held = held_before(alloc, statement.action, &statement.args, &point.held)?;
+    let before = Point { alive, held };
+    put_row(alloc, &mut items, statement, &before, &point)?;
+    let labels = with_point(labels, statement.action, point.alive)?;
     Ok(Walk {
         items,
-        alive: before,
+        point: before,
         labels,
     })
 }
@@ -140,17 +143,17 @@ fn step(alloc: Global, walk: Walk, statement: &Statement) -> Result<Walk, NoMemo
 /// The lines in their order, behind the stores of the parameters.
 fn finish(alloc: Global, walk: Walk, params: &[u32]) -> Result<Vec<Item>, NoMemory>
     requires { length params.now ≤ 8 }
-    ensures { IfOk result (λ items. (code : List Line) → HasComeTo walk code → map placed_line_of items.items ≡ placed_start_of params.now (alive_values code) (placed_code code)) }
+    ensures { IfOk result (λ items. (code : List Line) → HasComeTo walk code → map placed_line_of items.items ≡ placed_start_of params.now (lists_before code) (placed_code code)) }
 {
     let Walk {
         mut items,
-        alive,
+        point,
         labels: _,
     } = walk;
     let loaded = loaded_from(alloc, Register::A0.number, params)?;
     let mut pending = Vec::new(alloc);
-    keep_left(&mut pending, None, &alive, &loaded)?;
-    put_stores(alloc, &mut items, &alive, &pending)?;
+    keep_left(&mut pending, None, &point.alive, &loaded)?;
+    put_stores(alloc, &mut items, &point, &pending)?;
     items.reverse();
     Ok(items)
 }
@@ -163,11 +166,14 @@ pub fn placed_lines(
 ) -> Result<Vec<Item>, NoMemory>
     requires few_params { length params.now ≤ 8 }
     requires few_args { All (λ (s : Statement). length s.args.items ≤ 8) code.now }
-    ensures { IfOk result (λ items. map placed_line_of items.items ≡ placed_start_of params.now (alive_values (map line_of code.now)) (placed_code (map line_of code.now))) }
+    ensures { IfOk result (λ items. map placed_line_of items.items ≡ placed_start_of params.now (lists_before (map line_of code.now)) (placed_code (map line_of code.now))) }
 {
     let mut walk = Walk {
         items: Vec::new(alloc),
-        alive: Vec::new(alloc),
+        point: Point {
+            alive: Vec::new(alloc),
+            held: Vec::new(alloc),
+        },
         labels: Vec::new(alloc),
     };
     let mut left = code.len();

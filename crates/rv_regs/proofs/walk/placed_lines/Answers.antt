@@ -8,5 +8,5 @@ pub loop-left-init : goal.loop-left-init
 loop-left-init c =
     record {
       within = omega arith;
-      come = come_to_end _ _ c.new.ensures.items c.new-2.ensures.items c.new-3.ensures.items (ap (map line_of) (drop-length c.args.code.now));
+      come = come_to_end _ _ c.new.ensures.items c.new-2.ensures.items c.new-3.ensures.items c.new-4.ensures.items (ap (map line_of) (drop-length c.args.code.now));
     }
