@@ -23,7 +23,7 @@ use Rattle.rv_world.specs.World.{World, with_cells}
 use Rattle.rv_lower.specs.Lines.{sets}
 use Rattle.rv_lower.proofs.Calls.{HaveWords}
 use Rattle.rv_cells.specs.Layout.{Layout, words_in, header_of, FitsField, FitFields}
-use Rattle.rv_cells.specs.Follows.{AreFrom, IsBlockOf, Owner, cell_of, in_hand, Follows, with_owner, assign, NoneInHand}
+use Rattle.rv_cells.specs.Follows.{AreFrom, IsBlockOf, Owner, nobody, cell_of, in_hand, Follows, with_owner, assign, is_aside, set_aside}
 use Rattle.rv_cells.specs.CellLines.{Stores, AllStores, ConstructLines}
 use Rattle.rv_cells.proofs.Owners.{chosen_by, chosen_same, chosen_other}
 use Rattle.rv_cells.proofs.Requests.{served, is_full}
@@ -143,7 +143,6 @@ pub record IsMaking (known : Known) (s : Spot) (x c : ℕ) (arguments : List ℕ
   pub holds : known.holds x ≡ true
   pub fits : FitFields (known.layout.fields c) (values_of s.environment arguments)
   pub older : (name : ℕ) → AllWithin name (fields_held s.heap name)
-  pub none : NoneInHand s.owners
 
 -- the spot behind a construction in a cell
 abbrev pub made_spot : Spot → ℕ → ℕ → List Value → ℕ → Frame Line → Cells → Spot
@@ -221,6 +220,13 @@ module _ (known : Known) (rest : List Line) (fs : List (Frame Line)) (s : Spot) 
   names_cell at = let low = making.below in put_other known.base x header (put x (Some at) s.frame.cells) (λ e. omega arith)
       ∙ put_same x at s.frame.cells
 
+  -- other values keep their words
+  unwritten : (at z : ℕ) → z < known.base → is_among (x ∷ s.bound) z ≡ false → (ended_frame at).cells z ≡ s.frame.cells z
+  unwritten at z low none =
+      put_other known.base z 1 (headed at).cells (λ e. omega (arith, e, low))
+      ∙ put_other known.base z header (put x (Some at) s.frame.cells) (λ e. omega (arith, e, low))
+      ∙ put_other x z at s.frame.cells (among_none x s.bound z none).0
+
   still_names : (at : ℕ) → (ended_frame at).cells x ≡ Some at
   still_names at = let low = making.below in put_other known.base x 1 (headed at).cells (λ e. omega arith) ∙ names_cell at
 
@@ -281,20 +287,26 @@ module _ (known : Known) (rest : List Line) (fs : List (Frame Line)) (s : Spot) 
       let cost : (moves + 2) + ((moves + 3) + (row + ((moves + 2) + (moves + 3)))) ≡ 4 * moves + 10 + row = omega arith in
       (c3, subst (λ n. Runs target n (1 + (1 + (length arguments + (1 + 1)))) t1 t6) cost all, hold3)
 
-  none_was : (at y : ℕ) (words : ℕ → Option ℕ) → with_owner at (cell_of (length s.heap)) s.owners y ≡ in_hand words
-      → s.owners y ≡ in_hand words
-  none_was at y words = chosen_by (λ o. o ≡ in_hand words → s.owners y ≡ in_hand words) y at (cell_of (length s.heap)) s.owners
-      (λ e is. cc) (λ differ is. is)
+  -- what is set aside stays so, once a cell is counted that was not set aside
+  others_aside : (at y : ℕ) → is_aside (s.owners at) ≡ false → is_aside (s.owners y) ≡ true
+      → with_owner at (cell_of (length s.heap)) s.owners y ≡ s.owners y
+  others_aside at y free is = chosen_other y at (cell_of (length s.heap)) s.owners
+      (λ e. let both : true ≡ false = sym is ∙ ap (λ z. is_aside (s.owners z)) e ∙ free in cc)
+
+  others_were : (at y : ℕ) → is_aside (with_owner at (cell_of (length s.heap)) s.owners y) ≡ true
+      → with_owner at (cell_of (length s.heap)) s.owners y ≡ s.owners y
+  others_were at y = chosen_by (λ o. is_aside o ≡ true → o ≡ s.owners y) y at (cell_of (length s.heap)) s.owners
+      (λ e is. cc) (λ differ is. refl)
 
   -- the cell is counted, where there is a free one
-  pub construct_did : busy s.heap < known.target.pool.cells
+  pub construct_did : busy s.heap + set_aside known.target.pool s.owners < known.target.pool.cells
       → (at : ℕ) × (frame : Frame Line) × (cells : Cells)
       × Did known (construct_cost known arguments) lines rest fs s
       (made_spot s x c (values_of s.environment arguments) at frame cells)
   construct_did room =
       let moves = most_moves in
       let row = row_cost arguments (moves + 3) in
-      let took = served here.follows known.aligned making.none (top (left_at behind_take s.frame ∷ fs)) room in
+      let took = served here.follows known.aligned (top (left_at behind_take s.frame ∷ fs)) room in
       let first = take_runs known.target behind_take s.frame fs s.world x took.at took.next took.is in
       let filled = fills took.at (with_cells s.world took.next) took.holds in
       let cell : Cell = record { made_by = c; fields = values_of s.environment arguments } in
@@ -330,8 +342,10 @@ module _ (known : Known) (rest : List Line) (fs : List (Frame Line)) (s : Spot) 
                 filled.0) (twice_owner took.at (in_hand last_words) (cell_of n) s.owners) whole;
             values = has_temporary (has_temporary values known.base header (omega arith)) known.base 1 (omega arith);
           };
-          kept = λ y words is. absurd (making.none y words is);
-          was = λ y words is. none_was took.at y words is;
+          aside = λ y is. others_aside took.at y (ap is_aside took.free) is;
+          was = λ y is. others_were took.at y is;
+          grown = λ z none. (among_none x s.bound z none).1;
+          spared = λ z low none. unwritten took.at z low none;
           left = refl;
           trace = refl;
           whole = refl;
@@ -341,11 +355,11 @@ module _ (known : Known) (rest : List Line) (fs : List (Frame Line)) (s : Spot) 
       )
 
   -- the heap is full, where no token is held
-  pub full_did : known.target.pool.cells ≤ busy s.heap → top (s.frame ∷ fs) ≡ None
+  pub full_did : known.target.pool.cells ≤ busy s.heap + set_aside known.target.pool s.owners → top (s.frame ∷ fs) ≡ None
       → Runs known.target (most_moves + 10) 1 (turn_of (lines ++ rest) s.frame fs s.world)
       (ended (exited (number_of OfEnding.HeapFull)) s.world)
   full_did full no_token =
-      let none = is_full here.follows known.aligned making.none full in
+      let none = is_full here.follows known.aligned full in
       subst (λ ls. Runs known.target (most_moves + 10) 1 (turn_of (ls ++ rest) s.frame fs s.world)
       (ended (exited (number_of OfEnding.HeapFull)) s.world)) (sym constructs.6)
       (full_runs known.target behind_take s.frame fs s.world x

@@ -10,12 +10,15 @@ pub mod Drops
 pub mod Starts
 pub mod Runs
 pub mod Acting
+pub mod HeldTokens
 pub mod Values
 pub mod Spots
 pub mod Rows
 pub mod Openings
 pub mod Constructing
+pub mod CountOpenings
 pub mod Uniques
+pub mod TokenOpenings
 pub mod Walking
 pub mod Frames
 pub mod Calling

@@ -69,18 +69,27 @@ OpenLines base holds x fields used lines =
     × (lines ≡ loads ++ (dups_lines holds (filter (is_among used) fields) ++ drop_lines base holds x))
 
 -- An opening by the count of the cell. Behind the test of the count the fields are loaded on each way. Where the count is 1 the
--- fields that are not in use are dropped, and the cell is freed; else, from label `shared` on, the count is lowered, and the
--- fields in use get a reference more.
-abbrev pub UniqueLines : ℕ → (ℕ → Bool) → ℕ → ℕ → ℕ → List ℕ → List ℕ → List Line → Type 0
-UniqueLines base holds shared behind x fields used lines =
+-- fields that are not in use are dropped, and the line `ends` is for the cell. Else, from label `shared` on, the lines `begins` are
+-- first, the count is lowered, and the fields in use get a reference more.
+abbrev pub CountLines : ℕ → (ℕ → Bool) → ℕ → ℕ → ℕ → List ℕ → List ℕ → Line → List Line → List Line → Type 0
+CountLines base holds shared behind x fields used ends begins lines =
     (test : Line) × (loads : List Line) × (count : Line) × (less : Immediate) × (store : Line)
     × Loads x 0 base test × AllLoads x 2 fields loads × Loads x 0 base count × (less.word ≡ 2 ^ 32 - 1) × Stores x 0 base store
     × (lines ≡ test ∷ sets 1 (base + 1) ∷ acts (Branch NotEqual shared) (base ∷ (base + 1) ∷ []) ∷
-    ((loads ++ (drops_lines base holds (filter (λ y. not (is_among used y)) fields)
-    ++ (acts (Compute Op.Free) (x ∷ []) ∷ acts (Jump behind) [] ∷ [])))
-    ++ ((acts (Label shared) [] ∷ (loads ++ (count ∷ computes (Op.Immediate Addi less) (base ∷ []) base ∷ store
-    ∷ dups_lines holds (filter (is_among used) fields))))
+    ((loads ++ (drops_lines base holds (filter (λ y. not (is_among used y)) fields) ++ (ends ∷ (acts (Jump behind) [] ∷ []))))
+    ++ ((acts (Label shared) [] ∷ (begins ++ (loads ++ (count ∷ computes (Op.Immediate Addi less) (base ∷ []) base ∷ store
+    ∷ dups_lines holds (filter (is_among used) fields)))))
     ++ (acts (Label behind) [] ∷ []))))
+
+-- the cell is freed
+abbrev pub UniqueLines : ℕ → (ℕ → Bool) → ℕ → ℕ → ℕ → List ℕ → List ℕ → List Line → Type 0
+UniqueLines base holds shared behind x fields used lines =
+    CountLines base holds shared behind x fields used (acts (Compute Op.Free) (x ∷ [])) [] lines
+
+-- The cell is not freed: it is the token of a value, which has its address. The value is 0 where the cell has other references.
+abbrev pub TokenUniqueLines : ℕ → (ℕ → Bool) → ℕ → ℕ → ℕ → List ℕ → List ℕ → ℕ → List Line → Type 0
+TokenUniqueLines base holds shared behind x fields used token lines =
+    CountLines base holds shared behind x fields used (copies_to x token) (sets 0 token ∷ []) lines
 
 -- ---- tests
 
