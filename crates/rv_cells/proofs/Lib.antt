@@ -19,6 +19,7 @@ pub mod Constructing
 pub mod CountOpenings
 pub mod Uniques
 pub mod TokenOpenings
+pub mod Filling
 pub mod Walking
 pub mod Frames
 pub mod Calling

@@ -49,14 +49,14 @@ TokenIs zero s t token at fields = ⊥
 TokenIs (suc zero) s t token at fields = HasCell s t token at fields
 TokenIs (suc (suc n)) s t token at fields = IsNull s t token
 
--- Lines lead from a spot to another, at this cost beyond what was saved, and write the value of a token. Of the frame only values
--- change: this one, those of variables that become bound, and temporaries.
-pub record LeavesToken (known : Known) (most : ℕ) (lines rest : List Line) (fs : List (Frame Line)) (s t : Spot)
+-- Lines lead from a spot to another, at this cost beyond what was saved, and from older frames to other ones. They may write the
+-- value of a token. Of the frame only values change: this one, those of variables that become bound, and temporaries.
+pub record Leads (known : Known) (most : ℕ) (lines rest : List Line) (fs gs : List (Frame Line)) (s t : Spot)
     (token : ℕ) : Type 0 where
   pub cost : ℕ
   pub steps : ℕ
   pub within : cost + saved t.heap ≤ most + saved s.heap
-  pub runs : Runs known.target cost steps (turn_of (lines ++ rest) s.frame fs s.world) (turn_of rest t.frame fs t.world)
+  pub runs : Runs known.target cost steps (turn_of (lines ++ rest) s.frame fs s.world) (turn_of rest t.frame gs t.world)
   pub here : Here known t
   pub grown : (z : ℕ) → is_among t.bound z ≡ false → is_among s.bound z ≡ false
   pub spared : (z : ℕ) → z < known.base → z ≢ token → is_among t.bound z ≡ false → t.frame.cells z ≡ s.frame.cells z
@@ -124,7 +124,7 @@ module _ (known : Known) (rest : List Line) (fs : List (Frame Line)) (s : Spot) 
   abbrev Leaves : (Spot → Type 0) → Type 0
   Leaves IsThere =
       (frame : Frame Line) × (owners : ℕ → Owner) × (cells : Cells)
-      × LeavesToken known (token_cost known fields used) lines rest fs s (spot_of frame owners cells) token
+      × Leads known (token_cost known fields used) lines rest fs fs s (spot_of frame owners cells) token
       × IsThere (spot_of frame owners cells)
 
   abbrev fields_words : List ℕ

@@ -2,7 +2,7 @@
 -- from `base` on are temporaries.
 use Rattle.std.specs.Prelude.{◌≡◌, ℕ, suc, ◌+◌, ◌*◌, ◌-◌, ◌^◌, Bool, List, [], ◌∷◌, ◌++◌, filter, Some, not, if◌then◌else◌}
 use Rattle.kk_syntax.specs.Shapes.{is_among}
-use Rattle.rv_isa.specs.declared.asm.Action.TheVariants.{Compute, Label, Jump, Branch, Routine as Calls}
+use Rattle.rv_isa.specs.declared.asm.Action.TheVariants.{Compute, Label, Jump, Branch, Routine as Calls, Hold, Unhold}
 use Rattle.rv_isa.specs.declared.asm.Condition.TheVariants.{Equal, NotEqual}
 use Rattle.rv_isa.specs.declared.asm.Operation.TheVariants as Op
 use Rattle.rv_isa.specs.declared.asm.ImmediateOperation.TheVariants.{Addi}
@@ -57,6 +57,25 @@ ConstructLines base x header arguments lines =
     × Stores x 0 base count
     × (lines ≡ record { action = Calls Take; args = []; into = Some x } ∷ sets header base ∷ head ∷
     (fields ++ sets 1 base ∷ count ∷ []))
+
+-- Tokens are held, the first of them last. They are taken back from the first one on.
+abbrev pub hold_lines : List ℕ → List Line
+hold_lines [] = []
+hold_lines (token ∷ tokens) = hold_lines tokens ++ (acts Hold (token ∷ []) ∷ [])
+
+abbrev pub unhold_lines : List ℕ → List Line
+unhold_lines [] = []
+unhold_lines (token ∷ tokens) = acts Unhold (token ∷ []) ∷ unhold_lines tokens
+
+-- A construction in the cell of a token: variable x has the token's word. Where that is 0 a cell is taken, while the other tokens
+-- are held, so that they are tried in their order. From label `filled` on the words are stored as in each construction.
+abbrev pub FillLines : ℕ → ℕ → ℕ → List ℕ → ℕ → ℕ → List ℕ → List Line → Type 0
+FillLines base x token others filled header arguments lines =
+    (stores : List Line)
+    × ConstructLines base x header arguments (record { action = Calls Take; args = []; into = Some x } ∷ stores)
+    × (lines ≡ copies_to token x ∷ copies_to x base ∷ acts (Branch NotEqual filled) (base ∷ []) ∷
+    (hold_lines others ++ (record { action = Calls Take; args = []; into = Some x } ∷
+    (unhold_lines others ++ (acts (Label filled) [] ∷ stores)))))
 
 -- a reading: the fields are loaded
 abbrev pub ReadLines : ℕ → List ℕ → List Line → Type 0
