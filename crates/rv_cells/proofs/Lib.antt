@@ -11,6 +11,7 @@ pub mod Starts
 pub mod Runs
 pub mod Acting
 pub mod HeldTokens
+pub mod HeldRows
 pub mod Values
 pub mod Spots
 pub mod Rows
