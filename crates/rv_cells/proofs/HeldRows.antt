@@ -78,7 +78,7 @@ abbrev pub all_back : (ℕ → Option ℕ) → List ℕ → (ℕ → Owner) → 
 all_back values [] owners = owners
 all_back values (z ∷ zs) owners = all_back values zs (one_turned as_back (values z) owners)
 
-turned_cell : (turn : Owner → Owner) (value : Option ℕ) (at : ℕ) (owners : ℕ → Owner) → value ≡ Some at → at ≢ 0
+pub turned_cell : (turn : Owner → Owner) (value : Option ℕ) (at : ℕ) (owners : ℕ → Owner) → value ≡ Some at → at ≢ 0
     → one_turned turn value owners ≡ with_owner at (turn (owners at)) owners
 turned_cell turn value zero owners is some = absurd (some refl)
 turned_cell turn value (suc n) owners is some = ap (λ v. one_turned turn v owners) is
@@ -103,7 +103,7 @@ back_others values (z ∷ zs) x owners none =
     back_others values zs x (one_turned as_back (values z) owners) none.1 ∙ turned_other as_back (values z) x owners none.0
 
 -- where a cell that is none of theirs has another owner they are tokens still
-tokens_still : (stands : (ℕ → Option ℕ) → Owner) (values : ℕ → Option ℕ) (zs : List ℕ) (at : ℕ) (owner : Owner) (owners : ℕ → Owner)
+pub tokens_still : (stands : (ℕ → Option ℕ) → Owner) (values : ℕ → Option ℕ) (zs : List ℕ) (at : ℕ) (owner : Owner) (owners : ℕ → Owner)
     → NoneHas values at zs → AreTokensIn stands owners values zs → AreTokensIn stands (with_owner at owner owners) values zs
 tokens_still stands values [] at owner owners none are = tt
 tokens_still stands values (z ∷ zs) at owner owners none are = (

@@ -21,7 +21,7 @@ use Rattle.rv_cells.proofs.Runs.{turn_of, Runs, runs_then}
 use Rattle.rv_cells.proofs.Acting.{put_in, sets_runs, copy_runs}
 use Rattle.rv_cells.proofs.Spots.{AreSmall, Spot, Known, Here, saved}
 use Rattle.rv_cells.proofs.LineCosts.{most_moves, row_cost}
-use Rattle.rv_cells.proofs.Values.{has_other, list_grown}
+use Rattle.rv_cells.proofs.Values.{among_none, has_other, list_grown}
 use Rattle.rv_cells.proofs.Rows.{IsReading}
 use Rattle.rv_cells.proofs.Openings.{opened_spot}
 use Rattle.rv_cells.proofs.CountOpenings as Opens
@@ -50,16 +50,17 @@ TokenIs (suc zero) s t token at fields = HasCell s t token at fields
 TokenIs (suc (suc n)) s t token at fields = IsNull s t token
 
 -- Lines lead from a spot to another, at this cost beyond what was saved, and from older frames to other ones. They may write the
--- value of a token. Of the frame only values change: this one, those of variables that become bound, and temporaries.
+-- values of tokens. Of the frame only values change: these, those of variables that become bound, and temporaries.
 pub record Leads (known : Known) (most : ℕ) (lines rest : List Line) (fs gs : List (Frame Line)) (s t : Spot)
-    (token : ℕ) : Type 0 where
+    (tokens : List ℕ) : Type 0 where
   pub cost : ℕ
   pub steps : ℕ
   pub within : cost + saved t.heap ≤ most + saved s.heap
   pub runs : Runs known.target cost steps (turn_of (lines ++ rest) s.frame fs s.world) (turn_of rest t.frame gs t.world)
   pub here : Here known t
   pub grown : (z : ℕ) → is_among t.bound z ≡ false → is_among s.bound z ≡ false
-  pub spared : (z : ℕ) → z < known.base → z ≢ token → is_among t.bound z ≡ false → t.frame.cells z ≡ s.frame.cells z
+  pub spared : (z : ℕ) → z < known.base → is_among tokens z ≡ false → is_among t.bound z ≡ false
+      → t.frame.cells z ≡ s.frame.cells z
   pub left : t.world.left ≡ s.world.left
   pub trace : t.world.trace ≡ s.world.trace
   pub whole : t.frame.whole ≡ s.frame.whole
@@ -124,7 +125,7 @@ module _ (known : Known) (rest : List Line) (fs : List (Frame Line)) (s : Spot) 
   abbrev Leaves : (Spot → Type 0) → Type 0
   Leaves IsThere =
       (frame : Frame Line) × (owners : ℕ → Owner) × (cells : Cells)
-      × Leads known (token_cost known fields used) lines rest fs fs s (spot_of frame owners cells) token
+      × Leads known (token_cost known fields used) lines rest fs fs s (spot_of frame owners cells) (token ∷ [])
       × IsThere (spot_of frame owners cells)
 
   abbrev fields_words : List ℕ
@@ -166,7 +167,8 @@ module _ (known : Known) (rest : List Line) (fs : List (Frame Line)) (s : Spot) 
               comes.runs back;
           here = record { follows = comes.here.follows; values = has_other comes.here.values token at spare };
           grown = λ z none. list_grown fields s.bound z none;
-          spared = λ z below differ none. put_other token z at frame.cells differ ∙ comes.spared z below none;
+          spared = λ z below apart none. put_other token z at frame.cells (among_none token [] z apart).0
+              ∙ comes.spared z below none;
           left = refl {a = s.world.left};
           trace = refl {a = s.world.trace};
           whole = comes.whole;
@@ -206,8 +208,8 @@ module _ (known : Known) (rest : List Line) (fs : List (Frame Line)) (s : Spot) 
           runs = comes.runs;
           here = comes.here;
           grown = λ z none. list_grown fields s.bound z none;
-          spared = λ z below differ none. comes.spared z below none ∙ put_other token z 0 tests.cells differ
-              ∙ Opens.tests_spare known o z below;
+          spared = λ z below apart none. comes.spared z below none
+              ∙ put_other token z 0 tests.cells (among_none token [] z apart).0 ∙ Opens.tests_spare known o z below;
           left = refl {a = s.world.left};
           trace = refl {a = s.world.trace};
           whole = comes.whole;
