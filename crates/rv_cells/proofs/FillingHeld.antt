@@ -18,7 +18,7 @@ use Rattle.rv_cells.proofs.Held.{some-is}
 use Rattle.rv_cells.proofs.Owners.{chosen_by, chosen_same}
 use Rattle.rv_cells.proofs.Rooms.{same_aside}
 use Rattle.rv_cells.proofs.Requests.{served, from_held, is_full}
-use Rattle.rv_cells.proofs.Words.{hand_owned}
+use Rattle.rv_cells.proofs.Words.{hand_owned, aside_owned}
 use Rattle.rv_cells.proofs.Runs.{left_at, turn_of, Runs, runs_then}
 use Rattle.rv_cells.proofs.Acting.{put_in, take_runs, full_runs}
 use Rattle.rv_cells.proofs.HeldTokens.{holding_now, take_older_runs}
@@ -123,6 +123,16 @@ none_other owners values (z ∷ zs) at some other are = (by are.0, none_other ow
     by (inl null) = λ e. some (sym (some-is (sym null ∙ e)))
     by (inr cell) = λ e. other cell.1 (ap owners (some-is (sym e ∙ cell.2)) ∙ cell.4)
 
+none_dead : (values : ℕ → Option ℕ) (zs : List ℕ) (at : ℕ) → at ≢ 0 → live values zs ≡ [] → NoneHas values at zs
+none_dead values [] at some dead = tt
+none_dead values (z ∷ zs) at some dead = by (values z) refl dead (λ later. none_dead values zs at some later)
+  where
+    by : (value : Option ℕ) → values z ≡ value → live_with value z (live values zs) ≡ []
+        → (live values zs ≡ [] → NoneHas values at zs) → (values z ≢ Some at) × NoneHas values at zs
+    by None is dead again = cc
+    by (Some zero) is dead again = (λ e. some (sym (some-is (sym is ∙ e))), again dead)
+    by (Some (suc n)) is dead again = cc
+
 -- ---- constructions
 
 -- values that are neither temporaries nor such variables
@@ -178,7 +188,7 @@ module _ (known : Known) (rest : List Line) (fs : List (Frame Line)) (s : Spot) 
       Fills known rest fs s x token c others filled arguments lines here making are gs owners values 0 at
 
   -- the tokens are held
-  row : (cells : Cells) × Runs known.target (row_cost others (most_moves + 9)) (length others)
+  pub row : (cells : Cells) × Runs known.target (row_cost others (most_moves + 9)) (length others)
       (turn_of (hold_lines others ++ (take ∷ back_lines)) (with_all values1 s.frame.held) fs s.world)
       (turn_of (take ∷ back_lines) (with_all values1 held1) fs (with_cells s.world cells))
       × Follows known.target.pool known.layout s.address owners1 s.heap cells
@@ -231,13 +241,12 @@ module _ (known : Known) (rest : List Line) (fs : List (Frame Line)) (s : Spot) 
   same_room = same_aside known.target.pool owners1 s.owners (aside_held values1 others s.owners)
 
   -- a cell that was taken, and of which x has the address, where no token's value has changed
-  same_values : (gs : List (Frame Line)) (owners : ℕ → Owner) (next : Cells) (at : ℕ) (was : Owner) → owners1 at ≡ was
-      → ((words : ℕ → Option ℕ) → was ≢ kept_aside words)
+  same_values : (gs : List (Frame Line)) (next : Cells) (at : ℕ) → (at ≢ 0 → NoneHas values1 at others)
       → Runs known.target (most_moves + 10) 1 (turn_of (take ∷ back_lines) (with_all values1 held1) fs (with_cells s.world row.0))
       (turn_of back_lines (with_all (put x (Some at) values1) held1) gs (with_cells s.world next))
       → Follows known.target.pool known.layout s.address (with_owner at (in_hand nothing) owners1) s.heap next
       → Makes gs (all_back (names s.frame.cells at) others (with_owner at (in_hand nothing) owners1)) s.frame.cells at
-  same_values gs owners next at was is other took follows =
+  same_values gs next at others_have took follows =
       let low = making.below in
       let owners2 = with_owner at (in_hand nothing) owners1 in
       let hand = chosen_same at at (in_hand nothing) owners1 refl in
@@ -246,7 +255,7 @@ module _ (known : Known) (rest : List Line) (fs : List (Frame Line)) (s : Spot) 
       let same2 = puts_same known.base x 0 at s.frame.cells others apart in
       let moved = both_same s.frame.cells values1 values2 others same1 same2 in
       let held = tokens_held s.owners values1 others tokens1 in
-      let none = none_other owners1 values1 others at (λ e. omega arith) (λ words kept. other words (sym is ∙ kept)) held in
+      let none = others_have (λ e. omega arith) in
       let tokens2 = tokens_moved kept_aside owners2 values1 values2 others moved
       (tokens_still kept_aside values1 others at (in_hand nothing) owners1 none held) in
       let values_are : put x (Some at) values1 ≡ values2 = put_before x known.base at 0 0 s.frame.cells (λ e. omega arith) in
@@ -267,10 +276,29 @@ module _ (known : Known) (rest : List Line) (fs : List (Frame Line)) (s : Spot) 
       let same = same_room in
       let took = served row.2 known.aligned (top (left_at back_lines (with_all values1 held1) ∷ fs)) (omega arith) in (
         took.at,
-        same_values fs owners1 took.next took.at nobody took.free (λ words e. cc)
+        same_values fs took.next took.at
+            (λ some. none_other owners1 values1 others took.at some
+            (λ words kept. let both : nobody ≡ kept_aside words = sym took.free ∙ kept in cc)
+            (tokens_held s.owners values1 others tokens1))
             (take_runs known.target back_lines (with_all values1 held1) fs (with_cells s.world row.0) x took.at took.next took.is)
             took.holds,
       )
+
+  -- no token of the frame has a cell, and no cell is free: the newest token of an older frame is taken
+  pub fills_held : (gs : List (Frame Line)) (at : ℕ) (words : ℕ → Option ℕ) → live values1 others ≡ [] → s.frame.held ≡ []
+      → top fs ≡ Some at → top_taken fs ≡ Some gs → s.owners at ≡ kept_aside words
+      → known.target.pool.cells ≤ busy s.heap + set_aside known.target.pool s.owners
+      → Makes gs (all_back (names s.frame.cells at) others (with_owner at (in_hand nothing) owners1)) s.frame.cells at
+  fills_held gs at words dead none newest taken kept full =
+      let same = same_room in
+      let held_is : held1 ≡ [] = ap (λ l. l ++ s.frame.held) dead ∙ none in
+      let far = (aside_owned here.follows at words kept).0.behind in
+      let have = none_dead values1 others at (λ e. omega arith) dead in
+      let took = from_held row.2 known.aligned at words (held_others values1 others at s.owners have ∙ kept) (omega arith) in
+      same_values gs took.next at (λ some. have)
+      (take_older_runs known.target back_lines (with_all values1 held1) fs (with_cells s.world row.0) x at took.next gs held_is
+      newest taken took.is)
+      took.holds
 
   -- no token of the frame has a cell, and no cell is free: the heap is full where no older frame holds a token
   pub fills_none : live values1 others ≡ [] → s.frame.held ≡ [] → top fs ≡ None

@@ -21,6 +21,7 @@ pub mod CountOpenings
 pub mod Uniques
 pub mod TokenOpenings
 pub mod Filling
+pub mod FillingHeld
 pub mod Walking
 pub mod Frames
 pub mod Calling
