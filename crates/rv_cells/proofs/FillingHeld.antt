@@ -1,16 +1,17 @@
 -- Constructions in the cells of tokens, as lines, where a cell is taken while the other tokens are held.
-use Rattle.std.proofs.Common.{◌≡◌, ◌≢◌, ◌<◌, ◌≤◌, inl, inr, ℕ, zero, suc, ◌+◌, ◌*◌, true, false, List, [], ◌∷◌, ◌++◌, length, Option, Some, None, refl, sym, ◌∙◌, ap, subst, arith}
+use Rattle.std.proofs.Common.{◌≡◌, ◌≢◌, ◌<◌, ◌≤◌, inl, inr, ℕ, zero, suc, ◌+◌, ◌*◌, ◌==◌, Bool, cond, true, false, List, [], ◌∷◌, ◌++◌, length, Option, Some, None, refl, sym, ◌∙◌, ap, subst, arith, eqb-true}
+use mathlib.Core.Path.{fun_ext}
 use Rattle.kk_syntax.specs.Shapes.{is_among}
 use Rattle.kk_counted.specs.Heaps.{Heap, busy}
 use Rattle.rv_isa.specs.Processor.{exited}
 use Rattle.rv_isa.specs.AsmCode.{Line}
-use Rattle.rv_isa.specs.Frames.{Frame, top, top_in, top_taken, put}
+use Rattle.rv_isa.specs.Frames.{Frame, top, top_in, top_taken, put, is_among as is_out}
 use Rattle.rv_isa.specs.Primitives.{ended}
 use Rattle.cell_heap.specs.Blocks.{Cells, nothing, request}
 use Rattle.cell_runtime.specs.declared.stop.Ending.TheVariants as OfEnding
 use Rattle.cell_runtime.specs.Stops.{number_of}
 use Rattle.rv_world.specs.World.{World, with_cells}
-use Rattle.rv_lower.proofs.Performing.{put_other}
+use Rattle.rv_lower.proofs.Performing.{put_same, put_other}
 use Rattle.rv_cells.specs.Layout.{header_of}
 use Rattle.rv_cells.specs.Follows.{Owner, nobody, in_hand, kept_aside, cell_of, Follows, with_owner, is_aside, set_aside}
 use Rattle.rv_cells.specs.CellLines.{FillLines, hold_lines, unhold_lines}
@@ -21,11 +22,11 @@ use Rattle.rv_cells.proofs.Requests.{served, from_held, is_full}
 use Rattle.rv_cells.proofs.Words.{hand_owned, aside_owned}
 use Rattle.rv_cells.proofs.Runs.{left_at, turn_of, Runs, runs_then}
 use Rattle.rv_cells.proofs.Acting.{put_in, take_runs, full_runs}
-use Rattle.rv_cells.proofs.HeldTokens.{holding_now, take_older_runs}
-use Rattle.rv_cells.proofs.HeldRows.{IsToken, NoneHas, AreTokensIn, live, live_with, as_held, one_turned, all_held, all_back, turned_cell, held_others, back_others, tokens_still, AllOut, hold_row, unhold_row}
+use Rattle.rv_cells.proofs.HeldTokens.{take_own_runs, take_older_runs}
+use Rattle.rv_cells.proofs.HeldRows.{IsToken, NoneHas, AreTokensIn, live, live_with, live_null, live_cell, either_false, as_held, one_turned, all_held, all_back, turned_cell, held_others, back_others, tokens_still, AllOut, hold_row, unhold_row}
 use Rattle.rv_cells.proofs.Spots.{Spot, Known, Here}
 use Rattle.rv_cells.proofs.LineCosts.{most_moves, row_cost}
-use Rattle.rv_cells.proofs.Values.{HasValues, among_none}
+use Rattle.rv_cells.proofs.Values.{HasValues, among_none, has_other}
 use Rattle.rv_cells.proofs.Constructing.{IsMaking}
 use Rattle.rv_cells.proofs.Filling.{put_before, takes, from_label, tested, test_cost, tests_null, named, with_values, Fills, AreSpared, most_before, ends}
 
@@ -133,19 +134,141 @@ none_dead values (z ∷ zs) at some dead = by (values z) refl dead (λ later. no
     by (Some zero) is dead again = (λ e. some (sym (some-is (sym is ∙ e))), again dead)
     by (Some (suc n)) is dead again = cc
 
+-- ---- lists of values
+
+-- something is true of each of these values
+abbrev pub AllAre : (ℕ → Type 0) → List ℕ → Type 0
+AllAre P [] = Unit {0}
+AllAre P (z ∷ zs) = P z × AllAre P zs
+
+-- ---- the newest of them
+
+out_same : (values : ℕ → Option ℕ) (y word : ℕ) (zs : List ℕ) → is_out y zs ≡ false → AllSame values (put y (Some word) values) zs
+out_same values y word [] out = tt
+out_same values y word (z ∷ zs) out =
+    let parts = either_false (z == y) (is_out y zs) out in (
+      put_other y z word values (λ e. let itself : (z == y) ≡ true = grind arith in let both = sym itself ∙ parts.0 in cc),
+      out_same values y word zs parts.1,
+    )
+
+put_alike : (values later : ℕ → Option ℕ) (y word : ℕ) (zs : List ℕ) → AllSame values later zs
+    → AllSame (put y (Some word) values) (put y (Some word) later) zs
+put_alike values later y word [] same = tt
+put_alike values later y word (z ∷ zs) same = (
+  ap (λ v. cond (z == y) (Some word) v) same.0,
+  put_alike values later y word zs same.1,
+)
+
+-- the first of these tokens that has a cell; and what they are once its value is 0 and its cell is in hand
+pub record Newest (owners : ℕ → Owner) (values : ℕ → Option ℕ) (zs : List ℕ) (y : ℕ) (more : List ℕ) : Type 1 where
+  pub at : ℕ
+  pub words : ℕ → Option ℕ
+  pub some : at ≢ 0
+  pub value : values y ≡ Some at
+  pub kept : owners at ≡ kept_aside words
+  pub left : live (put y (Some 0) values) zs ≡ more
+  pub tokens : AreTokensIn kept_aside (with_owner at (in_hand nothing) owners) (put y (Some 0) values) zs
+  pub none : NoneHas (put y (Some 0) values) at zs
+  pub differs : (z : ℕ) → is_out z zs ≡ false → z ≢ y
+  pub spares : (z : ℕ) → is_among zs z ≡ false → z ≢ y
+  pub of_all : (P : ℕ → Type 0) → AllAre P zs → P y
+
+list_parts : {x y : ℕ} {xs ys : List ℕ} → x ∷ xs ≡ y ∷ ys → (x ≡ y) × (xs ≡ ys)
+list_parts e = (cc, cc)
+
+newest_of : (owners : ℕ → Owner) (values : ℕ → Option ℕ) (zs : List ℕ) (y : ℕ) (more : List ℕ)
+    → AreTokensIn kept_aside owners values zs → live values zs ≡ y ∷ more → Newest owners values zs y more
+newest_of owners values [] y more are is = cc
+newest_of owners values (z ∷ zs) y more are is = by are.0 (λ later. newest_of owners values zs y more are.3 later)
+  where
+    by_null : values z ≡ Some 0 → Newest owners values zs y more → Newest owners values (z ∷ zs) y more
+    by_null null one =
+        let differ = one.differs z are.1 in
+        let still : put y (Some 0) values z ≡ Some 0 = put_other y z 0 values differ ∙ null in
+        record {
+          at = one.at;
+          words = one.words;
+          some = one.some;
+          value = one.value;
+          kept = one.kept;
+          left = live_null (put y (Some 0) values z) z (live (put y (Some 0) values) zs) still ∙ one.left;
+          tokens = (
+            inl still,
+            are.1,
+            λ at some has. absurd (some (sym (some-is (sym still ∙ has)))),
+            one.tokens,
+          );
+          none = (λ e. one.some (sym (some-is (sym still ∙ e))), one.none);
+          differs = λ w out. one.differs w (either_false (z == w) (is_out w zs) out).1;
+          spares = λ w none. one.spares w (among_none z zs w none).1;
+          of_all = λ P all. one.of_all P all.1;
+        }
+
+    by_cell : (at : ℕ) (words : ℕ → Option ℕ) → values z ≡ Some at → at ≢ 0 → owners at ≡ kept_aside words → z ≡ y
+        → live values zs ≡ more → Newest owners values (z ∷ zs) y more
+    by_cell at words value some kept same left =
+        let out : is_out y zs ≡ false = subst (λ w. is_out w zs ≡ false) same are.1 in
+        let null : put y (Some 0) values z ≡ Some 0 = ap (put y (Some 0) values) same ∙ put_same y 0 values in
+        let alike = out_same values y 0 zs out in
+        let have = are.2 at some value in
+        record {
+          at = at;
+          words = words;
+          some = some;
+          value = ap values (sym same) ∙ value;
+          kept = kept;
+          left = live_null (put y (Some 0) values z) z (live (put y (Some 0) values) zs) null
+              ∙ live_moved values (put y (Some 0) values) zs alike ∙ left;
+          tokens = (
+            inl null,
+            are.1,
+            λ other live has. absurd (live (sym (some-is (sym null ∙ has)))),
+            tokens_moved kept_aside (with_owner at (in_hand nothing) owners) values (put y (Some 0) values) zs alike
+                (tokens_still kept_aside values zs at (in_hand nothing) owners have are.3),
+          );
+          none = (λ e. some (sym (some-is (sym null ∙ e))), none_moved values (put y (Some 0) values) at zs alike have);
+          differs = λ w free e.
+              let parts = either_false (z == w) (is_out w zs) free in
+              let itself : (z == w) ≡ true = let one = same in grind arith in let both = sym itself ∙ parts.0 in cc;
+          spares = λ w none e. (among_none z zs w none).0 (e ∙ sym same);
+          of_all = λ P all. subst P same all.0;
+        }
+
+    by : IsToken kept_aside owners (values z) → (live values zs ≡ y ∷ more → Newest owners values zs y more)
+        → Newest owners values (z ∷ zs) y more
+    by (inl null) again = by_null null (again (sym (live_null (values z) z (live values zs) null) ∙ is))
+    by (inr cell) again =
+        let parts = list_parts (sym (live_cell (values z) cell.0 z (live values zs) cell.2 cell.3) ∙ is) in
+        by_cell cell.0 cell.1 cell.2 cell.3 cell.4 parts.0 parts.1
+
+-- three values that are written in another order
+put_round : (x y t at : ℕ) (values : ℕ → Option ℕ) → x ≢ y → x ≢ t
+    → put x (Some at) (put y (Some 0) (put t (Some 0) (put x (Some 0) values))) ≡ put t (Some 0)
+    (put x (Some at) (put y (Some 0) values))
+put_round x y t at values one two = fun_ext (λ z. by z (z == x) refl (z == y) refl (z == t) refl)
+  where
+    by : (z : ℕ) (b : Bool) → (z == x) ≡ b → (c : Bool) → (z == y) ≡ c → (d : Bool) → (z == t) ≡ d
+        → cond b (Some at) (cond c (Some 0) (cond d (Some 0) (cond b (Some 0) (values z))))
+        ≡ cond d (Some 0) (cond b (Some at) (cond c (Some 0) (values z)))
+    by z true is c also true last = absurd (two (sym (eqb-true z x is) ∙ eqb-true z t last))
+    by z true is c also false last = refl
+    by z false is true also true last = refl
+    by z false is true also false last = refl
+    by z false is false also d last = refl
+
 -- ---- constructions
 
--- values that are neither temporaries nor such variables
+-- values that are neither temporaries nor such a variable
 abbrev pub AreApartFrom : ℕ → ℕ → List ℕ → Type 0
-AreApartFrom base x [] = Unit {0}
-AreApartFrom base x (z ∷ zs) = (z < base) × (z ≢ x) × AreApartFrom base x zs
+AreApartFrom base x zs = AllAre (λ z. (z < base) × (z ≢ x)) zs
 
 puts_same : (base x word other : ℕ) (values : ℕ → Option ℕ) (zs : List ℕ) → AreApartFrom base x zs
     → AllSame values (put base (Some word) (put x (Some other) values)) zs
 puts_same base x word other values [] apart = tt
 puts_same base x word other values (z ∷ zs) apart = (
-  put_other base z word (put x (Some other) values) (λ e. omega (arith, e, apart.0)) ∙ put_other x z other values apart.1,
-  puts_same base x word other values zs apart.2,
+  put_other base z word (put x (Some other) values) (λ e. let low = apart.0.0 in omega (arith, e, low))
+      ∙ put_other x z other values apart.0.1,
+  puts_same base x word other values zs apart.1,
 )
 
 module _ (known : Known) (rest : List Line) (fs : List (Frame Line)) (s : Spot) (x token c : ℕ) (others : List ℕ) (filled : ℕ)
@@ -282,6 +405,48 @@ module _ (known : Known) (rest : List Line) (fs : List (Frame Line)) (s : Spot) 
             (tokens_held s.owners values1 others tokens1))
             (take_runs known.target back_lines (with_all values1 held1) fs (with_cells s.world row.0) x took.at took.next took.is)
             took.holds,
+      )
+
+  -- no cell is free: the newest token of the frame is taken
+  pub fills_newest : (y : ℕ) (more : List ℕ) → live values1 others ≡ y ∷ more → AllAre (λ z. is_among s.bound z ≡ false) others
+      → known.target.pool.cells ≤ busy s.heap + set_aside known.target.pool s.owners
+      → (at : ℕ) × (values1 y ≡ Some at)
+      × Makes fs (all_back (names (put y (Some 0) s.frame.cells) at) others (with_owner at (in_hand nothing) owners1))
+      (put y (Some 0) s.frame.cells) at
+  fills_newest y more first unbound full =
+      let same = same_room in
+      let low = making.below in
+      let one = newest_of owners1 values1 others y more (tokens_held s.owners values1 others tokens1) first in
+      let at = one.at in
+      let owners2 = with_owner at (in_hand nothing) owners1 in
+      let took = from_held row.2 known.aligned at one.words one.kept (omega arith) in
+      let placed = one.of_all (λ z. (z < known.base) × (z ≢ x)) apart in
+      let values3 = put y (Some 0) s.frame.cells in
+      let before = put y (Some 0) values1 in
+      let behind = names values3 at in
+      let moved = both_same values3 before behind others (put_alike s.frame.cells values1 y 0 others same1)
+      (puts_same known.base x 0 at values3 others apart) in
+      let held_is : held1 ≡ y ∷ (more ++ s.frame.held) = ap (λ l. l ++ s.frame.held) first in
+      let taking = take_own_runs known.target back_lines (with_all values1 held1) fs (with_cells s.world row.0) x at y
+      (more ++ s.frame.held) took.next held_is one.value took.is in
+      let values_are : put x (Some at) before ≡ behind = put_round x y known.base at s.frame.cells (λ e. placed.1 (sym e))
+      (λ e. omega arith) in
+      let left : more ++ s.frame.held ≡ live behind others ++ s.frame.held =
+      ap (λ l. l ++ s.frame.held) (sym (live_moved before behind others moved ∙ one.left)) in
+      let t1 = turn_of (take ∷ back_lines) (with_all values1 held1) fs (with_cells s.world row.0) in
+      let last = with_cells s.world took.next in (
+        at,
+        one.value,
+        after_take fs values3 owners2 took.next at nothing
+            (subst (λ h. Runs known.target (most_moves + 10) 1 t1 (turn_of back_lines (with_all behind h) fs last)) left
+            (subst (λ v. Runs known.target (most_moves + 10) 1 t1
+            (turn_of back_lines (with_all v (more ++ s.frame.held)) fs last)) values_are taking))
+            took.holds
+            (tokens_moved kept_aside owners2 before behind others moved one.tokens)
+            (none_moved before behind at others moved one.none)
+            (chosen_same at at (in_hand nothing) owners1 refl)
+            (has_other here.values y 0 (one.of_all (λ z. is_among s.bound z ≡ false) unbound))
+            (λ z below free. put_other y z 0 s.frame.cells (one.spares z (among_none token others z free).1)),
       )
 
   -- no token of the frame has a cell, and no cell is free: the newest token of an older frame is taken

@@ -47,10 +47,10 @@ abbrev pub live : (ℕ → Option ℕ) → List ℕ → List ℕ
 live values [] = []
 live values (z ∷ zs) = live_with (values z) z (live values zs)
 
-live_null : (value : Option ℕ) (z : ℕ) (rest : List ℕ) → value ≡ Some 0 → live_with value z rest ≡ rest
+pub live_null : (value : Option ℕ) (z : ℕ) (rest : List ℕ) → value ≡ Some 0 → live_with value z rest ≡ rest
 live_null value z rest is = ap (λ v. live_with v z rest) is
 
-live_cell : (value : Option ℕ) (at z : ℕ) (rest : List ℕ) → value ≡ Some at → at ≢ 0 → live_with value z rest ≡ z ∷ rest
+pub live_cell : (value : Option ℕ) (at z : ℕ) (rest : List ℕ) → value ≡ Some at → at ≢ 0 → live_with value z rest ≡ z ∷ rest
 live_cell value zero z rest is some = absurd (some refl)
 live_cell value (suc n) z rest is some = ap (λ v. live_with v z rest) is
 
@@ -121,7 +121,7 @@ tokens_still stands values (z ∷ zs) at owner owners none are = (
 
 -- ---- which values are held
 
-either_false : (a b : Bool) → (a || b) ≡ false → (a ≡ false) × (b ≡ false)
+pub either_false : (a b : Bool) → (a || b) ≡ false → (a ≡ false) × (b ≡ false)
 either_false true b is = cc
 either_false false b is = (refl, is)
 
