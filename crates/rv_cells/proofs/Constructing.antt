@@ -23,7 +23,7 @@ use Rattle.rv_world.specs.World.{World, with_cells}
 use Rattle.rv_lower.specs.Lines.{sets}
 use Rattle.rv_lower.proofs.Calls.{HaveWords}
 use Rattle.rv_cells.specs.Layout.{Layout, words_in, header_of, FitsField, FitFields}
-use Rattle.rv_cells.specs.Follows.{AreFrom, IsBlockOf, Owner, nobody, cell_of, in_hand, Follows, with_owner, assign, is_aside, set_aside}
+use Rattle.rv_cells.specs.Follows.{AreFrom, IsBlockOf, Owner, cell_of, in_hand, Follows, with_owner, assign, is_aside, set_aside}
 use Rattle.rv_cells.specs.CellLines.{Stores, AllStores, ConstructLines}
 use Rattle.rv_cells.proofs.Owners.{chosen_by, chosen_same, chosen_other}
 use Rattle.rv_cells.proofs.Requests.{served, is_full}

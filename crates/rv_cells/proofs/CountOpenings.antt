@@ -1,5 +1,5 @@
 -- Openings by the count of the cell, as lines: on each way, up to what is done with the cell.
-use Rattle.std.proofs.Common.{◌≡◌, ◌≢◌, ◌<◌, ◌≤◌, ℕ, zero, suc, ◌+◌, ◌*◌, true, false, not, inl, inr, List, [], ◌∷◌, ◌++◌, length, Option, Some, nat_eq, refl, sym, ◌∙◌, ap, subst, arith, append_assoc}
+use Rattle.std.proofs.Common.{◌≡◌, ◌≢◌, ◌<◌, ◌≤◌, ℕ, suc, ◌+◌, ◌*◌, true, false, not, inl, inr, List, [], ◌∷◌, ◌++◌, length, Option, Some, nat_eq, refl, sym, ◌∙◌, ap, subst, arith, append_assoc}
 use Rattle.std.specs.Prelude.{filter}
 use Rattle.std.proofs.lemmas.Bool.{cases_eq}
 use Rattle.std.proofs.lemmas.Bool.Decides.{nat_tests}
@@ -9,7 +9,7 @@ use Rattle.kk_source.specs.Live.{value_of}
 use Rattle.kk_core.specs.CoreMachine.{bind_fields}
 use Rattle.kk_counted.specs.Lowerable.{bound_list}
 use Rattle.kk_counted.specs.Heaps.{Held, Heap, count_in, count_at, set_count, dup_all, drop_all}
-use Rattle.kk_counted.specs.CountedMachine.{Named, used_values, other_values, unique_heap}
+use Rattle.kk_counted.specs.CountedMachine.{Named, used_values, other_values}
 use Rattle.kk_counted.specs.Keeping.{values_of}
 use Rattle.kk_counted.specs.Spending.{AreApart}
 use Rattle.kk_counted.proofs.Counting.{set_length, count_set, kept_weight, freed_weight}

@@ -1,34 +1,29 @@
 -- Constructions in the cells of tokens, as lines.
-use Rattle.std.proofs.Common.{◌≡◌, ◌≢◌, ◌<◌, ◌≤◌, ℕ, zero, suc, ◌+◌, ◌*◌, ◌==◌, cond, Bool, true, false, not, List, [], ◌∷◌, ◌++◌, length, Option, Some, None, nat_eq, refl, sym, ◌∙◌, ap, subst, arith, append_assoc, eqb-true}
+use Rattle.std.proofs.Common.{◌≡◌, ◌≢◌, ◌<◌, ◌≤◌, ℕ, ◌+◌, ◌*◌, ◌==◌, cond, Bool, true, false, not, List, [], ◌∷◌, ◌++◌, length, Option, Some, nat_eq, refl, sym, ◌∙◌, ap, subst, arith, append_assoc, eqb-true}
 use mathlib.Core.Path.{fun_ext}
 use Rattle.std.proofs.lemmas.List.{length-map}
 use Rattle.kk_source.specs.Live.{value_of}
 use Rattle.std.proofs.lemmas.Bool.Decides.{nat_tests}
 use Rattle.kk_syntax.specs.Shapes.{is_among}
-use Rattle.kk_counted.specs.Heaps.{Heap, busy}
 use Rattle.kk_counted.specs.Keeping.{values_of}
 use Rattle.rv_isa.specs.declared.asm.Action.TheVariants.{Label, Branch, Routine as Calls}
 use Rattle.rv_isa.specs.declared.asm.Condition.TheVariants.{NotEqual}
 use Rattle.rv_isa.specs.declared.routine.Routine.TheVariants.{Take}
-use Rattle.rv_isa.specs.Processor.{exited}
 use Rattle.rv_isa.specs.AsmCode.{Line}
 use Rattle.rv_isa.specs.AsmMachine.{is_label}
-use Rattle.rv_isa.specs.Frames.{Frame, top, top_in, top_taken, put, found}
-use Rattle.rv_isa.specs.Primitives.{ended}
-use Rattle.cell_heap.specs.Blocks.{Cells, nothing, request}
-use Rattle.cell_runtime.specs.declared.stop.Ending.TheVariants as OfEnding
-use Rattle.cell_runtime.specs.Stops.{number_of}
+use Rattle.rv_isa.specs.Frames.{Frame, put, found}
+use Rattle.cell_heap.specs.Blocks.{Cells}
 use Rattle.rv_world.specs.World.{World, with_cells}
 use Rattle.rv_lower.specs.Lines.{copies_to, acts}
 use Rattle.rv_lower.proofs.Calls.{HaveWords}
 use Rattle.rv_lower.proofs.Performing.{put_same, put_other}
 use Rattle.rv_cells.specs.Layout.{words_in, header_of}
-use Rattle.rv_cells.specs.Follows.{Owner, in_hand, kept_aside, Follows, with_owner, set_aside}
-use Rattle.rv_cells.specs.CellLines.{ConstructLines, FillLines, hold_lines, unhold_lines}
+use Rattle.rv_cells.specs.Follows.{Owner, in_hand, Follows}
+use Rattle.rv_cells.specs.CellLines.{FillLines, hold_lines, unhold_lines}
 use Rattle.rv_cells.proofs.Words.{hand_owned, same_owner}
-use Rattle.rv_cells.proofs.Runs.{left_at, turn_of, Runs, runs_then}
+use Rattle.rv_cells.proofs.Runs.{turn_of, Runs, runs_then}
 use Rattle.rv_cells.proofs.Acting.{put_in, copy_runs, label_runs, falls_one_runs, branch_one_runs}
-use Rattle.rv_cells.proofs.Spots.{Spot, Known, Here, saved}
+use Rattle.rv_cells.proofs.Spots.{Spot, Known, Here}
 use Rattle.rv_cells.proofs.LineCosts.{most_moves, row_cost, row_more}
 use Rattle.rv_cells.proofs.Values.{HasValues, among_none, has_temporary}
 use Rattle.rv_cells.proofs.Constructing.{IsMaking, made_spot, construct_cost, Hands, args_words, below_words}

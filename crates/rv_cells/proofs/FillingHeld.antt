@@ -1,8 +1,8 @@
 -- Constructions in the cells of tokens, as lines, where a cell is taken while the other tokens are held.
-use Rattle.std.proofs.Common.{◌≡◌, ◌≢◌, ◌<◌, ◌≤◌, inl, inr, ℕ, zero, suc, ◌+◌, ◌*◌, ◌==◌, Bool, cond, true, false, List, [], ◌∷◌, ◌++◌, length, Option, Some, None, refl, sym, ◌∙◌, ap, subst, arith, eqb-true}
+use Rattle.std.proofs.Common.{◌≡◌, ◌≢◌, ◌<◌, ◌≤◌, inl, inr, ℕ, zero, suc, ◌+◌, ◌==◌, Bool, cond, true, false, List, [], ◌∷◌, ◌++◌, length, Option, Some, None, refl, sym, ◌∙◌, ap, subst, arith, eqb-true}
 use mathlib.Core.Path.{fun_ext}
 use Rattle.kk_syntax.specs.Shapes.{is_among}
-use Rattle.kk_counted.specs.Heaps.{Heap, busy}
+use Rattle.kk_counted.specs.Heaps.{busy}
 use Rattle.rv_isa.specs.Processor.{exited}
 use Rattle.rv_isa.specs.AsmCode.{Line}
 use Rattle.rv_isa.specs.Frames.{Frame, top, top_in, top_taken, put, is_among as is_out}
@@ -10,7 +10,7 @@ use Rattle.rv_isa.specs.Primitives.{ended}
 use Rattle.cell_heap.specs.Blocks.{Cells, nothing, request}
 use Rattle.cell_runtime.specs.declared.stop.Ending.TheVariants as OfEnding
 use Rattle.cell_runtime.specs.Stops.{number_of}
-use Rattle.rv_world.specs.World.{World, with_cells}
+use Rattle.rv_world.specs.World.{with_cells}
 use Rattle.rv_lower.proofs.Performing.{put_same, put_other}
 use Rattle.rv_cells.specs.Layout.{header_of}
 use Rattle.rv_cells.specs.Follows.{Owner, nobody, in_hand, kept_aside, cell_of, Follows, with_owner, is_aside, set_aside}
@@ -21,14 +21,14 @@ use Rattle.rv_cells.proofs.Rooms.{same_aside}
 use Rattle.rv_cells.proofs.Requests.{served, from_held, is_full}
 use Rattle.rv_cells.proofs.Words.{hand_owned, aside_owned}
 use Rattle.rv_cells.proofs.Runs.{left_at, turn_of, Runs, runs_then}
-use Rattle.rv_cells.proofs.Acting.{put_in, take_runs, full_runs}
+use Rattle.rv_cells.proofs.Acting.{take_runs, full_runs}
 use Rattle.rv_cells.proofs.HeldTokens.{take_own_runs, take_older_runs}
 use Rattle.rv_cells.proofs.HeldRows.{IsToken, NoneHas, AreTokensIn, live, live_with, live_null, live_cell, either_false, as_held, one_turned, all_held, all_back, turned_cell, held_others, back_others, tokens_still, AllOut, hold_row, unhold_row}
 use Rattle.rv_cells.proofs.Spots.{Spot, Known, Here}
 use Rattle.rv_cells.proofs.LineCosts.{most_moves, row_cost}
 use Rattle.rv_cells.proofs.Values.{HasValues, among_none, has_other}
 use Rattle.rv_cells.proofs.Constructing.{IsMaking}
-use Rattle.rv_cells.proofs.Filling.{put_before, takes, from_label, tested, test_cost, tests_null, named, with_values, Fills, AreSpared, most_before, ends}
+use Rattle.rv_cells.proofs.Filling.{put_before, takes, from_label, test_cost, tests_null, named, with_values, Fills, AreSpared, ends}
 
 -- ---- tokens under other values
 
@@ -90,10 +90,15 @@ tokens_held owners values (z ∷ zs) are = (
     by (inl null) = inl null
     by (inr cell) =
         let later = all_held values zs owners in
-        inr (cell.0, cell.1, cell.2, cell.3,
-        ap (λ (o : ℕ → Owner). o cell.0) (turned_cell as_held (values z) cell.0 later cell.2 cell.3)
-        ∙ chosen_same cell.0 cell.0 (as_held (later cell.0)) later refl
-        ∙ ap as_held (held_others values zs cell.0 owners (are.2 cell.0 cell.3 cell.2) ∙ cell.4))
+        inr (
+          cell.0,
+          cell.1,
+          cell.2,
+          cell.3,
+          ap (λ (o : ℕ → Owner). o cell.0) (turned_cell as_held (values z) cell.0 later cell.2 cell.3)
+              ∙ chosen_same cell.0 cell.0 (as_held (later cell.0)) later refl
+              ∙ ap as_held (held_others values zs cell.0 owners (are.2 cell.0 cell.3 cell.2) ∙ cell.4),
+        )
 
 aside_kept : (owner : Owner) → is_aside (as_held owner) ≡ is_aside owner
 aside_kept nobody = refl

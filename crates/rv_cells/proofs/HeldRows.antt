@@ -1,11 +1,10 @@
 -- Rows of tokens of one frame are held, and taken back.
-use Rattle.std.proofs.Common.{◌≡◌, ◌≢◌, ◌<◌, ◌≤◌, ◌⊎◌, inl, inr, ℕ, zero, suc, ◌+◌, ◌==◌, Bool, true, false, List, [], ◌∷◌, ◌++◌, length, Option, Some, None, refl, sym, ◌∙◌, ap, subst, arith, append_assoc}
+use Rattle.std.proofs.Common.{◌≡◌, ◌≢◌, ◌⊎◌, inl, inr, ℕ, zero, suc, ◌+◌, ◌==◌, Bool, true, false, List, [], ◌∷◌, ◌++◌, length, Option, Some, None, refl, sym, ◌∙◌, ap, subst, arith, append_assoc}
 use Rattle.std.specs.Prelude.{◌||◌}
 use Rattle.rv_isa.specs.declared.asm.Action.TheVariants.{Hold, Unhold}
 use Rattle.rv_isa.specs.AsmCode.{Line}
 use Rattle.rv_isa.specs.Frames.{Frame, is_among}
 use Rattle.cell_heap.specs.Blocks.{Cells, past_links}
-use Rattle.cell_heap.specs.Pool.{Pool}
 use Rattle.kk_counted.specs.Heaps.{Heap}
 use Rattle.rv_world.specs.World.{World, with_cells}
 use Rattle.rv_lower.specs.Lines.{acts}
@@ -116,8 +115,13 @@ tokens_still stands values (z ∷ zs) at owner owners none are = (
     by : IsToken stands owners (values z) → IsToken stands (with_owner at owner owners) (values z)
     by (inl null) = inl null
     by (inr cell) =
-        inr (cell.0, cell.1, cell.2, cell.3,
-        chosen_other cell.0 at owner owners (λ e. none.0 (cell.2 ∙ ap Some e)) ∙ cell.4)
+        inr (
+          cell.0,
+          cell.1,
+          cell.2,
+          cell.3,
+          chosen_other cell.0 at owner owners (λ e. none.0 (cell.2 ∙ ap Some e)) ∙ cell.4,
+        )
 
 -- ---- which values are held
 
@@ -259,7 +263,7 @@ module _ (target : Target) (layout : Layout) (address : ℕ → ℕ) (heap : Hea
           (turn_of (acts Unhold (z ∷ []) ∷ (unhold_lines zs ++ rest)) f fs world) (turn_of (unhold_lines zs ++ rest) g fs w)
           (turn_of rest (holding_now held f) fs (with_cells world cells)) first second)
 
-      by : IsToken kept_aside owners (f.cells z) 
+      by : IsToken kept_aside owners (f.cells z)
           → ((g : Frame Line) (os : ℕ → Owner) (w : World) → g.held ≡ live g.cells zs ++ held → Held os w.cells
           → AreTokensIn kept_aside os g.cells zs → BackFrom zs rest g held os w)
           → BackFrom (z ∷ zs) rest f held owners world

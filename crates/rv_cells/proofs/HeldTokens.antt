@@ -1,5 +1,5 @@
 -- What one line does with held tokens: it holds one, takes one back, or takes a cell from the newest one.
-use Rattle.std.proofs.Common.{◌≡◌, ◌≢◌, ◌≤◌, ℕ, ◌+◌, ◌==◌, List, [], ◌∷◌, Option, Some, None, option_map, true, false, cond, refl, sym, ◌∙◌, ap, subst, arith, ne_eqb}
+use Rattle.std.proofs.Common.{◌≡◌, ◌≢◌, ℕ, ◌+◌, ◌==◌, List, [], ◌∷◌, Option, Some, None, option_map, true, false, cond, refl, ◌∙◌, ap, arith, ne_eqb}
 use Rattle.rv_isa.specs.declared.asm.Action.TheVariants.{Routine as Calls, Hold, Unhold}
 use Rattle.rv_isa.specs.declared.routine.Routine.TheVariants.{Take}
 use Rattle.rv_isa.specs.Processor.{Ending}

@@ -1,5 +1,5 @@
 -- Openings by the count of the cell that free the cell, as lines.
-use Rattle.std.proofs.Common.{◌≡◌, ◌≢◌, ◌<◌, ℕ, zero, suc, ◌+◌, ◌*◌, true, false, List, [], ◌∷◌, ◌++◌, length, Some, refl, sym, ◌∙◌, ap, subst, arith}
+use Rattle.std.proofs.Common.{◌≡◌, ◌≢◌, ◌<◌, ℕ, zero, suc, ◌+◌, ◌*◌, true, false, List, [], ◌∷◌, ◌++◌, length, Some, refl, sym, ◌∙◌, ap, arith}
 use Rattle.std.specs.Prelude.{filter}
 use Rattle.kk_syntax.specs.Shapes.{is_among}
 use Rattle.kk_counted.specs.Heaps.{Heap, count_at, set_count, dup_all, drop_all}
@@ -13,11 +13,11 @@ use Rattle.rv_isa.specs.Frames.{Frame, found}
 use Rattle.cell_heap.specs.Blocks.{Cells}
 use Rattle.rv_world.specs.World.{with_cells}
 use Rattle.rv_lower.specs.Lines.{acts}
-use Rattle.rv_cells.specs.Follows.{Owner, nobody, cell_of, in_hand, with_owner, is_aside}
+use Rattle.rv_cells.specs.Follows.{Owner, nobody, with_owner, is_aside}
 use Rattle.rv_cells.specs.CellLines.{UniqueLines}
-use Rattle.rv_cells.proofs.Owners.{chosen_by, chosen_same, chosen_other}
+use Rattle.rv_cells.proofs.Owners.{chosen_by, chosen_other}
 use Rattle.rv_cells.proofs.Counts.{released}
-use Rattle.rv_cells.proofs.Runs.{turn_of, Runs, runs_none, runs_then}
+use Rattle.rv_cells.proofs.Runs.{turn_of, runs_none, runs_then}
 use Rattle.rv_cells.proofs.Acting.{free_runs}
 use Rattle.rv_cells.proofs.Spots.{AreSmall, Spot, Known, Here, Did}
 use Rattle.rv_cells.proofs.LineCosts.{most_moves, row_cost}
