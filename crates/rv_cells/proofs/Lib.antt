@@ -20,6 +20,7 @@ pub mod Constructing
 pub mod CountOpenings
 pub mod Uniques
 pub mod TokenOpenings
+pub mod TokenForms
 pub mod Filling
 pub mod FillingHeld
 pub mod Walking
