@@ -107,6 +107,11 @@ module _ (target : Target) (rest : List Line) (f : Frame Line) (fs : List (Frame
       (ap (option_map (λ c. (0, with_cells world c))) act)
       (omega arith)
 
+  -- a null token changes nothing
+  pub free_null_runs : (x : ℕ) → f.cells x ≡ Some 0
+      → Runs target (most_moves + 5) 1 (turn_of (acts (Compute Op.Free) (x ∷ []) ∷ rest) f fs world) (turn_of rest f fs world)
+  free_null_runs x is = changes_cells 5 Op.Free (x ∷ []) (0 ∷ []) world.cells (reads_one f.cells x 0 is) refl (omega arith)
+
   -- a reference is given up by the runtime
   pub drop_runs : (x word : ℕ) (work : Work) → f.cells x ≡ Some word → drop_cells target.pool word world.cells ≡ Some work
       → Runs target (8 * work.gave + 52 * work.freed + 8) 1

@@ -25,7 +25,7 @@ use Rattle.rv_lower.specs.Lowered.{Goal, returns, joins, test_lines}
 use Rattle.rv_lower.proofs.Performing.{put_same, put_other}
 use Rattle.rv_lower.proofs.Orders.{split_at}
 use Rattle.rv_cells.specs.Layout.{word_in, FitsField}
-use Rattle.rv_cells.specs.Follows.{NoneInHand}
+use Rattle.rv_cells.specs.Follows.{NoneAside}
 use Rattle.rv_cells.proofs.LineCosts.{most_moves, forms}
 use Rattle.rv_cells.proofs.Values.{HasValues, has_bound, has_temporary}
 use Rattle.rv_cells.proofs.Runs.{turn_of, Runs, runs_none, runs_then}
@@ -63,7 +63,7 @@ module _ (program : Lowering) where
   -- ---- the value of a code
 
   module _ (x idle : ℕ) (s : Spot) (holds : ℕ → Bool) (base : ℕ) (result given : Bool) (left : List Line) (input : List ℕ)
-      (here : Here (known_of program holds base) s) (none : NoneInHand s.owners) (held : s.frame.held ≡ [])
+      (here : Here (known_of program holds base) s) (none : NoneAside s.owners) (held : s.frame.held ≡ [])
       (formed : AreLinesFormed s.frame.whole) (input_is : s.world.left ≡ input) (bytes : All (λ byte. byte < 256) input)
       (some : 1 ≤ idle) where
     abbrev given_value : Value

@@ -13,7 +13,7 @@ use Rattle.kk_counted.specs.Heaps.{Held, Heap, held_at, count_in, count_at, set_
 use Rattle.kk_counted.specs.Cost.{turns_taken}
 use Rattle.kk_counted.proofs.Counting.{count_set, count_top, count_below}
 use Rattle.rv_cells.specs.Layout.{Layout, mask_of, word_in, words_in, FitsField, FitFields}
-use Rattle.rv_cells.specs.Follows.{Owner, nobody, cell_of, in_hand}
+use Rattle.rv_cells.specs.Follows.{Owner, nobody, cell_of, in_hand, kept_aside}
 use Rattle.rv_cells.proofs.Held.{some-is, held_set, held_other, counted_held, held_fields}
 
 -- ---- values and the references that are given up for them
@@ -193,6 +193,7 @@ module _ (address : ℕ → ℕ) (owners : ℕ → Owner) (blocks : ℕ → Bloc
           (blocks x) owner ≡ shown_by heap (blocks x) owner
       other x differ nobody is = refl
       other x differ (in_hand words) is = refl
+      other x differ (kept_aside words) is = refl
       other x differ (cell_of one) owned =
           ap (λ h. shown_count (count_in h) (blocks x))
           (held_other name n one heap (λ e. differ (sym (are.is_at x one owned) ∙ ap address (sym e))))

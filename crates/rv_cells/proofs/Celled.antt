@@ -30,7 +30,7 @@ use Rattle.rv_cells.specs.Layout.{FitsField, FitFields}
 use Rattle.rv_cells.proofs.LineCosts.{most_moves, row_cost, forms, code_cost}
 use Rattle.rv_cells.proofs.Values.{among_by}
 use Rattle.rv_cells.proofs.Runs.{turn_of, Runs}
-use Rattle.rv_cells.proofs.Spots.{Spot, Here, saved}
+use Rattle.rv_cells.proofs.Spots.{Spot, Here, saved, did_aside}
 use Rattle.rv_cells.proofs.Rows.{IsReading}
 use Rattle.rv_cells.proofs.Openings.{bound_older}
 use Rattle.rv_cells.proofs.Uniques.{head_lines, shared_lines, for_shared, whole_lines}
@@ -224,7 +224,7 @@ module _ (program : Lowering) where
                 whole
                 placed;
             here = record { follows = did.here.follows; values = values };
-            none = λ x words owned. at.none x words (did.was x words owned);
+            none = λ x. did_aside did x ∙ at.none x;
             held = did.held ∙ at.held;
             formed = subst AreLinesFormed whole at.formed;
             continues = subst (λ w. Continues program at.holds at.base at.result w inner at.goal at.given later) whole

@@ -12,7 +12,7 @@ use Rattle.rv_isa.specs.declared.asm.Action.TheVariants.{Label}
 use Rattle.rv_isa.specs.AsmCode.{Line, Lines}
 use Rattle.rv_isa.specs.Costs.{code_length, functions_length}
 use Rattle.rv_lower.specs.Lines.{Texts, acts}
-use Rattle.rv_lower.specs.Lowered.{Goal, returns, joins, goal_lines, test_lines, from_to}
+use Rattle.rv_lower.specs.Lowered.{Goal, returns, joins, goal_lines, test_lines}
 use Rattle.rv_lower.specs.Written.{texts_of}
 use Rattle.rv_lower.proofs.Functions.{from_to_length}
 use Rattle.rv_world.specs.Operations.{all_bytes}

@@ -46,7 +46,7 @@ use Rattle.rv_lower.proofs.Performing as Performing
 use Rattle.rv_lower.proofs.Runs.{Target as NumberTarget, word_cost, most_cost}
 use Rattle.rv_lower.proofs.Runs as NumberRuns
 use Rattle.rv_cells.specs.Layout.{Layout, word_in, FitsField, FitFields}
-use Rattle.rv_cells.specs.Follows.{Follows}
+use Rattle.rv_cells.specs.Follows.{Follows, set_aside}
 use Rattle.rv_cells.proofs.LineCosts.{most_moves, row_cost, forms}
 use Rattle.rv_cells.specs.Fitting.{IsInt32}
 use Rattle.rv_cells.proofs.Values.{HasValues, among_by, has_bound}
@@ -121,7 +121,6 @@ module _ (program : Lowering) where
                 (arguments_fit program s at.holds at.base at.here (a ∷ more)
                 (field_marks program.marks c) all at.placed.marked.1.0.0);
             older = (fit 0).sound.older;
-            none = at.none;
           }
 
       m : CountedConfiguration
@@ -135,7 +134,7 @@ module _ (program : Lowering) where
           let few = p.short in
           let steps = construct_steps (known_of program at.holds at.base) (setting program)
           (texts program) at.goal p.low p.high x c a
-          more rest inner m p.own p.after fs s at.here making p.lines refl test in
+          more rest inner m p.own p.after fs s at.here making at.none p.lines refl test in
           goes_on program (compute x (Construct c) (a ∷ more) rest) rest idle inner frames input s fs left at fit
           (5 * most_moves + 26 + row_cost (a ∷ more) (most_moves + 2) + (52 + 8 * length (a ∷ more))) (builds (busy s.heap))
           (x ∷ s.bound) (x ∷ s.bound) steps (quiet_builds program (busy s.heap))
@@ -151,7 +150,8 @@ module _ (program : Lowering) where
           let next : CountedState = record { machine = at_end heap_full m; input = input } in
           let t0 = turn_of left s.frame fs s.world in
           let t1 : AsmTurn World Ending = ended (exited (number_of OfEnding.HeapFull)) s.world in
-          let full : program.pool.cells ≤ busy s.heap = grind (arith, nat_tests) in
+          let fuller : program.pool.cells ≤ busy s.heap = grind (arith, nat_tests) in
+          let full : program.pool.cells ≤ busy s.heap + set_aside program.pool s.owners = omega (arith, fuller) in
           let is : left ≡ p.lines.0 ++ (p.lines.1 ++ p.after)
           = p.left_is ∙ ap (λ own. own ++ p.after) p.lines.4 ∙ append_assoc p.lines.0 p.lines.1 p.after in
           let ran = full_did (known_of program at.holds at.base) (p.lines.1 ++ p.after) fs s x c (a ∷ more) p.lines.0 at.here making

@@ -23,7 +23,7 @@ use Rattle.rv_world.specs.World.{World, with_cells}
 use Rattle.rv_lower.specs.Lines.{sets}
 use Rattle.rv_lower.proofs.Calls.{HaveWords}
 use Rattle.rv_cells.specs.Layout.{Layout, words_in, header_of, FitsField, FitFields}
-use Rattle.rv_cells.specs.Follows.{AreFrom, IsBlockOf, Owner, cell_of, in_hand, Follows, with_owner, assign, NoneInHand}
+use Rattle.rv_cells.specs.Follows.{AreFrom, IsBlockOf, Owner, cell_of, in_hand, Follows, with_owner, assign, is_aside, set_aside}
 use Rattle.rv_cells.specs.CellLines.{Stores, AllStores, ConstructLines}
 use Rattle.rv_cells.proofs.Owners.{chosen_by, chosen_same, chosen_other}
 use Rattle.rv_cells.proofs.Requests.{served, is_full}
@@ -38,7 +38,7 @@ use Rattle.rv_cells.proofs.LineCosts.{row_more, most_moves, row_cost}
 
 -- ---- words one behind the other
 
-abbrev with_words : ℕ → List ℕ → (ℕ → Option ℕ) → ℕ → Option ℕ
+abbrev pub with_words : ℕ → List ℕ → (ℕ → Option ℕ) → ℕ → Option ℕ
 with_words i [] words = words
 with_words i (w ∷ ws) words = with_words (suc i) ws (with_word i w words)
 
@@ -65,7 +65,7 @@ twice_owner at first second owners =
 
 -- ---- stores of a cell in hand
 
-abbrev Hands : Pool → Layout → (ℕ → ℕ) → (ℕ → Owner) → Heap → ℕ → (ℕ → Option ℕ) → Cells → Type 0
+abbrev pub Hands : Pool → Layout → (ℕ → ℕ) → (ℕ → Owner) → Heap → ℕ → (ℕ → Option ℕ) → Cells → Type 0
 Hands pool layout address owners heap at words cells = Follows pool layout address (with_owner at (in_hand words) owners) heap cells
 
 module _ (target : Target) (layout : Layout) (address : ℕ → ℕ) (owners : ℕ → Owner) (heap : Heap) (fs : List (Frame Line))
@@ -120,12 +120,12 @@ module _ (target : Target) (layout : Layout) (address : ℕ → ℕ) (owners : �
 
 -- ---- the words of a whole cell
 
-cell_words : (layout : Layout) (address : ℕ → ℕ) (c : ℕ) (vs : List Value) → FitFields (layout.fields c) vs
+cell_words : (layout : Layout) (address : ℕ → ℕ) (c : ℕ) (vs : List Value) (words : ℕ → Option ℕ) → FitFields (layout.fields c) vs
     → IsBlockOf layout address (record { count = 1; cell = record { made_by = c; fields = vs } })
-    (with_word 0 1 (with_words 2 (words_in layout address vs) (with_word 1 (header_of layout c) nothing)))
-cell_words layout address c vs fits =
+    (with_word 0 1 (with_words 2 (words_in layout address vs) (with_word 1 (header_of layout c) words)))
+cell_words layout address c vs words fits =
     let ws = words_in layout address vs in
-    let head = with_word 1 (header_of layout c) nothing in
+    let head = with_word 1 (header_of layout c) words in
     record {
       count = refl;
       header = chosen_other 1 0 (Some 1) (with_words 2 ws head) (λ e. cc) ∙ words_below 2 1 ws head (omega arith);
@@ -143,7 +143,6 @@ pub record IsMaking (known : Known) (s : Spot) (x c : ℕ) (arguments : List ℕ
   pub holds : known.holds x ≡ true
   pub fits : FitFields (known.layout.fields c) (values_of s.environment arguments)
   pub older : (name : ℕ) → AllWithin name (fields_held s.heap name)
-  pub none : NoneInHand s.owners
 
 -- the spot behind a construction in a cell
 abbrev pub made_spot : Spot → ℕ → ℕ → List Value → ℕ → Frame Line → Cells → Spot
@@ -163,17 +162,26 @@ abbrev pub construct_cost : Known → List ℕ → ℕ
 construct_cost known arguments = 5 * most_moves + 26 + row_cost arguments (most_moves + 2) +
     (52 + 8 * length arguments)
 
-args_words : (known : Known) (s : Spot) (here : Here known s) (x at word : ℕ) (xs : List ℕ) → AllAmong xs s.bound
+-- the words of arguments, where another variable has an address, and behind a temporary
+pub args_words : (known : Known) (s : Spot) (here : Here known s) (x at : ℕ) (xs : List ℕ) → AllAmong xs s.bound
     → is_among xs x ≡ false
-    → HaveWords (put known.base (Some word) (put x (Some at) s.frame.cells)) xs
-    (words_in known.layout s.address (values_of s.environment xs))
-args_words known s here x at word [] bound apart = tt
-args_words known s here x at word (y ∷ ys) bound apart =
-    let beside = among_none y ys x apart in
+    → HaveWords (put x (Some at) s.frame.cells) xs (words_in known.layout s.address (values_of s.environment xs))
+args_words known s here x at [] bound apart = tt
+args_words known s here x at (y ∷ ys) bound apart =
+    let beside = among_none y ys x apart in (
+      put_other x y at s.frame.cells (λ e. beside.0 (sym e)) ∙ here.values.words y bound.0,
+      args_words known s here x at ys bound.1 beside.1,
+    )
+
+pub below_words : (known : Known) (s : Spot) (here : Here known s) (word : ℕ) (values : ℕ → Option ℕ) (xs ws : List ℕ)
+    → AllAmong xs s.bound → HaveWords values xs ws → HaveWords (put known.base (Some word) values) xs ws
+below_words known s here word values [] [] bound have = tt
+below_words known s here word values [] (w ∷ ws) bound have = absurd have
+below_words known s here word values (y ∷ ys) [] bound have = absurd have
+below_words known s here word values (y ∷ ys) (w ∷ ws) bound have =
     let low = here.values.below y bound.0 in (
-      put_other known.base y word (put x (Some at) s.frame.cells) (λ e. omega (arith, e, low)) ∙ put_other x y at s.frame.cells
-          (λ e. beside.0 (sym e)) ∙ here.values.words y bound.0,
-      args_words known s here x at word ys bound.1 beside.1,
+      put_other known.base y word values (λ e. omega (arith, e, low)) ∙ have.0,
+      below_words known s here word values ys ws bound.1 have.1,
     )
 
 pub args_older : (known : Known) (s : Spot) (here : Here known s) (xs : List ℕ) → AllAmong xs s.bound → AllWithin (length s.heap)
@@ -191,85 +199,91 @@ module _ (known : Known) (rest : List Line) (fs : List (Frame Line)) (s : Spot) 
   vs : List Value
   vs = values_of s.environment arguments
 
-  abbrev ws : List ℕ
+  abbrev pub ws : List ℕ
   ws = words_in known.layout s.address (values_of s.environment arguments)
 
-  abbrev header : ℕ
+  abbrev pub header : ℕ
   header = header_of known.layout c
 
   -- the lines behind the fields, and behind the header
   abbrev tail : List Line
   tail = sets 1 known.base ∷ constructs.2 ∷ []
 
-  abbrev behind_take : List Line
+  abbrev pub behind_take : List Line
   behind_take = sets header known.base ∷ constructs.0 ∷ ((constructs.1 ++ tail) ++ rest)
 
-  few : length arguments ≤ 6
+  pub few : length arguments ≤ 6
   few =
       let many = fits_length (known.layout.fields c) (values_of s.environment arguments) making.fits in
       let long : length (values_of s.environment arguments) ≡ length arguments = length-map arguments (value_of s.environment) in
       let most = known.narrow.few c in omega arith
 
   -- the frame behind the header, and at the end
-  abbrev headed : ℕ → Frame Line
-  headed at = put_in known.base header (put_in x at s.frame)
+  abbrev pub headed : Frame Line → Frame Line
+  headed f = put_in known.base header f
 
-  abbrev ended_frame : ℕ → Frame Line
-  ended_frame at = put_in known.base 1 (headed at)
+  abbrev pub ended_frame : Frame Line → Frame Line
+  ended_frame f = put_in known.base 1 (headed f)
 
-  names_cell : (at : ℕ) → (headed at).cells x ≡ Some at
-  names_cell at = let low = making.below in put_other known.base x header (put x (Some at) s.frame.cells) (λ e. omega arith)
-      ∙ put_same x at s.frame.cells
+  -- values of variables keep their words
+  pub ended_spare : (f : Frame Line) (z : ℕ) → z < known.base → (ended_frame f).cells z ≡ f.cells z
+  ended_spare f z low =
+      put_other known.base z 1 (headed f).cells (λ e. omega (arith, e, low))
+      ∙ put_other known.base z header f.cells (λ e. omega (arith, e, low))
 
-  still_names : (at : ℕ) → (ended_frame at).cells x ≡ Some at
-  still_names at = let low = making.below in put_other known.base x 1 (headed at).cells (λ e. omega arith) ∙ names_cell at
+  -- the words of the whole cell, from those that were known
+  abbrev pub last_words : (ℕ → Option ℕ) → ℕ → Option ℕ
+  last_words words = with_word 0 1 (with_words 2 ws (with_word 1 header words))
 
-  abbrev last_words : ℕ → Option ℕ
-  last_words = with_word 0 1 (with_words 2 ws (with_word 1 header nothing))
+  abbrev pub HandsOf : ℕ → (ℕ → Option ℕ) → Cells → Type 0
+  HandsOf at words cells = Hands known.target.pool known.layout s.address s.owners s.heap at words cells
 
-  -- from the cell that was taken to the whole cell
-  fills : (at : ℕ) (world : World) → Hands known.target.pool known.layout s.address s.owners s.heap at nothing world.cells
+  -- from a cell in hand, which x names, to the whole cell
+  pub fills : (f : Frame Line) (gs : List (Frame Line)) (at : ℕ) (known_words : ℕ → Option ℕ) (world : World)
+      → f.cells x ≡ Some at → HaveWords f.cells arguments ws → HandsOf at known_words world.cells
       → (cells : Cells) × Runs known.target (4 * most_moves + 10 + row_cost arguments (most_moves + 3))
       (1 + (1 + (length arguments + (1 + 1))))
-      (turn_of behind_take (put_in x at s.frame) fs world) (turn_of rest (ended_frame at) fs (with_cells world cells))
-      × Hands known.target.pool known.layout s.address s.owners s.heap at last_words cells
-  fills at world holds =
+      (turn_of behind_take f gs world) (turn_of rest (ended_frame f) gs (with_cells world cells))
+      × HandsOf at (last_words known_words) cells
+  fills f1 gs at known_words world names have holds =
       let moves = most_moves in
       let target = known.target in
-      let f1 = put_in x at s.frame in
-      let f2 = headed at in
-      let f3 = ended_frame at in
-      let first = sets_runs target (constructs.0 ∷ ((constructs.1 ++ tail) ++ rest)) f1 fs world header known.base in
-      let c1 = with_block at (own (with_word 1 header nothing)) world.cells in
-      let second = store_hand target known.layout s.address s.owners s.heap fs f2 x at (names_cell at)
-      ((constructs.1 ++ tail) ++ rest) world 1 known.base header nothing constructs.0 constructs.3
+      let low = making.below in
+      let f2 = headed f1 in
+      let f3 = ended_frame f1 in
+      let names_cell : f2.cells x ≡ Some at = put_other known.base x header f1.cells (λ e. omega arith) ∙ names in
+      let still_names : f3.cells x ≡ Some at = put_other known.base x 1 f2.cells (λ e. omega arith) ∙ names_cell in
+      let first = sets_runs target (constructs.0 ∷ ((constructs.1 ++ tail) ++ rest)) f1 gs world header known.base in
+      let c1 = with_block at (own (with_word 1 header known_words)) world.cells in
+      let second = store_hand target known.layout s.address s.owners s.heap gs f2 x at names_cell
+      ((constructs.1 ++ tail) ++ rest) world 1 known.base header known_words constructs.0 constructs.3
       (put_same known.base header f1.cells) (omega arith) holds in
       let w1 = with_cells world c1 in
-      let hold1 = stored target known.layout s.address s.owners s.heap fs f2 x at (names_cell at) 1 header nothing world.cells
+      let hold1 = stored target known.layout s.address s.owners s.heap gs f2 x at names_cell 1 header known_words world.cells
       holds in
-      let third = stores_run target known.layout s.address s.owners s.heap fs f2 x at (names_cell at)
-      (tail ++ rest) arguments ws 2 constructs.1 (with_word 1 header nothing) w1 constructs.4
-      (args_words known s here x at header arguments making.bound making.apart) (let most = few in omega arith) hold1 in
+      let third = stores_run target known.layout s.address s.owners s.heap gs f2 x at names_cell
+      (tail ++ rest) arguments ws 2 constructs.1 (with_word 1 header known_words) w1 constructs.4
+      (below_words known s here header f1.cells arguments ws making.bound have) (let most = few in omega arith) hold1 in
       let w2 = with_cells w1 third.0 in
-      let fourth = sets_runs target (constructs.2 ∷ rest) f2 fs w2 1 known.base in
-      let words = with_words 2 ws (with_word 1 header nothing) in
-      let fifth = store_hand target known.layout s.address s.owners s.heap fs f3 x at (still_names at) rest w2 0 known.base 1 words
+      let fourth = sets_runs target (constructs.2 ∷ rest) f2 gs w2 1 known.base in
+      let words = with_words 2 ws (with_word 1 header known_words) in
+      let fifth = store_hand target known.layout s.address s.owners s.heap gs f3 x at still_names rest w2 0 known.base 1 words
       constructs.2 constructs.5
       (put_same known.base 1 f2.cells) (omega arith) third.2 in
       let c3 = with_block at (own (with_word 0 1 words)) third.0 in
-      let hold3 = stored target known.layout s.address s.owners s.heap fs f3 x at (still_names at) 0 1 words third.0 third.2 in
+      let hold3 = stored target known.layout s.address s.owners s.heap gs f3 x at still_names 0 1 words third.0 third.2 in
       let row = row_cost arguments (moves + 3) in
-      let t1 = turn_of behind_take f1 fs world in
-      let t2 = turn_of (constructs.0 ∷ ((constructs.1 ++ tail) ++ rest)) f2 fs world in
-      let t3 = turn_of (constructs.1 ++ (tail ++ rest)) f2 fs w1 in
-      let t4 = turn_of (tail ++ rest) f2 fs w2 in
-      let t5 = turn_of (constructs.2 ∷ rest) f3 fs w2 in
-      let t6 = turn_of rest f3 fs (with_cells w2 c3) in
+      let t1 = turn_of behind_take f1 gs world in
+      let t2 = turn_of (constructs.0 ∷ ((constructs.1 ++ tail) ++ rest)) f2 gs world in
+      let t3 = turn_of (constructs.1 ++ (tail ++ rest)) f2 gs w1 in
+      let t4 = turn_of (tail ++ rest) f2 gs w2 in
+      let t5 = turn_of (constructs.2 ∷ rest) f3 gs w2 in
+      let t6 = turn_of rest f3 gs (with_cells w2 c3) in
       let last_two : Runs target ((moves + 2) + (moves + 3)) (1 + 1) t4 t6 = runs_then target (moves + 2)
       (moves + 3) 1 1 t4 t5 t6 fourth fifth in
       let from_fields : Runs target (row + ((moves + 2) + (moves + 3))) (length arguments + (1 + 1)) t3 t6 =
       runs_then target row ((moves + 2) + (moves + 3)) (length arguments) (1 + 1) t3 t4 t6 third.1 last_two in
-      let to_fields : Runs target (moves + 3) 1 t2 t3 = subst (λ ls. Runs target (moves + 3) 1 t2 (turn_of ls f2 fs w1))
+      let to_fields : Runs target (moves + 3) 1 t2 t3 = subst (λ ls. Runs target (moves + 3) 1 t2 (turn_of ls f2 gs w1))
       (append_assoc constructs.1 tail rest) second in
       let from_head : Runs target ((moves + 3) + (row + ((moves + 2) + (moves + 3)))) (1 + (length arguments + (1 + 1))) t2 t6 =
       runs_then target (moves + 3) (row + ((moves + 2) + (moves + 3))) 1 (length arguments + (1 + 1)) t2 t3 t6 to_fields
@@ -281,57 +295,84 @@ module _ (known : Known) (rest : List Line) (fs : List (Frame Line)) (s : Spot) 
       let cost : (moves + 2) + ((moves + 3) + (row + ((moves + 2) + (moves + 3)))) ≡ 4 * moves + 10 + row = omega arith in
       (c3, subst (λ n. Runs target n (1 + (1 + (length arguments + (1 + 1)))) t1 t6) cost all, hold3)
 
-  none_was : (at y : ℕ) (words : ℕ → Option ℕ) → with_owner at (cell_of (length s.heap)) s.owners y ≡ in_hand words
-      → s.owners y ≡ in_hand words
-  none_was at y words = chosen_by (λ o. o ≡ in_hand words → s.owners y ≡ in_hand words) y at (cell_of (length s.heap)) s.owners
-      (λ e is. cc) (λ differ is. is)
+  abbrev pub n : ℕ
+  n = length s.heap
+
+  abbrev pub later : ℕ → ℕ → ℕ
+  later at = assign (length s.heap) at s.address
+
+  -- variable x names the cell
+  pub names_cell : (at : ℕ) → HasValues known.layout (later at) known.holds known.base (suc n) (x ∷ s.bound)
+      (record { variable = x; value = place n } ∷ s.environment) (put x (Some at) s.frame.cells)
+  names_cell at =
+      subst (λ w. HasValues known.layout (later at) known.holds known.base (suc n) (x ∷ s.bound)
+      (record { variable = x; value = place n } ∷ s.environment) (put x (Some w) s.frame.cells))
+      (chosen_same n n at s.address refl)
+      (has_bound (has_cell here.values at) x (place n) making.below (fits_place (known.holds x) n making.holds) (omega arith))
+
+  -- the whole cell is counted
+  pub counts : (f : Frame Line) (at : ℕ) (known_words : ℕ → Option ℕ) (cells : Cells) → HandsOf at (last_words known_words) cells
+      → HasValues known.layout (later at) known.holds known.base (suc n) (x ∷ s.bound)
+      (record { variable = x; value = place n } ∷ s.environment) f.cells
+      → Here known (made_spot s x c (values_of s.environment arguments) at (ended_frame f) cells)
+  counts f at known_words cells whole values =
+      let cell : Cell = record { made_by = c; fields = values_of s.environment arguments } in
+      let counted = built whole at (last_words known_words) cell (chosen_same at at (in_hand (last_words known_words)) s.owners refl)
+      making.older (args_older known s here arguments making.bound)
+      (cell_words known.layout s.address c (values_of s.environment arguments) known_words making.fits) in
+      record {
+        follows = subst (λ o. Follows known.target.pool known.layout (later at) o (record { count = 1; cell = cell } ∷ s.heap)
+            cells) (twice_owner at (in_hand (last_words known_words)) (cell_of n) s.owners) counted;
+        values = has_temporary (has_temporary values known.base header (omega arith)) known.base 1 (omega arith);
+      }
+
+  -- what is set aside stays so, once a cell is counted that was not set aside
+  others_aside : (at y : ℕ) → is_aside (s.owners at) ≡ false → is_aside (s.owners y) ≡ true
+      → with_owner at (cell_of (length s.heap)) s.owners y ≡ s.owners y
+  others_aside at y free is = chosen_other y at (cell_of (length s.heap)) s.owners
+      (λ e. let both : true ≡ false = sym is ∙ ap (λ z. is_aside (s.owners z)) e ∙ free in cc)
+
+  others_were : (at y : ℕ) → is_aside (with_owner at (cell_of (length s.heap)) s.owners y) ≡ true
+      → with_owner at (cell_of (length s.heap)) s.owners y ≡ s.owners y
+  others_were at y = chosen_by (λ o. is_aside o ≡ true → o ≡ s.owners y) y at (cell_of (length s.heap)) s.owners
+      (λ e is. cc) (λ differ is. refl)
 
   -- the cell is counted, where there is a free one
-  pub construct_did : busy s.heap < known.target.pool.cells
+  pub construct_did : busy s.heap + set_aside known.target.pool s.owners < known.target.pool.cells
       → (at : ℕ) × (frame : Frame Line) × (cells : Cells)
       × Did known (construct_cost known arguments) lines rest fs s
       (made_spot s x c (values_of s.environment arguments) at frame cells)
   construct_did room =
       let moves = most_moves in
       let row = row_cost arguments (moves + 3) in
-      let took = served here.follows known.aligned making.none (top (left_at behind_take s.frame ∷ fs)) room in
-      let first = take_runs known.target behind_take s.frame fs s.world x took.at took.next took.is in
-      let filled = fills took.at (with_cells s.world took.next) took.holds in
-      let cell : Cell = record { made_by = c; fields = values_of s.environment arguments } in
-      let whole = built filled.2 took.at last_words cell (chosen_same took.at took.at (in_hand last_words) s.owners refl)
-      making.older (args_older known s here arguments making.bound)
-      (cell_words known.layout s.address c (values_of s.environment arguments) making.fits) in
-      let n = length s.heap in
-      let later = assign n took.at s.address in
-      let named = has_bound (has_cell here.values took.at) x (place n) making.below (fits_place (known.holds x) n making.holds)
-      (omega arith) in
-      let values = subst (λ w. HasValues known.layout later known.holds known.base (suc n) (x ∷ s.bound)
-      (record { variable = x; value = place n } ∷ s.environment) (put x (Some w) s.frame.cells))
-      (chosen_same n n took.at s.address refl) named in
+      let took = served here.follows known.aligned (top (left_at behind_take s.frame ∷ fs)) room in
+      let at = took.at in
+      let f1 = put_in x at s.frame in
+      let first = take_runs known.target behind_take s.frame fs s.world x at took.next took.is in
+      let filled = fills f1 fs at nothing (with_cells s.world took.next) (put_same x at s.frame.cells)
+      (args_words known s here x at arguments making.bound making.apart) took.holds in
       let long : length (values_of s.environment arguments) ≡ length arguments = length-map arguments (value_of s.environment) in
       let t0 = turn_of (lines ++ rest) s.frame fs s.world in
-      let t6 = turn_of rest (ended_frame took.at) fs (with_cells s.world filled.0) in
+      let t6 = turn_of rest (ended_frame f1) fs (with_cells s.world filled.0) in
       let runs : Runs known.target ((moves + 10) + (4 * moves + 10 + row)) (1 + (1 + (1 + (length arguments + (1 + 1))))) t0 t6 =
       subst (λ ls. Runs known.target ((moves + 10) + (4 * moves + 10 + row)) (1 + (1 + (1 + (length arguments + (1 + 1)))))
       (turn_of (ls ++ rest) s.frame fs s.world) t6) (sym constructs.6)
       (runs_then known.target (moves + 10) (4 * moves + 10 + row) 1 (1 + (1 + (length arguments + (1 + 1))))
       (turn_of (record { action = Calls Take; args = []; into = Some x } ∷ behind_take) s.frame fs s.world)
-      (turn_of behind_take (put_in x took.at s.frame) fs (with_cells s.world took.next)) t6 first filled.1) in (
-        took.at,
-        ended_frame took.at,
+      (turn_of behind_take f1 fs (with_cells s.world took.next)) t6 first filled.1) in (
+        at,
+        ended_frame f1,
         filled.0,
         record {
           cost = (moves + 10) + (4 * moves + 10 + row);
           steps = 1 + (1 + (1 + (length arguments + (1 + 1))));
           within = omega (arith, row_more arguments (most_moves + 2), few);
           runs = runs;
-          here = record {
-            follows = subst (λ o. Follows known.target.pool known.layout later o (record { count = 1; cell = cell } ∷ s.heap)
-                filled.0) (twice_owner took.at (in_hand last_words) (cell_of n) s.owners) whole;
-            values = has_temporary (has_temporary values known.base header (omega arith)) known.base 1 (omega arith);
-          };
-          kept = λ y words is. absurd (making.none y words is);
-          was = λ y words is. none_was took.at y words is;
+          here = counts f1 at nothing filled.0 filled.2 (names_cell at);
+          aside = λ y is. others_aside at y (ap is_aside took.free) is;
+          was = λ y is. others_were at y is;
+          grown = λ z none. (among_none x s.bound z none).1;
+          spared = λ z low none. ended_spare f1 z low ∙ put_other x z at s.frame.cells (among_none x s.bound z none).0;
           left = refl;
           trace = refl;
           whole = refl;
@@ -341,11 +382,11 @@ module _ (known : Known) (rest : List Line) (fs : List (Frame Line)) (s : Spot) 
       )
 
   -- the heap is full, where no token is held
-  pub full_did : known.target.pool.cells ≤ busy s.heap → top (s.frame ∷ fs) ≡ None
+  pub full_did : known.target.pool.cells ≤ busy s.heap + set_aside known.target.pool s.owners → top (s.frame ∷ fs) ≡ None
       → Runs known.target (most_moves + 10) 1 (turn_of (lines ++ rest) s.frame fs s.world)
       (ended (exited (number_of OfEnding.HeapFull)) s.world)
   full_did full no_token =
-      let none = is_full here.follows known.aligned making.none full in
+      let none = is_full here.follows known.aligned full in
       subst (λ ls. Runs known.target (most_moves + 10) 1 (turn_of (ls ++ rest) s.frame fs s.world)
       (ended (exited (number_of OfEnding.HeapFull)) s.world)) (sym constructs.6)
       (full_runs known.target behind_take s.frame fs s.world x

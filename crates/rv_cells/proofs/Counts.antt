@@ -1,20 +1,20 @@
--- A reference more, and a cell given back.
+-- A reference more, and a cell that is given back, held, or taken back.
 use Rattle.std.proofs.Common.{◌≡◌, ◌<◌, ℕ, zero, suc, ◌+◌, ◌*◌, ◌%◌, ◌^◌, true, false, inl, inr, ◌∷◌, Option, Some, nat_eq, refl, sym, ap, ◌∙◌, subst, arith}
 use Rattle.std.proofs.lemmas.Bool.{cases_lt, cases_eq}
 use Rattle.std.proofs.lemmas.Bool.Decides.{nat_tests}
 use Rattle.rv_isa.specs.Arithmetic.{sum_word}
 use Rattle.cell_heap.specs.Cells.{occurs}
 use Rattle.cell_heap.specs.Pool.{Pool, IsCell}
-use Rattle.cell_heap.specs.Blocks.{unused, own, Cells, with_block, with_word, load, store, raised, dup}
+use Rattle.cell_heap.specs.Blocks.{unused, own, kept, Cells, with_block, with_word, load, store, raised, dup, past_links}
 use Rattle.cell_heap.proofs.Sums.{occurs-same, occurs-other, occurs-by}
 use Rattle.kk_source.specs.State.{Value, integer, unit, constant, place}
 use Rattle.kk_counted.specs.Heaps.{Heap, count_at, set_count, more, dup_value}
 use Rattle.rv_cells.specs.Layout.{Layout, word_in, FitsField}
-use Rattle.rv_cells.specs.Follows.{Owner, nobody, cell_of, in_hand, HasChain, Follows}
-use Rattle.rv_cells.specs.Steps.{Dupped, Released}
+use Rattle.rv_cells.specs.Follows.{Owner, nobody, cell_of, in_hand, kept_aside, HasChain, Follows}
+use Rattle.rv_cells.specs.Steps.{Dupped, PutAside, TakenBack, Released}
 use Rattle.rv_cells.proofs.Held.{held_count}
-use Rattle.rv_cells.proofs.Owners.{chosen_by, chosen_same, chosen_other, own-unused, put_owner}
-use Rattle.rv_cells.proofs.Words.{load_own, store_own, cell_named, hand_owned, kept_names, recount}
+use Rattle.rv_cells.proofs.Owners.{chosen_by, chosen_same, chosen_other, own-unused, kept-unused, put_owner, chain_over}
+use Rattle.rv_cells.proofs.Words.{load_own, store_own, cell_named, hand_owned, aside_owned, kept_names, recount}
 
 -- ---- a reference more
 
@@ -130,4 +130,38 @@ module _ {pool : Pool} {layout : Layout} {address : ℕ → ℕ} {owners : ℕ �
             (kept_names follows at nobody heap (λ name other. let both : in_hand words ≡ cell_of name = sym is ∙ other in cc)
             (λ name some. some))
             chain;
+      }
+
+  -- ---- a cell in hand is held, and taken back
+
+  pub put_aside : (at : ℕ) (words : ℕ → Option ℕ) → owners at ≡ in_hand words
+      → PutAside pool layout address owners heap cells at words
+  put_aside at words is =
+      let stands = hand_owned follows at words is in
+      record {
+        now = with_block at (kept words) cells;
+        is = rw (stands.1) refl;
+        holds = put_owner follows at (kept_aside words) address heap (with_block at (kept words) cells)
+            (stands.0, chosen_same at at (kept words) cells.blocks refl)
+            (λ x differ. chosen_other x at (kept words) cells.blocks differ)
+            (λ x name differ owns. record { at = refl; held = refl; fields = λ one there. refl })
+            (kept_names follows at (kept_aside words) heap
+            (λ name other. let both : in_hand words ≡ cell_of name = sym is ∙ other in cc) (λ name some. some))
+            (chain_over follows.chain at (kept words) (λ e. own-unused (sym stands.1 ∙ e)) kept-unused);
+      }
+
+  pub taken_back : (at : ℕ) (words : ℕ → Option ℕ) → owners at ≡ kept_aside words
+      → TakenBack pool layout address owners heap cells at words
+  taken_back at words is =
+      let stands = aside_owned follows at words is in
+      record {
+        now = with_block at (own (past_links words)) cells;
+        is = rw (stands.1) refl;
+        holds = put_owner follows at (in_hand (past_links words)) address heap (with_block at (own (past_links words)) cells)
+            (stands.0, chosen_same at at (own (past_links words)) cells.blocks refl)
+            (λ x differ. chosen_other x at (own (past_links words)) cells.blocks differ)
+            (λ x name differ owns. record { at = refl; held = refl; fields = λ one there. refl })
+            (kept_names follows at (in_hand (past_links words)) heap
+            (λ name other. let both : kept_aside words ≡ cell_of name = sym is ∙ other in cc) (λ name some. some))
+            (chain_over follows.chain at (own (past_links words)) (λ e. kept-unused (sym stands.1 ∙ e)) own-unused);
       }

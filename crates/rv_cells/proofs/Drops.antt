@@ -22,7 +22,7 @@ use Rattle.kk_counted.specs.Heaps.{Held, Heap, count_at, busy, weight, drop_valu
 use Rattle.kk_counted.specs.Cost.{drop_turns}
 use Rattle.kk_counted.proofs.Cost.{drop_cost}
 use Rattle.rv_cells.specs.Layout.{Layout, IsNarrow, mask_of, header_of, word_in, words_in, FitsField, FitFields}
-use Rattle.rv_cells.specs.Follows.{AreFrom, IsBlockOf, Owner, nobody, cell_of, in_hand, IsCellOf, BlockOf, HasChain, Follows, still_count, still}
+use Rattle.rv_cells.specs.Follows.{AreFrom, IsBlockOf, Owner, nobody, cell_of, in_hand, kept_aside, IsCellOf, BlockOf, HasChain, Follows, still_count, still}
 use Rattle.rv_cells.specs.Steps.{Dropped, IsPaid}
 use Rattle.rv_cells.proofs.Held.{held_count, held_fields}
 use Rattle.rv_cells.proofs.Owners.{chosen_by}
@@ -205,6 +205,7 @@ module _ {pool : Pool} {layout : Layout} {address : ℕ → ℕ} {owners : ℕ �
           → seen (cells.blocks x) ≡ shown_by heap (cells.blocks x) owner
       by x nobody s = refl
       by x (in_hand words) s = refl
+      by x (kept_aside words) s = refl
       by x (cell_of name) s =
           ap seen s.is ∙ seen_counted narrow s.shows ∙ ap (λ b. counted s.held.count (body_in b)) (sym s.is)
           ∙ counted_is s.held.count (cells.blocks x) s.counted
@@ -216,6 +217,7 @@ module _ {pool : Pool} {layout : Layout} {address : ℕ → ℕ} {owners : ℕ �
       by : (owner : Owner) → BlockOf pool layout address heap x owner (cells.blocks x) → IsCell pool x
       by nobody s = elim (is_cell pool x) [ inl cell ↦ cell | inr not ↦ absurd (some (ap seen (s.none not))) ]
       by (in_hand words) s = s.0
+      by (kept_aside words) s = s.0
       by (cell_of name) s = s.cell
 
   listed : IsListed (places pool) (seen_cells cells)
@@ -269,6 +271,7 @@ module _ {pool : Pool} {layout : Layout} {address : ℕ → ℕ} {owners : ℕ �
       none = λ not. ap (λ b. merged (seen b) b) (s.none not);
     }
     now_block x (in_hand words) s = (s.0, ap (λ b. merged (seen b) b) s.1 ∙ merged_seen words)
+    now_block x (kept_aside words) s = (s.0, ap (λ b. merged (seen b) b) s.1)
     now_block x (cell_of name) s = now_counted x name (count_at next name) refl s
 
     -- a block that is free then is seen as free
@@ -281,6 +284,7 @@ module _ {pool : Pool} {layout : Layout} {address : ℕ → ℕ} {owners : ℕ �
           | inr not ↦ (let both : no_block ≡ unused = sym ((now_block x nobody s).none not) ∙ is in cc)
         ]
     now_free x (in_hand words) s is = let both : own words ≡ unused = sym (now_block x (in_hand words) s).1 ∙ is in cc
+    now_free x (kept_aside words) s is = let both : kept words ≡ unused = sym (now_block x (kept_aside words) s).1 ∙ is in cc
     now_free x (cell_of name) s is = by (count_at next name) refl is
       where
         by : (count : ℕ) → count_at next name ≡ count → merged (shown_count count (cells.blocks x)) (cells.blocks x) ≡ unused

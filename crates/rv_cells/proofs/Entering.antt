@@ -28,7 +28,7 @@ use Rattle.rv_lower.specs.Lowered.{returns, from_to}
 use Rattle.rv_lower.proofs.Calls.{HaveWords, AreLess, words_read}
 use Rattle.rv_lower.proofs.Orders.{split_at}
 use Rattle.rv_cells.specs.Layout.{Layout, word_in, words_in, FitsField, FitFields}
-use Rattle.rv_cells.specs.Follows.{NoneInHand}
+use Rattle.rv_cells.specs.Follows.{NoneAside}
 use Rattle.rv_cells.proofs.LineCosts.{most_moves, row_cost, forms}
 use Rattle.rv_cells.specs.Marked.{IsFunctionOf}
 use Rattle.rv_cells.proofs.Values.{HasValues}
@@ -168,7 +168,7 @@ module _ (program : Lowering) where
     body_at : (there : slice_get program.functions f ≡ Some lines)
         (function_is : slice_get program.code.functions f ≡ Some function)
         → (frames : List CountedFrame) (input : List ℕ) (fs : List (Frame Line))
-        → NoneInHand s.owners → AllWait program s.address (length s.heap) frames fs (result_mark program.marks f)
+        → NoneAside s.owners → AllWait program s.address (length s.heap) frames fs (result_mark program.marks f)
         → s.world.left ≡ input → All (λ byte. byte < 256) input
         → At program function.body [] frames input (entered_spot entry.values) fs lines.code
     body_at there function_is frames input fs none waits input_is bytes =

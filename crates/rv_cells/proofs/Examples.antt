@@ -14,7 +14,7 @@ use Rattle.kk_counted.specs.CountedCodes.{give, compute}
 use Rattle.kk_counted.specs.CountedStates.{CountedState, counted_first_state}
 use Rattle.kk_counted.specs.Marks.{CellMarks}
 use Rattle.kk_counted.proofs.Examples.{inc, by_count, two_cells, unique}
-use Rattle.rv_isa.specs.declared.asm.Action.TheVariants.{Compute, Label, Jump, Branch, Call, Return, Routine as Calls}
+use Rattle.rv_isa.specs.declared.asm.Action.TheVariants.{Compute, Label, Jump, Branch, Call, Return, Routine as Calls, Hold, Unhold}
 use Rattle.rv_isa.specs.declared.asm.Condition.TheVariants.{Equal, NotEqual}
 use Rattle.rv_isa.specs.declared.asm.Operation.TheVariants as Op
 use Rattle.rv_isa.specs.declared.asm.RegisterOperation.TheVariants as Register
@@ -28,7 +28,7 @@ use Rattle.rv_isa.specs.AsmCode.{Line, Lines}
 use Rattle.rv_lower.specs.Lines.{computes, sets, copies_to, acts}
 use Rattle.rv_lower.specs.Lowered.{returns}
 use Rattle.rv_cells.specs.Layout.{Layout}
-use Rattle.rv_cells.specs.CellLines.{ConstructLines, AllLoads, UniqueLines}
+use Rattle.rv_cells.specs.CellLines.{ConstructLines, FillLines, AllLoads, UniqueLines, TokenUniqueLines}
 use Rattle.rv_cells.specs.CountedLines.{Setting, CodeLines}
 use Rattle.rv_cells.specs.Meaning.{counted_outside, setting_on}
 use Rattle.rv_cells.specs.Marked.{IsFunctionOf, AreFunctionsOf}
@@ -158,6 +158,42 @@ opens = (
   (immediate_0, refl, refl),
   refl,
 )
+
+-- The same with a token, value 5 of a function whose temporaries begin at 7: the opening leaves it, and a construction fills its
+-- cell, while the token of value 4 is held.
+
+abbrev keeping_lines : List Line
+keeping_lines =
+    loads immediate_0 0 7 ∷ sets 1 8 ∷ acts (Branch NotEqual 5) (7 ∷ 8 ∷ [])
+    ∷ loads immediate_8 0 1 ∷ loads immediate_12 0 2 ∷ copies_to 0 5 ∷ acts (Jump 6) []
+    ∷ acts (Label 5) [] ∷ sets 0 5 ∷ loads immediate_8 0 1 ∷ loads immediate_12 0 2
+    ∷ loads immediate_0 0 7 ∷ computes (Op.Immediate Addi minus_one) (7 ∷ []) 7 ∷ stores immediate_0 0 7
+    ∷ acts (Compute Op.Dup) (2 ∷ []) ∷ acts (Label 6) [] ∷ []
+
+keeps : TokenUniqueLines 7 inc_holds 5 6 0 (1 ∷ 2 ∷ []) (1 ∷ 2 ∷ []) 5 keeping_lines
+keeps = (
+  loads immediate_0 0 7,
+  two_loads,
+  loads immediate_0 0 7,
+  minus_one,
+  stores immediate_0 0 7,
+  (immediate_0, refl, refl),
+  two_loads_are,
+  (immediate_0, refl, refl),
+  refl,
+  (immediate_0, refl, refl),
+  refl,
+)
+
+abbrev stores_cons : ℕ → ℕ → ℕ → List Line
+stores_cons x head rest =
+    sets 513 7 ∷ stores immediate_4 x 7 ∷ stores immediate_8 x head ∷ stores immediate_12 x rest ∷ sets 1 7
+    ∷ stores immediate_0 x 7 ∷ []
+
+fills : FillLines 7 6 5 (4 ∷ []) 7 513 (1 ∷ 2 ∷ [])
+    (copies_to 5 6 ∷ copies_to 6 7 ∷ acts (Branch NotEqual 7) (7 ∷ []) ∷ acts Hold (4 ∷ [])
+    ∷ record { action = Calls Take; args = []; into = Some 6 } ∷ acts Unhold (4 ∷ []) ∷ acts (Label 7) [] ∷ stores_cons 6 1 2)
+fills = (stores_cons 6 1 2, makes 6 1 2, refl)
 
 adds : CodeLines (setting inc_holds) returns 7
     (compute 3 (OfForm.Number (pos 1)) []

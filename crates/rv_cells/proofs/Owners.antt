@@ -3,10 +3,10 @@ use Rattle.std.proofs.Common.{◌≡◌, ◌≢◌, ◌≤◌, ℕ, ◌%◌, Boo
 use Rattle.std.proofs.lemmas.Bool.Decides.{nat_tests}
 use Rattle.cell_heap.specs.Cells.{occurs}
 use Rattle.cell_heap.specs.Pool.{Pool}
-use Rattle.cell_heap.specs.Blocks.{Block, unused, own, Cells, with_block}
+use Rattle.cell_heap.specs.Blocks.{Block, unused, own, kept, Cells, with_block}
 use Rattle.kk_counted.specs.Heaps.{Held, Heap, held_at, count_at}
 use Rattle.rv_cells.specs.Layout.{Layout, words_in}
-use Rattle.rv_cells.specs.Follows.{AreFrom, Owner, nobody, cell_of, in_hand, IsCellOf, BlockOf, HasChain, Follows, with_owner}
+use Rattle.rv_cells.specs.Follows.{AreFrom, Owner, nobody, cell_of, in_hand, kept_aside, IsCellOf, BlockOf, HasChain, Follows, with_owner}
 
 -- ---- functions with another value at one number
 
@@ -28,6 +28,9 @@ chosen_other x at a f differ = chosen_by (λ c. c ≡ f x) x at a f (λ e. absur
 
 pub own-unused : {words : ℕ → Option ℕ} → own words ≢ unused
 own-unused e = cc
+
+pub kept-unused : {words : ℕ → Option ℕ} → kept words ≢ unused
+kept-unused e = cc
 
 pub own-words : {words others : ℕ → Option ℕ} → own words ≡ own others → words ≡ others
 own-words e = cc
@@ -64,6 +67,7 @@ pub block_stays : (pool : Pool) (layout : Layout) (address later : ℕ → ℕ) 
 block_stays pool layout address later heap next x nobody block stays is = is
 block_stays pool layout address later heap next x (cell_of name) block stays is = cell_stays (stays name refl) is
 block_stays pool layout address later heap next x (in_hand words) block stays is = is
+block_stays pool layout address later heap next x (kept_aside words) block stays is = is
 
 -- ---- the relation with another owner of one address
 

@@ -1,18 +1,19 @@
--- A request for a cell is served exactly where fewer cells are counted than there are.
-use Rattle.std.proofs.Common.{◌≡◌, ◌≢◌, ◌≤◌, ◌<◌, ◌⊎◌, ℕ, ◌+◌, ◌%◌, Bool, true, false, inl, inr, List, [], ◌∷◌, length, Option, None, nat_lt, refl, sym, ap, ◌∙◌, arith}
+-- A request for a cell is served by a free cell exactly where fewer cells are counted and set aside than there are; else by the
+-- newest held token, if there is one.
+use Rattle.std.proofs.Common.{◌≡◌, ◌≢◌, ◌≤◌, ◌<◌, ◌⊎◌, ℕ, ◌+◌, ◌%◌, Bool, true, false, inl, inr, List, [], ◌∷◌, length, Option, Some, None, option_map, nat_lt, refl, sym, ap, ◌∙◌, subst, arith}
 use Rattle.std.proofs.lemmas.Bool.{cases_lt, cases_eq}
 use Rattle.std.proofs.lemmas.Bool.Decides.{nat_tests}
 use Rattle.cell_heap.specs.Cells.{occurs}
 use Rattle.cell_heap.specs.Counts.{total}
 use Rattle.cell_heap.specs.Pool.{Pool, IsCell, places, end_of}
-use Rattle.cell_heap.specs.Blocks.{no_block, unused, own, Cells, nothing, takes, request}
+use Rattle.cell_heap.specs.Blocks.{no_block, unused, own, kept, Cells, nothing, takes, request}
 use Rattle.cell_heap.proofs.Sums.{occurs-cells, occurs-same, occurs-other, occurs-first, occurs-later, occurs-by}
 use Rattle.cell_heap.proofs.Counted.{length-cells_from, total-at_most, cells_from-member}
 use Rattle.kk_counted.specs.Heaps.{Heap, count_at, busy}
 use Rattle.rv_cells.specs.Layout.{Layout}
-use Rattle.rv_cells.specs.Follows.{Owner, nobody, cell_of, in_hand, BlockOf, HasChain, Follows, with_owner, NoneInHand}
-use Rattle.rv_cells.specs.Steps.{Served}
-use Rattle.rv_cells.proofs.Owners.{chosen_by, chosen_same, chosen_other, own-unused, put_owner}
+use Rattle.rv_cells.specs.Follows.{Owner, nobody, cell_of, in_hand, kept_aside, BlockOf, HasChain, Follows, with_owner, set_aside}
+use Rattle.rv_cells.specs.Steps.{Served, ServedByHeld}
+use Rattle.rv_cells.proofs.Owners.{chosen_by, chosen_same, chosen_other, own-unused, kept-unused, put_owner, chain_over}
 use Rattle.rv_cells.proofs.Rooms.{used, used-most, used_busy}
 
 -- ---- sums of ones
@@ -63,6 +64,7 @@ module _ {pool : Pool} {layout : Layout} {address : ℕ → ℕ} {owners : ℕ �
       )
       by (cell_of name) owns stands = absurd (own-unused (sym stands.is ∙ is))
       by (in_hand words) owns block = absurd (own-unused (sym block.1 ∙ is))
+      by (kept_aside words) owns block = absurd (kept-unused (sym block.1 ∙ is))
 
   pub named_over : (at : ℕ) (owner : Owner) → ((name : ℕ) → owners at ≢ cell_of name) → (name : ℕ) → 1 ≤ count_at heap name
       → with_owner at owner owners (address name) ≡ cell_of name
@@ -139,10 +141,10 @@ module _ {pool : Pool} {layout : Layout} {address : ℕ → ℕ} {owners : ℕ �
 
   -- ---- whether there is one
 
-  module _ (aligned : pool.first % 32 ≡ 0) (none : NoneInHand owners) where
-    all_used : cells.frees ≡ [] → end_of pool ≤ cells.border → busy heap ≡ pool.cells
+  module _ (aligned : pool.first % 32 ≡ 0) where
+    all_used : cells.frees ≡ [] → end_of pool ≤ cells.border → busy heap + set_aside pool owners ≡ pool.cells
     all_used no_free high =
-        sym (used_busy aligned follows none)
+        sym (used_busy aligned follows)
         ∙ total-all (λ at. used (owners at)) (places pool) (λ p some. is_used p (member p some))
         ∙ length-cells_from pool.first pool.cells
       where
@@ -162,20 +164,21 @@ module _ {pool : Pool} {layout : Layout} {address : ℕ → ℕ} {owners : ℕ �
                 let nowhere : occurs p cells.frees ≡ 0 = ap (occurs p) no_free in absurd (omega arith)
             by (cell_of name) owns stands = refl
             by (in_hand words) owns block = refl
+            by (kept_aside words) owns block = refl
 
-    pub some_free : (at : ℕ) → cells.blocks at ≡ unused → busy heap < pool.cells
+    pub some_free : (at : ℕ) → cells.blocks at ≡ unused → busy heap + set_aside pool owners < pool.cells
     some_free at is =
         let free = free_is at is in
         let behind = free.1.behind in
         let before = free.1.before in
         let whole = free.1.aligned in
-        let sum = used_busy aligned follows none in
+        let sum = used_busy aligned follows in
         let less = total-less (λ x. used (owners x)) at (places pool) (λ p. used-most (owners p)) (ap used free.0)
         (λ nowhere. let once = occurs-cells at pool.first pool.cells behind before (omega arith) in omega arith) in
         let count = length-cells_from pool.first pool.cells in
         omega arith
 
-    pub served : (top : Option ℕ) → busy heap < pool.cells → Served pool layout address owners heap cells top
+    pub served : (top : Option ℕ) → busy heap + set_aside pool owners < pool.cells → Served pool layout address owners heap cells top
     served top room = by cells.frees refl
       where
         by_border : (low : Bool) → nat_lt cells.border (end_of pool) ≡ low → cells.frees ≡ []
@@ -208,21 +211,47 @@ module _ {pool : Pool} {layout : Layout} {address : ℕ → ℕ} {owners : ℕ �
               holds = takes_free at frees cells.border first.0 (chain_next at frees is);
             }
 
-    -- where as many cells are counted as there are, there is none
-    pub is_full : pool.cells ≤ busy heap → request pool None cells ≡ None
-    is_full full = by cells.frees refl
+    -- Where as many cells are counted and set aside as there are, none is free, and the newest held token is taken, if there is one.
+    none_free : pool.cells ≤ busy heap + set_aside pool owners
+        → (cells.frees ≡ []) × ((top : Option ℕ) → request pool top cells
+        ≡ option_map (λ at. (at, takes at [] cells.border cells, true)) top)
+    none_free full = by cells.frees refl
       where
-        by_border : (low : Bool) → nat_lt cells.border (end_of pool) ≡ low → cells.frees ≡ [] → request pool None cells ≡ None
+        by_border : (low : Bool) → nat_lt cells.border (end_of pool) ≡ low → cells.frees ≡ [] → (top : Option ℕ)
+            → request pool top cells ≡ option_map (λ at. (at, takes at [] cells.border cells, true)) top
         by_border true test no_free =
             let low : cells.border < end_of pool = grind (arith, nat_tests) in
             let chain = follows.chain in
             let is = chain.fresh cells.border (record { behind = chain.behind; before = low; aligned = chain.aligned })
             (omega arith) in
             let less = some_free cells.border is in absurd (omega arith)
-        by_border false test no_free = rw (no_free, test) refl
+        by_border false test no_free = λ top. rw (no_free, test) refl
 
-        by : (frees : List ℕ) → cells.frees ≡ frees → request pool None cells ≡ None
-        by [] is = by_border (nat_lt cells.border (end_of pool)) refl is
+        by : (frees : List ℕ) → cells.frees ≡ frees → (cells.frees ≡ []) × ((top : Option ℕ) → request pool top cells
+            ≡ option_map (λ at. (at, takes at [] cells.border cells, true)) top)
+        by [] is = (is, by_border (nat_lt cells.border (end_of pool)) refl is)
         by (at ∷ frees) is =
             let first = follows.chain.members at (λ nowhere. occurs-first at frees (ap (occurs at) (sym is) ∙ nowhere)) in
             let less = some_free at first.0 in absurd (omega arith)
+
+    pub is_full : pool.cells ≤ busy heap + set_aside pool owners → request pool None cells ≡ None
+    is_full full = (none_free full).1 None
+
+    pub from_held : (at : ℕ) (words : ℕ → Option ℕ) → owners at ≡ kept_aside words → pool.cells ≤ busy heap + set_aside pool owners
+        → ServedByHeld pool layout address owners heap cells at
+    from_held at words is full =
+        let none = none_free full in
+        let block : IsCell pool at × (cells.blocks at ≡ kept words) = subst
+        (λ o. BlockOf pool layout address heap at o (cells.blocks at)) is (follows.blocks at) in
+        let now = takes at [] cells.border cells in
+        record {
+          next = now;
+          is = none.1 (Some at);
+          holds = put_owner follows at (in_hand nothing) address heap now
+              (block.0, chosen_same at at (own nothing) cells.blocks refl)
+              (λ x differ. chosen_other x at (own nothing) cells.blocks differ)
+              (λ x name differ owns. record { at = refl; held = refl; fields = λ one there. refl })
+              (named_over at (in_hand nothing) (λ name other. let both : kept_aside words ≡ cell_of name = sym is ∙ other in cc))
+              (subst (λ frees. HasChain pool (takes at frees cells.border cells)) none.0
+              (chain_over follows.chain at (own nothing) (λ e. kept-unused (sym block.1 ∙ e)) own-unused));
+        }

@@ -25,7 +25,7 @@ use Rattle.rv_cells.specs.CellLines.{AllLoads, ReadLines, dup_lines, drop_lines,
 use Rattle.rv_cells.proofs.Held.{some-is, held_within, held_other, held_count, held_fields}
 use Rattle.rv_cells.proofs.Words.{all_within_more, load_own, cell_named as cell_of_name}
 use Rattle.rv_lower.proofs.Performing.{put_other}
-use Rattle.rv_cells.proofs.Values.{put_list, among_none, has_list, named_made}
+use Rattle.rv_cells.proofs.Values.{put_list, among_none, has_list, named_made, list_grown, list_spared}
 use Rattle.rv_cells.proofs.Drops.{fits_length}
 use Rattle.rv_cells.proofs.Runs.{Target, turn_of, Runs, runs_none, runs_then}
 use Rattle.rv_cells.proofs.Acting.{put_in, load_runs}
@@ -123,8 +123,10 @@ read_did known rest fs s x c fields lines named here reads loads =
             (subst (AllWithin named.at) (held_fields s.heap named.at made.held made.there ∙ made.fields)
             (reads.older named.at)));
       };
-      kept = λ at ws is. is;
-      was = λ at ws is. is;
+      aside = λ at is. refl;
+      was = λ at is. refl;
+      grown = λ z none. list_grown fields s.bound z none;
+      spared = λ z low none. list_spared fields (words_in known.layout s.address named.fields) s.bound z s.frame.cells none;
       left = refl;
       trace = refl;
       whole = refl;

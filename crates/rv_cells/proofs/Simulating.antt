@@ -31,7 +31,7 @@ use Rattle.cell_heap.specs.Blocks.{Cells, unused}
 use Rattle.rv_world.specs.World.{World, first_world}
 use Rattle.rv_lower.specs.Lowered.{returns}
 use Rattle.rv_cells.specs.Layout.{Layout}
-use Rattle.rv_cells.specs.Follows.{Owner, nobody, cell_of, in_hand, BlockOf, Follows, NoneInHand}
+use Rattle.rv_cells.specs.Follows.{Owner, nobody, cell_of, in_hand, kept_aside, BlockOf, Follows, is_aside, NoneAside}
 use Rattle.rv_cells.specs.Marked.{IsFunctionOf}
 use Rattle.rv_cells.proofs.LineCosts.{forms, lines_cost, lines_within}
 use Rattle.kk_counted.specs.CountedCosts.{counted_cost}
@@ -212,7 +212,7 @@ module _ (program : Lowering) where
                 (sym alone)
                 (record { below = λ x is. cc; words = λ x is. cc; fits = λ x is. cc; older = λ x is. cc });
           };
-          none = λ at words is. cc;
+          none = λ at. refl;
           held = refl;
           formed = program.formed program.code.main lines lines_are;
           continues = refl;
@@ -270,7 +270,7 @@ counted_busy (first ∷ heap) name held is some =
 
 -- where no cell is counted all cells are free
 all_free : (pool : Pool) (layout : Layout) (address : ℕ → ℕ) (owners : ℕ → Owner) (heap : Heap) (cells : Cells)
-    → Follows pool layout address owners heap cells → NoneInHand owners → busy heap ≡ 0 → AreFree pool cells
+    → Follows pool layout address owners heap cells → NoneAside owners → busy heap ≡ 0 → AreFree pool cells
 all_free pool layout address owners heap cells follows none empty_heap = λ at cell.
     by at cell (owners at) refl (follows.blocks at)
   where
@@ -279,7 +279,8 @@ all_free pool layout address owners heap cells follows none empty_heap = λ at c
     by at cell nobody is block = block.free cell
     by at cell (cell_of name) is block =
         let counted = counted_busy heap name block.held block.there block.counted in absurd (omega (arith, counted, empty_heap))
-    by at cell (in_hand words) is block = absurd (none at words is)
+    by at cell (in_hand words) is block = let both : true ≡ false = sym (ap is_aside is) ∙ none at in cc
+    by at cell (kept_aside words) is block = let both : true ≡ false = sym (ap is_aside is) ∙ none at in cc
 
 -- ---- programs
 

@@ -1,5 +1,5 @@
 -- A spot in a run of lines: a counted heap with its cells, and a frame with its variables. Lines lead from one to another.
-use Rattle.std.proofs.Common.{◌≡◌, ◌<◌, ◌≤◌, ℕ, zero, suc, ◌+◌, ◌*◌, ◌%◌, ◌^◌, Bool, true, false, List, [], ◌∷◌, ◌++◌, length, Option, Some, None, refl, sym, ◌∙◌, ap, subst, arith, append_assoc}
+use Rattle.std.proofs.Common.{◌≡◌, ◌<◌, ◌≤◌, ℕ, zero, suc, ◌+◌, ◌*◌, ◌%◌, ◌^◌, Bool, true, false, List, [], ◌∷◌, ◌++◌, length, Some, None, refl, sym, ◌∙◌, ap, subst, arith, append_assoc}
 use Rattle.kk_syntax.specs.Shapes.{is_among}
 use Rattle.kk_source.specs.State.{Value, integer, unit, constant, place, Environment}
 use Rattle.kk_source.specs.Live.{value_of}
@@ -16,10 +16,10 @@ use Rattle.rv_isa.specs.Frames.{Frame}
 use Rattle.cell_heap.specs.Blocks.{Cells, merged_cells}
 use Rattle.rv_world.specs.World.{World, with_cells}
 use Rattle.rv_cells.specs.Layout.{Layout, IsNarrow, word_in, FitsField}
-use Rattle.rv_cells.specs.Follows.{Owner, nobody, cell_of, in_hand, Follows, still, still_count}
+use Rattle.rv_cells.specs.Follows.{Owner, nobody, cell_of, in_hand, kept_aside, Follows, still, still_count, is_aside}
 use Rattle.rv_cells.specs.CellLines.{dup_lines, drop_lines}
 use Rattle.rv_cells.proofs.Held.{some-is}
-use Rattle.rv_lower.proofs.Performing.{put_same}
+use Rattle.rv_lower.proofs.Performing.{put_same, put_other}
 use Rattle.rv_cells.proofs.Values.{HasValues, has_temporary}
 use Rattle.rv_cells.proofs.Cascades.{busy_set}
 use Rattle.rv_cells.proofs.Counts.{dupped}
@@ -54,16 +54,18 @@ pub record Here (known : Known) (s : Spot) : Type 0 where
 abbrev pub saved : Heap → ℕ
 saved heap = 52 * busy heap + 8 * weight heap
 
--- Lines lead from a spot to another, at this cost beyond what was saved. What is in hand stays so, and of the frame only values
--- change.
+-- Lines lead from a spot to another, at this cost beyond what was saved. What is set aside stays so. Of the frame only values
+-- change: those of variables that become bound, and temporaries.
 pub record Did (known : Known) (most : ℕ) (lines rest : List Line) (fs : List (Frame Line)) (s t : Spot) : Type 0 where
   pub cost : ℕ
   pub steps : ℕ
   pub within : cost + saved t.heap ≤ most + saved s.heap
   pub runs : Runs known.target cost steps (turn_of (lines ++ rest) s.frame fs s.world) (turn_of rest t.frame fs t.world)
   pub here : Here known t
-  pub kept : (at : ℕ) (words : ℕ → Option ℕ) → s.owners at ≡ in_hand words → t.owners at ≡ in_hand words
-  pub was : (at : ℕ) (words : ℕ → Option ℕ) → t.owners at ≡ in_hand words → s.owners at ≡ in_hand words
+  pub aside : (at : ℕ) → is_aside (s.owners at) ≡ true → t.owners at ≡ s.owners at
+  pub was : (at : ℕ) → is_aside (t.owners at) ≡ true → t.owners at ≡ s.owners at
+  pub grown : (z : ℕ) → is_among t.bound z ≡ false → is_among s.bound z ≡ false
+  pub spared : (z : ℕ) → z < known.base → is_among t.bound z ≡ false → t.frame.cells z ≡ s.frame.cells z
   pub left : t.world.left ≡ s.world.left
   pub trace : t.world.trace ≡ s.world.trace
   pub whole : t.frame.whole ≡ s.frame.whole
@@ -77,8 +79,10 @@ did_none known rest fs s here = record {
   within = omega arith;
   runs = runs_none known.target (turn_of rest s.frame fs s.world);
   here = here;
-  kept = λ at words is. is;
-  was = λ at words is. is;
+  aside = λ at is. refl;
+  was = λ at is. refl;
+  grown = λ z none. none;
+  spared = λ z low none. refl;
   left = refl;
   trace = refl;
   whole = refl;
@@ -102,14 +106,26 @@ did_then known most others lines more rest fs s t u first second =
           (turn_of (lines ++ (more ++ rest)) s.frame fs s.world) (turn_of (more ++ rest) t.frame fs t.world)
           (turn_of rest u.frame fs u.world) first.runs second.runs);
       here = second.here;
-      kept = λ at words is. second.kept at words (first.kept at words is);
-      was = λ at words is. first.was at words (second.was at words is);
+      aside = λ at is. let one = first.aside at is in second.aside at (ap is_aside one ∙ is) ∙ one;
+      was = λ at is. let two = second.was at is in two ∙ first.was at (sym (ap is_aside two) ∙ is);
+      grown = λ z none. first.grown z (second.grown z none);
+      spared = λ z low none. second.spared z low none ∙ first.spared z low (second.grown z none);
       left = second.left ∙ first.left;
       trace = second.trace ∙ first.trace;
       whole = second.whole ∙ first.whole;
       held = second.held ∙ first.held;
       into = second.into ∙ first.into;
     }
+
+-- the same cells are set aside
+pub did_aside : {known : Known} {most : ℕ} {lines rest : List Line} {fs : List (Frame Line)} {s t : Spot}
+    → Did known most lines rest fs s t → (at : ℕ) → is_aside (t.owners at) ≡ is_aside (s.owners at)
+did_aside {s = s} {t = t} did at = by (is_aside (t.owners at)) refl (is_aside (s.owners at)) refl
+  where
+    by : (b : Bool) → is_aside (t.owners at) ≡ b → (c : Bool) → is_aside (s.owners at) ≡ c → b ≡ c
+    by true is c was = sym is ∙ ap is_aside (did.was at is) ∙ was
+    by false is true was = sym is ∙ ap is_aside (did.aside at was) ∙ was
+    by false is false was = refl
 
 -- ---- heaps of the same cells
 
@@ -204,15 +220,19 @@ values_there known s next long here =
     subst (λ n. HasValues known.layout s.address known.holds known.base n s.bound s.environment s.frame.cells)
     (sym long) here.values
 
-still_kept : (next : Heap) (owner : Owner) (words : ℕ → Option ℕ) → owner ≡ in_hand words → still next owner ≡ in_hand words
-still_kept next owner words is = ap (still next) is
+still_aside : (next : Heap) (owner : Owner) → is_aside owner ≡ true → still next owner ≡ owner
+still_aside next nobody is = cc
+still_aside next (cell_of name) is = cc
+still_aside next (in_hand words) is = refl
+still_aside next (kept_aside words) is = refl
 
-still_was : (next : Heap) (owner : Owner) (words : ℕ → Option ℕ) → still next owner ≡ in_hand words → owner ≡ in_hand words
-still_was next nobody words is = cc
-still_was next (in_hand others) words is = is
-still_was next (cell_of name) words is = by (count_at next name) is
+still_was : (next : Heap) (owner : Owner) → is_aside (still next owner) ≡ true → still next owner ≡ owner
+still_was next nobody is = cc
+still_was next (in_hand words) is = refl
+still_was next (kept_aside words) is = refl
+still_was next (cell_of name) is = by (count_at next name) is
   where
-    by : (n : ℕ) → still_count n name ≡ in_hand words → cell_of name ≡ in_hand words
+    by : (n : ℕ) → is_aside (still_count n name) ≡ true → still_count n name ≡ cell_of name
     by zero is = cc
     by (suc n) is = cc
 
@@ -234,8 +254,10 @@ same_did known most rest fs s next here same = (
         within = omega arith;
         runs = runs_none known.target (turn_of rest s.frame fs s.world);
         here = here;
-        kept = λ at words is. is;
-        was = λ at words is. is;
+        aside = λ at is. refl;
+        was = λ at is. refl;
+        grown = λ z none. none;
+        spared = λ z low none. refl;
         left = refl;
         trace = refl;
         whole = refl;
@@ -265,8 +287,10 @@ module _ (known : Known) (rest : List Line) (fs : List (Frame Line)) (s : Spot) 
           runs = dup_runs known.target rest s.frame fs s.world x (word_in known.layout s.address (value_of s.environment x))
               done.now (here.values.words x bound) done.is;
           here = record { follows = done.holds; values = values_there known s next long here };
-          kept = λ at words is. is;
-          was = λ at words is. is;
+          aside = λ at is. refl;
+          was = λ at is. refl;
+          grown = λ z none. none;
+          spared = λ z low none. refl;
           left = refl;
           trace = refl;
           whole = refl;
@@ -319,8 +343,10 @@ module _ (known : Known) (rest : List Line) (fs : List (Frame Line)) (s : Spot) 
             values = has_temporary (values_there known s next long here) known.base word
                 (omega arith);
           };
-          kept = λ at words is. still_kept next (s.owners at) words is;
-          was = λ at words is. still_was next (s.owners at) words is;
+          aside = λ at is. still_aside next (s.owners at) is;
+          was = λ at is. still_was next (s.owners at) is;
+          grown = λ z none. none;
+          spared = λ z low none. put_other known.base z word s.frame.cells (λ e. omega (arith, e, low));
           left = refl;
           trace = refl;
           whole = refl;

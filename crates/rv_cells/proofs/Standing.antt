@@ -27,7 +27,7 @@ use Rattle.rv_lower.specs.Lines.{Texts, acts}
 use Rattle.rv_lower.specs.Lowered.{Goal, returns, joins}
 use Rattle.rv_lower.proofs.Labels.{found_label, label_found}
 use Rattle.rv_cells.specs.Layout.{Layout, IsNarrow}
-use Rattle.rv_cells.specs.Follows.{Owner, Follows, NoneInHand}
+use Rattle.rv_cells.specs.Follows.{Owner, Follows, NoneAside}
 use Rattle.rv_cells.specs.CountedLines.{Setting, CodeLines}
 use Rattle.rv_cells.specs.Marked.{AreFunctionsOf}
 use Rattle.rv_cells.proofs.LineCosts.{forms, lines_cost}
@@ -247,7 +247,7 @@ module _ (program : Lowering) where
       aligned = program.aligned;
       narrow = program.narrow;
     }) s
-    pub none : NoneInHand s.owners
+    pub none : NoneAside s.owners
     pub held : s.frame.held ≡ []
     pub formed : AreLinesFormed s.frame.whole
     pub continues : Continues holds base result s.frame.whole inner goal given s.bound
@@ -273,7 +273,7 @@ module _ (program : Lowering) where
     pub address : ℕ → ℕ
     pub owners : ℕ → Owner
     pub follows : Follows program.pool program.layout address owners heap world.cells
-    pub none : NoneInHand owners
+    pub none : NoneAside owners
 
   abbrev pub StandsFor : CountedControl → List CountedFrame → Heap → List ℕ → AsmTurn World Ending → Type 0
   StandsFor (running code environment inner) frames heap input turn = IsAt code environment inner frames heap input turn

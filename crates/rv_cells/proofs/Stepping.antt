@@ -6,6 +6,8 @@ use Rattle.kk_syntax.specs.declared.program.Form.TheVariants.{Construct}
 use Rattle.kk_source.specs.State.{Value, place, heap_full}
 use Rattle.kk_counted.proofs.Counting.{set_length}
 use Rattle.rv_cells.proofs.Held.{some-is}
+use Rattle.rv_cells.specs.Follows.{set_aside, NoneAside}
+use Rattle.rv_cells.proofs.Rooms.{none_aside}
 use Rattle.rv_cells.proofs.Values.{Carries, carries_same, has_cell}
 use Rattle.kk_counted.specs.Keeping.{values_of}
 use Rattle.rv_cells.proofs.Constructing.{IsMaking, made_spot, construct_cost, construct_did}
@@ -184,17 +186,19 @@ module _ (known : Known) (setting : CountedSetting) (texts : Texts) (goal : Goal
             (opened_length named.at (used_values used fields named.fields) s.heap next opens);
       }
 
--- a construction, where fewer cells are counted than there are
+-- a construction, where fewer cells are counted than there are, and none is set aside
 pub construct_steps : (known : Known) (setting : CountedSetting) (texts : Texts) (goal : Goal) (low high x k a : ℕ) (more : List ℕ)
     (rest : Counted) (joins : List CountedJoin) (c : CountedConfiguration) (lines after : List Line) (fs : List (Frame Line))
     (s : Spot)
-    → Here known s → IsMaking known s x k (a ∷ more)
+    → Here known s → IsMaking known s x k (a ∷ more) → NoneAside s.owners
     → CodeLines (setting_of known texts) goal low (compute x (Construct k) (a ∷ more) rest) lines high
     → setting.cells ≡ known.target.pool.cells → nat_le setting.cells (busy s.heap) ≡ false
     → Steps known setting texts goal high (construct_cost known (a ∷ more)) (builds (busy s.heap))
     (compute x (Construct k) (a ∷ more) rest) rest joins c lines after fs s (x ∷ s.bound)
-construct_steps known setting texts goal low high x k a more rest joins c lines after fs s here making is cells test =
-    let room : busy s.heap < known.target.pool.cells = grind (arith, nat_tests) in
+construct_steps known setting texts goal low high x k a more rest joins c lines after fs s here making none is cells test =
+    let fewer : busy s.heap < known.target.pool.cells = grind (arith, nat_tests) in
+    let alone = none_aside known.target.pool s.owners none in
+    let room : busy s.heap + set_aside known.target.pool s.owners < known.target.pool.cells = omega arith in
     let done = construct_did known (is.1 ++ after) fs s x k (a ∷ more) is.0 here making is.2 room in
     let from = at_spot (compute x (Construct k) (a ∷ more) rest) joins s c in
     let to = made_spot s x k (values_of s.environment (a ∷ more)) done.0 done.1 done.2 in

@@ -1,453 +1,174 @@
--- Openings by the count of the cell, as lines.
-use Rattle.std.proofs.Common.{◌≡◌, ◌≢◌, ◌<◌, ◌≤◌, ℕ, zero, suc, ◌+◌, ◌*◌, true, false, not, inl, inr, List, [], ◌∷◌, ◌++◌, length, Some, nat_eq, refl, sym, ◌∙◌, ap, subst, arith, append_assoc}
+-- Openings by the count of the cell that free the cell, as lines.
+use Rattle.std.proofs.Common.{◌≡◌, ◌≢◌, ◌<◌, ℕ, zero, suc, ◌+◌, ◌*◌, true, false, List, [], ◌∷◌, ◌++◌, length, Some, refl, sym, ◌∙◌, ap, arith}
 use Rattle.std.specs.Prelude.{filter}
-use Rattle.std.proofs.lemmas.Bool.{cases_eq}
-use Rattle.std.proofs.lemmas.Bool.Decides.{nat_tests}
 use Rattle.kk_syntax.specs.Shapes.{is_among}
-use Rattle.kk_source.specs.State.{place}
-use Rattle.kk_source.specs.Live.{value_of}
-use Rattle.kk_counted.specs.Heaps.{Heap, count_in, count_at, set_count, dup_all, drop_all}
+use Rattle.kk_counted.specs.Heaps.{Heap, count_at, set_count, dup_all, drop_all}
 use Rattle.kk_counted.specs.CountedMachine.{Named, used_values, other_values, unique_heap}
-use Rattle.kk_counted.specs.Keeping.{values_of}
 use Rattle.kk_counted.specs.Spending.{AreApart}
-use Rattle.kk_counted.proofs.Counting.{set_length, count_set, kept_weight, freed_weight}
-use Rattle.kk_counted.proofs.Variables.{field_past}
-use Rattle.rv_isa.specs.declared.asm.Action.TheVariants.{Compute, Label, Jump, Branch}
-use Rattle.rv_isa.specs.declared.asm.Condition.TheVariants.{NotEqual}
+use Rattle.rv_isa.specs.declared.asm.Action.TheVariants.{Compute, Label, Jump}
 use Rattle.rv_isa.specs.declared.asm.Operation.TheVariants as Op
-use Rattle.rv_isa.specs.declared.asm.ImmediateOperation.TheVariants.{Addi}
-use Rattle.rv_isa.specs.Arithmetic.{sum_word}
 use Rattle.rv_isa.specs.AsmCode.{Line}
 use Rattle.rv_isa.specs.AsmMachine.{is_label}
 use Rattle.rv_isa.specs.Frames.{Frame, found}
-use Rattle.cell_heap.specs.Blocks.{Cells, own, with_block, with_word}
+use Rattle.cell_heap.specs.Blocks.{Cells}
 use Rattle.rv_world.specs.World.{with_cells}
-use Rattle.rv_lower.specs.Lines.{computes, sets, acts}
-use Rattle.rv_cells.specs.Layout.{word_in}
-use Rattle.rv_cells.specs.Follows.{Owner, nobody, cell_of, in_hand, IsCellOf, with_owner}
-use Rattle.rv_cells.specs.CellLines.{UniqueLines, dups_lines, drops_lines}
-use Rattle.rv_cells.proofs.Held.{held_other, held_count}
-use Rattle.rv_cells.proofs.Owners.{chosen_by, chosen_same, chosen_other}
-use Rattle.rv_cells.proofs.Words.{load_own, store_own, cell_named, recount, opened_unique}
+use Rattle.rv_lower.specs.Lines.{acts}
+use Rattle.rv_cells.specs.Follows.{Owner, nobody, with_owner, is_aside}
+use Rattle.rv_cells.specs.CellLines.{UniqueLines}
+use Rattle.rv_cells.proofs.Owners.{chosen_by, chosen_other}
 use Rattle.rv_cells.proofs.Counts.{released}
-use Rattle.rv_cells.proofs.Cascades.{busy_set}
-use Rattle.rv_lower.proofs.Performing.{put_same, put_other}
-use Rattle.rv_cells.proofs.Values.{HasValues, has_temporary, MadeBy, named_made}
-use Rattle.rv_cells.proofs.Runs.{turn_of, Runs, runs_then}
-use Rattle.rv_cells.proofs.Acting.{put_in, load_runs, sets_runs, store_runs, addi_runs, free_runs, label_runs, jump_runs, falls_runs, branch_runs}
+use Rattle.rv_cells.proofs.Runs.{turn_of, runs_none, runs_then}
+use Rattle.rv_cells.proofs.Acting.{free_runs}
 use Rattle.rv_cells.proofs.Spots.{AreSmall, Spot, Known, Here, Did}
 use Rattle.rv_cells.proofs.LineCosts.{most_moves, row_cost}
-use Rattle.rv_cells.proofs.Rows.{with_fields, IsReading, read_did, dups_did, drops_did}
-use Rattle.rv_cells.proofs.Openings.{where_values, bound_older, bound_fields, opened_spot}
-
-abbrev pub others_of : List ℕ → List ℕ → List ℕ
-others_of used fields = filter (λ y. not (is_among used y)) fields
+use Rattle.rv_cells.proofs.Values.{list_grown}
+use Rattle.rv_cells.proofs.Rows.{IsReading}
+use Rattle.rv_cells.proofs.Openings.{opened_spot}
+use Rattle.rv_cells.proofs.CountOpenings as Opens
 
 abbrev pub unique_cost : Known → List ℕ → List ℕ → ℕ
 unique_cost known fields used =
     8 * most_moves + 20 + row_cost fields (most_moves + 2) + row_cost (filter (is_among used) fields)
     (most_moves + 5)
-    + row_cost (others_of used fields) (2 * most_moves + 16)
-
--- a spot with temporaries written
-abbrev at_frame : Spot → Frame Line → Spot
-at_frame s f = record s { frame = f }
-
-still_reads : (known : Known) (s : Spot) (f : Frame Line) (x c : ℕ) (fields : List ℕ) (named : Named)
-    → IsReading known s x c fields named → IsReading known (at_frame s f) x c fields named
-still_reads known s f x c fields named reads =
-    record {
-      bound = reads.bound;
-      is = reads.is;
-      below = reads.below;
-      apart = reads.apart;
-      kinds = reads.kinds;
-      older =
-          reads.older;
-    }
+    + row_cost (Opens.others_of used fields) (2 * most_moves + 16)
 
 module _ (known : Known) (rest : List Line) (fs : List (Frame Line)) (s : Spot) (x c : ℕ) (fields used : List ℕ) (shared behind : ℕ)
     (lines : List Line) (named : Named) (next : Heap)
     (here : Here known s) (reads : IsReading known s x c fields named) (apart : AreApart fields)
     (uniques : UniqueLines known.base known.holds shared behind x fields used lines) where
-  abbrev pub tested : Line
-  tested = uniques.0
-
-  abbrev pub loads : List Line
-  loads = uniques.1
-
-  abbrev pub drops : List Line
-  drops = drops_lines known.base known.holds (others_of used fields)
-
-  abbrev pub dups : List Line
-  dups = dups_lines known.holds (filter (is_among used) fields)
-
-  abbrev pub ending : List Line
-  ending = acts (Label behind) [] ∷ rest
-
-  abbrev pub lowers : List Line
-  lowers = uniques.2 ∷ computes (Op.Immediate Addi uniques.3) (known.base ∷ []) known.base ∷ uniques.4 ∷ dups
-
-  abbrev pub for_shared : List Line
-  for_shared = acts (Label shared) [] ∷ (loads ++ lowers)
-
-  abbrev pub frees : List Line
-  frees = acts (Compute Op.Free) (x ∷ []) ∷ acts (Jump behind) [] ∷ []
-
-  abbrev pub for_unique : List Line
-  for_unique = loads ++ (drops ++ frees)
-
-  -- the lines before the label of the second way, and those behind it
-  abbrev pub head_lines : List Line
-  head_lines = uniques.0 ∷ sets 1 (known.base + 1) ∷ acts (Branch NotEqual shared) (known.base ∷ (known.base + 1) ∷ [])
-      ∷ for_unique
-
-  abbrev pub shared_lines : List Line
-  shared_lines = loads ++ lowers
-
-  pub whole_lines : lines ++ rest ≡ tested ∷ sets 1 (known.base + 1) ∷ acts (Branch NotEqual shared)
-      (known.base ∷ (known.base + 1) ∷ []) ∷ (for_unique ++ (for_shared ++ ending))
-  whole_lines =
-      ap (λ ls. ls ++ rest) uniques.10
-      ∙ ap (λ ls. tested ∷ sets 1 (known.base + 1) ∷ acts (Branch NotEqual shared) (known.base ∷ (known.base + 1) ∷ []) ∷ ls)
-      (append_assoc for_unique (for_shared ++ (acts (Label behind) [] ∷ [])) rest ∙ ap (λ ls. for_unique ++ ls)
-      (append_assoc for_shared (acts (Label behind) [] ∷ []) rest))
-
-  made : MadeBy c (length fields) s.heap (value_of s.environment x) named
-  made = named_made c (length fields) s.heap (value_of s.environment x) named reads.is
-
-  many : length named.fields ≡ length fields
-  many = ap length (sym made.fields) ∙ made.many
-
-  counted : 1 ≤ count_at s.heap named.at
-  counted = let count = held_count s.heap named.at made.held made.there in let some = made.counted in omega arith
-
-  stands : IsCellOf known.target.pool known.layout s.address s.heap named.at (s.address named.at)
-      (s.world.cells.blocks (s.address named.at))
-  stands = cell_named here.follows named.at counted
-
-  count_there : stands.words 0 ≡ Some (count_at s.heap named.at)
-  count_there = stands.shows.count ∙ ap Some (sym (held_count s.heap named.at stands.held stands.there))
-
-  x_word : s.frame.cells x ≡ Some (s.address named.at)
-  x_word = here.values.words x reads.bound ∙ ap (λ v. Some (word_in known.layout s.address v)) made.is
-
-  -- the frame behind the test of the count
-  abbrev tests : Frame Line
-  tests = put_in (known.base + 1) 1 (put_in known.base (count_at s.heap named.at) s.frame)
-
-  here_tests : Here known (at_frame s tests)
-  here_tests = record {
-    follows = here.follows;
-    values = has_temporary (has_temporary here.values known.base (count_at s.heap named.at) (omega arith)) (known.base + 1) 1
-        (omega arith);
+  abbrev o : Opens.CountOpening known
+  o = record {
+    rest = rest;
+    fs = fs;
+    s = s;
+    x = x;
+    c = c;
+    fields = fields;
+    used = used;
+    shared = shared;
+    behind = behind;
+    lines = lines;
+    named = named;
+    next = next;
+    here = here;
+    reads = reads;
+    apart = apart;
+    uniques = uniques;
+    ends = acts (Compute Op.Free) (x ∷ []);
+    begins = [];
   }
 
-  abbrev one : Spot
-  one = with_fields known.layout (at_frame s tests) fields named.fields
+  abbrev pub for_shared : List Line
+  for_shared = Opens.for_shared known o
 
-  same_x : value_of one.environment x ≡ place named.at
-  same_x = field_past fields named.fields s.environment x reads.apart ∙ made.is
+  abbrev pub shared_lines : List Line
+  shared_lines = Opens.shared_lines known o
 
-  -- the count is loaded, and 1 is set
-  loads_count : (there : List Line) → Runs known.target ((most_moves + 2) + (most_moves + 2)) (1 + 1)
-      (turn_of (tested ∷ sets 1 (known.base + 1) ∷ there) s.frame fs s.world) (turn_of there tests fs s.world)
-  loads_count there =
-      let moves = most_moves in
-      let f1 = put_in known.base (count_at s.heap named.at) s.frame in
-      runs_then known.target (moves + 2) (moves + 2) 1 1 (turn_of (tested ∷ sets 1 (known.base + 1) ∷ there) s.frame fs s.world)
-      (turn_of (sets 1 (known.base + 1) ∷ there) f1 fs s.world) (turn_of there tests fs s.world)
-      (load_runs known.target (sets 1 (known.base + 1) ∷ there) s.frame fs s.world x 0 known.base (s.address named.at)
-      (count_at s.heap named.at) tested uniques.5 x_word
-      (load_own s.world.cells (s.address named.at) 0 (count_at s.heap named.at) stands.words stands.is (omega arith) count_there))
-      (sets_runs known.target there f1 fs s.world 1 (known.base + 1))
+  abbrev pub head_lines : List Line
+  head_lines = Opens.head_lines known o
 
-  first_temporary : tests.cells known.base ≡ Some (count_at s.heap named.at)
-  first_temporary =
-      put_other (known.base + 1) known.base 1 (put_in known.base (count_at s.heap named.at) s.frame).cells (λ e. omega arith)
-      ∙ put_same known.base (count_at s.heap named.at) s.frame.cells
+  abbrev ending : List Line
+  ending = acts (Label behind) [] ∷ rest
 
-  second_temporary : tests.cells (known.base + 1) ≡ Some 1
-  second_temporary = put_same (known.base + 1) 1 (put_in known.base (count_at s.heap named.at) s.frame).cells
+  pub whole_lines : lines ++ rest ≡ head_lines ++ (for_shared ++ ending)
+  whole_lines = Opens.whole_lines known o
+
+  abbrev at : ℕ
+  at = s.address named.at
 
   abbrev Opened : Type 0
   Opened =
       (frame : Frame Line) × (owners : ℕ → Owner) × (cells : Cells)
       × Did known (unique_cost known fields used) lines rest fs s (opened_spot known s fields named.fields next frame owners cells)
 
-  -- ---- a cell of one reference
+  -- a cell of one reference is freed
+  unique_did : count_at s.heap named.at ≡ 1
+      → drop_all (other_values used fields named.fields) (set_count named.at 0 s.heap) ≡ Some next
+      → 0 < known.target.pool.first → found (λ line. is_label behind line.action) s.frame.whole ≡ Some ending → Opened
+  unique_did once given some finds =
+      let moves = most_moves in
+      let target = known.target in
+      let emptied = Opens.empties known o once given in
+      let frame = emptied.0 in
+      let owners = emptied.1 in
+      let left = emptied.3 in
+      let comes = left.comes in
+      let world = with_cells s.world emptied.2 in
+      let gone = released comes.here.follows at left.words left.hand in
+      let cell = (Opens.stands known o).cell in
+      let far = cell.behind in
+      let freed = free_runs target (acts (Jump behind) [] ∷ (for_shared ++ ending)) frame fs world x at gone.now
+      (Opens.x_behind known o frame owners emptied.2 comes.here)
+      (λ e. omega arith) gone.is in
+      let last = with_cells world gone.now in
+      let leaving = Opens.leaves known o frame last
+      (ap (λ w. found (λ line. is_label behind line.action) w) comes.whole ∙ finds) in
+      let free : Line = acts (Compute Op.Free) (x ∷ []) in
+      let t0 = turn_of (lines ++ rest) s.frame fs s.world in
+      let t1 = turn_of (free ∷ acts (Jump behind) [] ∷ (for_shared ++ ending)) frame fs world in
+      let t2 = turn_of (acts (Jump behind) [] ∷ (for_shared ++ ending)) frame fs last in
+      let t3 = turn_of rest frame fs last in
+      let back = runs_then target (moves + 5) ((moves + 2) + (moves + 0)) 1 (1 + 1) t1 t2 t3 freed leaving in
+      let cheap = comes.within in
+      let owned = Opens.is_owned known o once given in
+      let not_at : (y : ℕ) → is_aside (s.owners y) ≡ true → y ≢ at = λ y is e. (let both : true ≡ false = sym is
+      ∙ ap (λ z. is_aside (s.owners z)) e ∙ ap is_aside owned in cc) in (
+        frame,
+        with_owner at nobody owners,
+        gone.now,
+        record {
+          cost = comes.cost + ((moves + 5) + ((moves + 2) + (moves + 0)));
+          steps = comes.steps + (1 + (1 + 1));
+          within = omega arith;
+          runs = runs_then target comes.cost ((moves + 5) + ((moves + 2) + (moves + 0))) comes.steps (1 + (1 + 1)) t0 t1 t3
+              comes.runs back;
+          here = record { follows = gone.holds; values = comes.here.values };
+          aside = λ y is. chosen_other y at nobody owners (not_at y is) ∙ left.aside y (not_at y is) is;
+          was = λ y. chosen_by (λ o. is_aside o ≡ true → o ≡ s.owners y) y at nobody owners (λ e is. cc)
+              (λ differ is. left.was y differ is);
+          grown = λ z none. list_grown fields s.bound z none;
+          spared = comes.spared;
+          left = refl {a = s.world.left};
+          trace = refl {a = s.world.trace};
+          whole = comes.whole;
+          held = comes.held;
+          into = comes.into;
+        },
+      )
 
-  module _ (once : count_at s.heap named.at ≡ 1)
-      (given : drop_all (other_values used fields named.fields) (set_count named.at 0 s.heap) ≡ Some next)
-      (some : 0 < known.target.pool.first) (finds : found (λ line. is_label behind line.action) s.frame.whole ≡ Some ending) where
-    abbrev at : ℕ
-    at = s.address named.at
-
-    abbrev two : Spot
-    two = record one { owners = with_owner at (in_hand stands.words) s.owners; heap = set_count named.at 0 s.heap }
-
-    is_owned : s.owners at ≡ cell_of named.at
-    is_owned = here.follows.named named.at counted
-
-    read : Did known (row_cost fields (most_moves + 2)) loads ((drops ++ frees) ++ (for_shared ++ ending)) fs
-        (at_frame s tests) one
-    read = read_did known ((drops ++ frees) ++ (for_shared ++ ending)) fs (at_frame s tests) x c fields loads named here_tests
-        (still_reads known s tests x c fields named reads) uniques.6
-
-    here_two : Here known two
-    here_two = record {
-      follows = opened_unique here.follows named.at stands.words once stands.is;
-      values = subst (λ n. HasValues known.layout s.address known.holds known.base n one.bound one.environment one.frame.cells)
-          (sym (set_length named.at 0 s.heap)) read.here.values;
-    }
-
-    unique_did : Opened
-    unique_did =
-        let moves = most_moves in
-        let target = known.target in
-        let others = others_of used fields in
-        let values : values_of one.environment others ≡ other_values used fields named.fields = where_values
-        (λ y. not (is_among used y)) fields named.fields s.environment apart many in
-        let behind_drops = frees ++ (for_shared ++ ending) in
-        let dropped = drops_did known behind_drops fs others two next here_two
-        (bound_fields (λ y. not (is_among used y)) fields s.bound)
-        (ap (λ vs. drop_all vs (set_count named.at 0 s.heap)) values ∙ given) in
-        let frame = dropped.0 in
-        let did = dropped.3 in
-        let world = with_cells s.world dropped.2 in
-        let hand : dropped.1 at ≡ in_hand stands.words = did.kept at stands.words
-        (chosen_same at at (in_hand stands.words) s.owners refl) in
-        let gone = released did.here.follows at stands.words hand in
-        let word : frame.cells x ≡ Some at =
-        did.here.values.words x (bound_older fields s.bound x reads.bound) ∙ ap (λ v. Some (word_in known.layout s.address v))
-        same_x in
-        let far = stands.cell.behind in
-        let freed = free_runs target (acts (Jump behind) [] ∷ (for_shared ++ ending)) frame fs world x at gone.now word
-        (λ e. omega arith) gone.is in
-        let last = with_cells world gone.now in
-        let jumps = jump_runs target (for_shared ++ ending) frame fs last behind ending
-        (ap (λ w. found (λ line. is_label behind line.action) w) did.whole ∙ finds) in
-        let labels = label_runs target rest frame fs last behind in
-        let test : nat_eq (count_at s.heap named.at) 1 ≡ true = grind (arith, nat_tests) in
-        let falls = falls_runs target (for_unique ++ (for_shared ++ ending)) tests fs s.world NotEqual shared known.base
-        (known.base + 1)
-        (count_at s.heap named.at) 1 first_temporary second_temporary (ap not test) in
-        let t0 = turn_of (tested ∷ sets 1 (known.base + 1) ∷ acts (Branch NotEqual shared) (known.base ∷ (known.base + 1) ∷ []) ∷
-        (for_unique ++ (for_shared ++ ending))) s.frame fs s.world in
-        let t1 = turn_of (acts (Branch NotEqual shared) (known.base ∷ (known.base + 1) ∷ []) ∷
-        (for_unique ++ (for_shared ++ ending))) tests fs s.world in
-        let t2 = turn_of (for_unique ++ (for_shared ++ ending)) tests fs s.world in
-        let t3 = turn_of (drops ++ behind_drops) one.frame fs s.world in
-        let t4 = turn_of behind_drops frame fs world in
-        let t5 = turn_of (acts (Jump behind) [] ∷ (for_shared ++ ending)) frame fs last in
-        let t6 = turn_of ending frame fs last in
-        let t7 = turn_of rest frame fs last in
-        let row = row_cost fields (moves + 2) in
-        let reading : Runs target read.cost read.steps t2 t3 =
-        subst (λ ls. Runs target read.cost read.steps (turn_of ls tests fs s.world) t3)
-        (sym (append_assoc loads (drops ++ frees) (for_shared ++ ending)))
-        (subst (λ ls. Runs target read.cost read.steps
-        (turn_of (loads ++ ((drops ++ frees) ++ (for_shared ++ ending))) tests fs s.world)
-        (turn_of ls one.frame fs s.world)) (append_assoc drops frees (for_shared ++ ending)) read.runs) in
-        let end_two = runs_then target (moves + 2) (moves + 0) 1 1 t5 t6 t7 jumps labels in
-        let end_three = runs_then target (moves + 5) ((moves + 2) + (moves + 0)) 1 (1 + 1) t4 t5 t7 freed end_two in
-        let end_four = runs_then target did.cost ((moves + 5) + ((moves + 2) + (moves + 0))) did.steps
-        (1 + (1 + 1)) t3 t4 t7 did.runs end_three in
-        let end_five = runs_then target read.cost (did.cost + ((moves + 5) + ((moves + 2) + (moves + 0)))) read.steps
-        (did.steps + (1 + (1 + 1))) t2 t3 t7 reading end_four in
-        let end_six = runs_then target (moves + 3) (read.cost + (did.cost + ((moves + 5) + ((moves + 2) + (moves + 0))))) 1
-        (read.steps + (did.steps + (1 + (1 + 1)))) t1 t2 t7 falls end_five in
-        let whole = runs_then target ((moves + 2) + (moves + 2))
-        ((moves + 3) + (read.cost + (did.cost + ((moves + 5) + ((moves + 2) + (moves + 0)))))) (1 + 1)
-        (1 + (read.steps + (did.steps + (1 + (1 + 1))))) t0 t1 t7
-        (loads_count (acts (Branch NotEqual shared) (known.base ∷ (known.base + 1) ∷ []) ∷ (for_unique ++ (for_shared ++ ending))))
-        end_six in
-        let cells = busy_set named.at 0 0 s.heap once in
-        let weights = freed_weight named.at 0 s.heap once in
-        let cheap_read = read.within in
-        let cheap = did.within in (
-          frame,
-          with_owner at nobody dropped.1,
-          gone.now,
-          record {
-            cost = ((moves + 2) + (moves + 2)) +
-                ((moves + 3) + (read.cost + (did.cost + ((moves + 5) + ((moves + 2) + (moves + 0))))));
-            steps = (1 + 1) + (1 + (read.steps + (did.steps + (1 + (1 + 1)))));
-            within = omega arith;
-            runs = subst (λ ls. Runs target
-                (((moves + 2) + (moves + 2)) +
-                ((moves + 3) + (read.cost + (did.cost + ((moves + 5) + ((moves + 2) + (moves + 0)))))))
-                ((1 + 1) + (1 + (read.steps + (did.steps + (1 + (1 + 1)))))) (turn_of ls s.frame fs s.world) t7)
-                (sym whole_lines) whole;
-            here = record { follows = gone.holds; values = did.here.values };
-            kept = λ y words is.
-                let differ : y ≢ at = λ e. (let both : in_hand words ≡ cell_of named.at = sym is ∙ ap s.owners e
-                ∙ is_owned in cc) in
-                chosen_other y at nobody dropped.1 differ ∙ did.kept y words
-                (chosen_other y at (in_hand stands.words) s.owners differ ∙ is);
-            was = λ y words. chosen_by (λ o. o ≡ in_hand words → s.owners y ≡ in_hand words) y at nobody dropped.1 (λ e is. cc)
-                (λ differ is. sym (chosen_other y at (in_hand stands.words) s.owners differ) ∙ did.was y words is);
-            left = refl {a = s.world.left};
-            trace = refl {a = s.world.trace};
-            whole = did.whole;
-            held = did.held;
-            into = did.into;
-          },
-        )
-
-  -- ---- a cell of several references
-
-  module _ (n : ℕ) (several : count_at s.heap named.at ≡ suc (suc n))
-      (given : dup_all (used_values used fields named.fields) (set_count named.at (suc n) s.heap) ≡ Some next)
-      (small : AreSmall (length (filter (is_among used) fields)) s.heap)
-      (finds : found (λ line. is_label shared line.action) s.frame.whole ≡ Some (for_shared ++ ending)) where
-    read_shared : Did known (row_cost fields (most_moves + 2)) loads (lowers ++ ending) fs (at_frame s tests) one
-    read_shared = read_did known (lowers ++ ending) fs (at_frame s tests) x c fields loads named here_tests
-        (still_reads known s tests x c fields named reads) uniques.6
-
-    -- the frame behind the count that is lowered, and the cells
-    abbrev counts : Frame Line
-    counts = put_in known.base (suc n) (put_in known.base (suc (suc n)) one.frame)
-
-    abbrev stored : Cells
-    stored = with_block (s.address named.at) (own (with_word 0 (suc n) stands.words)) s.world.cells
-
-    abbrev three : Spot
-    three = record one { heap = set_count named.at (suc n) s.heap; frame = counts; world = with_cells s.world stored }
-
-    less_one : sum_word (suc (suc n)) uniques.3.word ≡ suc n
-    less_one = let word = uniques.8 in let bound = small named.at in omega arith
-
-    x_in_one : one.frame.cells x ≡ Some (s.address named.at)
-    x_in_one =
-        read_shared.here.values.words x (bound_older fields s.bound x reads.bound)
-        ∙ ap (λ v. Some (word_in known.layout s.address v)) same_x
-
-    below_base : x < known.base
-    below_base = here.values.below x reads.bound
-
-    here_three : Here known three
-    here_three = record {
-      follows = recount here.follows named.at n stands.words counted stands.is;
-      values = subst (λ k. HasValues known.layout s.address known.holds known.base k one.bound one.environment counts.cells)
-          (sym (set_length named.at (suc n) s.heap))
-          (has_temporary (has_temporary read_shared.here.values known.base (suc (suc n)) (omega arith)) known.base (suc n)
-          (omega arith));
-    }
-
-    lowers_run : Runs known.target ((most_moves + 2) + ((most_moves + 2) + (most_moves + 3))) (1 + (1 + 1))
-        (turn_of (lowers ++ ending) one.frame fs s.world)
-        (turn_of (dups ++ ending) counts fs (with_cells s.world stored))
-    lowers_run =
-        let moves = most_moves in
-        let target = known.target in
-        let f1 = put_in known.base (suc (suc n)) one.frame in
-        let low = below_base in
-        let count_is : stands.words 0 ≡ Some (suc (suc n)) = count_there ∙ ap Some several in
-        let adds = uniques.4 ∷ (dups ++ ending) in
-        let loaded = load_runs target (computes (Op.Immediate Addi uniques.3) (known.base ∷ []) known.base ∷ adds) one.frame fs
-        s.world x 0 known.base (s.address named.at) (suc (suc n)) uniques.2 uniques.7 x_in_one
-        (load_own s.world.cells (s.address named.at) 0 (suc (suc n)) stands.words stands.is (omega arith) count_is) in
-        let added = addi_runs target adds f1 fs s.world known.base known.base (suc (suc n)) uniques.3
-        (put_same known.base (suc (suc n)) one.frame.cells) in
-        let t1 = turn_of (lowers ++ ending) one.frame fs s.world in
-        let t2 = turn_of (computes (Op.Immediate Addi uniques.3) (known.base ∷ []) known.base ∷ adds) f1 fs s.world in
-        let t3 = turn_of adds counts fs s.world in
-        let t4 = turn_of (dups ++ ending) counts fs (with_cells s.world stored) in
-        let adding : Runs target (moves + 2) 1 t2 t3 = subst
-        (λ w. Runs target (moves + 2) 1 t2 (turn_of adds (put_in known.base w f1) fs s.world)) less_one added in
-        let x_here : counts.cells x ≡ Some (s.address named.at) =
-        put_other known.base x (suc n) f1.cells (λ e. omega arith) ∙ put_other known.base x (suc (suc n)) one.frame.cells
-        (λ e. omega arith) ∙ x_in_one in
-        let storing = store_runs target (dups ++ ending) counts fs s.world x 0 known.base (s.address named.at)
-        (suc n) uniques.4 stored uniques.9 x_here (put_same known.base (suc n) f1.cells)
-        (store_own s.world.cells (s.address named.at) 0 (suc n) stands.words stands.is (omega arith)) in
-        runs_then target (moves + 2) ((moves + 2) + (moves + 3)) 1 (1 + 1) t1 t2 t4 loaded
-        (runs_then target (moves + 2) (moves + 3) 1 1 t2 t3 t4 adding storing)
-
-    fewer_counts : (name : ℕ) → count_at (set_count named.at (suc n) s.heap) name ≤ count_at s.heap name
-    fewer_counts name =
-        elim (cases_eq named.at name) [
-          | inl e ↦
-              (let now = count_set named.at (suc n) (suc n) s.heap several in
-              let there = ap (count_at (set_count named.at (suc n) s.heap)) e in
-              let was = ap (count_at s.heap) e in omega arith)
-          | inr differ ↦ (let other = ap count_in (held_other named.at (suc n) name s.heap differ) in omega arith)
-        ]
-
-    shared_did : Opened
-    shared_did =
-        let moves = most_moves in
-        let target = known.target in
-        let part = filter (is_among used) fields in
-        let values : values_of one.environment part ≡ used_values used fields named.fields = where_values
-        (is_among used) fields named.fields s.environment apart many in
-        let dupped = dups_did known ending fs part three next here_three (bound_fields (is_among used) fields s.bound)
-        (ap (λ vs. dup_all vs (set_count named.at (suc n) s.heap)) values ∙ given)
-        (λ name. let all = small name in let fewer = fewer_counts name in omega arith) in
-        let did = dupped.2 in
-        let world = with_cells s.world dupped.1 in
-        let test : nat_eq (count_at s.heap named.at) 1 ≡ false = grind (arith, nat_tests) in
-        let jumps = branch_runs target (for_unique ++ (for_shared ++ ending)) tests fs s.world NotEqual shared known.base
-        (known.base + 1)
-        (count_at s.heap named.at) 1 (for_shared ++ ending) first_temporary second_temporary (ap not test) finds in
-        let enters = label_runs target ((loads ++ lowers) ++ ending) tests fs s.world shared in
-        let leaves = label_runs target rest counts fs world behind in
-        let t0 = turn_of (tested ∷ sets 1 (known.base + 1) ∷ acts (Branch NotEqual shared) (known.base ∷ (known.base + 1) ∷ []) ∷
-        (for_unique ++ (for_shared ++ ending))) s.frame fs s.world in
-        let t1 = turn_of (acts (Branch NotEqual shared) (known.base ∷ (known.base + 1) ∷ []) ∷
-        (for_unique ++ (for_shared ++ ending))) tests fs s.world in
-        let t2 = turn_of (for_shared ++ ending) tests fs s.world in
-        let t3 = turn_of ((loads ++ lowers) ++ ending) tests fs s.world in
-        let t4 = turn_of (lowers ++ ending) one.frame fs s.world in
-        let t5 = turn_of (dups ++ ending) counts fs (with_cells s.world stored) in
-        let t6 = turn_of ending counts fs world in
-        let t7 = turn_of rest counts fs world in
-        let read = read_shared in
-        let reading : Runs target read.cost read.steps t3 t4 =
-        subst (λ ls. Runs target read.cost read.steps (turn_of ls tests fs s.world) t4) (sym (append_assoc loads lowers ending))
-        read.runs in
-        let lowering = (moves + 2) + ((moves + 2) + (moves + 3)) in
-        let end_two = runs_then target did.cost (moves + 0) did.steps 1 t5 t6 t7 did.runs leaves in
-        let end_three = runs_then target lowering (did.cost + (moves + 0)) (1 + (1 + 1))
-        (did.steps + 1) t4 t5 t7 lowers_run end_two in
-        let end_four = runs_then target read.cost (lowering + (did.cost + (moves + 0))) read.steps
-        ((1 + (1 + 1)) + (did.steps + 1)) t3 t4 t7 reading end_three in
-        let end_five = runs_then target (moves + 0) (read.cost + (lowering + (did.cost + (moves + 0)))) 1
-        (read.steps + ((1 + (1 + 1)) + (did.steps + 1))) t2 t3 t7 enters end_four in
-        let end_six = runs_then target (moves + 3) ((moves + 0) + (read.cost + (lowering + (did.cost + (moves + 0))))) 1
-        (1 + (read.steps + ((1 + (1 + 1)) + (did.steps + 1)))) t1 t2 t7 jumps end_five in
-        let whole = runs_then target ((moves + 2) + (moves + 2))
-        ((moves + 3) + ((moves + 0) + (read.cost + (lowering + (did.cost + (moves + 0)))))) (1 + 1)
-        (1 + (1 + (read.steps + ((1 + (1 + 1)) + (did.steps + 1))))) t0 t1 t7
-        (loads_count (acts (Branch NotEqual shared) (known.base ∷ (known.base + 1) ∷ []) ∷ (for_unique ++ (for_shared ++ ending))))
-        end_six in
-        let cells = busy_set named.at (suc n) (suc n) s.heap several in
-        let weights = kept_weight named.at n (suc n) s.heap several in
-        let cheap_read = read.within in
-        let cheap = did.within in (
-          counts,
-          dupped.0,
-          dupped.1,
-          record {
-            cost = ((moves + 2) + (moves + 2)) +
-                ((moves + 3) + ((moves + 0) + (read.cost + (lowering + (did.cost + (moves + 0))))));
-            steps = (1 + 1) + (1 + (1 + (read.steps + ((1 + (1 + 1)) + (did.steps + 1)))));
-            within = omega arith;
-            runs = subst (λ ls. Runs target
-                (((moves + 2) + (moves + 2)) + ((moves + 3) + ((moves + 0) + (read.cost + (lowering + (did.cost + (moves + 0)))))))
-                ((1 + 1) + (1 + (1 + (read.steps + ((1 + (1 + 1)) + (did.steps + 1)))))) (turn_of ls s.frame fs s.world) t7)
-                (sym whole_lines) whole;
-            here = did.here;
-            kept = did.kept;
-            was = did.was;
-            left = refl {a = s.world.left};
-            trace = refl {a = s.world.trace};
-            whole = did.whole;
-            held = did.held;
-            into = did.into;
-          },
-        )
+  -- the count of a cell of several references is lowered
+  shared_did : (n : ℕ) → count_at s.heap named.at ≡ suc (suc n)
+      → dup_all (used_values used fields named.fields) (set_count named.at (suc n) s.heap) ≡ Some next
+      → AreSmall (length (filter (is_among used) fields)) s.heap
+      → found (λ line. is_label shared line.action) s.frame.whole ≡ Some (for_shared ++ ending) → Opened
+  shared_did n several given small finds =
+      let tests = Opens.tests known o in
+      let shares = Opens.shared_lines known o in
+      let done = Opens.lessens known o n several given small finds 0 0 tests.cells
+      (runs_none known.target (turn_of (shares ++ ending) tests fs s.world))
+      (Opens.here_tests known o).values in
+      let comes = done.3 in
+      let cheap = comes.within in (
+        done.0,
+        done.1,
+        done.2,
+        record {
+          cost = comes.cost;
+          steps = comes.steps;
+          within = omega arith;
+          runs = comes.runs;
+          here = comes.here;
+          aside = done.4;
+          was = done.5;
+          grown = λ z none. list_grown fields s.bound z none;
+          spared = λ z low none. comes.spared z low none ∙ Opens.tests_spare known o z low;
+          left = refl {a = s.world.left};
+          trace = refl {a = s.world.trace};
+          whole = comes.whole;
+          held = comes.held;
+          into = comes.into;
+        },
+      )
 
   -- ---- either way
 

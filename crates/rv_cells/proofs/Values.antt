@@ -84,16 +84,25 @@ module _ {layout : Layout} {address : ℕ → ℕ} {holds : ℕ → Bool} {base 
                 (other differ (elim (among_by x bound z is) [ inl e ↦ absurd (differ e) | inr among ↦ among ]))
           ]
 
-  -- a temporary is written
-  pub has_temporary : (t word : ℕ) → base ≤ t → HasValues layout address holds base next bound environment
+  -- a value that is no bound variable's is written, as a temporary
+  pub has_other : (t word : ℕ) → is_among bound t ≡ false → HasValues layout address holds base next bound environment
       (put t (Some word) values)
-  has_temporary t word high = record {
+  has_other t word none = record {
     below = has.below;
-    words = λ x among. let low = has.below x among in put_other t x word values (λ e. omega (arith, e, low, high))
+    words = λ x among.
+        put_other t x word values (λ e. let both : true ≡ false = sym among ∙ ap (is_among bound) e ∙ none in cc)
         ∙ has.words x among;
     fits = has.fits;
     older = has.older;
   }
+
+  pub has_temporary : (t word : ℕ) → base ≤ t → HasValues layout address holds base next bound environment
+      (put t (Some word) values)
+  has_temporary t word high = has_other t word (by (is_among bound t) refl)
+    where
+      by : (b : Bool) → is_among bound t ≡ b → b ≡ false
+      by true among = let low = has.below t among in absurd (omega (arith, low, high))
+      by false among = refl
 
   -- a cell more, under the next name
   pub has_cell : (at : ℕ) → HasValues layout (assign next at address) holds base (suc next) bound environment values
@@ -115,6 +124,19 @@ Carries layout address next later more =
 pub carries_same : (layout : Layout) (address : ℕ → ℕ) (next more : ℕ) → more ≡ next → Carries layout address next address more
 carries_same layout address next more same = λ holds base bound environment values has.
     subst (λ n. HasValues layout address holds base n bound environment values) (sym same) has
+
+-- other variables than those of a list keep their words
+pub list_grown : (xs bound : List ℕ) (z : ℕ) → is_among (bound_list xs bound) z ≡ false → is_among bound z ≡ false
+list_grown [] bound z none = none
+list_grown (x ∷ xs) bound z none = (among_none x bound z (list_grown xs (x ∷ bound) z none)).1
+
+pub list_spared : (xs words bound : List ℕ) (z : ℕ) (values : ℕ → Option ℕ) → is_among (bound_list xs bound) z ≡ false
+    → put_list xs words values z ≡ values z
+list_spared [] words bound z values none = refl
+list_spared (x ∷ xs) [] bound z values none = refl
+list_spared (x ∷ xs) (word ∷ words) bound z values none =
+    let beside = among_none x bound z (list_grown xs (x ∷ bound) z none) in
+    list_spared xs words (x ∷ bound) z (put x (Some word) values) none ∙ put_other x z word values beside.0
 
 -- a list of variables more
 pub has_list : {layout : Layout} {address : ℕ → ℕ} {holds : ℕ → Bool} {base next : ℕ} (xs : List ℕ)

@@ -4,13 +4,13 @@ use mathlib.Core.Path.{fun_ext}
 use Rattle.std.proofs.lemmas.Bool.{cases_eq}
 use Rattle.std.proofs.lemmas.Bool.Decides.{nat_tests}
 use Rattle.cell_heap.specs.Pool.{Pool, IsCell}
-use Rattle.cell_heap.specs.Blocks.{own, Cells, with_block, with_word, index_of, load, store}
+use Rattle.cell_heap.specs.Blocks.{own, kept, Cells, with_block, with_word, index_of, load, store}
 use Rattle.kk_source.specs.State.{Value, integer, unit, constant, place, Cell}
 use Rattle.kk_source.specs.Sound.{Within, AllWithin}
 use Rattle.kk_counted.specs.Heaps.{Held, Heap, count_in, count_at, set_count, fields_held}
 use Rattle.kk_counted.proofs.Counting.{count_set}
 use Rattle.rv_cells.specs.Layout.{Layout, word_in, words_in}
-use Rattle.rv_cells.specs.Follows.{AreFrom, IsBlockOf, Owner, cell_of, in_hand, IsCellOf, BlockOf, Follows, with_owner, assign}
+use Rattle.rv_cells.specs.Follows.{AreFrom, IsBlockOf, Owner, cell_of, in_hand, kept_aside, IsCellOf, BlockOf, Follows, with_owner, assign}
 use Rattle.rv_cells.proofs.Held.{held_new, held_older, held_within, held_set, held_other, held_fields}
 use Rattle.rv_cells.proofs.Owners.{chosen_by, chosen_same, chosen_other, own-unused, own-words, Stays, put_owner, chain_over}
 
@@ -84,6 +84,9 @@ module _ {pool : Pool} {layout : Layout} {address : ℕ → ℕ} {owners : ℕ �
 
   pub hand_owned : (at : ℕ) (words : ℕ → Option ℕ) → owners at ≡ in_hand words → IsCell pool at × (cells.blocks at ≡ own words)
   hand_owned at words is = subst (λ o. BlockOf pool layout address heap at o (cells.blocks at)) is (follows.blocks at)
+
+  pub aside_owned : (at : ℕ) (words : ℕ → Option ℕ) → owners at ≡ kept_aside words → IsCell pool at × (cells.blocks at ≡ kept words)
+  aside_owned at words is = subst (λ o. BlockOf pool layout address heap at o (cells.blocks at)) is (follows.blocks at)
 
   not_cell : (at name : ℕ) (words : ℕ → Option ℕ) → owners at ≡ in_hand words → owners at ≢ cell_of name
   not_cell at name words is other = let both : in_hand words ≡ cell_of name = sym is ∙ other in cc

@@ -2,7 +2,7 @@
 -- from `base` on are temporaries.
 use Rattle.std.specs.Prelude.{◌≡◌, ℕ, suc, ◌+◌, ◌*◌, ◌-◌, ◌^◌, Bool, List, [], ◌∷◌, ◌++◌, filter, Some, not, if◌then◌else◌}
 use Rattle.kk_syntax.specs.Shapes.{is_among}
-use Rattle.rv_isa.specs.declared.asm.Action.TheVariants.{Compute, Label, Jump, Branch, Routine as Calls}
+use Rattle.rv_isa.specs.declared.asm.Action.TheVariants.{Compute, Label, Jump, Branch, Routine as Calls, Hold, Unhold}
 use Rattle.rv_isa.specs.declared.asm.Condition.TheVariants.{Equal, NotEqual}
 use Rattle.rv_isa.specs.declared.asm.Operation.TheVariants as Op
 use Rattle.rv_isa.specs.declared.asm.ImmediateOperation.TheVariants.{Addi}
@@ -58,6 +58,25 @@ ConstructLines base x header arguments lines =
     × (lines ≡ record { action = Calls Take; args = []; into = Some x } ∷ sets header base ∷ head ∷
     (fields ++ sets 1 base ∷ count ∷ []))
 
+-- Tokens are held, the first of them last. They are taken back from the first one on.
+abbrev pub hold_lines : List ℕ → List Line
+hold_lines [] = []
+hold_lines (token ∷ tokens) = hold_lines tokens ++ (acts Hold (token ∷ []) ∷ [])
+
+abbrev pub unhold_lines : List ℕ → List Line
+unhold_lines [] = []
+unhold_lines (token ∷ tokens) = acts Unhold (token ∷ []) ∷ unhold_lines tokens
+
+-- A construction in the cell of a token: variable x has the token's word. Where that is 0 a cell is taken, while the other tokens
+-- are held, so that they are tried in their order. From label `filled` on the words are stored as in each construction.
+abbrev pub FillLines : ℕ → ℕ → ℕ → List ℕ → ℕ → ℕ → List ℕ → List Line → Type 0
+FillLines base x token others filled header arguments lines =
+    (stores : List Line)
+    × ConstructLines base x header arguments (record { action = Calls Take; args = []; into = Some x } ∷ stores)
+    × (lines ≡ copies_to token x ∷ copies_to x base ∷ acts (Branch NotEqual filled) (base ∷ []) ∷
+    (hold_lines others ++ (record { action = Calls Take; args = []; into = Some x } ∷
+    (unhold_lines others ++ (acts (Label filled) [] ∷ stores)))))
+
 -- a reading: the fields are loaded
 abbrev pub ReadLines : ℕ → List ℕ → List Line → Type 0
 ReadLines x fields lines = AllLoads x 2 fields lines
@@ -69,18 +88,27 @@ OpenLines base holds x fields used lines =
     × (lines ≡ loads ++ (dups_lines holds (filter (is_among used) fields) ++ drop_lines base holds x))
 
 -- An opening by the count of the cell. Behind the test of the count the fields are loaded on each way. Where the count is 1 the
--- fields that are not in use are dropped, and the cell is freed; else, from label `shared` on, the count is lowered, and the
--- fields in use get a reference more.
-abbrev pub UniqueLines : ℕ → (ℕ → Bool) → ℕ → ℕ → ℕ → List ℕ → List ℕ → List Line → Type 0
-UniqueLines base holds shared behind x fields used lines =
+-- fields that are not in use are dropped, and the line `ends` is for the cell. Else, from label `shared` on, the lines `begins` are
+-- first, the count is lowered, and the fields in use get a reference more.
+abbrev pub CountLines : ℕ → (ℕ → Bool) → ℕ → ℕ → ℕ → List ℕ → List ℕ → Line → List Line → List Line → Type 0
+CountLines base holds shared behind x fields used ends begins lines =
     (test : Line) × (loads : List Line) × (count : Line) × (less : Immediate) × (store : Line)
     × Loads x 0 base test × AllLoads x 2 fields loads × Loads x 0 base count × (less.word ≡ 2 ^ 32 - 1) × Stores x 0 base store
     × (lines ≡ test ∷ sets 1 (base + 1) ∷ acts (Branch NotEqual shared) (base ∷ (base + 1) ∷ []) ∷
-    ((loads ++ (drops_lines base holds (filter (λ y. not (is_among used y)) fields)
-    ++ (acts (Compute Op.Free) (x ∷ []) ∷ acts (Jump behind) [] ∷ [])))
-    ++ ((acts (Label shared) [] ∷ (loads ++ (count ∷ computes (Op.Immediate Addi less) (base ∷ []) base ∷ store
-    ∷ dups_lines holds (filter (is_among used) fields))))
+    ((loads ++ (drops_lines base holds (filter (λ y. not (is_among used y)) fields) ++ (ends ∷ (acts (Jump behind) [] ∷ []))))
+    ++ ((acts (Label shared) [] ∷ (begins ++ (loads ++ (count ∷ computes (Op.Immediate Addi less) (base ∷ []) base ∷ store
+    ∷ dups_lines holds (filter (is_among used) fields)))))
     ++ (acts (Label behind) [] ∷ []))))
+
+-- the cell is freed
+abbrev pub UniqueLines : ℕ → (ℕ → Bool) → ℕ → ℕ → ℕ → List ℕ → List ℕ → List Line → Type 0
+UniqueLines base holds shared behind x fields used lines =
+    CountLines base holds shared behind x fields used (acts (Compute Op.Free) (x ∷ [])) [] lines
+
+-- The cell is not freed: it is the token of a value, which has its address. The value is 0 where the cell has other references.
+abbrev pub TokenUniqueLines : ℕ → (ℕ → Bool) → ℕ → ℕ → ℕ → List ℕ → List ℕ → ℕ → List Line → Type 0
+TokenUniqueLines base holds shared behind x fields used token lines =
+    CountLines base holds shared behind x fields used (copies_to x token) (sets 0 token ∷ []) lines
 
 -- ---- tests
 

@@ -1,8 +1,10 @@
 -- When the cells of a program hold a counted heap: each counted cell stands in a block of its own, and all other blocks are free.
-use Rattle.std.specs.Prelude.{◌≡◌, ◌≢◌, ℕ, zero, suc, ◌%◌, ◌<◌, ◌≤◌, List, [], ◌∷◌, Option, Some, nat_eq, if◌then◌else◌}
+use Rattle.std.specs.Prelude.{◌≡◌, ◌≢◌, ℕ, zero, suc, ◌%◌, ◌<◌, ◌≤◌, Bool, true, false, List, [], ◌∷◌, Option, Some, nat_eq, if◌then◌else◌}
+use Rattle.rv_isa.specs.Arithmetic.{bit_of}
 use Rattle.cell_heap.specs.Cells.{occurs}
-use Rattle.cell_heap.specs.Pool.{Pool, end_of, IsCell}
-use Rattle.cell_heap.specs.Blocks.{Block, no_block, unused, own, Cells}
+use Rattle.cell_heap.specs.Counts.{total}
+use Rattle.cell_heap.specs.Pool.{Pool, end_of, IsCell, places}
+use Rattle.cell_heap.specs.Blocks.{Block, no_block, unused, own, kept, Cells}
 use Rattle.kk_counted.specs.Heaps.{Held, Heap, held_at, count_at}
 use Rattle.rv_cells.specs.Layout.{Layout, header_of, words_in, FitFields}
 
@@ -18,12 +20,13 @@ pub record IsBlockOf (layout : Layout) (address : ℕ → ℕ) (held : Held) (wo
   pub fields : AreFrom words 2 (words_in layout address held.cell.fields)
   pub fits : FitFields (layout.fields held.cell.made_by) held.cell.fields
 
--- What stands at an address: nothing that is used; the counted cell of a name; or a cell that was taken, of which words are
--- known, and that is not counted yet.
+-- What stands at an address: nothing that is used; the counted cell of a name; a cell that was taken, of which words are known,
+-- and that is not counted yet; or such a cell on the chain of held tokens, from which a request may take it.
 pub data Owner : Type 0 where
   nobody : Owner
   cell_of : (name : ℕ) → Owner
   in_hand : (words : ℕ → Option ℕ) → Owner
+  kept_aside : (words : ℕ → Option ℕ) → Owner
 
 -- an address is a cell, and free; or it is none
 pub record IsFree (pool : Pool) (at : ℕ) (block : Block) : Type 0 where
@@ -45,6 +48,7 @@ abbrev pub BlockOf : Pool → Layout → (ℕ → ℕ) → Heap → ℕ → Owne
 BlockOf pool layout address heap at nobody block = IsFree pool at block
 BlockOf pool layout address heap at (cell_of name) block = IsCellOf pool layout address heap name at block
 BlockOf pool layout address heap at (in_hand words) block = IsCell pool at × (block ≡ own words)
+BlockOf pool layout address heap at (kept_aside words) block = IsCell pool at × (block ≡ kept words)
 
 -- the free blocks are those of the chain, each once, and all cells from the border on
 pub record HasChain (pool : Pool) (cells : Cells) : Type 0 where
@@ -82,6 +86,18 @@ abbrev pub still : Heap → Owner → Owner
 still next (cell_of name) = still_count (count_at next name) name
 still next owner = owner
 
--- no cell was taken that is not counted yet
-abbrev pub NoneInHand : (ℕ → Owner) → Type 0
-NoneInHand owners = (at : ℕ) (words : ℕ → Option ℕ) → owners at ≢ in_hand words
+-- ---- cells that are taken and not counted
+
+-- a cell is set aside: it is in hand, or on the chain of held tokens
+abbrev pub is_aside : Owner → Bool
+is_aside (in_hand words) = true
+is_aside (kept_aside words) = true
+is_aside _ = false
+
+-- how many cells are set aside
+abbrev pub set_aside : Pool → (ℕ → Owner) → ℕ
+set_aside pool owners = total (λ at. bit_of (is_aside (owners at))) (places pool)
+
+-- no cell is set aside
+abbrev pub NoneAside : (ℕ → Owner) → Type 0
+NoneAside owners = (at : ℕ) → is_aside (owners at) ≡ false

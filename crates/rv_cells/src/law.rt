@@ -1,4 +1,4 @@
-ghost use Rattle.std.specs.Prelude.{◌≡◌, ◌<◌, ◌≤◌, ℕ, suc, ◌%◌, ◌^◌, ◌*◌, Bool, List, [], ◌∷◌, length};
+ghost use Rattle.std.specs.Prelude.{◌≡◌, ◌<◌, ◌≤◌, ℕ, suc, ◌+◌, ◌%◌, ◌^◌, ◌*◌, Bool, List, [], ◌∷◌, length};
 ghost use Rattle.std.specs.Prelude.{All, Option, Some, None, true, slice_get};
 ghost use Rattle.cell_heap.specs.Pool.{Pool};
 ghost use Rattle.cell_heap.specs.Blocks.{Cells, own, with_block, with_word, request, unused_cells};
@@ -20,14 +20,14 @@ ghost use Rattle.kk_counted.specs.Heaps.{Heap, count_at, set_count, fields_held,
 ghost use Rattle.rv_cells.specs.Layout.{Layout, IsNarrow, FitsField};
 ghost use Rattle.rv_cells.specs.Lowered.{IsLoweredForm};
 ghost use Rattle.rv_cells.specs.Tables.{table_of, layout_in};
-ghost use Rattle.rv_cells.specs.Follows.{IsBlockOf, Owner, nobody, cell_of, in_hand, Follows, with_owner, assign, NoneInHand};
+ghost use Rattle.rv_cells.specs.Follows.{IsBlockOf, Owner, nobody, cell_of, in_hand, kept_aside, Follows, with_owner, assign, set_aside};
 ghost use Rattle.rv_isa.specs.AsmCode.{Lines};
 ghost use Rattle.rv_isa.specs.Costs.{functions_length};
 ghost use Rattle.rv_world.specs.Operations.{all_bytes};
 ghost use Rattle.kk_counted.specs.CountedCosts.{counted_cost};
 ghost use Rattle.rv_cells.specs.Fitting.{AreTagged, count_of_fields, IsFit};
 ghost use Rattle.rv_cells.specs.Meaning.{setting_on, IsProgramLowered, RunsTheSame};
-ghost use Rattle.rv_cells.specs.Steps.{Served, Dupped, Dropped, IsPaid, Released};
+ghost use Rattle.rv_cells.specs.Steps.{Served, ServedByHeld, PutAside, TakenBack, Dupped, Dropped, IsPaid, Released};
 
 /// At the start the cells of a pool hold the empty heap. It is a law, and does nothing.
 pub fn unused_cells_hold_no_heap()
@@ -35,14 +35,38 @@ pub fn unused_cells_hold_no_heap()
         → Follows pool layout address (λ at. nobody) [] (unused_cells pool) }
 {}
 
-/// A request is served by a free cell exactly where fewer cells are counted than there are. It is a law, and does nothing.
+/// A request is served by a free cell exactly where fewer cells are counted and set aside than there are; else by the newest held
+/// token, and where none is held the heap is full. It is a law, and does nothing.
 pub fn requests_find_free_cells()
     ensures served { (pool : Pool) (layout : Layout) (address : ℕ → ℕ) (owners : ℕ → Owner) (heap : Heap) (cells : Cells)
-        → pool.first % 32 ≡ 0 → Follows pool layout address owners heap cells → NoneInHand owners
-        → (top : Option ℕ) → busy heap < pool.cells → Served pool layout address owners heap cells top }
+        → pool.first % 32 ≡ 0 → Follows pool layout address owners heap cells
+        → (top : Option ℕ) → busy heap + set_aside pool owners < pool.cells
+        → Served pool layout address owners heap cells top }
+    ensures from_held { (pool : Pool) (layout : Layout) (address : ℕ → ℕ) (owners : ℕ → Owner) (heap : Heap) (cells : Cells)
+        → pool.first % 32 ≡ 0 → Follows pool layout address owners heap cells
+        → (at : ℕ) (words : ℕ → Option ℕ) → owners at ≡ kept_aside words → pool.cells ≤ busy heap + set_aside pool owners
+        → ServedByHeld pool layout address owners heap cells at }
     ensures full { (pool : Pool) (layout : Layout) (address : ℕ → ℕ) (owners : ℕ → Owner) (heap : Heap) (cells : Cells)
-        → pool.first % 32 ≡ 0 → Follows pool layout address owners heap cells → NoneInHand owners
-        → pool.cells ≤ busy heap → request pool None cells ≡ None }
+        → pool.first % 32 ≡ 0 → Follows pool layout address owners heap cells
+        → pool.cells ≤ busy heap + set_aside pool owners → request pool None cells ≡ None }
+{}
+
+/// The cells that are counted and those that are set aside are together no more than there are. It is a law, and does nothing.
+pub fn cells_are_counted_or_set_aside()
+    ensures { (pool : Pool) (layout : Layout) (address : ℕ → ℕ) (owners : ℕ → Owner) (heap : Heap) (cells : Cells)
+        → pool.first % 32 ≡ 0 → Follows pool layout address owners heap cells → busy heap + set_aside pool owners ≤ pool.cells }
+{}
+
+/// A cell in hand is put on the chain of held tokens, and taken back. It is a law, and does nothing.
+pub fn cells_in_hand_are_held()
+    ensures put_aside { (pool : Pool) (layout : Layout) (address : ℕ → ℕ) (owners : ℕ → Owner) (heap : Heap) (cells : Cells)
+        → Follows pool layout address owners heap cells
+        → (at : ℕ) (words : ℕ → Option ℕ) → owners at ≡ in_hand words
+        → PutAside pool layout address owners heap cells at words }
+    ensures taken_back { (pool : Pool) (layout : Layout) (address : ℕ → ℕ) (owners : ℕ → Owner) (heap : Heap) (cells : Cells)
+        → Follows pool layout address owners heap cells
+        → (at : ℕ) (words : ℕ → Option ℕ) → owners at ≡ kept_aside words
+        → TakenBack pool layout address owners heap cells at words }
 {}
 
 /// A word of a cell in hand is stored. It is a law, and does nothing.

@@ -1,0 +1,126 @@
+-- What one line does with held tokens: it holds one, takes one back, or takes a cell from the newest one.
+use Rattle.std.proofs.Common.{◌≡◌, ◌≢◌, ℕ, ◌+◌, ◌==◌, List, [], ◌∷◌, Option, Some, None, option_map, true, false, cond, refl, ◌∙◌, ap, arith, ne_eqb}
+use Rattle.rv_isa.specs.declared.asm.Action.TheVariants.{Routine as Calls, Hold, Unhold}
+use Rattle.rv_isa.specs.declared.routine.Routine.TheVariants.{Take}
+use Rattle.rv_isa.specs.Processor.{Ending}
+use Rattle.rv_isa.specs.AsmCode.{Line}
+use Rattle.rv_isa.specs.AsmMachine.{asm_goes, asm_gives, asm_served}
+use Rattle.rv_isa.specs.Frames.{Frame, put, top, top_in, top_taken, taken_in, is_among, holding, unholding, off_top}
+use Rattle.rv_isa.specs.Primitives.{or_stuck, by_token}
+use Rattle.cell_heap.specs.Blocks.{Cells, request}
+use Rattle.cell_heap.specs.Blocks as OfBlocks
+use Rattle.rv_world.specs.World.{World, with_cells, takes_cell, on_cells}
+use Rattle.rv_lower.proofs.Performing.{reads_one}
+use Rattle.rv_lower.specs.Lines.{acts}
+use Rattle.rv_cells.proofs.Runs.{Target, left_at, turn_of, Runs, line_runs, silent}
+use Rattle.rv_cells.proofs.LineCosts.{most_moves}
+use Rattle.rv_cells.proofs.Acting.{put_in}
+
+-- a frame with these held values
+abbrev pub holding_now : List ℕ → Frame Line → Frame Line
+holding_now held f = record f { held = held }
+
+-- a frame without its newest held value, which is null then
+abbrev pub newest_taken : ℕ → List ℕ → Frame Line → Frame Line
+newest_taken y more f = record f { cells = put y (Some 0) f.cells; held = more }
+
+-- what is done with a token that is not null
+by_word : (act : ℕ → Cells → Option Cells) (word : ℕ) (world : World) (next : Cells) → word ≢ 0 → act word world.cells ≡ Some next
+    → by_token (on_cells act) word world ≡ Some (with_cells world next)
+by_word act word world next some is =
+    ap (λ b. cond b (Some world) (on_cells act word world)) (ne_eqb word 0 some) ∙ ap (option_map (with_cells world)) is
+
+module _ (target : Target) (rest : List Line) (f : Frame Line) (fs : List (Frame Line)) (world : World) where
+  hold_acts : (x word : ℕ) (held : List ℕ) (next : Cells) → f.cells x ≡ Some word → holding x word f.held ≡ Some held
+      → by_token (on_cells OfBlocks.hold) word world ≡ Some (with_cells world next)
+      → Runs target (most_moves + 9) 1 (turn_of (acts Hold (x ∷ []) ∷ rest) f fs world)
+      (turn_of rest (holding_now held f) fs (with_cells world next))
+  hold_acts x word held next is holds act =
+      line_runs target (most_moves + 9) (acts Hold (x ∷ [])) rest f fs world (word ∷ [])
+      (turn_of rest (holding_now held f) fs (with_cells world next)) (reads_one f.cells x word is)
+      (ap (λ o. or_stuck o (λ (hs : List ℕ). or_stuck (by_token (on_cells OfBlocks.hold) word world)
+      (λ (w : World). asm_goes {W = Ending} (record (left_at rest f) { held = hs }) fs w))) holds
+      ∙ ap (λ o. or_stuck o (λ (w : World). asm_goes {W = Ending} (record (left_at rest f) { held = held }) fs w)) act)
+      (λ top. omega arith) (silent target world)
+
+  unhold_acts : (x word : ℕ) (held : List ℕ) (next : Cells) → f.cells x ≡ Some word → unholding x word f.held ≡ Some held
+      → by_token (on_cells OfBlocks.unhold) word world ≡ Some (with_cells world next)
+      → Runs target (most_moves + 7) 1 (turn_of (acts Unhold (x ∷ []) ∷ rest) f fs world)
+      (turn_of rest (holding_now held f) fs (with_cells world next))
+  unhold_acts x word held next is holds act =
+      line_runs target (most_moves + 7) (acts Unhold (x ∷ [])) rest f fs world (word ∷ [])
+      (turn_of rest (holding_now held f) fs (with_cells world next)) (reads_one f.cells x word is)
+      (ap (λ o. or_stuck o (λ (hs : List ℕ). or_stuck (by_token (on_cells OfBlocks.unhold) word world)
+      (λ (w : World). asm_goes {W = Ending} (record (left_at rest f) { held = hs }) fs w))) holds
+      ∙ ap (λ o. or_stuck o (λ (w : World). asm_goes {W = Ending} (record (left_at rest f) { held = held }) fs w)) act)
+      (λ top. omega arith) (silent target world)
+
+  -- a token is held; one that is null changes nothing
+  pub hold_runs : (x word : ℕ) (next : Cells) → f.cells x ≡ Some word → word ≢ 0 → is_among x f.held ≡ false
+      → OfBlocks.hold word world.cells ≡ Some next
+      → Runs target (most_moves + 9) 1 (turn_of (acts Hold (x ∷ []) ∷ rest) f fs world)
+      (turn_of rest (holding_now (x ∷ f.held) f) fs (with_cells world next))
+  hold_runs x word next is some apart held =
+      hold_acts x word (x ∷ f.held) next is
+      (ap (λ b. cond b None (cond (word == 0) (Some f.held) (Some (x ∷ f.held)))) apart
+      ∙ ap (λ b. cond b (Some f.held) (Some (x ∷ f.held))) (ne_eqb word 0 some))
+      (by_word OfBlocks.hold word world next some held)
+
+  pub hold_null_runs : (x : ℕ) → f.cells x ≡ Some 0 → is_among x f.held ≡ false
+      → Runs target (most_moves + 9) 1 (turn_of (acts Hold (x ∷ []) ∷ rest) f fs world) (turn_of rest f fs world)
+  hold_null_runs x is apart =
+      hold_acts x 0 f.held world.cells is
+      (ap (λ b. cond b None (cond (0 == 0) (Some f.held) (Some (x ∷ f.held)))) apart) refl
+
+  -- the newest held token is taken back; one that is null changes nothing
+  pub unhold_runs : (x word : ℕ) (more : List ℕ) (next : Cells) → f.cells x ≡ Some word → word ≢ 0 → f.held ≡ x ∷ more
+      → OfBlocks.unhold word world.cells ≡ Some next
+      → Runs target (most_moves + 7) 1 (turn_of (acts Unhold (x ∷ []) ∷ rest) f fs world)
+      (turn_of rest (holding_now more f) fs (with_cells world next))
+  unhold_runs x word more next is some newest unheld =
+      let itself : (x == x) ≡ true = grind arith in
+      unhold_acts x word more next is
+      (ap (λ b. cond b (cond (is_among x f.held) None (Some f.held)) (off_top x f.held)) (ne_eqb word 0 some)
+      ∙ ap (off_top x) newest ∙ ap (λ b. cond b (Some more) None) itself)
+      (by_word OfBlocks.unhold word world next some unheld)
+
+  pub unhold_null_runs : (x : ℕ) → f.cells x ≡ Some 0 → is_among x f.held ≡ false
+      → Runs target (most_moves + 7) 1 (turn_of (acts Unhold (x ∷ []) ∷ rest) f fs world) (turn_of rest f fs world)
+  unhold_null_runs x is apart =
+      unhold_acts x 0 f.held world.cells is (ap (λ b. cond b None (Some f.held)) apart) refl
+
+  -- ---- a cell is taken from the newest held token, which is null then
+
+  takes_held : (into at : ℕ) (next : Cells) (g : Frame Line) (gs : List (Frame Line))
+      → request target.pool (top (left_at rest f ∷ fs)) world.cells ≡ Some (at, next, true)
+      → top_taken (left_at rest f ∷ fs) ≡ Some (left_at rest g ∷ gs)
+      → Runs target (most_moves + 10) 1 (turn_of (record { action = Calls Take; args = []; into = Some into } ∷ rest) f fs world)
+      (turn_of rest (put_in into at g) gs (with_cells world next))
+  takes_held into at next g gs is taken =
+      line_runs target (most_moves + 10) (record { action = Calls Take; args = []; into = Some into }) rest f fs world []
+      (turn_of rest (put_in into at g) gs (with_cells world next)) refl
+      (ap (λ o. asm_served {W = Ending} (Some into) (left_at rest f ∷ fs) (takes_cell o world)) is
+      ∙ ap (λ o. or_stuck o (λ left. asm_gives {W = Ending} (Some into) at left (with_cells world next))) taken)
+      (λ held. omega arith) (silent target world)
+
+  -- one of the running frame
+  pub take_own_runs : (into at y : ℕ) (more : List ℕ) (next : Cells) → f.held ≡ y ∷ more → f.cells y ≡ Some at
+      → request target.pool (Some at) world.cells ≡ Some (at, next, true)
+      → Runs target (most_moves + 10) 1 (turn_of (record { action = Calls Take; args = []; into = Some into } ∷ rest) f fs world)
+      (turn_of rest (put_in into at (newest_taken y more f)) fs (with_cells world next))
+  take_own_runs into at y more next newest has is =
+      takes_held into at next (newest_taken y more f) fs
+      (ap (λ h. request target.pool (top_in h f.cells (top fs)) world.cells) newest
+      ∙ ap (λ t. request target.pool t world.cells) has ∙ is)
+      (ap (λ h. taken_in h (left_at rest f) fs (top_taken fs)) newest)
+
+  -- one of an older frame
+  pub take_older_runs : (into at : ℕ) (next : Cells) (gs : List (Frame Line)) → f.held ≡ [] → top fs ≡ Some at
+      → top_taken fs ≡ Some gs → request target.pool (Some at) world.cells ≡ Some (at, next, true)
+      → Runs target (most_moves + 10) 1 (turn_of (record { action = Calls Take; args = []; into = Some into } ∷ rest) f fs world)
+      (turn_of rest (put_in into at f) gs (with_cells world next))
+  take_older_runs into at next gs none has taken is =
+      takes_held into at next f gs
+      (ap (λ h. request target.pool (top_in h f.cells (top fs)) world.cells) none
+      ∙ ap (λ t. request target.pool t world.cells) has ∙ is)
+      (ap (λ h. taken_in h (left_at rest f) fs (top_taken fs)) none ∙ ap (option_map (λ later. left_at rest f ∷ later)) taken)

@@ -1,0 +1,241 @@
+-- Openings by the count of the cell that leave a token, as lines.
+use Rattle.std.proofs.Common.{◌≡◌, ◌≢◌, ◌<◌, ◌≤◌, ℕ, zero, suc, ◌+◌, ◌*◌, true, false, List, [], ◌∷◌, ◌++◌, length, Option, Some, refl, ◌∙◌, ap, arith}
+use Rattle.std.specs.Prelude.{filter}
+use Rattle.kk_syntax.specs.Shapes.{is_among}
+use Rattle.kk_counted.specs.Heaps.{Heap, count_at, set_count, dup_all, drop_all}
+use Rattle.kk_counted.specs.CountedMachine.{Named, used_values, other_values, unique_heap}
+use Rattle.kk_counted.specs.Lowerable.{bound_list}
+use Rattle.kk_counted.specs.Spending.{AreApart}
+use Rattle.rv_isa.specs.declared.asm.Action.TheVariants.{Label, Jump}
+use Rattle.rv_isa.specs.AsmCode.{Line}
+use Rattle.rv_isa.specs.AsmMachine.{is_label}
+use Rattle.rv_isa.specs.Frames.{Frame, put, found}
+use Rattle.cell_heap.specs.Blocks.{Cells}
+use Rattle.rv_world.specs.World.{with_cells}
+use Rattle.rv_lower.specs.Lines.{sets, copies_to, acts}
+use Rattle.rv_lower.proofs.Performing.{put_same, put_other}
+use Rattle.rv_cells.specs.Layout.{words_in}
+use Rattle.rv_cells.specs.Follows.{AreFrom, Owner, in_hand, is_aside}
+use Rattle.rv_cells.specs.CellLines.{TokenUniqueLines}
+use Rattle.rv_cells.proofs.Runs.{turn_of, Runs, runs_then}
+use Rattle.rv_cells.proofs.Acting.{put_in, sets_runs, copy_runs}
+use Rattle.rv_cells.proofs.Spots.{AreSmall, Spot, Known, Here, saved}
+use Rattle.rv_cells.proofs.LineCosts.{most_moves, row_cost}
+use Rattle.rv_cells.proofs.Values.{among_none, has_other, list_grown}
+use Rattle.rv_cells.proofs.Rows.{IsReading}
+use Rattle.rv_cells.proofs.Openings.{opened_spot}
+use Rattle.rv_cells.proofs.CountOpenings as Opens
+
+-- ---- what is left in the value of a token
+
+-- the address of a cell, which is in hand, with words of which these are from the third on; no other cell is set aside or taken
+pub record HasCell (s t : Spot) (token at : ℕ) (fields : List ℕ) : Type 0 where
+  pub value : t.frame.cells token ≡ Some at
+  pub words : ℕ → Option ℕ
+  pub hand : t.owners at ≡ in_hand words
+  pub fields_are : AreFrom words 2 fields
+  pub aside : (y : ℕ) → y ≢ at → is_aside (s.owners y) ≡ true → t.owners y ≡ s.owners y
+  pub was : (y : ℕ) → y ≢ at → is_aside (t.owners y) ≡ true → t.owners y ≡ s.owners y
+
+-- the null token; the same cells are set aside
+pub record IsNull (s t : Spot) (token : ℕ) : Type 0 where
+  pub value : t.frame.cells token ≡ Some 0
+  pub aside : (y : ℕ) → is_aside (s.owners y) ≡ true → t.owners y ≡ s.owners y
+  pub was : (y : ℕ) → is_aside (t.owners y) ≡ true → t.owners y ≡ s.owners y
+
+-- by the count of the cell before it was opened
+abbrev pub TokenIs : ℕ → Spot → Spot → ℕ → ℕ → List ℕ → Type 0
+TokenIs zero s t token at fields = ⊥
+TokenIs (suc zero) s t token at fields = HasCell s t token at fields
+TokenIs (suc (suc n)) s t token at fields = IsNull s t token
+
+-- Lines lead from a spot to another, at this cost beyond what was saved, and from older frames to other ones. They may write the
+-- values of tokens. Of the frame only values change: these, those of variables that become bound, and temporaries.
+pub record Leads (known : Known) (most : ℕ) (lines rest : List Line) (fs gs : List (Frame Line)) (s t : Spot)
+    (tokens : List ℕ) : Type 0 where
+  pub cost : ℕ
+  pub steps : ℕ
+  pub within : cost + saved t.heap ≤ most + saved s.heap
+  pub runs : Runs known.target cost steps (turn_of (lines ++ rest) s.frame fs s.world) (turn_of rest t.frame gs t.world)
+  pub here : Here known t
+  pub grown : (z : ℕ) → is_among t.bound z ≡ false → is_among s.bound z ≡ false
+  pub spared : (z : ℕ) → z < known.base → is_among tokens z ≡ false → is_among t.bound z ≡ false
+      → t.frame.cells z ≡ s.frame.cells z
+  pub left : t.world.left ≡ s.world.left
+  pub trace : t.world.trace ≡ s.world.trace
+  pub whole : t.frame.whole ≡ s.frame.whole
+  pub held : t.frame.held ≡ s.frame.held
+  pub into : t.frame.into ≡ s.frame.into
+
+abbrev pub token_cost : Known → List ℕ → List ℕ → ℕ
+token_cost known fields used =
+    9 * most_moves + 20 + row_cost fields (most_moves + 2) + row_cost (filter (is_among used) fields)
+    (most_moves + 5)
+    + row_cost (Opens.others_of used fields) (2 * most_moves + 16)
+
+module _ (known : Known) (rest : List Line) (fs : List (Frame Line)) (s : Spot) (x c : ℕ) (fields used : List ℕ) (shared behind : ℕ)
+    (token : ℕ) (lines : List Line) (named : Named) (next : Heap)
+    (here : Here known s) (reads : IsReading known s x c fields named) (apart : AreApart fields)
+    (low : token < known.base) (spare : is_among (bound_list fields s.bound) token ≡ false)
+    (uniques : TokenUniqueLines known.base known.holds shared behind x fields used token lines) where
+  abbrev o : Opens.CountOpening known
+  o = record {
+    rest = rest;
+    fs = fs;
+    s = s;
+    x = x;
+    c = c;
+    fields = fields;
+    used = used;
+    shared = shared;
+    behind = behind;
+    lines = lines;
+    named = named;
+    next = next;
+    here = here;
+    reads = reads;
+    apart = apart;
+    uniques = uniques;
+    ends = copies_to x token;
+    begins = sets 0 token ∷ [];
+  }
+
+  -- the lines of the second way, with its label; without it; and those before it
+  abbrev pub for_shared : List Line
+  for_shared = Opens.for_shared known o
+
+  abbrev pub shared_lines : List Line
+  shared_lines = Opens.shared_lines known o
+
+  abbrev pub head_lines : List Line
+  head_lines = Opens.head_lines known o
+
+  abbrev ending : List Line
+  ending = acts (Label behind) [] ∷ rest
+
+  pub whole_lines : lines ++ rest ≡ head_lines ++ (for_shared ++ ending)
+  whole_lines = Opens.whole_lines known o
+
+  abbrev at : ℕ
+  at = s.address named.at
+
+  abbrev spot_of : Frame Line → (ℕ → Owner) → Cells → Spot
+  spot_of frame owners cells = opened_spot known s fields named.fields next frame owners cells
+
+  abbrev Leaves : (Spot → Type 0) → Type 0
+  Leaves IsThere =
+      (frame : Frame Line) × (owners : ℕ → Owner) × (cells : Cells)
+      × Leads known (token_cost known fields used) lines rest fs fs s (spot_of frame owners cells) (token ∷ [])
+      × IsThere (spot_of frame owners cells)
+
+  abbrev fields_words : List ℕ
+  fields_words = words_in known.layout s.address named.fields
+
+  -- the token of a cell of one reference
+  gains : count_at s.heap named.at ≡ 1
+      → drop_all (other_values used fields named.fields) (set_count named.at 0 s.heap) ≡ Some next
+      → found (λ line. is_label behind line.action) s.frame.whole ≡ Some ending
+      → Leaves (λ t. HasCell s t token at fields_words)
+  gains once given finds =
+      let moves = most_moves in
+      let target = known.target in
+      let emptied = Opens.empties known o once given in
+      let frame = emptied.0 in
+      let owners = emptied.1 in
+      let left = emptied.3 in
+      let comes = left.comes in
+      let world = with_cells s.world emptied.2 in
+      let last = put_in token at frame in
+      let copied = copy_runs target (acts (Jump behind) [] ∷ (for_shared ++ ending)) frame fs world x token at
+      (Opens.x_behind known o frame owners emptied.2 comes.here) in
+      let leaving = Opens.leaves known o last world
+      (ap (λ w. found (λ line. is_label behind line.action) w) comes.whole ∙ finds) in
+      let t0 = turn_of (lines ++ rest) s.frame fs s.world in
+      let t1 = turn_of (copies_to x token ∷ acts (Jump behind) [] ∷ (for_shared ++ ending)) frame fs world in
+      let t2 = turn_of (acts (Jump behind) [] ∷ (for_shared ++ ending)) last fs world in
+      let t3 = turn_of rest last fs world in
+      let back = runs_then target (moves + 2) ((moves + 2) + (moves + 0)) 1 (1 + 1) t1 t2 t3 copied leaving in
+      let cheap = comes.within in (
+        last,
+        owners,
+        emptied.2,
+        record {
+          cost = comes.cost + ((moves + 2) + ((moves + 2) + (moves + 0)));
+          steps = comes.steps + (1 + (1 + 1));
+          within = omega arith;
+          runs = runs_then target comes.cost ((moves + 2) + ((moves + 2) + (moves + 0))) comes.steps (1 + (1 + 1)) t0 t1 t3
+              comes.runs back;
+          here = record { follows = comes.here.follows; values = has_other comes.here.values token at spare };
+          grown = λ z none. list_grown fields s.bound z none;
+          spared = λ z below apart none. put_other token z at frame.cells (among_none token [] z apart).0
+              ∙ comes.spared z below none;
+          left = refl {a = s.world.left};
+          trace = refl {a = s.world.trace};
+          whole = comes.whole;
+          held = comes.held;
+          into = comes.into;
+        },
+        record {
+          value = put_same token at frame.cells;
+          words = left.words;
+          hand = left.hand;
+          fields_are = left.fields_are;
+          aside = left.aside;
+          was = left.was;
+        },
+      )
+
+  -- the null token, where the cell has other references
+  blanks : (n : ℕ) → count_at s.heap named.at ≡ suc (suc n)
+      → dup_all (used_values used fields named.fields) (set_count named.at (suc n) s.heap) ≡ Some next
+      → AreSmall (length (filter (is_among used) fields)) s.heap
+      → found (λ line. is_label shared line.action) s.frame.whole ≡ Some (for_shared ++ ending)
+      → Leaves (λ t. IsNull s t token)
+  blanks n several given small finds =
+      let tests = Opens.tests known o in
+      let done = Opens.lessens known o n several given small finds (most_moves + 2) 1 (put token (Some 0) tests.cells)
+      (sets_runs known.target ((Opens.loads known o ++ Opens.lowers known o) ++ ending) tests fs s.world 0 token)
+      (has_other (Opens.here_tests known o).values token 0 (list_grown fields s.bound token spare)) in
+      let comes = done.3 in
+      let cheap = comes.within in (
+        done.0,
+        done.1,
+        done.2,
+        record {
+          cost = comes.cost;
+          steps = comes.steps;
+          within = omega arith;
+          runs = comes.runs;
+          here = comes.here;
+          grown = λ z none. list_grown fields s.bound z none;
+          spared = λ z below apart none. comes.spared z below none
+              ∙ put_other token z 0 tests.cells (among_none token [] z apart).0 ∙ Opens.tests_spare known o z below;
+          left = refl {a = s.world.left};
+          trace = refl {a = s.world.trace};
+          whole = comes.whole;
+          held = comes.held;
+          into = comes.into;
+        },
+        record {
+          value = comes.spared token low spare ∙ put_same token 0 tests.cells;
+          aside = done.4;
+          was = done.5;
+        },
+      )
+
+  -- ---- either way
+
+  pub opens_to_token : unique_heap (count_at s.heap named.at) named.at (used_values used fields named.fields)
+      (other_values used fields named.fields) s.heap ≡ Some next
+      → AreSmall (length (filter (is_among used) fields)) s.heap
+      → found (λ line. is_label shared line.action) s.frame.whole ≡ Some (for_shared ++ ending)
+      → found (λ line. is_label behind line.action) s.frame.whole ≡ Some ending
+      → Leaves (λ t. TokenIs (count_at s.heap named.at) s t token at fields_words)
+  opens_to_token given small finds_shared finds_behind = by (count_at s.heap named.at) refl given
+    where
+      by : (count : ℕ) → count_at s.heap named.at ≡ count
+          → unique_heap count named.at (used_values used fields named.fields) (other_values used fields named.fields) s.heap
+          ≡ Some next → Leaves (λ t. TokenIs count s t token at fields_words)
+      by zero counts given = cc
+      by (suc zero) counts given = gains counts given finds_behind
+      by (suc (suc n)) counts given = blanks n counts given small finds_shared
