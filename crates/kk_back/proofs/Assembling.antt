@@ -12,6 +12,7 @@ use Rattle.rv_isa.specs.AsmCode.{Lines, asm_functions, asm_constants}
 use Rattle.rv_isa.specs.AsmMachine.{AsmTurn, asm_machine, asm_start}
 use Rattle.rv_isa.specs.PlacedCode.{PlacedLines, placed_functions, placed_constants}
 use Rattle.rv_isa.specs.PlacedMachine.{PlacedTurn, placed_machine, placed_start}
+use Rattle.rv_isa.specs.FreeTouches.{TouchesNoFreeCell}
 use Rattle.rv_isa.specs.Primitives.{go, ended, stuck}
 use Rattle.rv_isa.specs.Processor.{Ending, start, goes}
 use Rattle.rv_isa.specs.Execution.{rv32im, run}
@@ -21,6 +22,7 @@ use Rattle.elf_image.specs.Parts.{memory_of}
 use Rattle.elf_image.specs.Program.{IsProgramImage, program_parts, text_start, memory_start}
 use Rattle.elf_image.specs.declared.part.Part.{Part}
 use Rattle.cell_heap.specs.Pool.{Pool}
+use Rattle.cell_runtime.specs.declared.start.TheConstants.{TEXT_WORDS}
 use Rattle.cell_runtime.specs.Layouts.{next_page}
 use Rattle.cell_runtime.specs.Texts.{IsText}
 use Rattle.rv_world.specs.Operations.{Constants, all_bytes}
@@ -91,6 +93,14 @@ PlacedTextEnds =
     → (steps : ℕ) (how : Ending) (world : World)
     → state (placed_machine (primitives (constants_of runtime program) (pool_in cells runtime program)) depth (placed_functions program)) steps (placed_start main (first_world (pool_in cells runtime program) input)) ≡ ended how world
     → (count : ℕ) × EndsWithCells (pool_in cells runtime program) how world (run count (first_processor text runtime.memory.size input))
+
+-- and of the free cells
+abbrev pub PlacedTextTouchesNone : Type 0
+PlacedTextTouchesNone =
+    (cells depth : ℕ) (runtime program : Placed) (words : Words) (text input : List ℕ) (main : PlacedLines)
+    → IsPlacedImage cells depth runtime program words text main → All (λ byte. byte < 256) input
+    → NeverStuck (map_of runtime program) (pool_in cells runtime program) (placed_functions program) depth (placed_start main (first_world (pool_in cells runtime program) input))
+    → (count : ℕ) → TouchesNoFreeCell text_start TEXT_WORDS cells (run count (first_processor text runtime.memory.size input))
 
 -- Assembler code, its runtime and the text that is made of both.
 pub record Makes (cells depth : ℕ) (asm : Asm) (placed runtime : Placed) (words : Words) (text : List ℕ) : Type 0 where
@@ -220,15 +230,18 @@ module _ {cells depth : ℕ} {asm : Asm} {placed runtime : Placed} {words : Word
         let on_constants = subst (λ (c : Constants). state (placed_machine (primitives c pool) depth (placed_functions placed)) there.0 (placed_start placed_agrees.0 (first_world pool input)) ≡ ended how world) (sym same_constants) there.1 in
         text_ends cells depth runtime placed words text input placed_agrees.0 placed_image bytes placed_never there.0 how world on_constants
 
+    pub touches : PlacedTextTouchesNone → (count : ℕ) → TouchesNoFreeCell text_start TEXT_WORDS cells (run count (first_processor text runtime.memory.size input))
+    touches text_touches = text_touches cells depth runtime placed words text input placed_agrees.0 placed_image bytes placed_never
+
 memory_aligned : (text : ℕ) → (memory_start text + 32) % 32 ≡ 0
 memory_aligned text = omega arith
 
 -- The image of the text, with the memory that the runtime asks for, is an image of the assembler code.
 pub image_of : {cells depth : ℕ} {asm : Asm} {placed runtime : Placed} {words : Words} {text : List ℕ}
-    (makes : Makes cells depth asm placed runtime words text) → PlacedTextAgrees → PlacedTextEnds
+    (makes : Makes cells depth asm placed runtime words text) → PlacedTextAgrees → PlacedTextEnds → PlacedTextTouchesNone
     → (entry : ℕ) (parts : List Part) → IsProgramImage entry parts → entry ≡ text_start → parts ≡ program_parts text runtime.memory.size
     → IsAsmImage (asm_functions asm) (asm_constants asm) makes.made.main cells depth entry parts
-image_of {cells} {depth} {asm} {placed} {runtime} {words} {text} makes text_agrees text_ends entry parts program entry_is parts_are =
+image_of {cells} {depth} {asm} {placed} {runtime} {words} {text} makes text_agrees text_ends text_touches entry parts program entry_is parts_are =
     let there : start (memory_of parts) entry ≡ start (memory_of (program_parts text runtime.memory.size)) text_start
     = ap (λ (p : List Part). start (memory_of p) entry) parts_are ∙ ap (λ e. start (memory_of (program_parts text runtime.memory.size)) e) entry_is in
     record {
@@ -250,15 +263,19 @@ image_of {cells} {depth} {asm} {placed} {runtime} {words} {text} makes text_agre
             whole.0,
             subst (λ (s : _). EndsWithCells (pool makes) how world (run whole.0 (s input))) (sym there) whole.1,
           );
+      touches_no_free = λ input bytes never count.
+          let on_text = subst (λ (s : _). TouchesNoFreeCell text_start TEXT_WORDS cells (run count (s input))) (sym there)
+          (touches makes input bytes never text_touches count) in
+          subst (λ (e : ℕ). TouchesNoFreeCell e TEXT_WORDS cells (run count (start (memory_of parts) entry input))) (sym entry_is) on_text;
     }
 
 pub image_made : {cells depth frame : ℕ} {asm : Asm} {placed runtime : Placed} {words : Words} {text : List ℕ} → AreSizes cells depth
     → (made : IsPlaceable (asm_functions asm) (asm_constants asm)) → IsValid asm placed → IsPlainlyPlaced (asm_functions asm) placed
     → frame ≡ frame_size (placed_functions placed) → IsText cells depth frame runtime → ArePlacedWords runtime placed words
-    → IsTextOf words text → PlacedTextAgrees → PlacedTextEnds
+    → IsTextOf words text → PlacedTextAgrees → PlacedTextEnds → PlacedTextTouchesNone
     → (entry : ℕ) (parts : List Part) → IsProgramImage entry parts → entry ≡ text_start → parts ≡ program_parts text runtime.memory.size
     → IsAsmImage (asm_functions asm) (asm_constants asm) made.main cells depth entry parts
 unfolding makes_of
-image_made {asm = asm} sizes made valid plain frame_is runtime_is words_are text_is text_agrees text_ends entry parts program entry_is parts_are =
-    image_of (makes_of {asm = asm} sizes made valid plain frame_is runtime_is words_are text_is) text_agrees text_ends entry parts program
+image_made {asm = asm} sizes made valid plain frame_is runtime_is words_are text_is text_agrees text_ends text_touches entry parts program entry_is parts_are =
+    image_of (makes_of {asm = asm} sizes made valid plain frame_is runtime_is words_are text_is) text_agrees text_ends text_touches entry parts program
     entry_is parts_are

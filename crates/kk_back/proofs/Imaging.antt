@@ -166,4 +166,5 @@ module _ (shape : Shape) (code : CountedProgram) (functions : List Lines) (texts
                   last.1.memory),
             ),
           );
+      touches_no_free = λ input bytes. image.touches_no_free input bytes (never input bytes);
     }

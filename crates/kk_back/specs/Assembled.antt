@@ -3,12 +3,14 @@ use Rattle.std.specs.Prelude.{◌≡◌, ◌≢◌, ℕ, ◌+◌, ◌%◌, ◌^�
 use Rattle.kk_base.specs.Agreements.{Agree}
 use Rattle.kk_base.specs.Machines.{state}
 use Rattle.cell_heap.specs.Pool.{Pool}
+use Rattle.cell_runtime.specs.declared.start.TheConstants.{TEXT_WORDS}
 use Rattle.elf_image.specs.Parts.{memory_of}
 use Rattle.elf_image.specs.Program.{IsProgramImage}
 use Rattle.elf_image.specs.declared.part.Part.{Part}
 use Rattle.rv_isa.specs.AsmCode.{Lines}
 use Rattle.rv_isa.specs.AsmMachine.{asm_machine, asm_start}
 use Rattle.rv_isa.specs.Execution.{rv32im, run}
+use Rattle.rv_isa.specs.FreeTouches.{TouchesNoFreeCell}
 use Rattle.rv_isa.specs.Primitives.{ended, stuck}
 use Rattle.rv_isa.specs.Processor.{Ending, start, goes}
 use Rattle.rv_isa.specs.ProcessorMachine.{processor_machine}
@@ -28,8 +30,8 @@ pub record IsPlaceable (functions : List Lines) (texts : List (List ℕ)) : Type
   pub main_params : main.params ≡ []
 
 -- An image of assembler code, for so many cells and such a depth, by where its cells and its constants stand. On each input on which
--- that code never is at a loss, the processor's machine agrees with the code's; and where the code ends, so does the processor, whose
--- memory has the cells of the world then.
+-- that code never is at a loss, the processor's machine agrees with the code's; where the code ends, so does the processor, whose
+-- memory has the cells of the world then; and outside of the runtime's words, which stand at the entry, no free cell is touched.
 pub record IsAsmImage (functions : List Lines) (texts : List (List ℕ)) (main : Lines) (cells depth entry : ℕ) (parts : List Part)
     : Type 0 where
   pub program : IsProgramImage entry parts
@@ -52,6 +54,10 @@ pub record IsAsmImage (functions : List Lines) (texts : List (List ℕ)) (main :
       → state (asm_machine (primitives (record { first = first; texts = texts }) pool) depth functions) steps
       (asm_start main (first_world pool input)) ≡ ended how world
       → (count : ℕ) × EndsWithCells pool how world (run count (start (memory_of parts) entry input))
+  pub touches_no_free : (input : List ℕ) → All (λ byte. byte < 256) input
+      → ((n : ℕ) → state (asm_machine (primitives (record { first = first; texts = texts }) pool) depth functions) n
+      (asm_start main (first_world pool input)) ≢ stuck)
+      → (count : ℕ) → TouchesNoFreeCell entry TEXT_WORDS cells (run count (start (memory_of parts) entry input))
 
 -- an image of assembler code, by its first function
 abbrev pub IsImageOfAsm : List Lines → List (List ℕ) → ℕ → ℕ → ℕ → List Part → Type 0

@@ -11,6 +11,7 @@ use Rattle.kk_counted.specs.Keeping.{counted_after}
 use Rattle.kk_counted.specs.Lengths.{AreShort}
 use Rattle.kk_counted.specs.Lowerable.{AreLowerable}
 use Rattle.kk_counted.specs.declared.shape.Shape.{Shape}
+use Rattle.cell_runtime.specs.declared.start.TheConstants.{TEXT_WORDS}
 use Rattle.elf_image.specs.Parts.{memory_of}
 use Rattle.elf_image.specs.Program.{IsProgramImage}
 use Rattle.elf_image.specs.declared.part.Part.{Part}
@@ -19,6 +20,7 @@ use Rattle.rv_cells.specs.Layout.{IsNarrow}
 use Rattle.rv_cells.specs.Meaning.{counted_outside}
 use Rattle.rv_cells.specs.Tables.{table_of, layout_in}
 use Rattle.rv_isa.specs.Execution.{rv32im, run}
+use Rattle.rv_isa.specs.FreeTouches.{TouchesNoFreeCell}
 use Rattle.rv_isa.specs.Processor.{Ending, exited, Progress, start, goes}
 use Rattle.rv_isa.specs.ProcessorMachine.{ended, processor_machine}
 use Rattle.rv_place.specs.Images.{outside_lines}
@@ -52,7 +54,7 @@ LeavesAll cells how last = (ended last.ending ≡ Some how) × AreAllFree cells 
 -- An image of a program in counted form, with so many cells and such a depth. On each input of bytes the processor's machine agrees
 -- with the counted one: the image tells the same events and exits with the number of the end. It executes no more instructions than
 -- the steps of the counted machine cost, and `outside_lines` more. Where no cell is counted at its end, all cells are free at its
--- exit.
+-- exit. Outside of the runtime's words, which stand at the entry, it touches no free cell.
 pub record IsImageOf (code : CountedProgram) (cells depth entry : ℕ) (parts : List Part) : Type 0 where
   pub program : IsProgramImage entry parts
   pub does : (input : List ℕ) → All (λ byte. byte < 256) input
@@ -62,3 +64,5 @@ pub record IsImageOf (code : CountedProgram) (cells depth entry : ℕ) (parts : 
       → (counted_after counted_cost (counted_setting code cells depth) input n).control ≡ stopped by
       → busy (counted_after counted_cost (counted_setting code cells depth) input n).heap ≡ 0
       → (count : ℕ) × LeavesAll cells (exited (exit_of by)) (run count (start (memory_of parts) entry input))
+  pub touches_no_free : (input : List ℕ) → All (λ byte. byte < 256) input → (count : ℕ)
+      → TouchesNoFreeCell entry TEXT_WORDS cells (run count (start (memory_of parts) entry input))

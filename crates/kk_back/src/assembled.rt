@@ -9,12 +9,15 @@ use cell_runtime::text;
 use elf_image::Image;
 use kk_base::{Bytes, NoMemory};
 use rv_isa::Asm;
-use rv_place::{frame_bytes, place, placed_text_agrees, placed_text_ends_with_its_cells};
+use rv_place::{
+    frame_bytes, place, placed_text_agrees, placed_text_ends_with_its_cells,
+    placed_text_touches_no_free_cell,
+};
 use rv_regs::assign;
 use std::alloc::Global;
 
 /// The image of assembler code, with a heap of `cells` cells, of whose calls at most `depth` are open at a time. The loaded image
-/// does what the code does.
+/// does what the code does, and touches no free cell outside of the runtime's words.
 pub fn assembled(alloc: Global, asm: &Asm, cells: u32, depth: u32) -> Result<Image, NoMemory>
     requires placeable { IsPlaceable (asm_functions asm.now) (asm_constants asm.now) }
     requires sizes { AreSizes cells depth }
@@ -26,6 +29,7 @@ pub fn assembled(alloc: Global, asm: &Asm, cells: u32, depth: u32) -> Result<Ima
     let bytes = words.bytes(alloc)?;
     placed_text_agrees();
     placed_text_ends_with_its_cells();
+    placed_text_touches_no_free_cell();
     let image = Image::program(alloc, Bytes::from_vec(bytes), runtime.memory.size)?;
     Ok(image)
 }

@@ -24,7 +24,7 @@ use std::alloc::Global;
 ///
 /// The loaded image does what the program does: on every input it tells the same events, and exits with 0, 101 or 102 as
 /// the program ends by itself, with the heap full or with the stack full. Where no cell is counted at the end, all its cells are
-/// free then.
+/// free then. Outside of the runtime's words no instruction loads or stores a byte of a free cell.
 pub fn image(
     alloc: Global,
     counted: &Counted,

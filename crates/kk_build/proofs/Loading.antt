@@ -10,12 +10,14 @@ use Rattle.elf_image.specs.Fields.{entry_of}
 use Rattle.elf_image.specs.Loaded.{IsLoaded, parts_of}
 use Rattle.elf_image.specs.Parts.{memory_of}
 use Rattle.elf_image.specs.declared.part.Part.{Part}
+use Rattle.cell_runtime.specs.declared.start.TheConstants.{TEXT_WORDS}
 use Rattle.rv_isa.specs.Execution.{rv32im}
+use Rattle.rv_isa.specs.FreeTouches.{TouchesNoFreeCell}
 use Rattle.rv_isa.specs.InstructionSet.{run_over}
 use Rattle.rv_isa.specs.Processor.{Ending, Progress, exited, start}
 use Rattle.rv_isa.specs.ProcessorMachine.{ImageAgrees, ImageKeepsUp}
 use Rattle.kk_back.specs.FreeCells.{AreAllFree}
-use Rattle.kk_build.specs.Agreement.{Agrees, instructions_within, IsBounded, LeavesNoCell}
+use Rattle.kk_build.specs.Agreement.{Agrees, instructions_within, IsBounded, LeavesNoCell, TouchesNoFree}
 
 -- a machine of a program as the world sees it: the events, and the number of the exit
 abbrev pub outside : {S : Type 0} → Machine S Note End → Machine S Event Ending
@@ -41,6 +43,9 @@ RunLeavesNone setting parts entry input =
     → (count : ℕ) × ((run_of parts entry input count).ending ≡ exited (exit_of ended))
     × AreAllFree setting.cells (run_of parts entry input count).processor
 
+abbrev pub RunTouchesNone : ℕ → List Part → ℕ → List ℕ → Type 0
+RunTouchesNone cells parts entry input = (count : ℕ) → TouchesNoFreeCell entry TEXT_WORDS cells (run_of parts entry input count)
+
 module _ {file : List ℕ} {entry : ℕ} {parts : List Part} (loaded : IsLoaded file entry parts) (setting : Setting) where
   -- what holds of the image's entry and parts holds of the file's
   of_file : (Holds : List Part → ℕ → Type 0) → Holds parts entry → Holds (parts_of file) (entry_of file)
@@ -65,3 +70,7 @@ module _ {file : List ℕ} {entry : ℕ} {parts : List Part} (loaded : IsLoaded 
   pub leaves_as_loaded : ((input : List ℕ) → All (λ byte. byte < 256) input → RunLeavesNone setting parts entry input)
       → LeavesNoCell file setting
   leaves_as_loaded leaves input bytes = of_file (λ p e. RunLeavesNone setting p e input) (leaves input bytes)
+
+  pub touches_as_loaded : (cells : ℕ)
+      → ((input : List ℕ) → All (λ byte. byte < 256) input → RunTouchesNone cells parts entry input) → TouchesNoFree cells file
+  touches_as_loaded cells touches input bytes = of_file (λ p e. RunTouchesNone cells p e input) (touches input bytes)

@@ -10,6 +10,9 @@ use Rattle.elf_image.specs.Loaded.{reason_of}
 use Rattle.rv_isa.specs.Processor.{exited}
 use Rattle.kk_back.specs.FreeCells.{AreAllFree}
 use Rattle.kk_build.specs.ImageAfter.{file_after}
+use Rattle.rv_isa.specs.FreeTouches.{TouchesNoFreeCell}
+use Rattle.cell_runtime.specs.declared.start.TheConstants.{TEXT_WORDS}
+use Rattle.elf_image.specs.Fields.{entry_of}
 
 -- The image in a file agrees with a program on an input: it never traps, and exits with these numbers alone; each trace of one is a
 -- prefix of one of the other; and the program ends if and only if the image exits, alike, and then their whole traces are equal.
@@ -41,3 +44,11 @@ LeavesNoCell file setting =
     → (n : ℕ) → ending_after (store_machine setting) n (first_state setting input) ≡ Some ended
     → (count : ℕ) × ((file_after file input count).ending ≡ exited (exit_of ended))
     × AreAllFree setting.cells (file_after file input count).processor
+
+-- On every input of bytes, at each moment before the end at which the program counter is outside of the runtime's words, which are
+-- the first ones from the entry on, the instruction that is executed next loads and stores no byte of a free cell, of which there are
+-- at most so many.
+abbrev pub TouchesNoFree : ℕ → List ℕ → Type 0
+TouchesNoFree cells file =
+    (input : List ℕ) → All (λ byte. byte < 256) input
+    → (count : ℕ) → TouchesNoFreeCell (entry_of file) TEXT_WORDS cells (file_after file input count)

@@ -7,18 +7,19 @@ use Rattle.kk_syntax.specs.Typing.{Choice, ArePrincipal}
 use Rattle.kk_source.specs.Settings.{IsRun}
 use Rattle.kk_source.specs.State.{Setting}
 use Rattle.kk_front.specs.Judgement.{IsProgramOf}
-use Rattle.kk_build.specs.Agreement.{Agrees, IsBounded, LeavesNoCell}
+use Rattle.kk_build.specs.Agreement.{Agrees, IsBounded, LeavesNoCell, TouchesNoFree}
 use Rattle.kk_build.specs.Images.{IsImageFile}
 
 -- These bytes are the file of an image of a program, for a heap of so many cells and so many open calls. The image agrees with the
--- program as it is run, with its owned positions, and leaves no cell. It does what it does within a bound on instructions, by the
--- nodes of the greatest body of the program, its functions called or not.
+-- program as it is run, with its owned positions, leaves no cell, and touches no free cell outside of the runtime. It does what it
+-- does within a bound on instructions, by the nodes of the greatest body of the program, its functions called or not.
 pub record IsFileOf (program : ProgramTree) (cells depth : ℕ) (file : List ℕ) : Type 0 where
   pub is_image : IsImageFile file
   pub setting : Setting
   pub is_run : IsRun program cells depth setting
   pub agrees : Agrees file setting
   pub leaves_no_cell : LeavesNoCell file setting
+  pub touches_no_free : TouchesNoFree cells file
   pub bounded : (nodes : ℕ) → greatest_nodes program ≤ nodes → IsBounded nodes file setting
 
 -- These bytes are built of a text: the text is accepted as a program, which is checked with its principal typings, and they are the

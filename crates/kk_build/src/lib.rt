@@ -33,8 +33,9 @@ use std::alloc::Global;
 ///
 /// The image has a heap of `cells` cells, and at most `depth` of its calls are open at a time. It agrees with the program: on
 /// every input it does on the outside what the program means, never traps, and exits exactly when and as the program ends; where
-/// it ends by itself, all cells are free. It does so within a number of instructions that is bounded by the program's steps and
-/// the nodes of its greatest body.
+/// it ends by itself, all cells are free. Outside of the runtime's words, which are the first ones of the image, no instruction
+/// loads or stores a byte of a free cell. It does what it does within a number of instructions that is bounded by the program's
+/// steps and the nodes of its greatest body.
 pub fn build(alloc: Global, text: &[u8], cells: u32, depth: u32) -> Result<Bytes, Refusal>
     requires { AreSizes cells depth }
     ensures ok { IfOk result (IsBuilt text.now cells depth) }

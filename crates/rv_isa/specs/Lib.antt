@@ -16,6 +16,7 @@ pub mod InstructionSet
 pub mod Execution
 pub mod ProcessorMachine
 pub mod FreeCells
+pub mod FreeTouches
 pub mod Standing
 pub mod Routines
 pub mod AsmCode

@@ -8,7 +8,6 @@ use Rattle.rv_isa.specs.PlacedMachine.{PlacedState, placed_entered}
 use Rattle.rv_isa.specs.Frames.{empty}
 use Rattle.rv_isa.specs.Bytes.{bytes_at, with_number}
 use Rattle.rv_isa.specs.Processor.{Processor, value, can_store}
-use Rattle.rv_isa.specs.Execution.{Leads}
 use Rattle.rv_isa.specs.Standing.{Code}
 use Rattle.rv_isa.proofs.Memory.{bytes_at-with_number_apart}
 use Rattle.cell_heap.specs.Pool.{Pool}
@@ -22,6 +21,8 @@ use Rattle.rv_place.specs.Addresses.{entry_words}
 use Rattle.rv_place.specs.Lines.{Map, FunctionAt}
 use Rattle.rv_place.specs.Grounds.{stack_end, constant_bytes, Ground, Rests}
 use Rattle.rv_place.specs.Running.{AllPlain, most_lines, FramesAt, Running}
+use Rattle.rv_place.proofs.RunningInside.{Walks, walks_done}
+use Rattle.rv_place.proofs.RunningFree.{behind_misses}
 use Rattle.rv_place.proofs.RunningRows.{Shifts, entry_takes}
 use Rattle.rv_place.proofs.RunningFrames.{frames_pushed}
 use Rattle.rv_place.proofs.RunningLinks.{roots_done}
@@ -42,7 +43,7 @@ first_state main pool input = record { frames = placed_entered main ∷ []; regi
 -- so many silent instructions lead to a processor that stands for the first state
 pub record Begins (map : Map) (pool : Pool) (functions : List PlacedLines) (depth stop : ℕ) (code : Code) (parts : List Part) (main : PlacedLines) (input : List ℕ) (steps : ℕ) (s : Processor) : Type 0 where
   pub after : Processor
-  pub leads : Leads steps s after
+  pub walks : Walks map pool steps s after
   pub told : after.trace ≡ s.trace
   pub running : Running map pool functions depth stop code parts (first_state main pool input) after
 
@@ -68,12 +69,13 @@ module _ {map : Map} {pool : Pool} {functions : List PlacedLines} {depth buffer 
   allowed : can_store parts base 4 ≡ true
   allowed = ground.stores base above (omega (arith, base_is, ground.some_frame)) base_word
 
-  takes : Shifts code 4 (5 ∷ 2 ∷ []) (with_number base 4 stop s.memory) base (entry + 4 * entry_words map.jumps) s
+  takes : Shifts pool.cells code 4 (5 ∷ 2 ∷ []) (with_number base 4 stop s.memory) base (entry + 4 * entry_words map.jumps) s
   takes =
       let full = ground.stack_full in
       let more : base + map.frame ≢ map.bottom = λ e. omega (arith, above, ground.some_frame) in
-      entry_takes ground.below before.rests.stands map entry before.pc_is main_at.entry full.0 full.1 base stop (before.base_is ∙ sym base_is) before.way_is
+      entry_takes pool.cells ground.below before.rests.stands map entry before.pc_is main_at.entry full.0 full.1 base stop (before.base_is ∙ sym base_is) before.way_is
       more ground.small_frame (omega (arith, base_is, ground.in_range)) base_word (rw before.rests.parts_are allowed)
+      (behind_misses before.cells base (omega (arith, above, ground.cells_below)))
 
   constants_stay : bytes_at takes.after.memory map.constants.first (constant_bytes map) ≡ all_bytes map.constants.texts
   constants_stay =
@@ -90,7 +92,7 @@ module _ {map : Map} {pool : Pool} {functions : List PlacedLines} {depth buffer 
   pub entry-begins : Begins map pool functions depth stop code parts main input 4 s
   entry-begins = record {
     after = takes.after;
-    leads = takes.done.leads;
+    walks = walks_done takes.done;
     told = takes.done.trace_is;
     running = record {
       rests = record { stands = takes.done.stands; parts_are = takes.done.parts_are ∙ before.rests.parts_are; constants = constants_stay };

@@ -1,19 +1,21 @@
 -- The image of a placed text gives what a run of its code rests on.
-use Rattle.std.proofs.Common.{◌≡◌, ◌≤◌, ◌<◌, ℕ, ◌+◌, ◌*◌, ◌%◌, inl, inr, ◌++◌, length, refl, ap, sym, subst, arith}
+use Rattle.std.proofs.Common.{◌≡◌, ◌≤◌, ◌<◌, ℕ, ◌+◌, ◌*◌, ◌%◌, inl, inr, ◌++◌, length, Some, refl, ap, sym, subst, arith}
 use Rattle.std.proofs.lemmas.Option.{slice_get_within}
 use Rattle.rv_isa.specs.declared.placed.DataSection.{DataSection}
 use Rattle.rv_isa.specs.Standing.{Has}
 use Rattle.elf_image.specs.Program.{text_start}
 use Rattle.rv_isa.specs.declared.routine.Routine.TheVariants as routine
+use Rattle.rv_isa.specs.declared.instr.Instr.{Instr}
 use Rattle.rv_isa.specs.declared.placed.Placed.{Placed}
 use Rattle.rv_isa.specs.declared.placed.Symbol.{Symbol}
 use Rattle.rv_isa.specs.declared.placed.Symbol.TheVariants as symbol
 use Rattle.rv_isa.specs.PlacedCode.{placed_functions}
-use Rattle.rv_isa.specs.Standing.{Code}
-use Rattle.rv_isa.proofs.Standing.{Has-front, code_of-Has, code_of-place}
+use Rattle.rv_isa.specs.Standing.{Code, code_of}
+use Rattle.rv_isa.proofs.Standing.{Has-front, Has-get, code_of-Has, code_of-place}
 use Rattle.cell_runtime.specs.Layouts.{next_page, layout_of}
 use Rattle.cell_runtime.specs.Texts.{IsRuntime, runtime_labels, IsText}
 use Rattle.kk_base.specs.Sizes.{greatest_cells, greatest_depth}
+use Rattle.cell_runtime.specs.declared.start.TheConstants.{TEXT_WORDS}
 use Rattle.cell_runtime.specs.declared.stop.Ending.TheVariants as ending
 use Rattle.cell_runtime.specs.Prints.{buffer_bytes, IsPrintInt, IsPrintText, IsReadByte}
 use Rattle.cell_runtime.specs.Stops.{IsStop}
@@ -97,12 +99,27 @@ has-room {cells} {depth} {runtime} {program} few_cells few_depth is_runtime plac
 
 module _ {cells depth : ℕ} {runtime program : Placed} {words : Words} (is_runtime : IsText cells depth (frame_size (placed_functions program)) runtime)
     (placed : ArePlacedWords runtime program words) where
-  -- the routines stand at the text's begin
-  pub runtime-stands : IsRuntime cells (layout_of cells depth (frame_size (placed_functions program))) (memory_of runtime program) (code_in words) text_start
-  runtime-stands =
+  -- the runtime's own code, at the text's begin
+  abbrev pub own_code : Code
+  own_code = code_of text_start placed.own
+
+  pub own-part : (at : ℕ) (i : Instr) → own_code at ≡ Some i → code_in words at ≡ Some i
+  own-part at i here =
       let code : Code = code_in words in
       let whole : Has code text_start (placed.own ++ placed.rest) = subst (λ is. Has code text_start is) placed.instructions (code_of-Has text_start words.instructions.items) in
-      is_runtime.routines (memory_of runtime program) placed.own code text_start placed.spelled (Has-front code text_start placed.own placed.rest whole)
+      let place = code_of-place text_start placed.own at i here in
+      subst (λ a. code a ≡ Some i) (sym place.1) (Has-get code text_start placed.own place.0 i (Has-front code text_start placed.own placed.rest whole) place.2)
+
+  pub own-inside : (at : ℕ) (i : Instr) → own_code at ≡ Some i → (text_start ≤ at) × (at < text_start + 4 * TEXT_WORDS)
+  own-inside at i here =
+      let place = code_of-place text_start placed.own at i here in
+      let where_is = place.1 in
+      let inside : place.0 < length placed.own = slice_get_within placed.own place.0 i place.2 in
+      (omega arith, omega (arith, placed.own_size, is_runtime.words))
+
+  -- the routines stand in it
+  pub runtime-stands : IsRuntime cells (layout_of cells depth (frame_size (placed_functions program))) (memory_of runtime program) own_code text_start
+  runtime-stands = is_runtime.routines (memory_of runtime program) placed.own own_code text_start placed.spelled (code_of-Has text_start placed.own)
 
   -- what stands at a symbol, by the number of instructions before it
   routine-at : (name : Symbol) (before : ℕ) (IsOfKind : ℕ → Type 0) → IsBehind name before runtime_labels → IsOfKind (text_start + 4 * before) → HasRoutine (map_of runtime program) name IsOfKind
@@ -112,7 +129,6 @@ module _ {cells depth : ℕ} {runtime program : Placed} {words : Words} (is_runt
       → HasRoom cells depth (frame_size (placed_functions program)) text memory runtime.memory.stack_bottom size
       → Ground (map_of runtime program) (pool_in cells runtime program) (placed_functions program) depth memory stop_address (code_in words) (two_parts text memory size)
   has-ground text memory size text_is memory_is some_depth placeable room =
-      let code : Code = code_in words in
       let stands = runtime-stands in
       record {
         functions_at = placed.functions;
@@ -139,14 +155,17 @@ module _ {cells depth : ℕ} {runtime program : Placed} {words : Words} (is_runt
         constants_load = λ at count low high. text-loaded text memory size at count (omega arith) (omega arith);
         constants_kept = λ x count allowed some. let behind = stored-behind text memory size x count allowed some in inl (omega (arith, room.behind));
         runtime_word = refl;
-        take = routine-at (symbol.Routine routine.Take) 15 (IsTake (pool_in cells runtime program) code) behind_take stands.take;
-        give_up = routine-at (symbol.Routine routine.Drop) 32 (IsDrop code) behind_drop stands.give_up;
-        hold = routine-at symbol.Hold 60 (IsHold (pool_in cells runtime program) code) behind_hold stands.hold;
-        unhold = routine-at symbol.Unhold 66 (IsUnhold (pool_in cells runtime program) code) behind_unhold stands.unhold;
-        print_int = routine-at (symbol.Routine routine.PrintInt) 70 (IsPrintInt memory code) behind_print_int (rw memory_is stands.print_int);
-        print_text = routine-at (symbol.Routine routine.PrintText) 94 (IsPrintText code) behind_print_text stands.print_text;
-        read_byte = routine-at (symbol.Routine routine.ReadByte) 100 (IsReadByte memory code) behind_read_byte (rw memory_is stands.read_byte);
-        stack_full = routine-at symbol.StackFull 12 (IsStop ending.StackFull code) behind_stop_full stands.stack_full;
+        own = own_code;
+        own_part = own-part;
+        own_inside = own-inside;
+        take = routine-at (symbol.Routine routine.Take) 15 (IsTake (pool_in cells runtime program) own_code) behind_take stands.take;
+        give_up = routine-at (symbol.Routine routine.Drop) 32 (IsDrop own_code) behind_drop stands.give_up;
+        hold = routine-at symbol.Hold 60 (IsHold (pool_in cells runtime program) own_code) behind_hold stands.hold;
+        unhold = routine-at symbol.Unhold 66 (IsUnhold (pool_in cells runtime program) own_code) behind_unhold stands.unhold;
+        print_int = routine-at (symbol.Routine routine.PrintInt) 70 (IsPrintInt memory own_code) behind_print_int (rw memory_is stands.print_int);
+        print_text = routine-at (symbol.Routine routine.PrintText) 94 (IsPrintText own_code) behind_print_text stands.print_text;
+        read_byte = routine-at (symbol.Routine routine.ReadByte) 100 (IsReadByte memory own_code) behind_read_byte (rw memory_is stands.read_byte);
+        stack_full = routine-at symbol.StackFull 12 (IsStop ending.StackFull own_code) behind_stop_full stands.stack_full;
         stop_word = refl;
         stop_below = omega arith;
         ends = stands.ended;

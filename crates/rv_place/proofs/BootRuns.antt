@@ -1,10 +1,10 @@
 -- The loaded image agrees with the machine of the placed form, where the processor simulates that machine.
-use Rattle.std.proofs.Common.{◌≡◌, ◌<◌, ℕ, ◌+◌, ◌-◌, ◌*◌, List, [], ◌∷◌, length, All, Some, refl, ap, sym, subst, ◌∙◌, arith}
+use Rattle.std.proofs.Common.{◌≡◌, ◌<◌, ℕ, suc, ◌+◌, ◌-◌, ◌*◌, List, [], ◌∷◌, length, All, Some, refl, ap, sym, subst, ◌∙◌, arith}
 use Rattle.std.specs.List.{slice_get}
 use Rattle.kk_base.specs.Simulations.{Simulates}
 use Rattle.kk_base.specs.Agreements.{Agree}
 use Rattle.kk_base.specs.Machines.{state}
-use Rattle.kk_base.proofs.Simulations.{simulates_agree, simulates_many}
+use Rattle.kk_base.proofs.Simulations.{simulates_agree, simulates_many, simulates_passing}
 use Rattle.elf_image.specs.Program.{text_start, memory_start}
 use Rattle.rv_isa.specs.declared.placed.Placed.{Placed}
 use Rattle.rv_isa.specs.declared.placed.DataSection.{DataSection}
@@ -14,7 +14,7 @@ use Rattle.rv_isa.specs.Primitives.{ended}
 use Rattle.rv_isa.specs.Processor.{Processor, Ending, Progress, goes}
 use Rattle.rv_isa.specs.Execution.{rv32im, run}
 use Rattle.rv_isa.specs.ProcessorMachine.{processor_machine}
-use Rattle.rv_isa.proofs.Runs.{Leads-then}
+use Rattle.rv_isa.proofs.Runs.{Leads-each}
 use Rattle.rv_isa.proofs.Standing.{Stands-leads}
 use Rattle.rv_isa.specs.Bytes.{bytes_at}
 use Rattle.cell_runtime.specs.Lines.{words_of}
@@ -34,11 +34,12 @@ use Rattle.rv_place.specs.Lines.{FunctionAt}
 use Rattle.rv_place.specs.Texts.{text_bytes, memory_of, pool_in, constants_of, map_of, jumps_of}
 use Rattle.rv_place.specs.Images.{first_processor, parts_of, code_in, main_entry, outside_lines, IsPlacedImage, EndsWithCells}
 use Rattle.rv_place.specs.Grounds.{stack_end, constant_bytes, Ground, Rests}
-use Rattle.rv_place.specs.Running.{NeverStuck, Related, Any}
+use Rattle.rv_place.specs.Running.{NeverStuck, Related, Passing}
+use Rattle.rv_place.proofs.RunningInside.{walks_then, stands_part, start_walks}
 use Rattle.rv_place.proofs.RunningLines.{function_found}
 use Rattle.rv_place.proofs.BootAgreements.{agree_after_instructions}
 use Rattle.rv_place.proofs.BootSizes.{text_size}
-use Rattle.rv_place.proofs.BootGround.{stop_address, HasRoom, has-room, runtime-stands, has-ground}
+use Rattle.rv_place.proofs.BootGround.{stop_address, HasRoom, own_code, own-part, own-inside, has-room, runtime-stands, has-ground}
 use Rattle.rv_place.proofs.BootFirst.{usable, first-stands, first-rests}
 use Rattle.rv_place.proofs.BootEntry.{first_frame, Begins, IsBefore, entry-begins}
 
@@ -77,12 +78,12 @@ module _ {cells depth : ℕ} {runtime program : Placed} {words : Words} {text : 
 
   module _ (input : List ℕ) (input_bytes : All (λ byte. byte < 256) input) where
     -- the start comes to main's entry
-    started : (t : Processor) × AfterStart (pool_of cells (memory_start (length text))) (memory_start (length text) + (layout_of cells depth (frame_size (placed_functions program))).stack_end) main_entry text_start (first_processor text runtime.memory.size input) t
+    started : (t : Processor) × AfterStart (own_code image.runtime_is image.words_are) (pool_of cells (memory_start (length text))) (memory_start (length text) + (layout_of cells depth (frame_size (placed_functions program))).stack_end) main_entry text_start (first_processor text runtime.memory.size input) t
     started =
         let end : ℕ = (layout_of cells depth (frame_size (placed_functions program))).stack_end in
-        let starts : IsStart (pool_of cells (memory_start (length text))) (memory_start (length text) + end) main_entry (code_in words) text_start =
-        subst (λ n. IsStart (pool_of cells (memory_start n)) (memory_start n + end) main_entry (code_in words) text_start) (sym bytes_are) (runtime-stands image.runtime_is image.words_are).start in
-        starts (first_processor text runtime.memory.size input) (record { stands = first-stands image.placeable image.words_are image.text_is runtime.memory.size input; pc_is = refl })
+        let starts : IsStart (pool_of cells (memory_start (length text))) (memory_start (length text) + end) main_entry (own_code image.runtime_is image.words_are) text_start =
+        subst (λ n. IsStart (pool_of cells (memory_start n)) (memory_start n + end) main_entry (own_code image.runtime_is image.words_are) text_start) (sym bytes_are) (runtime-stands image.runtime_is image.words_are).start in
+        starts (first_processor text runtime.memory.size input) (record { stands = stands_part (own-part image.runtime_is image.words_are) (first-stands image.placeable image.words_are image.text_is runtime.memory.size input); pc_is = refl })
         (usable cells depth (frame_size (placed_functions program)) (length text) (memory_start (length text)) runtime.memory.stack_bottom runtime.memory.size room) (omega arith)
 
     started-rests : Rests (map_of runtime program) (code_in words) (parts_of text runtime) started.0
@@ -113,10 +114,10 @@ module _ {cells depth : ℕ} {runtime program : Placed} {words : Words} {text : 
         let base : ℕ = stack_end (map_of runtime program) depth - frame in
         let base_is : base + frame ≡ stack_end (map_of runtime program) depth = omega (arith, first_frame depth frame image.sizes.some_depth) in
         let behind = entry-begins image-ground image.plain image.first main-at input_bytes before-main base base_is in
-        record { after = behind.after; leads = Leads-then started.1.leads behind.leads; told = behind.told ∙ started.1.trace; running = behind.running }
+        record { after = behind.after; walks = walks_then (start_walks (map_of runtime program) (pool_in cells runtime program) (own_code image.runtime_is image.words_are) (own-inside image.runtime_is image.words_are) started.1) behind.walks; told = behind.told ∙ started.1.trace; running = behind.running }
 
     -- and where the processor simulates the machine, they agree
-    module _ (pace : ℕ) (simulates : Simulates (placed_machine (primitives (constants_of runtime program) (pool_in cells runtime program)) depth (placed_functions program)) (processor_machine rv32im) (Related (map_of runtime program) (pool_in cells runtime program) (placed_functions program) depth stop_address (code_in words) (parts_of text runtime)) Any pace)
+    module _ (pace : ℕ) (simulates : Simulates (placed_machine (primitives (constants_of runtime program) (pool_in cells runtime program)) depth (placed_functions program)) (processor_machine rv32im) (Related (map_of runtime program) (pool_in cells runtime program) (placed_functions program) depth stop_address (code_in words) (parts_of text runtime)) (Passing (map_of runtime program) (pool_in cells runtime program)) pace)
         (never : NeverStuck (map_of runtime program) (pool_in cells runtime program) (placed_functions program) depth (placed_start main (first_world (pool_in cells runtime program) input))) where
       begins-agree : Agree (placed_machine (primitives (constants_of runtime program) (pool_in cells runtime program)) depth (placed_functions program)) (processor_machine rv32im) 3 (λ m. m * pace + length main.code + 1) (placed_start main (first_world (pool_in cells runtime program) input)) (goes image-begins.after)
       begins-agree =
@@ -125,7 +126,16 @@ module _ {cells depth : ℕ} {runtime program : Placed} {words : Words} {text : 
 
       pub image-agrees : Agree (placed_machine (primitives (constants_of runtime program) (pool_in cells runtime program)) depth (placed_functions program)) (processor_machine rv32im) outside_lines (λ m. m * pace + length main.code + 1) (placed_start main (first_world (pool_in cells runtime program) input)) (goes (first_processor text runtime.memory.size input))
       image-agrees =
-          agree_after_instructions _ 3 13 (λ m. m * pace + length main.code + 1) (placed_start main (first_world (pool_in cells runtime program) input)) (first_processor text runtime.memory.size input) image-begins.after image-begins.leads image-begins.told begins-agree
+          agree_after_instructions _ 3 13 (λ m. m * pace + length main.code + 1) (placed_start main (first_world (pool_in cells runtime program) input)) (first_processor text runtime.memory.size input) image-begins.after image-begins.walks.leads image-begins.told begins-agree
+
+      -- no state of its run touches a free cell outside of the runtime's words
+      pub image-passes : (count : ℕ) → Passing (map_of runtime program) (pool_in cells runtime program) (run count (first_processor text runtime.memory.size input))
+      image-passes count =
+          let later : (k : ℕ) → k < suc count → Passing (map_of runtime program) (pool_in cells runtime program) (run k image-begins.after)
+          = λ k less. subst (Passing (map_of runtime program) (pool_in cells runtime program)) (state-run rv32im k image-begins.after)
+          (simulates_passing _ _ _ _ pace simulates 3 (length main.code) (placed_start main (first_world (pool_in cells runtime program) input)) (goes image-begins.after)
+          (never, (image-begins.after, refl, omega arith, omega arith, image-begins.running)) k) in
+          Leads-each (Passing (map_of runtime program) (pool_in cells runtime program)) image-begins.walks.leads image-begins.walks.passes later count (omega arith)
 
       -- where the machine ends, so does the image, and its memory has the cells of the world
       pub image-ends : (steps : ℕ) (how : Ending) (world : World)
@@ -137,7 +147,7 @@ module _ {cells depth : ℕ} {runtime program : Placed} {words : Words} {text : 
           let last : Progress = state (processor_machine rv32im) reaches.steps (goes image-begins.after) in
           let related : Related (map_of runtime program) (pool_in cells runtime program) (placed_functions program) depth stop_address (code_in words) (parts_of text runtime) reaches.credit_after reaches.idle_after (ended how world) last
           = subst (λ turn. Related (map_of runtime program) (pool_in cells runtime program) (placed_functions program) depth stop_address (code_in words) (parts_of text runtime) reaches.credit_after reaches.idle_after turn last) is reaches.related in
-          let there : run (13 + reaches.steps) (first_processor text runtime.memory.size input) ≡ last = image-begins.leads.by reaches.steps ∙ sym (state-run rv32im reaches.steps image-begins.after) in (
+          let there : run (13 + reaches.steps) (first_processor text runtime.memory.size input) ≡ last = image-begins.walks.leads.by reaches.steps ∙ sym (state-run rv32im reaches.steps image-begins.after) in (
             13 + reaches.steps,
             subst (EndsWithCells (pool_in cells runtime program) how world) (sym there) (record {
               ending = related.1.0;

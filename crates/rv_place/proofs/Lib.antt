@@ -1,5 +1,7 @@
 pub mod RunningReaches
 pub mod RunningExecuting
+pub mod RunningFree
+pub mod RunningInside
 pub mod RunningFrames
 pub mod RunningLinks
 pub mod RunningRows

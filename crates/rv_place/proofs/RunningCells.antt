@@ -32,7 +32,7 @@ use Rattle.cell_heap.specs.Pool.{Pool, end_of}
 use Rattle.cell_heap.specs.Blocks.{Block, no_block, unused, own, kept, Cells, load, store, raised, dup, release, freed_as}
 use Rattle.cell_heap.specs.Blocks.{with_block}
 use Rattle.cell_heap.specs.Known.{HoldsCells}
-use Rattle.cell_heap.proofs.Blocks.{mapped, own-inside, own-usable, loaded-block, stored-block, load-shows, store-shows}
+use Rattle.cell_heap.proofs.Blocks.{mapped, own-inside, own-no_free, own-usable, loaded-block, stored-block, load-shows, store-shows}
 use Rattle.cell_heap.proofs.Blocks.{store-holds, release-holds}
 use Rattle.cell_runtime.specs.Registers.{IsOutside}
 use Rattle.cell_runtime.proofs.DropRows.{bit_of_word}
@@ -46,11 +46,13 @@ use Rattle.rv_place.specs.Grounds.{Ground, stack_end}
 use Rattle.rv_place.specs.Running.{GivesHandedOut, most_lines, IsIn, FramesAt, links_of, Running}
 use Rattle.rv_place.specs.declared.reach.Reach.TheVariants.{Near}
 use Rattle.rv_place.proofs.RunningRows.{branch_taken, branch_passed}
-use Rattle.rv_place.proofs.RunningExecuting.{Done, Gets, immediate_row, addi_row, done_then, done_on, done_as}
+use Rattle.rv_place.proofs.RunningExecuting.{MissesFree, Done, Gets, immediate_row, addi_row, misses_done, done_then, done_on, done_as}
 use Rattle.rv_place.proofs.RunningExecuting.{plain_gets, load_gets, store_goes}
+use Rattle.rv_place.proofs.RunningFree.{apart_misses}
 use Rattle.rv_place.proofs.RunningFrames.{handed_apart, frames_kept}
 use Rattle.rv_place.proofs.RunningLinks.{is_own, roots_done}
 use Rattle.rv_place.proofs.RunningWords.{words_in, AllFit, AllHanded, InRegisters, in_registers, Computed}
+use Rattle.rv_place.proofs.RunningInside.{walks_done}
 use Rattle.rv_place.proofs.RunningComes.{NoneHanded, or_stuck_some, Comes, comes_go, runs_on, agrees_done, sp_low}
 use Rattle.rv_place.proofs.RunningComes.{constants_kept, stays}
 use Rattle.rv_place.proofs.RunningMoves.{gives_word, follow_words}
@@ -105,7 +107,7 @@ module _ {map_of : Map} {pool : Pool} {functions : List PlacedLines} {depth buff
       → IsIn map_of code (most_lines functions) next behind) where
     -- instructions that have changed a word of a block, and no register that a value has
     changed_comes : {n : ℕ} {changed : List ℕ} (most at v : ℕ) (next : Cells) (u : Processor)
-        → Done code n changed (with_number at 4 v s.memory) (s.pc + 4 * words_of_operation operation) s u → IsOutside 2 changed
+        → Done pool.cells code n changed (with_number at 4 v s.memory) (s.pc + 4 * words_of_operation operation) s u → IsOutside 2 changed
         → NoneHanded changed
         → at + 4 ≤ end_of pool → can_store parts at 4 ≡ true → s.pc + 4 * words_of_operation operation < 2 ^ 32
         → HoldsCells pool next (links_of map_of (value s.registers 2) (f ∷ fs)) u
@@ -120,7 +122,7 @@ module _ {map_of : Map} {pool : Pool} {functions : List PlacedLines} {depth buff
         (s.pc + 4 * words_of_operation operation) sp (behind ∷ fs)
         = (is_in (s.pc + 4 * words_of_operation operation) refl fits, stand.1, stand.2, stand.3) in
         comes_go map_of pool functions depth stop code parts most old
-        (record { frames = behind ∷ fs; registers = known; shared = with_cells world next }) s u n done.leads
+        (record { frames = behind ∷ fs; registers = known; shared = with_cells world next }) s u n (walks_done done)
         (runs_on map_of pool functions depth stop code parts
         (record { frames = f ∷ fs; registers = known; shared = world }) next s u (behind ∷ fs) known sp running done
         (constants_kept ground f fs known world s running at v allowed) running.room (done.kept 2 outside)
@@ -131,7 +133,7 @@ module _ {map_of : Map} {pool : Pool} {functions : List PlacedLines} {depth buff
 
     -- instructions that have changed nothing but registers that no value has
     same_comes : {n : ℕ} {changed : List ℕ} (most : ℕ) (u : Processor)
-        → Done code n changed s.memory (s.pc + 4 * words_of_operation operation) s u → IsOutside 2 changed → NoneHanded changed
+        → Done pool.cells code n changed s.memory (s.pc + 4 * words_of_operation operation) s u → IsOutside 2 changed → NoneHanded changed
         → list_any is_own changed ≡ false
         → s.pc + 4 * words_of_operation operation < 2 ^ 32 → 1 ≤ n → n ≤ most
         → Comes map_of pool functions depth stop code parts most old (placed_goes behind fs known world) s
@@ -148,16 +150,17 @@ module _ {map_of : Map} {pool : Pool} {functions : List PlacedLines} {depth buff
 
   load_computed : (offset : Immediate) (rd a : Register) (w : ℕ) → code s.pc ≡ Some (Instr.Lw rd a offset)
       → load (value s.registers a.number) offset.word world.cells ≡ Some w
-      → Computed ground.below running.rests.stands map_of.constants s.pc refl rd (OfOperation.Lw offset) w
+      → Computed pool.cells ground.below running.rests.stands map_of.constants s.pc refl rd (OfOperation.Lw offset) w
   load_computed offset rd a w here is =
       let at = value s.registers a.number in
       let block = loaded-block world.cells at offset.word w is in
       let inside = own-inside running.cells at block.0 block.1 in
       let shows = load-shows running.cells at offset.word w is in
       record {
-        gets = load_gets ground.below running.rests.stands refl {rd = rd} {base = a} {offset = offset} {address = at + offset.word}
+        gets = load_gets pool.cells ground.below running.rests.stands refl {rd = rd} {base = a} {offset = offset} {address = at + offset.word}
             {word = w} here
-            (word_address at offset.word inside.0 inside.1 block.2) shows.0.aligned shows.0.loads shows.1;
+            (word_address at offset.word inside.0 inside.1 block.2) shows.0.aligned shows.0.loads shows.1
+            (apart_misses running.cells (at + offset.word) shows.0.no_free);
         fits = shows.2;
         next_fits = ground.below s.pc (Instr.Lw rd a offset) here;
       }
@@ -177,9 +180,10 @@ module _ {map_of : Map} {pool : Pool} {functions : List PlacedLines} {depth buff
         let inside = own-inside running.cells at block.0 block.1 in
         let shows = store-shows running.cells at offset.word v next is in
         let address = at + offset.word in
-        let goes = store_goes ground.below running.rests.stands refl {base = a} {from = b} {offset = offset} {address = address}
+        let goes = store_goes pool.cells ground.below running.rests.stands refl {base = a} {from = b} {offset = offset} {address = address}
         {word = v} here
-        (word_address at offset.word inside.0 inside.1 block.2) refl shows.aligned shows.stores in
+        (word_address at offset.word inside.0 inside.1 block.2) refl shows.aligned shows.stores
+        (apart_misses running.cells address shows.no_free) in
         changed_comes (OfOperation.Sw offset) is_in 1 address v next goes.after goes.done tt tt (omega (arith, inside.0, block.2))
         (subst (λ p. can_store p address 4 ≡ true) running.rests.parts_are shows.stores)
         (ground.below s.pc (Instr.Sw a b offset) here)
@@ -200,8 +204,8 @@ module _ {map_of : Map} {pool : Pool} {functions : List PlacedLines} {depth buff
     over_target : sum_word (s.pc + 4) raises.1.word ≡ s.pc + 4 * 5
     over_target = let below = dup_last in rw raises.4 (omega arith)
 
-    bit_gets : Gets code 1 (1 ∷ []) 1 (bit_and (value s.registers a.number) raises.0.word) (s.pc + 4) s
-    bit_gets = plain_gets ground.below running.rests.stands refl (immediate_row Andi ra a raises.0) raises.6.0
+    bit_gets : Gets pool.cells code 1 (1 ∷ []) 1 (bit_and (value s.registers a.number) raises.0.word) (s.pc + 4) s
+    bit_gets = plain_gets pool.cells ground.below running.rests.stands refl (immediate_row Andi ra a raises.0) raises.6.0
 
     bit_is : (b : ℕ) → reference % 2 ≡ b → value bit_gets.after.registers 1 ≡ b
     bit_is b is = bit_gets.value_is (λ e. cc) ∙ ap (λ w. bit_and reference w) raises.3 ∙ bit_of_word reference b is
@@ -211,7 +215,7 @@ module _ {map_of : Map} {pool : Pool} {functions : List PlacedLines} {depth buff
     odd_comes odd =
         let bit = bit_is 1 odd in
         let word = running.frames.0.at_word in
-        let taken = branch_taken ground.below bit_gets.done.stands (s.pc + 4) bit_gets.done.pc_is NotEqual ra zero_register
+        let taken = branch_taken pool.cells ground.below bit_gets.done.stands (s.pc + 4) bit_gets.done.pc_is NotEqual ra zero_register
         (s.pc + 4 * 5) Near Near (raises.1, over_target, raises.6.1.0) (omega arith) (rw bit refl) in
         same_comes OfOperation.Dup is_in 5 taken.after (done_on bit_gets.done taken.done) ((λ e. cc), ((λ e. cc), ((λ e. cc), tt)))
         (refl, (refl, (refl, tt))) refl dup_last (omega arith) (omega arith)
@@ -233,25 +237,30 @@ module _ {map_of : Map} {pool : Pool} {functions : List PlacedLines} {depth buff
         let may_load : can_load s.parts reference 4 ≡ true = subst (λ x. can_load s.parts x 4 ≡ true) here loaded.0.loads in
         let may_store : can_store s.parts reference 4 ≡ true = subst (λ x. can_store s.parts x 4 ≡ true) here stored.stores in
         let count_is : number_at s.memory reference 4 ≡ count = ap (λ x. number_at s.memory x 4) (sym here) ∙ loaded.1 in
-        let passed = branch_passed ground.below bit_gets.done.stands (s.pc + 4) bit_gets.done.pc_is NotEqual ra zero_register
+        let misses : MissesFree pool.cells s reference = subst (MissesFree pool.cells s) here
+        (apart_misses running.cells (reference + 0) loaded.0.no_free) in
+        let passed = branch_passed pool.cells ground.below bit_gets.done.stands (s.pc + 4) bit_gets.done.pc_is NotEqual ra zero_register
         (s.pc + 4 * 5) Near Near (raises.1, over_target, raises.6.1.0) (rw bit refl) in
         let two = done_on bit_gets.done passed.done in
         let base : (u : Processor) → value u.registers a.number ≡ reference
         → sum_word (value u.registers a.number) raises.2.word ≡ reference
         = λ u same. rw (same, raises.5) (let below = inside.1 in let high = inside.0 in omega arith) in
-        let third = load_gets ground.below two.stands {at = s.pc + 4 + 4} two.pc_is {rd = ra} {base = a} {offset = raises.2}
+        let third = load_gets pool.cells ground.below two.stands {at = s.pc + 4 + 4} two.pc_is {rd = ra} {base = a} {offset = raises.2}
         {address = reference} {word = count} raises.6.1.1.0
         (base passed.after (two.kept a.number (apart, tt))) aligned (rw two.parts_are may_load)
-        (ap (λ m. number_at m reference 4) two.memory_is ∙ count_is) in
+        (ap (λ m. number_at m reference 4) two.memory_is ∙ count_is)
+        (misses_done reference two ((λ e. cc), tt) ((λ e. cc), tt) ((λ e. cc), tt) misses) in
         let three = done_on two third.done in
-        let fourth = plain_gets ground.below three.stands {at = s.pc + 4 + 4 + 4} three.pc_is
+        let fourth = plain_gets pool.cells ground.below three.stands {at = s.pc + 4 + 4 + 4} three.pc_is
         (addi_row ra ra raises.0) raises.6.1.1.1.0 in
         let four = done_on three fourth.done in
         let raised_is : value fourth.after.registers 1 ≡ v = fourth.value_is (λ e. cc)
         ∙ rw (third.value_is (λ e. cc), raises.3) refl in
-        let fifth = store_goes ground.below four.stands {at = s.pc + 4 + 4 + 4 + 4} four.pc_is {base = a} {from = ra}
+        let fifth = store_goes pool.cells ground.below four.stands {at = s.pc + 4 + 4 + 4 + 4} four.pc_is {base = a} {from = ra}
         {offset = raises.2} {address = reference} {word = v} raises.6.1.1.1.1.0
-        (base fourth.after (four.kept a.number (apart, (apart, (apart, tt))))) raised_is aligned (rw four.parts_are may_store) in
+        (base fourth.after (four.kept a.number (apart, (apart, (apart, tt))))) raised_is aligned (rw four.parts_are may_store)
+        (misses_done reference four ((λ e. cc), ((λ e. cc), ((λ e. cc), tt))) ((λ e. cc), ((λ e. cc), ((λ e. cc), tt)))
+        ((λ e. cc), ((λ e. cc), ((λ e. cc), tt))) misses) in
         let done = done_as {changed' = 1 ∷ 1 ∷ 1 ∷ []} {next' = s.pc + 4 * 5} (done_then four fifth.done)
         (ap (λ m. with_number reference 4 v m) four.memory_is) (omega arith) (λ x out. out) in
         changed_comes OfOperation.Dup is_in 5 reference v next fifth.after done sp_outside (refl, (refl, (refl, tt)))
@@ -291,7 +300,7 @@ module _ {map_of : Map} {pool : Pool} {functions : List PlacedLines} {depth buff
     null_comes : token ≡ 0 → Comes map_of pool functions depth stop code parts 3 old (placed_goes behind fs known world) s
     null_comes none =
         let word = running.frames.0.at_word in
-        let taken = branch_taken ground.below running.rests.stands s.pc refl Equal a zero_register (s.pc + 4 * 3) Near Near
+        let taken = branch_taken pool.cells ground.below running.rests.stands s.pc refl Equal a zero_register (s.pc + 4 * 3) Near Near
         (frees_it.0, past_target, frees_it.4.0) (omega arith) (rw none refl) in
         same_comes OfOperation.Free is_in 3 taken.after taken.done ((λ e. cc), ((λ e. cc), tt)) (refl, (refl, tt)) refl free_last
         (omega arith) (omega arith)
@@ -309,17 +318,20 @@ module _ {map_of : Map} {pool : Pool} {functions : List PlacedLines} {depth buff
         let inside = own-inside running.cells token words is in
         let aligned : token % 4 ≡ 0 = subst (λ x. x % 4 ≡ 0) here usable.0 in
         let may_store : can_store s.parts token 4 ≡ true = subst (λ x. can_store s.parts x 4 ≡ true) here usable.2 in
+        let misses : MissesFree pool.cells s token = subst (MissesFree pool.cells s) here
+        (apart_misses running.cells (token + 4 * 0) (λ x. own-no_free running.cells token words is 0 x (omega arith))) in
         let base : (u : Processor) → value u.registers a.number ≡ token
         → sum_word (value u.registers a.number) frees_it.1.word ≡ token
         = λ u same. rw (same, frees_it.3) (let below = inside.1 in let high = inside.0 in omega arith) in
-        let passed = branch_passed ground.below running.rests.stands s.pc refl Equal a zero_register (s.pc + 4 * 3) Near Near
+        let passed = branch_passed pool.cells ground.below running.rests.stands s.pc refl Equal a zero_register (s.pc + 4 * 3) Near Near
         (frees_it.0, past_target, frees_it.4.0) test in
-        let second = store_goes ground.below passed.done.stands {at = s.pc + 4} passed.done.pc_is {base = a} {from = s0}
+        let second = store_goes pool.cells ground.below passed.done.stands {at = s.pc + 4} passed.done.pc_is {base = a} {from = s0}
         {offset = frees_it.1} {address = token} {word = v} frees_it.4.1.0
-        (base passed.after (passed.done.kept a.number tt)) (passed.done.kept 8 tt) aligned (rw passed.done.parts_are may_store) in
+        (base passed.after (passed.done.kept a.number tt)) (passed.done.kept 8 tt) aligned (rw passed.done.parts_are may_store)
+        (misses_done token passed.done tt tt tt misses) in
         let two = done_as {changed' = []} (done_then passed.done second.done)
         (ap (λ m. with_number token 4 v m) passed.done.memory_is) refl (λ x out. out) in
-        let third = plain_gets ground.below two.stands {at = s.pc + 4 + 4} two.pc_is (addi_row s0 a frees_it.1) frees_it.4.1.1.0 in
+        let third = plain_gets pool.cells ground.below two.stands {at = s.pc + 4 + 4} two.pc_is (addi_row s0 a frees_it.1) frees_it.4.1.1.0 in
         let done = done_as {changed' = 8 ∷ []} {next' = s.pc + 4 * 3} (done_on two third.done) refl (omega arith) (λ x out. out) in
         let first_is : value third.after.registers 8 ≡ token = third.value_is (λ e. cc)
         ∙ base second.after (two.kept a.number tt) in

@@ -1,5 +1,5 @@
 -- What the processor comes to by a line of the machine of the placed form, and how the relation is kept.
-use Rattle.std.proofs.Common.{◌≡◌, ◌≢◌, ◌≤◌, ◌<◌, ℕ, zero, suc, ◌+◌, ◌*◌, ◌%◌, ◌^◌, List, [], ◌∷◌, length, Option, Some, None, true, false, All, option_map, refl, sym, ap, ◌∙◌, subst, arith, lit<}
+use Rattle.std.proofs.Common.{◌≡◌, ◌≢◌, ◌≤◌, ◌<◌, ℕ, zero, suc, ◌+◌, ◌*◌, ◌%◌, ◌^◌, List, [], ◌∷◌, length, Option, Some, None, true, false, All, refl, sym, ap, ◌∙◌, subst, arith, lit<}
 use Rattle.std.proofs.Math.Nat.{suc-mul, mul-le-mul_right}
 use Rattle.kk_base.specs.Memory.{Part}
 use Rattle.rv_isa.specs.PlacedCode.{PlacedLine, PlacedLines}
@@ -9,7 +9,7 @@ use Rattle.rv_isa.specs.Frames.{Frame, put}
 use Rattle.rv_isa.specs.PlacedMachine.{PlacedState, PlacedTurn, placed_goes, placed_told}
 use Rattle.rv_isa.specs.Bytes.{bytes_at, with_number}
 use Rattle.rv_isa.specs.Processor.{Processor, Ending, Progress, goes, value, can_store}
-use Rattle.rv_isa.specs.Execution.{rv32im, run, Leads}
+use Rattle.rv_isa.specs.Execution.{rv32im, run}
 use Rattle.rv_isa.specs.Standing.{Code}
 use Rattle.rv_isa.proofs.Memory.{bytes_at-with_number_apart}
 use Rattle.rv_isa.proofs.Runs.{run-zero, Leads-run}
@@ -21,8 +21,9 @@ use Rattle.cell_heap.specs.Pool.{Pool}
 use Rattle.rv_world.specs.World.{World, with_cells, primitives}
 use Rattle.rv_place.specs.Lines.{Map}
 use Rattle.rv_place.specs.Grounds.{Ground, stack_end, constant_bytes}
-use Rattle.rv_place.specs.Running.{most_lines, IsIn, FramesAt, links_of, Agrees, Running, lines_left, StandsFor}
+use Rattle.rv_place.specs.Running.{most_lines, IsIn, FramesAt, links_of, Agrees, Running, lines_left, StandsFor, Passing}
 use Rattle.rv_place.proofs.RunningExecuting.{Done, Gets}
+use Rattle.rv_place.proofs.RunningInside.{Walks, walks_done}
 use Rattle.rv_place.proofs.RunningFrames.{handed_apart, agrees_put, agrees_kept, frames_sum}
 use Rattle.rv_place.proofs.RunningLinks.{is_own, roots_done, cells_done}
 
@@ -76,11 +77,11 @@ pub outside_handed : (changed : List ℕ) → NoneHanded changed → (x : ℕ) �
 outside_handed [] none x handed = tt
 outside_handed (y ∷ ys) none x handed = (handed_apart x y none.0 handed, outside_handed ys none.1 x handed)
 
-pub agrees_done : {code : Code} {n : ℕ} {changed : List ℕ} {memory : ℕ → ℕ} {next : ℕ} (s u : Processor) (known : ℕ → Option ℕ) → Done code n changed memory next s u → NoneHanded changed → Agrees known s.registers → Agrees known u.registers
+pub agrees_done : {cells : ℕ} {code : Code} {n : ℕ} {changed : List ℕ} {memory : ℕ → ℕ} {next : ℕ} (s u : Processor) (known : ℕ → Option ℕ) → Done cells code n changed memory next s u → NoneHanded changed → Agrees known s.registers → Agrees known u.registers
 agrees_done {changed = changed} s u known done none agrees = agrees_kept known s.registers u.registers agrees (λ x handed. done.kept x (outside_handed changed none x handed))
 
 -- a register that got a word, which may be known
-pub agrees_got : {code : Code} {n rd word next : ℕ} (s : Processor) (known : ℕ → Option ℕ) (w : Option ℕ) (gets : Gets code n (rd ∷ []) rd word next s) → is_handed_out rd ≡ true
+pub agrees_got : {cells : ℕ} {code : Code} {n rd word next : ℕ} (s : Processor) (known : ℕ → Option ℕ) (w : Option ℕ) (gets : Gets cells code n (rd ∷ []) rd word next s) → is_handed_out rd ≡ true
     → ((v : ℕ) → w ≡ Some v → (word ≡ v) × (v < 2 ^ 32)) → Agrees known s.registers → Agrees (put rd w known) gets.after.registers
 agrees_got {rd = rd} {word = word} s known w gets handed new agrees =
     agrees_put rd w known s.registers gets.after.registers agrees handed
@@ -99,6 +100,7 @@ module _ (map : Map) (pool : Pool) (functions : List PlacedLines) (depth stop : 
     pub told : placed_told (primitives map.constants pool) turn ≡ after.processor.trace
     pub within : steps ≤ most + spare turn
     pub moves : 1 + left_in turn ≤ steps * suc (most_lines functions) + old
+    pub passes : (k : ℕ) → k < steps → Passing map pool (run k s)
 
   left_few : (t : PlacedState World) (at base : ℕ) (memory : ℕ → ℕ) → FramesAt map code (most_lines functions) stop (stack_end map depth) memory at base t.frames → lines_left t.frames ≤ most_lines functions
   left_few t at base memory stand = by t.frames stand
@@ -111,15 +113,16 @@ module _ (map : Map) (pool : Pool) (functions : List PlacedLines) (depth stop : 
   some_moves zero left most old some few = omega arith
   some_moves (suc n) left most old some few = let more = suc-mul n (suc most) in omega arith
 
-  pub comes_go : (most old : ℕ) (t : PlacedState World) (s u : Processor) (n : ℕ) → Leads n s u → Running map pool functions depth stop code parts t u → 1 ≤ n → n ≤ most → Comes most old (go t) s
-  comes_go most old t s u n leads running some within = record {
+  pub comes_go : (most old : ℕ) (t : PlacedState World) (s u : Processor) (n : ℕ) → Walks map pool n s u → Running map pool functions depth stop code parts t u → 1 ≤ n → n ≤ most → Comes most old (go t) s
+  comes_go most old t s u n walks running some within = record {
     steps = n;
     after = goes u;
-    runs = Leads-run leads;
+    runs = Leads-run walks.leads;
     stands_for = λ credit idle saved left. (u, refl, saved, left, running);
     told = sym running.trace;
     within = omega arith;
     moves = some_moves n (lines_left t.frames) (most_lines functions) old some (left_few t u.pc (value u.registers 2) u.memory running.frames);
+    passes = walks.passes;
   }
 
   -- nothing is done, and a line is behind
@@ -132,11 +135,12 @@ module _ (map : Map) (pool : Pool) (functions : List PlacedLines) (depth stop : 
     told = sym running.trace;
     within = omega arith;
     moves = omega arith;
+    passes = λ k less. absurd (omega arith);
   }
 
   -- the end of a run
-  pub comes_ended : (most old : ℕ) (how : Ending) (world : World) (s : Processor) (n : ℕ) (after : Progress) → run n s ≡ after → StandsFor map pool functions depth stop code parts 3 0 (ended how world) after → 1 ≤ n → n ≤ most + 3 → Comes most old (ended how world) s
-  comes_ended most old how world s n after runs stands some within = record {
+  pub comes_ended : (most old : ℕ) (how : Ending) (world : World) (s : Processor) (n : ℕ) (after : Progress) → run n s ≡ after → ((k : ℕ) → k < n → Passing map pool (run k s)) → StandsFor map pool functions depth stop code parts 3 0 (ended how world) after → 1 ≤ n → n ≤ most + 3 → Comes most old (ended how world) s
+  comes_ended most old how world s n after runs passes stands some within = record {
     steps = n;
     after = after;
     runs = runs;
@@ -144,12 +148,13 @@ module _ (map : Map) (pool : Pool) (functions : List PlacedLines) (depth stop : 
     told = sym stands.1;
     within = within;
     moves = some_moves n 0 (most_lines functions) old some (omega arith);
+    passes = passes;
   }
 
   -- ---- the relation is kept
 
   pub runs_on : {n : ℕ} {changed : List ℕ} {memory : ℕ → ℕ} {next : ℕ} (t : PlacedState World) (cells : Cells) (s u : Processor) (frames : List (Frame PlacedLine)) (known : ℕ → Option ℕ) (base : ℕ)
-      → Running map pool functions depth stop code parts t s → Done code n changed memory next s u
+      → Running map pool functions depth stop code parts t s → Done pool.cells code n changed memory next s u
       → bytes_at memory map.constants.first (constant_bytes map) ≡ bytes_at s.memory map.constants.first (constant_bytes map)
       → length frames ≤ depth → value u.registers 2 ≡ base → FramesAt map code (most_lines functions) stop (stack_end map depth) memory next base frames → Agrees known u.registers
       → HoldsCells pool cells (links_of map base frames) u → Running map pool functions depth stop code parts (record { frames = frames; registers = known; shared = with_cells t.shared cells }) u
@@ -200,11 +205,11 @@ module _ {map : Map} {pool : Pool} {functions : List PlacedLines} {depth buffer 
   constants_kept at v allowed = bytes_at-with_number_apart at 4 v s.memory map.constants.first (constant_bytes map) (ground.constants_kept at 4 allowed (lit< tt))
 
   -- instructions that change no memory lead on in the same frame
-  pub stays : (most old : ℕ) {n : ℕ} {changed : List ℕ} {next : ℕ} (u : Processor) (behind : List PlacedLine) (known' : ℕ → Option ℕ) → Done code n changed s.memory next s u → IsOutside 2 changed → list_any is_own changed ≡ false
+  pub stays : (most old : ℕ) {n : ℕ} {changed : List ℕ} {next : ℕ} (u : Processor) (behind : List PlacedLine) (known' : ℕ → Option ℕ) → Done pool.cells code n changed s.memory next s u → IsOutside 2 changed → list_any is_own changed ≡ false
       → IsIn map code (most_lines functions) next (record f { code = behind }) → Agrees known' u.registers → 1 ≤ n → n ≤ most
       → Comes map pool functions depth stop code parts most old (placed_goes (record f { code = behind }) fs known' world) s
   stays most old {n = n} u behind known' done outside none is_in agrees some within =
       let stand = running.frames in
-      comes_go map pool functions depth stop code parts most old (record { frames = record f { code = behind } ∷ fs; registers = known'; shared = world }) s u n done.leads
+      comes_go map pool functions depth stop code parts most old (record { frames = record f { code = behind } ∷ fs; registers = known'; shared = world }) s u n (walks_done done)
       (runs_on map pool functions depth stop code parts (record { frames = f ∷ fs; registers = known; shared = world }) world.cells s u (record f { code = behind } ∷ fs) known' (value s.registers 2) running done refl running.room
       (done.kept 2 outside) (is_in, stand.1, stand.2, stand.3) agrees (cells_done running.cells (roots_done done none) done.memory_is)) some within

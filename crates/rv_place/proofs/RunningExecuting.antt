@@ -1,5 +1,7 @@
 -- Instructions of placed code, executed: what they change is told by facts, so that no state of the machine stands in what follows.
-use Rattle.std.proofs.Common.{◌≡◌, ◌≢◌, ◌<◌, ℕ, ◌+◌, ◌%◌, ◌^◌, List, [], ◌∷◌, ◌++◌, Some, Bool, true, false, not, refl, sym, ap, ◌∙◌, subst, arith}
+use Rattle.std.proofs.Common.{◌≡◌, ◌≢◌, ◌<◌, All, ℕ, ◌+◌, ◌%◌, ◌^◌, List, [], ◌∷◌, ◌++◌, Some, Bool, true, false, not, refl, sym, ap, ◌∙◌, subst, arith}
+use Rattle.rv_isa.specs.declared.environment.TheConstants.{CELL_SIZE}
+use Rattle.rv_isa.specs.declared.act.Effect.{Effect}
 use Rattle.rv_isa.specs.declared.immediate.JumpOffset.{JumpOffset}
 use Rattle.rv_isa.specs.declared.register.Register.{Register}
 use Rattle.rv_isa.specs.declared.immediate.Immediate.{Immediate}
@@ -19,13 +21,15 @@ use Rattle.rv_isa.specs.declared.asm.ShiftOperation.TheVariants.{Slli, Srli, Sra
 use Rattle.rv_isa.specs.Arithmetic.{sum_word}
 use Rattle.rv_isa.specs.Operands.{rd_of, rs1_of, rs2_of}
 use Rattle.rv_isa.specs.Meaning.{sets, branches, effect_of}
-use Rattle.rv_isa.specs.Bytes.{number_at, with_number}
+use Rattle.rv_isa.specs.Bytes.{Apart, number_at, with_number}
+use Rattle.rv_isa.specs.FreeCells.{free_list}
+use Rattle.rv_isa.specs.FreeTouches.{Avoids, AvoidsFreeCells}
 use Rattle.rv_isa.specs.Processor.{Processor, value, put, can_load, can_store}
 use Rattle.rv_isa.specs.Environment.{stepped}
-use Rattle.rv_isa.specs.Execution.{effect_at, Leads}
+use Rattle.rv_isa.specs.Execution.{rv32im, effect_at, Leads, Along}
 use Rattle.rv_isa.specs.Standing.{Code, Stands}
 use Rattle.rv_isa.proofs.Fits.{EffectFits, effect_of_fits}
-use Rattle.rv_isa.proofs.Runs.{Leads-then}
+use Rattle.rv_isa.proofs.Runs.{run-zero, Leads-then, Leads-each}
 use Rattle.rv_isa.proofs.Standing.{Stands-leads}
 use Rattle.rv_isa.proofs.Instructions.{value-put_same, value-put_other, leads-sets, leads-to, leads-lw, leads-sw, leads-jal, leads-jalr}
 use Rattle.cell_runtime.specs.Registers.{IsOutside}
@@ -109,8 +113,9 @@ opposite_compares GreaterEqualUnsigned x y = sym (twice _)
 
 -- ---- what instructions have done
 
--- So many instructions lead from one state to another, which is at `next` and has this memory. They change none but these registers.
-pub record Done (code : Code) (steps : ℕ) (changed : List ℕ) (memory : ℕ → ℕ) (next : ℕ) (s t : Processor) : Type 0 where
+-- So many instructions lead from one state to another, which is at `next` and has this memory. They change none but these registers, and each
+-- of them loads and stores no byte of a free cell.
+pub record Done (cells : ℕ) (code : Code) (steps : ℕ) (changed : List ℕ) (memory : ℕ → ℕ) (next : ℕ) (s t : Processor) : Type 0 where
   pub leads : Leads steps s t
   pub stands : Stands code t
   pub pc_is : t.pc ≡ next
@@ -119,17 +124,22 @@ pub record Done (code : Code) (steps : ℕ) (changed : List ℕ) (memory : ℕ �
   pub left_is : t.left ≡ s.left
   pub trace_is : t.trace ≡ s.trace
   pub kept : (x : ℕ) → IsOutside x changed → value t.registers x ≡ value s.registers x
+  pub avoids : Along (AvoidsFreeCells cells) steps s
 
 -- and a register then holds a word, unless it is the zero register
-pub record Gets (code : Code) (steps : ℕ) (changed : List ℕ) (rd word : ℕ) (next : ℕ) (s : Processor) : Type 0 where
+pub record Gets (cells : ℕ) (code : Code) (steps : ℕ) (changed : List ℕ) (rd word : ℕ) (next : ℕ) (s : Processor) : Type 0 where
   pub after : Processor
-  pub done : Done code steps changed s.memory next s after
+  pub done : Done cells code steps changed s.memory next s after
   pub value_is : rd ≢ 0 → value after.registers rd ≡ word
 
 -- or nothing else is said of the registers
-pub record Goes (code : Code) (steps : ℕ) (changed : List ℕ) (memory : ℕ → ℕ) (next : ℕ) (s : Processor) : Type 0 where
+pub record Goes (cells : ℕ) (code : Code) (steps : ℕ) (changed : List ℕ) (memory : ℕ → ℕ) (next : ℕ) (s : Processor) : Type 0 where
   pub after : Processor
-  pub done : Done code steps changed memory next s after
+  pub done : Done cells code steps changed memory next s after
+
+-- a word is apart from each free cell
+abbrev pub MissesFree : ℕ → Processor → ℕ → Type 0
+MissesFree cells s at = All (λ cell. Apart at 4 cell CELL_SIZE) (free_list cells s)
 
 pub outside_front : (x : ℕ) (front back : List ℕ) → IsOutside x (front ++ back) → IsOutside x front
 outside_front x [] back out = tt
@@ -139,9 +149,9 @@ pub outside_back : (x : ℕ) (front back : List ℕ) → IsOutside x (front ++ b
 outside_back x [] back out = out
 outside_back x (y ∷ front) back out = outside_back x front back out.1
 
-pub done_then : {code : Code} {n k : ℕ} {front back : List ℕ} {m m' : ℕ → ℕ} {next next' : ℕ} {s t u : Processor}
-    → Done code n front m next s t → Done code k back m' next' t u → Done code (n + k) (front ++ back) m' next' s u
-done_then {code} {n} {k} {front} {back} first second = record {
+pub done_then : {cells : ℕ} {code : Code} {n k : ℕ} {front back : List ℕ} {m m' : ℕ → ℕ} {next next' : ℕ} {s t u : Processor}
+    → Done cells code n front m next s t → Done cells code k back m' next' t u → Done cells code (n + k) (front ++ back) m' next' s u
+done_then {cells} {code} {n} {k} {front} {back} first second = record {
   leads = Leads-then first.leads second.leads;
   stands = second.stands;
   pc_is = second.pc_is;
@@ -150,11 +160,12 @@ done_then {code} {n} {k} {front} {back} first second = record {
   left_is = second.left_is ∙ first.left_is;
   trace_is = second.trace_is ∙ first.trace_is;
   kept = λ x out. second.kept x (outside_back x front back out) ∙ first.kept x (outside_front x front back out);
+  avoids = Leads-each (λ progress. AvoidsFreeCells cells progress.processor) first.leads first.avoids second.avoids;
 }
 
 -- the same of another name of the memory and of the address, and of registers among which those are
-pub done_as : {code : Code} {n : ℕ} {changed changed' : List ℕ} {m m' : ℕ → ℕ} {next next' : ℕ} {s t : Processor}
-    → Done code n changed m next s t → m ≡ m' → next ≡ next' → ((x : ℕ) → IsOutside x changed' → IsOutside x changed) → Done code n changed' m' next' s t
+pub done_as : {cells : ℕ} {code : Code} {n : ℕ} {changed changed' : List ℕ} {m m' : ℕ → ℕ} {next next' : ℕ} {s t : Processor}
+    → Done cells code n changed m next s t → m ≡ m' → next ≡ next' → ((x : ℕ) → IsOutside x changed' → IsOutside x changed) → Done cells code n changed' m' next' s t
 done_as done memory address among = record {
   leads = done.leads;
   stands = done.stands;
@@ -164,11 +175,19 @@ done_as done memory address among = record {
   left_is = done.left_is;
   trace_is = done.trace_is;
   kept = λ x out. done.kept x (among x out);
+  avoids = done.avoids;
 }
 
+-- a word that is apart from the free cells is so where neither memory nor the registers of the free cells have changed
+pub misses_done : {cells : ℕ} {code : Code} {n : ℕ} {changed : List ℕ} {next : ℕ} {s t : Processor} (at : ℕ) → Done cells code n changed s.memory next s t
+    → IsOutside 8 changed → IsOutside 18 changed → IsOutside 19 changed → MissesFree cells s at → MissesFree cells t at
+misses_done {cells} {s = s} {t = t} at done chain border end misses =
+    let same : free_list cells t ≡ free_list cells s = rw (done.memory_is, done.parts_are, done.kept 8 chain, done.kept 18 border, done.kept 19 end) refl in
+    subst (All (λ cell. Apart at 4 cell CELL_SIZE)) (sym same) misses
+
 -- a part that was done in a state with the memory of another
-pub done_on : {code : Code} {n k : ℕ} {front back : List ℕ} {m : ℕ → ℕ} {next next' : ℕ} {s t u : Processor}
-    → Done code n front m next s t → Done code k back t.memory next' t u → Done code (n + k) (front ++ back) m next' s u
+pub done_on : {cells : ℕ} {code : Code} {n k : ℕ} {front back : List ℕ} {m : ℕ → ℕ} {next next' : ℕ} {s t u : Processor}
+    → Done cells code n front m next s t → Done cells code k back t.memory next' t u → Done cells code (n + k) (front ++ back) m next' s u
 done_on first second = done_as (done_then first second) first.memory_is refl (λ x out. out)
 
 pub next_of : (at : ℕ) → at + 4 < 2 ^ 32 → sum_word at 4 ≡ at + 4
@@ -179,17 +198,24 @@ target_of at distance below = omega arith
 
 -- ---- one instruction
 
-module _ {code : Code} (below : (at : ℕ) (i : Instr) → code at ≡ Some i → at + 4 < 2 ^ 32) {s : Processor} (stands : Stands code s) {at : ℕ} (pc_is : s.pc ≡ at) where
+module _ (cells : ℕ) {code : Code} (below : (at : ℕ) (i : Instr) → code at ≡ Some i → at + 4 < 2 ^ 32) {s : Processor} (stands : Stands code s) {at : ℕ} (pc_is : s.pc ≡ at) where
   here_is : {i : Instr} → code at ≡ Some i → code s.pc ≡ Some i
   here_is here = ap code pc_is ∙ here
 
   pub next_is : {i : Instr} → code at ≡ Some i → sum_word s.pc 4 ≡ at + 4
   next_is {i} here = ap (λ pc. sum_word pc 4) pc_is ∙ next_of at (below at i here)
 
+  -- what the instruction loads and stores, by its effect
+  avoids_by : (i : Instr) (effect : Effect) → code at ≡ Some i → effect_at s i ≡ effect → Avoids (free_list cells s) effect.act → AvoidsFreeCells cells s
+  avoids_by i effect here is apart j reads =
+      let both : Some i ≡ Some j = sym (stands.holds s.pc i (here_is here)) ∙ reads in
+      let same : i ≡ j = cc in
+      subst (λ (k : Instr). Avoids (free_list cells s) (effect_at s k).act) same (subst (λ (e : Effect). Avoids (free_list cells s) e.act) (sym is) apart)
+
   -- an instruction that leads to these registers, this memory and this address
-  one_done : {changed : List ℕ} (registers memory : ℕ → ℕ) (next : ℕ) → Leads 1 s (record (stepped next s) { registers = registers; memory = memory })
-      → ((x : ℕ) → IsOutside x changed → value registers x ≡ value s.registers x) → Done code 1 changed memory next s (record (stepped next s) { registers = registers; memory = memory })
-  one_done registers memory next leads kept = record {
+  one_done : {changed : List ℕ} (registers memory : ℕ → ℕ) (next : ℕ) → AvoidsFreeCells cells s → Leads 1 s (record (stepped next s) { registers = registers; memory = memory })
+      → ((x : ℕ) → IsOutside x changed → value registers x ≡ value s.registers x) → Done cells code 1 changed memory next s (record (stepped next s) { registers = registers; memory = memory })
+  one_done registers memory next avoids leads kept = record {
     leads = leads;
     stands = Stands-leads leads stands;
     pc_is = refl;
@@ -198,52 +224,58 @@ module _ {code : Code} (below : (at : ℕ) (i : Instr) → code at ≡ Some i �
     left_is = refl;
     trace_is = refl;
     kept = kept;
+    avoids = λ k less. let first : k ≡ 0 = omega arith in rw (first, run-zero rv32im s) avoids;
   }
 
-  one_gets : (rd word next : ℕ) → Leads 1 s (record (stepped next s) { registers = put rd word s.registers }) → Gets code 1 (rd ∷ []) rd word next s
-  one_gets rd word next leads = record {
+  one_gets : (rd word next : ℕ) → AvoidsFreeCells cells s → Leads 1 s (record (stepped next s) { registers = put rd word s.registers }) → Gets cells code 1 (rd ∷ []) rd word next s
+  one_gets rd word next avoids leads = record {
     after = record (stepped next s) { registers = put rd word s.registers };
-    done = one_done (put rd word s.registers) s.memory next leads (λ x out. value-put_other rd word s.registers x out.0);
+    done = one_done (put rd word s.registers) s.memory next avoids leads (λ x out. value-put_other rd word s.registers x out.0);
     value_is = λ some. value-put_same rd word s.registers some;
   }
 
-  one_goes : (memory : ℕ → ℕ) (next : ℕ) → Leads 1 s (record (stepped next s) { memory = memory }) → Goes code 1 [] memory next s
-  one_goes memory next leads = record { after = record (stepped next s) { memory = memory }; done = one_done s.registers memory next leads (λ x out. refl) }
+  one_goes : (memory : ℕ → ℕ) (next : ℕ) → AvoidsFreeCells cells s → Leads 1 s (record (stepped next s) { memory = memory }) → Goes cells code 1 [] memory next s
+  one_goes memory next avoids leads = record { after = record (stepped next s) { memory = memory }; done = one_done s.registers memory next avoids leads (λ x out. refl) }
 
   pub plain_gets : {i : Instr} {rd a b : ℕ} {word : ℕ → ℕ → ℕ} → IsPlain i rd a b word → code at ≡ Some i
-      → Gets code 1 (rd ∷ []) rd (word (value s.registers a) (value s.registers b)) (at + 4) s
+      → Gets cells code 1 (rd ∷ []) rd (word (value s.registers a) (value s.registers b)) (at + 4) s
   plain_gets {i} {rd} {a} {b} {word} plain here =
       let v = word (value s.registers a) (value s.registers b) in
       let effect : effect_at s i ≡ sets s.pc v = rw (plain.rs1_is, plain.rs2_is) (plain.effect s.pc (value s.registers a) (value s.registers b)) in
-      one_gets rd v (at + 4)
-      (subst (λ r. Leads 1 s (record (stepped (at + 4) s) { registers = put r v s.registers })) plain.rd_is (leads-sets stands i v {v = v} {next = at + 4} (here_is here) effect refl (next_is here)))
+      one_gets rd v (at + 4) (avoids_by i (sets s.pc v) here effect tt)
+      (subst (λ r. Leads 1 s (record (stepped (at + 4) s) { registers = put r v s.registers })) plain.rd_is (leads-sets stands i v {v = v} {next = at + 4} (here_is here) effect refl (next_is here)).leads)
 
   pub load_gets : {rd base : Register} {offset : Immediate} {address word : ℕ} → code at ≡ Some (Instr.Lw rd base offset)
-      → sum_word (value s.registers base.number) offset.word ≡ address → address % 4 ≡ 0 → can_load s.parts address 4 ≡ true → number_at s.memory address 4 ≡ word
-      → Gets code 1 (rd.number ∷ []) rd.number word (at + 4) s
-  load_gets {rd} {base} {offset} {address} {word} here address_is aligned allowed word_is =
+      → sum_word (value s.registers base.number) offset.word ≡ address → address % 4 ≡ 0 → can_load s.parts address 4 ≡ true → number_at s.memory address 4 ≡ word → MissesFree cells s address
+      → Gets cells code 1 (rd.number ∷ []) rd.number word (at + 4) s
+  load_gets {rd} {base} {offset} {address} {word} here address_is aligned allowed word_is misses =
       one_gets rd.number word (at + 4)
-      (leads-lw stands {rd = rd} {rs1 = base} {imm = offset} {at = address} {v = word} {next = at + 4} (here_is here) address_is aligned allowed word_is (next_is here))
+      (avoids_by (Instr.Lw rd base offset) (effect_at s (Instr.Lw rd base offset)) here refl (subst (MissesFree cells s) (sym address_is) misses))
+      (leads-lw stands {rd = rd} {rs1 = base} {imm = offset} {at = address} {v = word} {next = at + 4} (here_is here) address_is aligned allowed word_is (next_is here)).leads
 
   pub store_goes : {base from : Register} {offset : Immediate} {address word : ℕ} → code at ≡ Some (Instr.Sw base from offset)
-      → sum_word (value s.registers base.number) offset.word ≡ address → value s.registers from.number ≡ word → address % 4 ≡ 0 → can_store s.parts address 4 ≡ true
-      → Goes code 1 [] (with_number address 4 word s.memory) (at + 4) s
-  store_goes {base} {from} {offset} {address} {word} here address_is word_is aligned allowed =
+      → sum_word (value s.registers base.number) offset.word ≡ address → value s.registers from.number ≡ word → address % 4 ≡ 0 → can_store s.parts address 4 ≡ true → MissesFree cells s address
+      → Goes cells code 1 [] (with_number address 4 word s.memory) (at + 4) s
+  store_goes {base} {from} {offset} {address} {word} here address_is word_is aligned allowed misses =
       one_goes (with_number address 4 word s.memory) (at + 4)
-      (leads-sw stands {rs1 = base} {rs2 = from} {imm = offset} {at = address} {v = word} {next = at + 4} (here_is here) address_is word_is aligned allowed (next_is here))
+      (avoids_by (Instr.Sw base from offset) (effect_at s (Instr.Sw base from offset)) here refl (subst (MissesFree cells s) (sym address_is) misses))
+      (leads-sw stands {rs1 = base} {rs2 = from} {imm = offset} {at = address} {v = word} {next = at + 4} (here_is here) address_is word_is aligned allowed (next_is here)).leads
 
   pub jump_gets : {back by : Register} {offset : Immediate} {target : ℕ} → code at ≡ Some (Instr.Jalr back by offset)
       → sum_word (value s.registers by.number) offset.word ≡ target → target % 4 ≡ 0
-      → Gets code 1 (back.number ∷ []) back.number (at + 4) target s
+      → Gets cells code 1 (back.number ∷ []) back.number (at + 4) target s
   jump_gets {back} {by} {offset} {target} here target_is aligned =
-      one_gets back.number (at + 4) target (leads-jalr stands {rd = back} {rs1 = by} {imm = offset} {next = target} {back = at + 4} (here_is here) target_is aligned (next_is here))
+      one_gets back.number (at + 4) target (avoids_by (Instr.Jalr back by offset) (effect_at s (Instr.Jalr back by offset)) here refl tt)
+      (leads-jalr stands {rd = back} {rs1 = by} {imm = offset} {next = target} {back = at + 4} (here_is here) target_is aligned (next_is here)).leads
 
   pub near_gets : {back : Register} {offset : JumpOffset} {target : ℕ} → code at ≡ Some (Instr.Jal back offset) → sum_word at offset.word ≡ target → target % 4 ≡ 0
-      → Gets code 1 (back.number ∷ []) back.number (at + 4) target s
+      → Gets cells code 1 (back.number ∷ []) back.number (at + 4) target s
   near_gets {back} {offset} {target} here target_is aligned =
       let target_at : sum_word s.pc offset.word ≡ target = ap (λ pc. sum_word pc offset.word) pc_is ∙ target_is in
-      one_gets back.number (at + 4) target (leads-jal stands {rd = back} {offset = offset} {next = target} {back = at + 4} (here_is here) target_at aligned (next_is here))
+      one_gets back.number (at + 4) target (avoids_by (Instr.Jal back offset) (effect_at s (Instr.Jal back offset)) here refl tt)
+      (leads-jal stands {rd = back} {offset = offset} {next = target} {back = at + 4} (here_is here) target_at aligned (next_is here)).leads
 
   -- an instruction that does nothing but go on at an address
-  pub branch_goes : (i : Instr) (target : ℕ) {next : ℕ} → code at ≡ Some i → effect_at s i ≡ record { next = target; act = Act.Nothing } → target ≡ next → next % 4 ≡ 0 → Goes code 1 [] s.memory next s
-  branch_goes i target {next} here effect target_is aligned = one_goes s.memory next (leads-to stands i target {next = next} (here_is here) effect target_is aligned)
+  pub branch_goes : (i : Instr) (target : ℕ) {next : ℕ} → code at ≡ Some i → effect_at s i ≡ record { next = target; act = Act.Nothing } → target ≡ next → next % 4 ≡ 0 → Goes cells code 1 [] s.memory next s
+  branch_goes i target {next} here effect target_is aligned =
+      one_goes s.memory next (avoids_by i (record { next = target; act = Act.Nothing }) here effect tt) (leads-to stands i target {next = next} (here_is here) effect target_is aligned).leads

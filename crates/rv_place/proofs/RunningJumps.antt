@@ -39,12 +39,14 @@ use Rattle.rv_place.specs.declared.reach.Reach.TheVariants.{Far}
 use Rattle.rv_place.specs.Lines.{Map, ReturnsFrom, BranchesTo, FunctionAt, ActsAt, IsSymbolAt}
 use Rattle.rv_place.specs.Grounds.{Ground, stack_end}
 use Rattle.rv_place.specs.Running.{AllPlain, most_lines, IsIn, AwaitsFirst, FramesAt, links_in, links_of, Agrees, Running}
-use Rattle.rv_place.proofs.RunningExecuting.{Goes, done_then, done_as}
+use Rattle.rv_place.proofs.RunningExecuting.{Goes, misses_done, done_then, done_as}
 use Rattle.rv_place.proofs.RunningRows.{Shifts, jump_to, jump_last, branch_last, entry_full, entry_takes, return_goes}
+use Rattle.rv_place.proofs.RunningFree.{behind_misses}
 use Rattle.rv_place.proofs.RunningFrames.{known_put, agrees_put, frames_pushed}
 use Rattle.rv_place.proofs.RunningLinks.{roots_done, cells_done, cells_ended, slots_below}
 use Rattle.rv_place.proofs.RunningLines.{Labelled, label_found, label_there, jump_below, function_found, plain_found, few_found, entered_in, goes_to_label, jump_some, jump_most, branch_some, branch_most, branch_below}
 use Rattle.rv_place.proofs.RunningWords.{words_in, in_registers, passed_known, branches_taken, branches_passed}
+use Rattle.rv_place.proofs.RunningInside.{walks_done, stands_part, passes_to_exit}
 use Rattle.rv_place.proofs.RunningComes.{or_stuck_some, Comes, comes_go, comes_ended, runs_on, agrees_done, sp_low, sp_word, sp_high, sp_room, sp_last, constants_kept, stays}
 
 -- fewer registers are known
@@ -74,8 +76,8 @@ none_held [] next turn is good = (refl, is)
 none_held (k ∷ ks) next turn is good = absurd (good (sym is))
 
 -- a run that leads to an exit
-pub exit_runs : {n number count : ℕ} (s u : Processor) → Leads n s u → (exits : Exits number count u) → run (n + count) s ≡ record { processor = exits.last; ending = exited number }
-exit_runs {n} {number} {count} s u leads exits = leads.by count ∙ (ap (λ k. run k u) (sym (add-zero count)) ∙ exits.ends 0)
+pub exit_runs : {code : Code} {n number count : ℕ} (s u : Processor) → Leads n s u → (exits : Exits code number count u) → run (n + count) s ≡ record { processor = exits.last; ending = exited number }
+exit_runs {code} {n} {number} {count} s u leads exits = leads.by count ∙ (ap (λ k. run k u) (sym (add-zero count)) ∙ exits.ends 0)
 
 -- ---- jumps and branches
 
@@ -93,7 +95,7 @@ module _ {map_of : Map} {pool : Pool} {functions : List PlacedLines} {depth buff
 
   -- instructions that lead to a label
   to_label : (most : ℕ) {n : ℕ} (l : ℕ) (lines : List PlacedLine) (label : Labelled map_of stands_in.forms code stands_in.start f.whole (most_lines functions) (label_address stands_in.forms l stands_in.start f.whole) lines) → label.target < 2 ^ 32
-      → Goes code n (1 ∷ 0 ∷ []) s.memory label.target s → 1 ≤ n → n ≤ most → Comes map_of pool functions depth stop code parts most old (placed_goes (record f { code = lines }) fs known world) s
+      → Goes pool.cells code n (1 ∷ 0 ∷ []) s.memory label.target s → 1 ≤ n → n ≤ most → Comes map_of pool functions depth stop code parts most old (placed_goes (record f { code = lines }) fs known world) s
   to_label most l lines label fits goes some within =
       stays ground f fs known world s running most old goes.after lines known goes.done ((λ e. cc), ((λ e. cc), tt)) refl
       (goes_to_label stands_in l lines (record f { code = lines }) refl refl label fits) (agrees_done s goes.after known goes.done (refl, (refl, tt)) running.registers) some within
@@ -105,7 +107,7 @@ module _ {map_of : Map} {pool : Pool} {functions : List PlacedLines} {depth buff
       let label = labelled l result.0 result.1 in
       let reach : Reach = stands_in.forms.jumps in
       let jumps : JumpsTo reach code s.pc label.target = here label.target label.target_is in
-      let gets = jump_to ground.below running.rests.stands reach s.pc refl zero_register label.target jumps label.word in
+      let gets = jump_to pool.cells ground.below running.rests.stands reach s.pc refl zero_register label.target jumps label.word in
       subst (λ t. Comes map_of pool functions depth stop code parts 2 old t s) result.2
       (to_label 2 l result.0 label (jump_below reach code s.pc zero_register label.target jumps) (record { after = gets.after; done = gets.done }) (jump_some reach) (jump_most reach))
 
@@ -115,11 +117,11 @@ module _ {map_of : Map} {pool : Pool} {functions : List PlacedLines} {depth buff
   branch_fits condition [] target taken holds_is branch = cc
   branch_fits condition (a ∷ []) target taken holds_is branch = (
     branch_below stands_in.forms.jumps stands_in.forms.branches code s.pc condition a zero_register target branch,
-    branch_last ground.below stands_in.forms.jumps stands_in.forms.branches s.pc condition a zero_register target branch,
+    branch_last pool.cells ground.below stands_in.forms.jumps stands_in.forms.branches s.pc condition a zero_register target branch,
   )
   branch_fits condition (a ∷ b ∷ []) target taken holds_is branch = (
     branch_below stands_in.forms.jumps stands_in.forms.branches code s.pc condition a b target branch,
-    branch_last ground.below stands_in.forms.jumps stands_in.forms.branches s.pc condition a b target branch,
+    branch_last pool.cells ground.below stands_in.forms.jumps stands_in.forms.branches s.pc condition a b target branch,
   )
   branch_fits condition (a ∷ b ∷ c ∷ rs) target taken holds_is branch = cc
 
@@ -131,12 +133,12 @@ module _ {map_of : Map} {pool : Pool} {functions : List PlacedLines} {depth buff
         let result = or_stuck_some (found (is_label_line l) f.whole) (λ lines. placed_goes (record behind { code = lines }) fs known world) turn is good in
         let same : lines ≡ result.0 = some_same lines result.0 (sym there ∙ result.1) in
         let fits = branch_fits condition rs label.target true holds_is branch in
-        let goes = branches_taken ground.below running.rests.stands s.pc refl stands_in.forms condition label.target rs label.word holds_is branch in
+        let goes = branches_taken pool.cells ground.below running.rests.stands s.pc refl stands_in.forms condition label.target rs label.word holds_is branch in
         subst (λ t. Comes map_of pool functions depth stop code parts 3 old t s) (ap (λ c. placed_goes (record behind { code = c }) fs known world) same ∙ result.2)
         (to_label 3 l lines label fits.0 goes (branch_some stands_in.forms.jumps stands_in.forms.branches) (branch_most stands_in.forms.jumps stands_in.forms.branches))
     branch_by false rs turn lines there holds_is label branch is good =
         let fits = branch_fits condition rs label.target false holds_is branch in
-        let goes = branches_passed ground.below running.rests.stands s.pc refl stands_in.forms condition label.target rs holds_is branch in
+        let goes = branches_passed pool.cells ground.below running.rests.stands s.pc refl stands_in.forms condition label.target rs holds_is branch in
         subst (λ t. Comes map_of pool functions depth stop code parts 3 old t s) is
         (stays ground f fs known world s running 3 old goes.after rest known goes.done tt refl (is_behind (s.pc + 4 * words_of_branch stands_in.forms.jumps stands_in.forms.branches) refl fits.1) (agrees_done s goes.after known goes.done tt running.registers) (omega arith) (omega arith))
 
@@ -179,9 +181,9 @@ module _ {map_of : Map} {pool : Pool} {functions : List PlacedLines} {depth buff
       let result = or_stuck_some (slice_get functions g) (λ callee. placed_goes (placed_entered callee) fs (passed 0 words) world) turn free.1 good in
       let function = function_found map_of code map_of.entries functions ground.functions_at g result.0 result.1 in
       let inside = callee_in g result.0 function.0 result.1 function.2 in
-      let gets = jump_to ground.below running.rests.stands forms.jumps s.pc refl zero_register (function.0 + 4 * entry_words map_of.jumps) (here function.0 function.1) inside.at_word in
+      let gets = jump_to pool.cells ground.below running.rests.stands forms.jumps s.pc refl zero_register (function.0 + 4 * entry_words map_of.jumps) (here function.0 function.1) inside.at_word in
       subst (λ t. Comes map_of pool functions depth stop code parts 2 old t s) result.2
-      (comes_go map_of pool functions depth stop code parts 2 old (record { frames = placed_entered result.0 ∷ fs; registers = passed 0 words; shared = world }) s gets.after (words_of_jump forms.jumps) gets.done.leads
+      (comes_go map_of pool functions depth stop code parts 2 old (record { frames = placed_entered result.0 ∷ fs; registers = passed 0 words; shared = world }) s gets.after (words_of_jump forms.jumps) (walks_done gets.done)
       (runs_on map_of pool functions depth stop code parts (record { frames = f ∷ fs; registers = known; shared = world }) world.cells s gets.after (placed_entered result.0 ∷ fs) (passed 0 words) (value s.registers 2) running gets.done refl running.room
       (gets.done.kept 2 ((λ e. cc), ((λ e. cc), tt))) (inside, (λ k w none. cc), tt, stand.3)
       (agrees_done s gets.after (passed 0 words) gets.done (refl, (refl, tt)) (passed_agree (TailCall g) args words (λ k place is_one. is_one) fit.0 words_are))
@@ -194,12 +196,13 @@ module _ {map_of : Map} {pool : Pool} {functions : List PlacedLines} {depth buff
   full_comes g callee entry function calls full =
       let word = running.rests.stands.aligned entry _ function.entry.sets in
       let full_at = ground.stack_full in
-      let called = jump_to ground.below running.rests.stands forms.jumps s.pc refl ra entry calls word in
+      let called = jump_to pool.cells ground.below running.rests.stands forms.jumps s.pc refl ra entry calls word in
       let last : value called.after.registers 2 ≡ map_of.bottom = called.done.kept 2 ((λ e. cc), ((λ e. cc), tt)) ∙ sp_last ground f fs known world s running full in
-      let goes = entry_full ground.below called.done.stands map_of entry called.done.pc_is function.entry full_at.0 full_at.1 (symbol_word full_at.0 full_at.1) last in
+      let goes = entry_full pool.cells ground.below called.done.stands map_of entry called.done.pc_is function.entry full_at.0 full_at.1 (symbol_word full_at.0 full_at.1) last in
       let done = done_then called.done goes.done in
-      let exits = full_at.2 goes.after (record { stands = done.stands; pc_is = done.pc_is }) in
+      let exits = full_at.2 goes.after (record { stands = stands_part ground.own_part done.stands; pc_is = done.pc_is }) in
       comes_ended map_of pool functions depth stop code parts 7 old (primitives map_of.constants pool).stack_full world s (words_of_jump forms.jumps + (1 + words_of_branch map_of.jumps Far) + 3) (record { processor = exits.last; ending = exited 102 }) (exit_runs s goes.after done.leads exits)
+      (passes_to_exit ground done exits)
       (refl, exits.trace ∙ (done.trace_is ∙ running.trace), (links_of map_of (value s.registers 2) (f ∷ fs), cells_ended (cells_done running.cells (roots_done done refl) (done.memory_is ∙ called.done.memory_is)) exits))
       (omega arith) (omega (arith, jump_most forms.jumps, jump_most map_of.jumps))
     where
@@ -235,8 +238,8 @@ module _ {map_of : Map} {pool : Pool} {functions : List PlacedLines} {depth buff
       let stand = running.frames in
       let word = running.rests.stands.aligned entry _ function.entry.sets in
       let full_at = ground.stack_full in
-      let called = jump_to ground.below running.rests.stands forms.jumps s.pc refl ra entry calls word in
-      let last = jump_last ground.below forms.jumps s.pc ra entry calls in
+      let called = jump_to pool.cells ground.below running.rests.stands forms.jumps s.pc refl ra entry calls word in
+      let last = jump_last pool.cells ground.below forms.jumps s.pc ra entry calls in
       let base = value s.registers 2 - map_of.frame in
       let sp = value s.registers 2 in
       let low = sp_room ground f fs known world s running room in
@@ -247,14 +250,15 @@ module _ {map_of : Map} {pool : Pool} {functions : List PlacedLines} {depth buff
       let sp_is : value called.after.registers 2 ≡ base + map_of.frame = called.done.kept 2 ((λ e. cc), ((λ e. cc), tt)) ∙ base_is in
       let base_words : base % 4 ≡ 0 = (let a = sp_word ground f fs known world s running in let b = ground.frame_words in omega arith) in
       let allowed : can_store parts base 4 ≡ true = ground.stores base (omega arith) (omega arith) base_words in
-      let takes = entry_takes ground.below called.done.stands map_of entry called.done.pc_is function.entry full_at.0 full_at.1 base (s.pc + 4 * words_of_jump forms.jumps) sp_is (called.value_is (λ e. cc)) (omega arith) ground.small_frame (omega arith) base_words
-      (rw (called.done.parts_are, running.rests.parts_are) allowed) in
+      let takes = entry_takes pool.cells ground.below called.done.stands map_of entry called.done.pc_is function.entry full_at.0 full_at.1 base (s.pc + 4 * words_of_jump forms.jumps) sp_is (called.value_is (λ e. cc)) (omega arith) ground.small_frame (omega arith) base_words
+      (rw (called.done.parts_are, running.rests.parts_are) allowed)
+      (misses_done base called.done ((λ e. cc), ((λ e. cc), tt)) ((λ e. cc), ((λ e. cc), tt)) ((λ e. cc), ((λ e. cc), tt)) (behind_misses running.cells base (let under = ground.cells_below in omega arith))) in
       let done = done_as {changed' = 1 ∷ 1 ∷ 5 ∷ 2 ∷ []} (done_then called.done takes.done) (ap (λ m. with_number base 4 (s.pc + 4 * words_of_jump forms.jumps) m) called.done.memory_is) refl (λ x out. out) in
       let after : PlacedState World = record { frames = placed_entered callee ∷ record left_behind { into = awaited into } ∷ fs; registers = passed 0 words; shared = world } in
       let waiting : FramesAt map_of code (most_lines functions) stop (stack_end map_of depth) s.memory (s.pc + 4 * words_of_jump forms.jumps) (base + map_of.frame) (record left_behind { into = awaited into } ∷ fs) =
       subst (λ b. FramesAt map_of code (most_lines functions) stop (stack_end map_of depth) s.memory (s.pc + 4 * words_of_jump forms.jumps) b (record left_behind { into = awaited into } ∷ fs)) base_is
       (is_behind (s.pc + 4 * words_of_jump forms.jumps) refl (omega arith), stand.1, awaits_first g into gives, stand.3) in
-      comes_go map_of pool functions depth stop code parts 7 old after s takes.after (words_of_jump forms.jumps + 4) done.leads
+      comes_go map_of pool functions depth stop code parts 7 old after s takes.after (words_of_jump forms.jumps + 4) (walks_done done)
       (runs_on map_of pool functions depth stop code parts (record { frames = f ∷ fs; registers = known; shared = world }) world.cells s takes.after after.frames (passed 0 words) base running done
       (constants_kept ground f fs known world s running base (s.pc + 4 * words_of_jump forms.jumps) allowed) room takes.base_is
       (frames_pushed map_of code (most_lines functions) stop (stack_end map_of depth) ground.some_frame s.memory base (s.pc + 4 * words_of_jump forms.jumps) (entry + 4 * entry_words map_of.jumps) (placed_entered callee) (record left_behind { into = awaited into } ∷ fs) (omega arith)
@@ -302,7 +306,7 @@ module _ {map_of : Map} {pool : Pool} {functions : List PlacedLines} {depth buff
   way_fits memory way base (g ∷ gs) stand = (stand.0.at_word, stand.0.below)
 
   back : (fs : List (Frame PlacedLine)) → Running map_of pool functions depth stop code parts (state_of fs) s
-      → Shifts code 3 (1 ∷ 2 ∷ 0 ∷ []) s.memory (value s.registers 2 + map_of.frame) (number_at s.memory (value s.registers 2) 4) s
+      → Shifts pool.cells code 3 (1 ∷ 2 ∷ 0 ∷ []) s.memory (value s.registers 2 + map_of.frame) (number_at s.memory (value s.registers 2) 4) s
   back fs running =
       let sp = value s.registers 2 in
       let fits = way_fits s.memory (number_at s.memory sp 4) (sp + map_of.frame) fs running.frames.3 in
@@ -311,14 +315,16 @@ module _ {map_of : Map} {pool : Pool} {functions : List PlacedLines} {depth buff
       let some = ground.some_frame in
       let range = ground.in_range in
       let word = sp_word ground f fs known world s running in
-      return_goes ground.below running.rests.stands map_of s.pc refl returns sp (number_at s.memory sp 4) refl refl fits.0 fits.1 (omega arith) word (rw running.rests.parts_are (ground.loads sp low (omega arith) word))
+      return_goes pool.cells ground.below running.rests.stands map_of s.pc refl returns sp (number_at s.memory sp 4) refl refl fits.0 fits.1 (omega arith) word (rw running.rests.parts_are (ground.loads sp low (omega arith) word))
+      (behind_misses running.cells sp (let under = ground.cells_below in omega arith))
 
   return_last : Running map_of pool functions depth stop code parts (state_of []) s → Comes map_of pool functions depth stop code parts 3 old (ended (primitives map_of.constants pool).finished world) s
   return_last running =
       let goes = back [] running in
       let at_stop : goes.after.pc ≡ stop = goes.done.pc_is ∙ running.frames.3.0 in
-      let exits = ground.ends goes.after (record { stands = goes.done.stands; pc_is = at_stop }) in
+      let exits = ground.ends goes.after (record { stands = stands_part ground.own_part goes.done.stands; pc_is = at_stop }) in
       comes_ended map_of pool functions depth stop code parts 3 old (primitives map_of.constants pool).finished world s 6 (record { processor = exits.last; ending = exited 0 }) (exit_runs s goes.after goes.done.leads exits)
+      (passes_to_exit ground goes.done exits)
       (refl, exits.trace ∙ (goes.done.trace_is ∙ running.trace), (links_of map_of (value s.registers 2) (f ∷ []), cells_ended (cells_done running.cells (roots_done goes.done refl) goes.done.memory_is) exits)) (omega arith) (omega arith)
 
   return_to : f.held ≡ [] → (g : Frame PlacedLine) (gs : List (Frame PlacedLine)) (running : Running map_of pool functions depth stop code parts (state_of (g ∷ gs)) s) (known' : ℕ → Option ℕ)
@@ -326,7 +332,7 @@ module _ {map_of : Map} {pool : Pool} {functions : List PlacedLines} {depth buff
   return_to free g gs running known' agrees =
       let goes = back (g ∷ gs) running in
       let room : length (g ∷ gs) ≤ depth = (let all = running.room in omega arith) in
-      comes_go map_of pool functions depth stop code parts 3 old (record { frames = g ∷ gs; registers = known'; shared = world }) s goes.after 3 goes.done.leads
+      comes_go map_of pool functions depth stop code parts 3 old (record { frames = g ∷ gs; registers = known'; shared = world }) s goes.after 3 (walks_done goes.done)
       (runs_on map_of pool functions depth stop code parts (state_of (g ∷ gs)) world.cells s goes.after (g ∷ gs) known' (value s.registers 2 + map_of.frame) running goes.done refl room goes.base_is running.frames.3
       (agrees goes.after (goes.done.kept 10 ((λ e. cc), ((λ e. cc), ((λ e. cc), tt)))))
       (subst (λ links. HoldsCells pool world.cells links goes.after) (ap (λ held. links_in (value s.registers 2) f.cells held (links_of map_of (value s.registers 2 + map_of.frame) (g ∷ gs))) free) (cells_done running.cells (roots_done goes.done refl) goes.done.memory_is))) (omega arith) (omega arith)

@@ -48,8 +48,8 @@ handed_own x handed =
     (or_from (x == 9) _ (ne_eqb x 9 (handed_apart x 9 refl handed))
     (or_from (x == 18) _ (ne_eqb x 18 (handed_apart x 18 refl handed)) (ne_eqb x 19 (handed_apart x 19 refl handed))))
 
-pub roots_done : {code : Code} {n : ℕ} {changed : List ℕ} {memory : ℕ → ℕ} {next : ℕ} {s u : Processor}
-    → Done code n changed memory next s u → list_any is_own changed ≡ false → SameRoots s u
+pub roots_done : {cells : ℕ} {code : Code} {n : ℕ} {changed : List ℕ} {memory : ℕ → ℕ} {next : ℕ} {s u : Processor}
+    → Done cells code n changed memory next s u → list_any is_own changed ≡ false → SameRoots s u
 roots_done {changed = changed} done none = record {
   parts = done.parts_are;
   chain = done.kept 8 (outside_own 8 refl changed none);
@@ -66,8 +66,8 @@ cells_done holds roots same =
     (record { same = λ slot some. ap (λ m. number_at m slot 4) same })
 
 -- at an exit the cells are as before
-pub cells_ended : {pool : Pool} {cells : Cells} {links : List Link} {number count : ℕ} {u : Processor}
-    → HoldsCells pool cells links u → (exits : Exits number count u) → HoldsCells pool cells links exits.last
+pub cells_ended : {pool : Pool} {cells : Cells} {links : List Link} {code : Code} {number count : ℕ} {u : Processor}
+    → HoldsCells pool cells links u → (exits : Exits code number count u) → HoldsCells pool cells links exits.last
 cells_ended holds exits =
     cells_done holds (record {
       parts = exits.parts;

@@ -37,10 +37,12 @@ use Rattle.rv_place.specs.Lines.{Map, register_into, MovesBy, ActsAt}
 use Rattle.rv_place.specs.declared.reach.Forms.{Forms}
 use Rattle.rv_place.specs.Grounds.{Ground, stack_end}
 use Rattle.rv_place.specs.Running.{IsHandedOut, GivesHandedOut, most_lines, IsIn, links_of, Running}
-use Rattle.rv_place.proofs.RunningExecuting.{Gets, addi_row, plain_gets, load_gets, store_goes}
+use Rattle.rv_place.proofs.RunningExecuting.{MissesFree, Gets, addi_row, plain_gets, load_gets, store_goes}
+use Rattle.rv_place.proofs.RunningFree.{behind_misses}
 use Rattle.rv_place.proofs.RunningFrames.{handed_apart, agrees_kept, frames_put}
 use Rattle.rv_place.proofs.RunningLinks.{is_own, handed_own, roots_done, links_put, slots_apart}
 use Rattle.rv_place.proofs.RunningWords.{words_in, in_registers, Computed, computes}
+use Rattle.rv_place.proofs.RunningInside.{walks_done}
 use Rattle.rv_place.proofs.RunningComes.{or_stuck_some, Comes, comes_go, comes_idle, runs_on, agrees_got, sp_low, sp_word, sp_high, constants_kept, stays}
 
 -- a slot is a word of the stack
@@ -125,6 +127,13 @@ module _ {map_of : Map} {pool : Pool} {functions : List PlacedLines} {depth buff
         let word = sp_word ground f fs known world s running in
         ground.stores (value s.registers 2 + slot_offset k) (omega arith) (omega arith) (slot_word (value s.registers 2) k word)
 
+    -- it lies behind the cells
+    slot_misses : (k : ℕ) → MissesFree pool.cells s (value s.registers 2 + slot_offset k)
+    slot_misses k =
+        let low = sp_low ground f fs known world s running in
+        let under = ground.cells_below in
+        behind_misses running.cells (value s.registers 2 + slot_offset k) (omega arith)
+
     -- a word was stored in a slot that holds no held token
     slot_stored : (k : ℕ) (word : Option ℕ) (v : ℕ) → slot_offset k + 4 ≤ map_of.frame → is_among k f.held ≡ false → (u : Processor) → SameRoots s u → u.memory ≡ with_number (value s.registers 2 + slot_offset k) 4 v s.memory
         → HoldsCells pool world.cells (links_of map_of (value s.registers 2) (record behind { cells = put k word f.cells } ∷ fs)) u
@@ -138,7 +147,7 @@ module _ {map_of : Map} {pool : Pool} {functions : List PlacedLines} {depth buff
         (record { same = λ slot some. ap (λ m. number_at m slot 4) stored ∙ word-apart (base + slot_offset k) v s.memory slot (slots_apart map_of base k f fs inside unheld slot some) }))
 
     -- a register gets what a place holds
-    got_stays : (rd : Register) (w : Option ℕ) (word : ℕ) → Gets code 1 (rd.number ∷ []) rd.number word (s.pc + 4) s → s.pc + 4 < 2 ^ 32 → is_handed_out rd.number ≡ true → ((v : ℕ) → w ≡ Some v → (word ≡ v) × (v < 2 ^ 32))
+    got_stays : (rd : Register) (w : Option ℕ) (word : ℕ) → Gets pool.cells code 1 (rd.number ∷ []) rd.number word (s.pc + 4) s → s.pc + 4 < 2 ^ 32 → is_handed_out rd.number ≡ true → ((v : ℕ) → w ≡ Some v → (word ≡ v) × (v < 2 ^ 32))
         → Comes map_of pool functions depth stop code parts 1 old (placed_goes behind fs (put rd.number w known) world) s
     got_stays rd w word gets fits handed new =
         stays ground f fs known world s running 1 old gets.after rest (put rd.number w known) gets.done ((λ e. handed_apart rd.number 2 refl handed (sym e)), tt) (or_from (is_own rd.number) false (handed_own rd.number handed) refl) (is_in f.cells (s.pc + 4) refl fits)
@@ -147,13 +156,13 @@ module _ {map_of : Map} {pool : Pool} {functions : List PlacedLines} {depth buff
     pub follow_move : (way : Way) → MovesBy map_of code s.pc way → IsHandedOut (to_of way) → is_held f.held (to_of way) ≡ false
         → Comes map_of pool functions depth stop code parts 1 old (placed_writes (to_of way) (read_at known f.cells (from_of way)) behind fs known world) s
     follow_move (Copy from to) (imm, none, here) handed unheld =
-        got_stays to (known from.number) (sum_word (value s.registers from.number) imm.word) (plain_gets ground.below running.rests.stands refl (addi_row to from imm) here) (ground.below s.pc (Instr.Addi to from imm) here) handed
+        got_stays to (known from.number) (sum_word (value s.registers from.number) imm.word) (plain_gets pool.cells ground.below running.rests.stands refl (addi_row to from imm) here) (ground.below s.pc (Instr.Addi to from imm) here) handed
         (copied from.number imm.word none)
     follow_move (Load from to) (offset, offset_is, here) handed unheld =
         let address = slot_address from offset.word offset_is.0 offset_is.1 in
         let word = slot_word (value s.registers 2) from (sp_word ground f fs known world s running) in
-        let gets = load_gets ground.below running.rests.stands refl {rd = to} {base = sp} {offset = offset} {address = value s.registers 2 + slot_offset from} {word = number_at s.memory (value s.registers 2 + slot_offset from) 4}
-        here address word (slot_loads from offset_is.1) refl in
+        let gets = load_gets pool.cells ground.below running.rests.stands refl {rd = to} {base = sp} {offset = offset} {address = value s.registers 2 + slot_offset from} {word = number_at s.memory (value s.registers 2 + slot_offset from) 4}
+        here address word (slot_loads from offset_is.1) refl (slot_misses from) in
         got_stays to (f.cells from) (number_at s.memory (value s.registers 2 + slot_offset from) 4) gets (ground.below s.pc (Instr.Lw to sp offset) here) handed
         (λ v is. let holds = running.frames.1 from v is in (holds.1, holds.2))
     follow_move (Store from to) (offset, offset_is, here) handed unheld =
@@ -161,10 +170,10 @@ module _ {map_of : Map} {pool : Pool} {functions : List PlacedLines} {depth buff
         let word = slot_word (value s.registers 2) to (sp_word ground f fs known world s running) in
         let allowed = slot_stores to offset_is.1 in
         let base = value s.registers 2 in
-        let goes = store_goes ground.below running.rests.stands refl {base = sp} {from = from} {offset = offset} {address = value s.registers 2 + slot_offset to} {word = value s.registers from.number}
-        here address refl word (rw running.rests.parts_are allowed) in
+        let goes = store_goes pool.cells ground.below running.rests.stands refl {base = sp} {from = from} {offset = offset} {address = value s.registers 2 + slot_offset to} {word = value s.registers from.number}
+        here address refl word (rw running.rests.parts_are allowed) (slot_misses to) in
         let after : PlacedState World = record { frames = record behind { cells = put to (known from.number) f.cells } ∷ fs; registers = known; shared = world } in
-        comes_go map_of pool functions depth stop code parts 1 old after s goes.after 1 goes.done.leads
+        comes_go map_of pool functions depth stop code parts 1 old after s goes.after 1 (walks_done goes.done)
         (runs_on map_of pool functions depth stop code parts (record { frames = f ∷ fs; registers = known; shared = world }) world.cells s goes.after after.frames known base running goes.done
         (constants_kept ground f fs known world s running (base + slot_offset to) (value s.registers from.number) allowed) running.room (goes.done.kept 2 tt)
         (frames_put map_of code (most_lines functions) stop (stack_end map_of depth) ground.some_frame s.memory base to (value s.registers from.number) s.pc (s.pc + 4) (known from.number) f (record behind { cells = put to (known from.number) f.cells }) fs
@@ -177,7 +186,7 @@ module _ {map_of : Map} {pool : Pool} {functions : List PlacedLines} {depth buff
 
   module _ (old : ℕ) (operation : Operation) (is_in : (next : ℕ) → s.pc + 4 * words_of_operation operation ≡ next → next < 2 ^ 32 → IsIn map_of code (most_lines functions) next behind) where
     pub gives_word : (into : Option Operand) (word : ℕ) → gives_into (Compute operation) into ≡ true → GivesHandedOut into
-        → ((rd : Register) → register_into into ≡ Some rd → Computed ground.below running.rests.stands map_of.constants s.pc refl rd operation word)
+        → ((rd : Register) → register_into into ≡ Some rd → Computed pool.cells ground.below running.rests.stands map_of.constants s.pc refl rd operation word)
         → Comes map_of pool functions depth stop code parts (operation_instructions operation) old (placed_gives into word behind fs known world) s
     gives_word None word gives handed computed =
         let result = computed zero_register refl in
@@ -210,4 +219,4 @@ module _ {map_of : Map} {pool : Pool} {functions : List PlacedLines} {depth buff
         let gives : placed_gives into word.0 behind fs known world ≡ turn = subst (λ (r : ℕ × World). placed_gives into r.0 behind fs known r.1 ≡ turn) (sym word.2) result.2 in
         let word_is : computed map_of.constants operation (words_in s.registers values.rs) ≡ Some word.0 = ap (computed map_of.constants operation) (sym values.words_are) ∙ word.1 in
         subst (λ t. Comes map_of pool functions depth stop code parts (operation_instructions operation) old t s) gives
-        (gives_word into word.0 fit.1 handed (λ rd into_is. computes ground.below running.rests.stands map_of.constants s.pc refl rd operation values.rs word.0 values.fit word_is (here values.rs rd values.rs_are into_is)))
+        (gives_word into word.0 fit.1 handed (λ rd into_is. computes pool.cells ground.below running.rests.stands map_of.constants s.pc refl rd operation values.rs word.0 values.fit word_is (here values.rs rd values.rs_are into_is)))

@@ -25,11 +25,9 @@ use Rattle.rv_isa.specs.Frames.{Frame, put, all_of, top, top_taken}
 use Rattle.rv_isa.specs.PlacedMachine.{PlacedTurn, read_at, kept_by, passed, placed_goes, placed_gives, placed_writes, placed_answered, placed_served, placed_acts}
 use Rattle.rv_isa.specs.Bytes.{bytes_at, number_at}
 use Rattle.rv_isa.specs.Processor.{Processor, Ending, exited, value, can_store}
-use Rattle.rv_isa.specs.Execution.{Leads}
 use Rattle.rv_isa.specs.Standing.{Code}
 use Rattle.rv_isa.proofs.Bytes.{length-bytes_at, bytes_at-same}
 use Rattle.rv_isa.proofs.Memory.{bytes_at-add, number_at-same}
-use Rattle.rv_isa.proofs.Runs.{Leads-then}
 use Rattle.rv_isa.proofs.Standing.{Stands-leads}
 use Rattle.cell_heap.specs.Cells.{counted}
 use Rattle.cell_heap.specs.Pool.{end_of, IsCell, places}
@@ -60,6 +58,7 @@ use Rattle.rv_place.specs.Lines.{Map, IsSymbolAt, ActsAt}
 use Rattle.rv_place.specs.Grounds.{Ground, stack_end, constant_bytes}
 use Rattle.rv_place.specs.Running.{most_lines, IsIn, FramesAt, links_of, Agrees, Running}
 use Rattle.rv_place.proofs.RunningExecuting.{Gets}
+use Rattle.rv_place.proofs.RunningInside.{Walks, walks_done, walks_then, stands_part, returns_walk, passes_to_exit}
 use Rattle.rv_place.proofs.RunningLines.{jump_some, jump_most}
 use Rattle.rv_place.proofs.RunningRows.{jump_to, jump_last}
 use Rattle.rv_place.proofs.RunningFrames.{handed_apart, agrees_put, frames_kept}
@@ -152,26 +151,26 @@ module _ {map_of : Map} {pool : Pool} {functions : List PlacedLines} {depth buff
   symbol_word name target (before, place, is) = let word = ground.runtime_word in omega arith
 
   way_below : (target : ℕ) → CallsTo forms.jumps code s.pc target → s.pc + 4 * words_of_jump forms.jumps < 2 ^ 32
-  way_below target calls = jump_last ground.below forms.jumps s.pc ra target calls
+  way_below target calls = jump_last pool.cells ground.below forms.jumps s.pc ra target calls
 
   -- the state in which a routine begins
   pub record Begins (target : ℕ) : Type 0 where
-    pub called : Gets code (words_of_jump forms.jumps) (1 ∷ 1 ∷ []) 1 (s.pc + 4 * words_of_jump forms.jumps) target s
-    pub is_at : IsAt code target called.after
+    pub called : Gets pool.cells code (words_of_jump forms.jumps) (1 ∷ 1 ∷ []) 1 (s.pc + 4 * words_of_jump forms.jumps) target s
+    pub is_at : IsAt ground.own target called.after
     pub way_back : HasWayBack called.after
     pub way_fits : s.pc + 4 * words_of_jump forms.jumps < 2 ^ 32
     pub same : (x : ℕ) → x ≢ 1 → value called.after.registers x ≡ value s.registers x
 
   begins : (name : Symbol) (target : ℕ) → IsSymbolAt map_of name target → CallsTo forms.jumps code s.pc target → Begins target
   begins name target there calls =
-      let called = jump_to ground.below running.rests.stands forms.jumps s.pc refl ra target calls (symbol_word name target there) in
+      let called = jump_to pool.cells ground.below running.rests.stands forms.jumps s.pc refl ra target calls (symbol_word name target there) in
       let way = called.value_is (λ e. cc) in
       let fits = way_below target calls in
       let word = running.frames.0.at_word in
       let behind_word : (s.pc + 4 * words_of_jump forms.jumps) % 4 ≡ 0 = omega arith in
       record {
         called = called;
-        is_at = record { stands = called.done.stands; pc_is = called.done.pc_is };
+        is_at = record { stands = stands_part ground.own_part called.done.stands; pc_is = called.done.pc_is };
         way_back = record { aligned = rw way behind_word; in_range = rw way fits };
         way_fits = fits;
         same = λ x apart. called.done.kept x (apart, (apart, tt));
@@ -179,21 +178,21 @@ module _ {map_of : Map} {pool : Pool} {functions : List PlacedLines} {depth buff
 
   -- the state in which a routine is back
   pub record Back (routine : Called) (count : ℕ) (t : Processor) : Type 0 where
-    pub leads : Leads (words_of_jump forms.jumps + count) s t
+    pub walks : Walks map_of pool (words_of_jump forms.jumps + count) s t
     pub pc_is : t.pc ≡ s.pc + 4 * words_of_jump forms.jumps
     pub parts_are : t.parts ≡ s.parts
     pub kept : (x : ℕ) → x ≢ 1 → is_own x ≡ false → is_spoilt_by routine x ≡ false → value t.registers x ≡ value s.registers x
 
-  back : (routine : Called) → {target : ℕ} (start : Begins target) (count : ℕ) (t : Processor) → Returns (symbol.Routine routine) count start.called.after t → Back routine count t
+  back : (routine : Called) → {target : ℕ} (start : Begins target) (count : ℕ) (t : Processor) → Returns ground.own (symbol.Routine routine) count start.called.after t → Back routine count t
   back routine start count t returns = record {
-    leads = Leads-then start.called.done.leads returns.leads;
+    walks = walks_then (walks_done start.called.done) (returns_walk ground returns);
     pc_is = returns.back ∙ start.called.value_is (λ e. cc);
     parts_are = returns.parts ∙ start.called.done.parts_are;
     kept = λ x apart own spoilt. returns.registers x (outside_both x (own_of routine) (spoilt_by routine) (outside_own_of routine x own) (outside_spoilt x (spoilt_by routine) spoilt)) ∙ start.same x apart;
   }
 
   -- one that changes no register of the runtime
-  roots_back : (routine : Called) → own_of routine ≡ [] → list_any is_own (spoilt_by routine) ≡ false → {target : ℕ} (start : Begins target) (count : ℕ) (t : Processor) → Returns (symbol.Routine routine) count start.called.after t → SameRoots s t
+  roots_back : (routine : Called) → own_of routine ≡ [] → list_any is_own (spoilt_by routine) ≡ false → {target : ℕ} (start : Begins target) (count : ℕ) (t : Processor) → Returns ground.own (symbol.Routine routine) count start.called.after t → SameRoots s t
   roots_back routine none free start count t returns = record {
     parts = returns.parts ∙ start.called.done.parts_are;
     chain = returns.registers 8 (outside 8 refl) ∙ start.same 8 (λ e. cc);
@@ -242,9 +241,9 @@ module _ {map_of : Map} {pool : Pool} {functions : List PlacedLines} {depth buff
       frames_kept map_of code (most_lines functions) stop (stack_end map_of depth) ground.some_frame s.memory t.memory (s.pc + 4 * words_of_jump forms.jumps) sp (behind ∷ fs)
       (λ x above high. number_at-same t.memory s.memory x 4 (λ y from below. memory y (inr (omega arith)))) waiting in
       let at_pc = subst (λ a. FramesAt map_of code (most_lines functions) stop (stack_end map_of depth) t.memory a sp (behind ∷ fs)) (sym back.pc_is) frames in
-      comes_go map_of pool functions depth stop code parts most old (record { frames = behind ∷ fs; registers = known'; shared = world' }) s t (words_of_jump forms.jumps + count) back.leads (record {
+      comes_go map_of pool functions depth stop code parts most old (record { frames = behind ∷ fs; registers = known'; shared = world' }) s t (words_of_jump forms.jumps + count) back.walks (record {
         rests = record {
-          stands = Stands-leads back.leads running.rests.stands;
+          stands = Stands-leads back.walks.leads running.rests.stands;
           parts_are = back.parts_are ∙ running.rests.parts_are;
           constants = constants_same (ground.constants_kept buffer buffer_bytes ground.buffer_stores (lit< tt)) ∙ running.rests.constants;
         };
@@ -420,7 +419,7 @@ module _ {map_of : Map} {pool : Pool} {functions : List PlacedLines} {depth buff
         by None gives is = subst (λ u. Comes map_of pool functions depth stop code parts 12 old u s) is (comes (kept_by (Routine ReadByte) known) kept)
         by (Some o) gives is = at_place o.place gives is
 
-    read_by : (input_left : List ℕ) (start : Begins ground.read_byte.0) (t : Processor) → TakesNext input_left start.called.after t → s.left ≡ input_left → KeepsOutside buffer buffer_bytes s t → gives_into (Routine ReadByte) into ≡ true
+    read_by : (input_left : List ℕ) (start : Begins ground.read_byte.0) (t : Processor) → TakesNext ground.own input_left start.called.after t → s.left ≡ input_left → KeepsOutside buffer buffer_bytes s t → gives_into (Routine ReadByte) into ≡ true
         → placed_served into (behind ∷ fs) (kept_by (Routine ReadByte) known) (read_next input_left world) ≡ turn → Comes map_of pool functions depth stop code parts 12 old turn s
     read_by [] start t takes left_is memory gives is =
         let back_at = back ReadByte start 9 t takes.0 in
@@ -449,7 +448,7 @@ module _ {map_of : Map} {pool : Pool} {functions : List PlacedLines} {depth buff
           loaded = rw on_parts ground.byte_loads;
         }) in
         let left_is : c.left ≡ world.left = start.called.done.left_is ∙ running.left in
-        read_by world.left start taken.0 (subst (λ left. TakesNext left c taken.0) left_is taken.1.takes) running.left (keeps_from 1 c taken.0 (omega arith) start.called.done.memory_is taken.1.memory) gives is
+        read_by world.left start taken.0 (subst (λ left. TakesNext ground.own left c taken.0) left_is taken.1.takes) running.left (keeps_from 1 c taken.0 (omega arith) start.called.done.memory_is taken.1.memory) gives is
 
     read_byte_words : (words : List ℕ) (held : Option ℕ) → CallsTo forms.jumps code s.pc ground.read_byte.0 → gives_into (Routine ReadByte) into ≡ true
         → placed_served into (behind ∷ fs) (kept_by (Routine ReadByte) known) (served map_of.constants pool ReadByte words held world) ≡ turn → Comes map_of pool functions depth stop code parts 12 old turn s
@@ -484,9 +483,9 @@ module _ {map_of : Map} {pool : Pool} {functions : List PlacedLines} {depth buff
         let base_is : value t.registers 2 ≡ value s.registers 2 = back.kept 2 (λ e. cc) refl keeps in
         let room = running.room in
         let at_pc = subst (λ a. FramesAt map_of code (most_lines functions) stop (stack_end map_of depth) t.memory a (value s.registers 2) frames) (sym back.pc_is) stand in
-        comes_go map_of pool functions depth stop code parts most old (record { frames = frames; registers = known'; shared = with_cells world next }) s t (words_of_jump forms.jumps + count) back.leads (record {
+        comes_go map_of pool functions depth stop code parts most old (record { frames = frames; registers = known'; shared = with_cells world next }) s t (words_of_jump forms.jumps + count) back.walks (record {
           rests = record {
-            stands = Stands-leads back.leads running.rests.stands;
+            stands = Stands-leads back.walks.leads running.rests.stands;
             parts_are = back.parts_are ∙ running.rests.parts_are;
             constants = constants ∙ running.rests.constants;
           };
@@ -554,7 +553,7 @@ module _ {map_of : Map} {pool : Pool} {functions : List PlacedLines} {depth buff
             (λ known' agrees. cells_come 10 next t (g ∷ gs) known' back_at refl (omega arith) stand size constants trace left agrees holds) into gives is
 
     -- there is no cell
-    take_full : (start : Begins ground.take.0) → IsFull pool (view_of world.cells links_here) → Exits 101 6 start.called.after
+    take_full : (start : Begins ground.take.0) → IsFull pool (view_of world.cells links_here) → Exits ground.own 101 6 start.called.after
         → placed_served into (behind ∷ fs) (kept_by (Routine Take) known) (takes_cell (request pool (top (f ∷ fs)) world.cells) world) ≡ turn → Comes map_of pool functions depth stop code parts 10 old turn s
     take_full start full exits is =
         let done = start.called.done in
@@ -563,6 +562,7 @@ module _ {map_of : Map} {pool : Pool} {functions : List PlacedLines} {depth buff
         let asked : request pool (top (f ∷ fs)) world.cells ≡ None = ap (λ newest. request pool newest world.cells) none ∙ no_cell pool world.cells full.chain test in
         subst (λ t. Comes map_of pool functions depth stop code parts 10 old t s) (ap (λ r. placed_served into (behind ∷ fs) (kept_by (Routine Take) known) (takes_cell r world)) (sym asked) ∙ is)
         (comes_ended map_of pool functions depth stop code parts 10 old (exited 101) world s (words_of_jump forms.jumps + 6) (record { processor = exits.last; ending = exited 101 }) (exit_runs s start.called.after done.leads exits)
+        (passes_to_exit ground done exits)
         (refl, exits.trace ∙ (done.trace_is ∙ running.trace), (links_here, cells_ended (cells_begin start) exits)) (omega arith) (omega (arith, jump_most forms.jumps)))
 
     take_case : (start : Begins ground.take.0) (t : Processor) (cell count : ℕ) (slot_lost : Option ℕ) → Back Take count t → count ≤ 8 → IsCell pool cell → value t.registers 10 ≡ cell → EmptiesSlot slot_lost start.called.after t

@@ -22,12 +22,12 @@ use Rattle.rv_place.specs.Instructions.{branch_instruction, opposite, Zero, Load
 use Rattle.rv_place.specs.declared.reach.Reach.{Reach}
 use Rattle.rv_place.specs.declared.reach.Reach.TheVariants.{Near, Far}
 use Rattle.rv_place.specs.Lines.{Map, IsSymbolAt, ReturnsFrom, EntersAt}
-use Rattle.rv_place.proofs.RunningExecuting.{addi_row, lui_row, branch_effect, Done, Gets, Goes, done_then, done_as, done_on, target_of, next_is, plain_gets, load_gets, store_goes, jump_gets, branch_goes, opposite_compares, near_gets}
+use Rattle.rv_place.proofs.RunningExecuting.{addi_row, lui_row, branch_effect, MissesFree, Done, Gets, Goes, misses_done, done_then, done_as, done_on, target_of, next_is, plain_gets, load_gets, store_goes, jump_gets, branch_goes, opposite_compares, near_gets}
 
 -- instructions that leave a word in the stack pointer
-pub record Shifts (code : Code) (steps : ℕ) (changed : List ℕ) (memory : ℕ → ℕ) (base next : ℕ) (s : Processor) : Type 0 where
+pub record Shifts (cells : ℕ) (code : Code) (steps : ℕ) (changed : List ℕ) (memory : ℕ → ℕ) (base next : ℕ) (s : Processor) : Type 0 where
   pub after : Processor
-  pub done : Done code steps changed memory next s after
+  pub done : Done cells code steps changed memory next s after
   pub base_is : value after.registers 2 ≡ base
 
 shifted : (base frame : ℕ) → frame ≤ 2044 → base + frame < 2 ^ 32 → sum_word (base + frame) (2 ^ 32 - frame) ≡ base
@@ -36,11 +36,11 @@ shifted base frame small below = omega arith
 same_address : (base : ℕ) → base < 2 ^ 32 → sum_word base 0 ≡ base
 same_address base below = omega arith
 
-module _ {code : Code} (below : (at : ℕ) (i : Instr) → code at ≡ Some i → at + 4 < 2 ^ 32) where
-  pub word_gets : {s : Processor} → Stands code s → (at : ℕ) → s.pc ≡ at → (rd : Register) (word : ℕ) → LoadsWord code at rd word → Gets code 2 (rd.number ∷ []) rd.number word (at + 8) s
+module _ (cells : ℕ) {code : Code} (below : (at : ℕ) (i : Instr) → code at ≡ Some i → at + 4 < 2 ^ 32) where
+  pub word_gets : {s : Processor} → Stands code s → (at : ℕ) → s.pc ≡ at → (rd : Register) (word : ℕ) → LoadsWord code at rd word → Gets cells code 2 (rd.number ∷ []) rd.number word (at + 8) s
   word_gets stands at pc_is rd word (upper, lower, sum, has) =
-      let first = plain_gets below stands pc_is (lui_row rd upper) has.0 in
-      let second = plain_gets below first.done.stands first.done.pc_is (addi_row rd rd lower) has.1.0 in
+      let first = plain_gets cells below stands pc_is (lui_row rd upper) has.0 in
+      let second = plain_gets cells below first.done.stands first.done.pc_is (addi_row rd rd lower) has.1.0 in
       record {
         after = second.after;
         done = done_as (done_on first.done second.done) refl (omega arith) (λ x out. (out.0, (out.0, tt)));
@@ -48,14 +48,14 @@ module _ {code : Code} (below : (at : ℕ) (i : Instr) → code at ≡ Some i �
       }
 
   pub jump_to : {s : Processor} → Stands code s → (reach : Reach) (at : ℕ) → s.pc ≡ at → (back : Register) (target : ℕ) → JumpsBy reach code at back target → target % 4 ≡ 0
-      → Gets code (words_of_jump reach) (1 ∷ back.number ∷ []) back.number (at + 4 * words_of_jump reach) target s
+      → Gets cells code (words_of_jump reach) (1 ∷ back.number ∷ []) back.number (at + 4 * words_of_jump reach) target s
   jump_to stands Near at pc_is back target (offset, sum, here) aligned =
-      let jump = near_gets below stands pc_is {back = back} {offset = offset} here sum aligned in
+      let jump = near_gets cells below stands pc_is {back = back} {offset = offset} here sum aligned in
       record { after = jump.after; done = done_as {changed' = 1 ∷ back.number ∷ []} jump.done refl refl (λ x out. out.1); value_is = jump.value_is }
   jump_to stands Far at pc_is back target (upper, lower, sum, has) aligned =
-      let first = plain_gets below stands pc_is (lui_row ra upper) has.0 in
+      let first = plain_gets cells below stands pc_is (lui_row ra upper) has.0 in
       let target_is : sum_word (value first.after.registers 1) lower.word ≡ target = ap (λ v. sum_word v lower.word) (first.value_is (λ e. cc)) ∙ sum in
-      let second = jump_gets below first.done.stands first.done.pc_is {back = back} {by = ra} {offset = lower} has.1.0 target_is aligned in
+      let second = jump_gets cells below first.done.stands first.done.pc_is {back = back} {by = ra} {offset = lower} has.1.0 target_is aligned in
       let behind : at + 4 + 4 ≡ at + 8 = omega arith in
       record { after = second.after; done = done_on first.done second.done; value_is = λ kept. second.value_is kept ∙ behind }
 
@@ -78,36 +78,36 @@ module _ {code : Code} (below : (at : ℕ) (i : Instr) → code at ≡ Some i �
     opposed test is = opposite_compares condition (value s.registers a.number) (value s.registers b.number) ∙ ap not is
 
     pub branch_taken : (reach : Reach) → BranchesOn jumps reach code at condition a b target → target % 4 ≡ 0 → compares condition (value s.registers a.number) (value s.registers b.number) ≡ true
-        → Goes code (words_of_branch jumps reach) (1 ∷ 0 ∷ []) s.memory target s
+        → Goes cells code (words_of_branch jumps reach) (1 ∷ 0 ∷ []) s.memory target s
     branch_taken Near (offset, sum, here) aligned holds =
         let target_is : sum_word s.pc offset.word ≡ target = ap (λ pc. sum_word pc offset.word) pc_is ∙ sum in
-        let goes = branch_goes below stands pc_is (branch_instruction condition a b offset) (sum_word s.pc offset.word) {next = target} here (goes_by condition offset true holds) target_is aligned in
+        let goes = branch_goes cells below stands pc_is (branch_instruction condition a b offset) (sum_word s.pc offset.word) {next = target} here (goes_by condition offset true holds) target_is aligned in
         record { after = goes.after; done = done_as {changed' = 1 ∷ 0 ∷ []} goes.done refl refl (λ x out. tt) }
     branch_taken Far (over, over_is, here, jump) aligned holds =
         let word = stands.aligned at (branch_instruction (opposite condition) a b over) here in
-        let first = branch_goes below stands pc_is (branch_instruction (opposite condition) a b over) (sum_word s.pc 4) {next = at + 4} here (goes_by (opposite condition) over false (opposed true holds)) (next_is below stands pc_is here) (omega arith) in
+        let first = branch_goes cells below stands pc_is (branch_instruction (opposite condition) a b over) (sum_word s.pc 4) {next = at + 4} here (goes_by (opposite condition) over false (opposed true holds)) (next_is cells below stands pc_is here) (omega arith) in
         let second = jump_to first.done.stands jumps (at + 4) first.done.pc_is zero_register target jump aligned in
         record { after = second.after; done = done_on first.done second.done }
 
     pub branch_passed : (reach : Reach) → BranchesOn jumps reach code at condition a b target → compares condition (value s.registers a.number) (value s.registers b.number) ≡ false
-        → Goes code 1 [] s.memory (at + 4 * words_of_branch jumps reach) s
+        → Goes cells code 1 [] s.memory (at + 4 * words_of_branch jumps reach) s
     branch_passed Near (offset, sum, here) fails =
         let word = stands.aligned at (branch_instruction condition a b offset) here in
-        branch_goes below stands pc_is (branch_instruction condition a b offset) (sum_word s.pc 4) {next = at + 4} here (goes_by condition offset false fails) (next_is below stands pc_is here) (omega arith)
+        branch_goes cells below stands pc_is (branch_instruction condition a b offset) (sum_word s.pc 4) {next = at + 4} here (goes_by condition offset false fails) (next_is cells below stands pc_is here) (omega arith)
     branch_passed Far (over, over_is, here, jump) fails =
         let word = stands.aligned at (branch_instruction (opposite condition) a b over) here in
         let last = jump_last jumps (at + 4) zero_register target jump in
         let next : ℕ = at + 4 * (1 + words_of_jump jumps) in
         let behind : at + (4 + 4 * words_of_jump jumps) ≡ next = omega arith in
         let over_at : sum_word s.pc over.word ≡ next = rw (pc_is, over_is) (target_of at (4 + 4 * words_of_jump jumps) (omega arith) ∙ behind) in
-        branch_goes below stands pc_is (branch_instruction (opposite condition) a b over) (sum_word s.pc over.word) {next = next} here (goes_by (opposite condition) over true (opposed false fails)) over_at (omega arith)
+        branch_goes cells below stands pc_is (branch_instruction (opposite condition) a b over) (sum_word s.pc over.word) {next = next} here (goes_by (opposite condition) over true (opposed false fails)) over_at (omega arith)
 
   -- ---- entries
 
   module _ {s : Processor} (stands : Stands code s) (map : Map) (at : ℕ) (pc_is : s.pc ≡ at) (entry : EntersAt map code at) (full : ℕ) (full_at : IsSymbolAt map symbol.StackFull full) where
-    bottom_gets : Gets code 1 (5 ∷ []) 5 map.bottom (at + 4) s
+    bottom_gets : Gets cells code 1 (5 ∷ []) 5 map.bottom (at + 4) s
     bottom_gets =
-        let first = plain_gets below stands pc_is (lui_row t0 entry.bottom) entry.sets in
+        let first = plain_gets cells below stands pc_is (lui_row t0 entry.bottom) entry.sets in
         record { after = first.after; done = first.done; value_is = λ some. first.value_is some ∙ entry.bottom_is }
 
     same_sp : value bottom_gets.after.registers 2 ≡ value s.registers 2
@@ -117,14 +117,14 @@ module _ {code : Code} (below : (at : ℕ) (i : Instr) → code at ≡ Some i �
     test_is test is = rw (same_sp, bottom_gets.value_is (λ e. cc)) is
 
     -- at the lowest frame the stack is full
-    pub entry_full : full % 4 ≡ 0 → value s.registers 2 ≡ map.bottom → Goes code (1 + words_of_branch map.jumps Far) (5 ∷ 1 ∷ 0 ∷ []) s.memory full s
+    pub entry_full : full % 4 ≡ 0 → value s.registers 2 ≡ map.bottom → Goes cells code (1 + words_of_branch map.jumps Far) (5 ∷ 1 ∷ 0 ∷ []) s.memory full s
     entry_full aligned last =
         let test : nat_eq (value s.registers 2) map.bottom ≡ true = grind (arith, nat_tests) in
         let second = branch_taken bottom_gets.done.stands (at + 4) bottom_gets.done.pc_is Equal sp t0 full map.jumps Far (entry.full full full_at) aligned (test_is true test) in
         record { after = second.after; done = done_on bottom_gets.done second.done }
 
     -- else the test leads over the jump
-    entry_passes : value s.registers 2 ≢ map.bottom → Goes code 2 (5 ∷ []) s.memory (at + 8 + 4 * words_of_jump map.jumps) s
+    entry_passes : value s.registers 2 ≢ map.bottom → Goes cells code 2 (5 ∷ []) s.memory (at + 8 + 4 * words_of_jump map.jumps) s
     entry_passes more =
         let test : nat_eq (value s.registers 2) map.bottom ≡ false = grind (arith, nat_tests) in
         let second = branch_passed bottom_gets.done.stands (at + 4) bottom_gets.done.pc_is Equal sp t0 full map.jumps Far (entry.full full full_at) (test_is false test) in
@@ -132,11 +132,11 @@ module _ {code : Code} (below : (at : ℕ) (i : Instr) → code at ≡ Some i �
 
     -- and a frame is taken
     entry_shifts : (base : ℕ) → value s.registers 2 ≡ base + map.frame → base + map.frame ≢ map.bottom → map.frame ≤ 2044 → base + map.frame < 2 ^ 32
-        → Shifts code 3 (5 ∷ 2 ∷ []) s.memory base (at + 8 + 4 * words_of_jump map.jumps + 4) s
+        → Shifts cells code 3 (5 ∷ 2 ∷ []) s.memory base (at + 8 + 4 * words_of_jump map.jumps + 4) s
     entry_shifts base base_is more small fits =
-        let tested : Goes code 2 (5 ∷ []) s.memory (at + 8 + 4 * words_of_jump map.jumps) s = entry_passes (λ e. more (sym base_is ∙ e)) in
+        let tested : Goes cells code 2 (5 ∷ []) s.memory (at + 8 + 4 * words_of_jump map.jumps) s = entry_passes (λ e. more (sym base_is ∙ e)) in
         let old_base : value tested.after.registers 2 ≡ base + map.frame = tested.done.kept 2 ((λ e. cc), tt) ∙ base_is in
-        let third = plain_gets below tested.done.stands {at = at + 8 + 4 * words_of_jump map.jumps} tested.done.pc_is (addi_row sp sp entry.frame) entry.takes.0 in
+        let third = plain_gets cells below tested.done.stands {at = at + 8 + 4 * words_of_jump map.jumps} tested.done.pc_is (addi_row sp sp entry.frame) entry.takes.0 in
         record {
           after = third.after;
           done = done_on tested.done third.done;
@@ -144,12 +144,13 @@ module _ {code : Code} (below : (at : ℕ) (i : Instr) → code at ≡ Some i �
         }
 
     pub entry_takes : (base way : ℕ) → value s.registers 2 ≡ base + map.frame → value s.registers 1 ≡ way → base + map.frame ≢ map.bottom → map.frame ≤ 2044 → base + map.frame < 2 ^ 32
-        → base % 4 ≡ 0 → can_store s.parts base 4 ≡ true → Shifts code 4 (5 ∷ 2 ∷ []) (with_number base 4 way s.memory) base (at + 4 * entry_words map.jumps) s
-    entry_takes base way base_is way_is more small fits aligned allowed =
-        let moved : Shifts code 3 (5 ∷ 2 ∷ []) s.memory base (at + 8 + 4 * words_of_jump map.jumps + 4) s = entry_shifts base base_is more small fits in
+        → base % 4 ≡ 0 → can_store s.parts base 4 ≡ true → MissesFree cells s base → Shifts cells code 4 (5 ∷ 2 ∷ []) (with_number base 4 way s.memory) base (at + 4 * entry_words map.jumps) s
+    entry_takes base way base_is way_is more small fits aligned allowed misses =
+        let moved : Shifts cells code 3 (5 ∷ 2 ∷ []) s.memory base (at + 8 + 4 * words_of_jump map.jumps + 4) s = entry_shifts base base_is more small fits in
         let address : sum_word (value moved.after.registers 2) entry.zero.word ≡ base = rw (moved.base_is, entry.zero_is) (same_address base (omega arith)) in
         let saved : value moved.after.registers 1 ≡ way = moved.done.kept 1 ((λ e. cc), ((λ e. cc), tt)) ∙ way_is in
-        let fourth = store_goes below moved.done.stands {at = at + 8 + 4 * words_of_jump map.jumps + 4} moved.done.pc_is {base = sp} {from = ra} {offset = entry.zero} {address = base} {word = way} entry.takes.1.0 address saved aligned (rw moved.done.parts_are allowed) in
+        let fourth = store_goes cells below moved.done.stands {at = at + 8 + 4 * words_of_jump map.jumps + 4} moved.done.pc_is {base = sp} {from = ra} {offset = entry.zero} {address = base} {word = way} entry.takes.1.0 address saved aligned (rw moved.done.parts_are allowed)
+        (misses_done base moved.done ((λ e. cc), ((λ e. cc), tt)) ((λ e. cc), ((λ e. cc), tt)) ((λ e. cc), ((λ e. cc), tt)) misses) in
         record {
           after = fourth.after;
           done = done_as {changed' = 5 ∷ 2 ∷ []} (done_then moved.done fourth.done) (ap (λ m. with_number base 4 way m) moved.done.memory_is) (omega arith) (λ x out. out);
@@ -160,12 +161,12 @@ module _ {code : Code} (below : (at : ℕ) (i : Instr) → code at ≡ Some i �
 
   -- the way back is loaded, and the frame given back
   return_shifts : {s : Processor} → Stands code s → (map : Map) (at : ℕ) → s.pc ≡ at → (zero frame : Immediate) → Zero zero → frame.word ≡ map.frame → code at ≡ Some (Lw ra sp zero) → code (at + 4) ≡ Some (Addi sp sp frame)
-      → (base way : ℕ) → value s.registers 2 ≡ base → number_at s.memory base 4 ≡ way → base + map.frame < 2 ^ 32 → base % 4 ≡ 0 → can_load s.parts base 4 ≡ true
-      → (t : Processor) × Done code 2 (1 ∷ 2 ∷ []) s.memory (at + 4 + 4) s t × (value t.registers 1 ≡ way) × (value t.registers 2 ≡ base + map.frame)
-  return_shifts {s} stands map at pc_is zero frame zero_is frame_is loads shifts base way base_is way_is fits aligned allowed =
+      → (base way : ℕ) → value s.registers 2 ≡ base → number_at s.memory base 4 ≡ way → base + map.frame < 2 ^ 32 → base % 4 ≡ 0 → can_load s.parts base 4 ≡ true → MissesFree cells s base
+      → (t : Processor) × Done cells code 2 (1 ∷ 2 ∷ []) s.memory (at + 4 + 4) s t × (value t.registers 1 ≡ way) × (value t.registers 2 ≡ base + map.frame)
+  return_shifts {s} stands map at pc_is zero frame zero_is frame_is loads shifts base way base_is way_is fits aligned allowed misses =
       let address : sum_word (value s.registers 2) zero.word ≡ base = rw (base_is, zero_is) (same_address base (omega arith)) in
-      let first = load_gets below stands pc_is {rd = ra} {base = sp} {offset = zero} {address = base} {word = way} loads address aligned allowed way_is in
-      let second = plain_gets below first.done.stands first.done.pc_is (addi_row sp sp frame) shifts in
+      let first = load_gets cells below stands pc_is {rd = ra} {base = sp} {offset = zero} {address = base} {word = way} loads address aligned allowed way_is misses in
+      let second = plain_gets cells below first.done.stands first.done.pc_is (addi_row sp sp frame) shifts in
       let old_base : value first.after.registers 2 ≡ base = first.done.kept 2 ((λ e. cc), tt) ∙ base_is in (
         second.after,
         done_on first.done second.done,
@@ -174,10 +175,10 @@ module _ {code : Code} (below : (at : ℕ) (i : Instr) → code at ≡ Some i �
       )
 
   pub return_goes : {s : Processor} → Stands code s → (map : Map) (at : ℕ) → s.pc ≡ at → ReturnsFrom map code at → (base way : ℕ) → value s.registers 2 ≡ base → number_at s.memory base 4 ≡ way
-      → way % 4 ≡ 0 → way < 2 ^ 32 → base + map.frame < 2 ^ 32 → base % 4 ≡ 0 → can_load s.parts base 4 ≡ true → Shifts code 3 (1 ∷ 2 ∷ 0 ∷ []) s.memory (base + map.frame) way s
-  return_goes {s} stands map at pc_is (zero, frame, zero_is, frame_is, has) base way base_is way_is way_word way_fits fits aligned allowed =
-      let back = return_shifts stands map at pc_is zero frame zero_is frame_is has.0 has.1.0 base way base_is way_is fits aligned allowed in
-      let moved : Done code 2 (1 ∷ 2 ∷ []) s.memory (at + 4 + 4) s back.0 = back.1 in
+      → way % 4 ≡ 0 → way < 2 ^ 32 → base + map.frame < 2 ^ 32 → base % 4 ≡ 0 → can_load s.parts base 4 ≡ true → MissesFree cells s base → Shifts cells code 3 (1 ∷ 2 ∷ 0 ∷ []) s.memory (base + map.frame) way s
+  return_goes {s} stands map at pc_is (zero, frame, zero_is, frame_is, has) base way base_is way_is way_word way_fits fits aligned allowed misses =
+      let back = return_shifts stands map at pc_is zero frame zero_is frame_is has.0 has.1.0 base way base_is way_is fits aligned allowed misses in
+      let moved : Done cells code 2 (1 ∷ 2 ∷ []) s.memory (at + 4 + 4) s back.0 = back.1 in
       let target_is : sum_word (value back.0.registers 1) zero.word ≡ way = rw (back.2, zero_is) (same_address way way_fits) in
-      let third = jump_gets below moved.stands moved.pc_is {back = zero_register} {by = ra} {offset = zero} has.1.1.0 target_is way_word in
+      let third = jump_gets cells below moved.stands moved.pc_is {back = zero_register} {by = ra} {offset = zero} has.1.1.0 target_is way_word in
       record { after = third.after; done = done_on moved third.done; base_is = third.done.kept 2 ((λ e. cc), tt) ∙ back.3 }

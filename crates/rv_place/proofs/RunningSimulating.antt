@@ -1,5 +1,5 @@
 -- The processor simulates the machine of the placed form: line by line, and so step by step.
-use Rattle.std.proofs.Common.{◌≡◌, ◌≢◌, ◌≤◌, ℕ, suc, ◌+◌, ◌*◌, List, [], ◌∷◌, length, drop, Option, Some, Bool, true, false, cond, map, refl, sym, ap, subst, arith}
+use Rattle.std.proofs.Common.{◌≡◌, ◌≢◌, ◌≤◌, ℕ, suc, ◌+◌, ◌*◌, List, [], ◌∷◌, length, drop, Option, Some, None, Bool, true, false, cond, map, refl, sym, ap, ◌∙◌, subst, arith}
 use Rattle.kk_base.specs.Memory.{Part}
 use Rattle.kk_base.specs.Simulations.{Reaches, Simulates}
 use Rattle.kk_base.proofs.Simulations.{ended_reaches}
@@ -23,7 +23,7 @@ use Rattle.rv_world.specs.World.{World, primitives}
 use Rattle.rv_place.specs.Addresses.{words_of_line}
 use Rattle.rv_place.specs.Lines.{Map}
 use Rattle.rv_place.specs.Grounds.{Ground}
-use Rattle.rv_place.specs.Running.{AllPlain, most_lines, Running, lines_left, NeverStuck, Related, Any}
+use Rattle.rv_place.specs.Running.{AllPlain, most_lines, Running, lines_left, NeverStuck, Related, Passing}
 use Rattle.rv_place.proofs.RunningReaches.{reaches}
 use Rattle.rv_place.proofs.RunningLines.{line_at, line_plain, goes_behind}
 use Rattle.rv_place.proofs.RunningComes.{or_stuck_some, Comes}
@@ -52,6 +52,7 @@ module _ {map_of : Map} {pool : Pool} {functions : List PlacedLines} {depth buff
     told = comes.told;
     within = (let within = comes.within in omega arith);
     moves = comes.moves;
+    passes = comes.passes;
   }
 
   module _ (f : Frame PlacedLine) (fs : List (Frame PlacedLine)) (known : ℕ → Option ℕ) (world : World) (s : Processor)
@@ -133,33 +134,37 @@ module _ {map_of : Map} {pool : Pool} {functions : List PlacedLines} {depth buff
 
   -- ---- the simulation
 
+  -- a run that has ended passes nothing
+  ended_passes : (how : Ending) (progress : Progress) → OfProcessor.ended progress.ending ≡ Some how → Passing map_of pool progress
+  ended_passes how progress is going outside = let none : None ≡ Some how = sym (ap OfProcessor.ended going) ∙ is in cc
+
   reaches_next : (most credit idle old : ℕ) (before : PlacedTurn World Ending) (next : PlacedTurn World Ending) (s : Processor) → Comes map_of pool functions depth stop code parts most old next s → 3 ≤ credit → old ≤ idle → NeverStuck map_of pool functions depth next
       → placed_told (primitives map_of.constants pool) before ≡ s.trace
-      → Reaches (processor_machine rv32im) (Related map_of pool functions depth stop code parts) Any (suc (most_lines functions)) (most + credit) 1 idle
+      → Reaches (processor_machine rv32im) (Related map_of pool functions depth stop code parts) (Passing map_of pool) (suc (most_lines functions)) (most + credit) 1 idle
       (drop (length (placed_told (primitives map_of.constants pool) before)) (placed_told (primitives map_of.constants pool) next)) next (goes s)
   reaches_next most credit idle old before (go t) s comes saved left never told =
       let within = comes.within in
       let moves = comes.moves in
-      reaches (Related map_of pool functions depth stop code parts) (suc (most_lines functions)) (most + credit) idle comes.steps credit (lines_left t.frames) s comes.after (placed_told (primitives map_of.constants pool) before) (placed_told (primitives map_of.constants pool) (go t)) (go t)
-      comes.runs told comes.told (omega arith) (omega arith) (never, comes.stands_for credit (lines_left t.frames) saved (omega arith))
+      reaches (Related map_of pool functions depth stop code parts) (Passing map_of pool) (suc (most_lines functions)) (most + credit) idle comes.steps credit (lines_left t.frames) s comes.after (placed_told (primitives map_of.constants pool) before) (placed_told (primitives map_of.constants pool) (go t)) (go t)
+      comes.runs told comes.told (omega arith) (omega arith) comes.passes (never, comes.stands_for credit (lines_left t.frames) saved (omega arith))
   reaches_next most credit idle old before (ended how world) s comes saved left never told =
       let within = comes.within in
       let moves = comes.moves in
-      reaches (Related map_of pool functions depth stop code parts) (suc (most_lines functions)) (most + credit) idle comes.steps 0 0 s comes.after (placed_told (primitives map_of.constants pool) before) (placed_told (primitives map_of.constants pool) (ended how world)) (ended how world)
-      comes.runs told comes.told (omega arith) (omega arith) (never, comes.stands_for 3 0 (omega arith) (omega arith))
+      reaches (Related map_of pool functions depth stop code parts) (Passing map_of pool) (suc (most_lines functions)) (most + credit) idle comes.steps 0 0 s comes.after (placed_told (primitives map_of.constants pool) before) (placed_told (primitives map_of.constants pool) (ended how world)) (ended how world)
+      comes.runs told comes.told (omega arith) (omega arith) comes.passes (never, comes.stands_for 3 0 (omega arith) (omega arith))
   reaches_next most credit idle old before stuck s comes saved left never told = absurd (never 0 refl)
 
   steps_by : (credit idle : ℕ) (turn : PlacedTurn World Ending) (progress : Progress) → Related map_of pool functions depth stop code parts credit idle turn progress
-      → Reaches (processor_machine rv32im) (Related map_of pool functions depth stop code parts) Any (suc (most_lines functions)) ((placed_machine (primitives map_of.constants pool) depth functions).weight turn + credit) 1 idle
+      → Reaches (processor_machine rv32im) (Related map_of pool functions depth stop code parts) (Passing map_of pool) (suc (most_lines functions)) ((placed_machine (primitives map_of.constants pool) depth functions).weight turn + credit) 1 idle
       ((placed_machine (primitives map_of.constants pool) depth functions).step turn).0 ((placed_machine (primitives map_of.constants pool) depth functions).step turn).1 progress
   steps_by credit idle (go t) progress (never, (s, progress_is, saved, left, running)) =
-      subst (λ p. Reaches (processor_machine rv32im) (Related map_of pool functions depth stop code parts) Any (suc (most_lines functions)) (placed_weight (primitives map_of.constants pool) (go t) + credit) 1 idle
+      subst (λ p. Reaches (processor_machine rv32im) (Related map_of pool functions depth stop code parts) (Passing map_of pool) (suc (most_lines functions)) (placed_weight (primitives map_of.constants pool) (go t) + credit) 1 idle
       (drop (length (placed_told (primitives map_of.constants pool) (go t))) (placed_told (primitives map_of.constants pool) (placed_next (primitives map_of.constants pool) depth functions (go t)))) (placed_next (primitives map_of.constants pool) depth functions (go t)) p) (sym progress_is)
       (reaches_next (placed_weight (primitives map_of.constants pool) (go t)) credit idle (lines_left t.frames) (go t) (placed_next (primitives map_of.constants pool) depth functions (go t)) s
       (follows t.frames t.registers t.shared s running (never 1)) saved left (λ n. never (suc n)) (sym running.trace))
   steps_by credit idle (ended how world) progress related =
-      ended_reaches (placed_machine (primitives map_of.constants pool) depth functions) (processor_machine rv32im) (Related map_of pool functions depth stop code parts) Any (suc (most_lines functions)) credit idle (ended how world) progress how
-      (omega arith) related refl related.1.0 tt
+      ended_reaches (placed_machine (primitives map_of.constants pool) depth functions) (processor_machine rv32im) (Related map_of pool functions depth stop code parts) (Passing map_of pool) (suc (most_lines functions)) credit idle (ended how world) progress how
+      (omega arith) related refl related.1.0 (ended_passes how progress related.1.0)
   steps_by credit idle stuck progress related = absurd related.1
 
   ends_alike : (credit idle : ℕ) (turn : PlacedTurn World Ending) (progress : Progress) → Related map_of pool functions depth stop code parts credit idle turn progress → OfProcessor.ended progress.ending ≡ end_of turn
@@ -167,5 +172,5 @@ module _ {map_of : Map} {pool : Pool} {functions : List PlacedLines} {depth buff
   ends_alike credit idle (ended how world) progress related = related.1.0
   ends_alike credit idle stuck progress related = absurd related.1
 
-  pub simulates : Simulates (placed_machine (primitives map_of.constants pool) depth functions) (processor_machine rv32im) (Related map_of pool functions depth stop code parts) Any (suc (most_lines functions))
+  pub simulates : Simulates (placed_machine (primitives map_of.constants pool) depth functions) (processor_machine rv32im) (Related map_of pool functions depth stop code parts) (Passing map_of pool) (suc (most_lines functions))
   simulates = record { by = steps_by; alike = ends_alike }

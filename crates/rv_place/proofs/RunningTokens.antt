@@ -16,13 +16,11 @@ use Rattle.rv_isa.specs.PlacedCode.{PlacedLine, PlacedLines}
 use Rattle.rv_isa.specs.Arithmetic.{sum_word}
 use Rattle.rv_isa.specs.Primitives.{stuck, or_stuck, by_token}
 use Rattle.rv_isa.specs.Frames.{Frame, all_of, only_of, holding, unholding, off_top, is_among}
-use Rattle.rv_isa.specs.PlacedMachine.{PlacedTurn, read_at, kept_by, only_slot, slot_of, placed_goes, placed_acts}
+use Rattle.rv_isa.specs.PlacedMachine.{PlacedTurn, read_at, only_slot, slot_of, placed_goes, placed_acts}
 use Rattle.rv_isa.specs.Bytes.{number_at}
 use Rattle.rv_isa.specs.Processor.{Processor, Ending, value, can_store}
-use Rattle.rv_isa.specs.Execution.{Leads}
 use Rattle.rv_isa.specs.Standing.{Code}
 use Rattle.rv_isa.proofs.Bytes.{bytes_at-same}
-use Rattle.rv_isa.proofs.Runs.{Leads-then}
 use Rattle.rv_isa.proofs.Standing.{Stands-leads}
 use Rattle.cell_heap.specs.Cells.{token, changed, occurs}
 use Rattle.cell_heap.specs.Pool.{Pool, end_of}
@@ -45,6 +43,7 @@ use Rattle.rv_place.specs.Lines.{Map, IsSymbolAt, CallsForToken}
 use Rattle.rv_place.specs.Grounds.{Ground, stack_end, constant_bytes}
 use Rattle.rv_place.specs.Running.{most_lines, IsIn, FramesAt, word_of, links_in, links_of, Running}
 use Rattle.rv_place.proofs.RunningExecuting.{Done, addi_row, done_on, plain_gets}
+use Rattle.rv_place.proofs.RunningInside.{Walks, walks_done, walks_then, stands_part, returns_walk}
 use Rattle.rv_place.proofs.RunningLines.{jump_some, jump_most}
 use Rattle.rv_place.proofs.RunningRows.{jump_to, jump_last}
 use Rattle.rv_place.proofs.RunningFrames.{handed_apart, frames_kept}
@@ -167,7 +166,7 @@ module _ {map_of : Map} {pool : Pool} {functions : List PlacedLines} {depth buff
   -- the routine is called with the address of a slot
   record Called (k target : ℕ) : Type 0 where
     after : Processor
-    done : Done code (1 + words_of_jump forms.jumps) (10 ∷ 1 ∷ 1 ∷ []) s.memory target s after
+    done : Done pool.cells code (1 + words_of_jump forms.jumps) (10 ∷ 1 ∷ 1 ∷ []) s.memory target s after
     slot_is : value after.registers 10 ≡ base + slot_offset k
     way_is : value after.registers 1 ≡ way
     way_fits : way < 2 ^ 32
@@ -183,8 +182,8 @@ module _ {map_of : Map} {pool : Pool} {functions : List PlacedLines} {depth buff
       let word = sp_word ground f fs known world s running in
       let range = ground.in_range in
       let under = ground.cells_below in
-      let first = plain_gets ground.below running.rests.stands refl (addi_row a0 sp offset) here in
-      let second = jump_to ground.below first.done.stands forms.jumps (s.pc + 4) first.done.pc_is ra target calls (omega arith) in
+      let first = plain_gets pool.cells ground.below running.rests.stands refl (addi_row a0 sp offset) here in
+      let second = jump_to pool.cells ground.below first.done.stands forms.jumps (s.pc + 4) first.done.pc_is ra target calls (omega arith) in
       let done = done_on first.done second.done in
       let address : sum_word base offset.word ≡ base + slot_offset k = rw offset_is (omega arith) in
       let aligned : (base + slot_offset k) % 4 ≡ 0 = omega arith in
@@ -193,7 +192,7 @@ module _ {map_of : Map} {pool : Pool} {functions : List PlacedLines} {depth buff
         done = done;
         slot_is = second.done.kept 10 ((λ e. cc), ((λ e. cc), tt)) ∙ first.value_is (λ e. cc) ∙ address;
         way_is = second.value_is (λ e. cc);
-        way_fits = jump_last ground.below forms.jumps (s.pc + 4) ra target calls;
+        way_fits = jump_last pool.cells ground.below forms.jumps (s.pc + 4) ra target calls;
         is_slot = record {
           aligned = aligned;
           below = omega arith;
@@ -205,8 +204,8 @@ module _ {map_of : Map} {pool : Pool} {functions : List PlacedLines} {depth buff
         };
       }
 
-  begins_at : {k target : ℕ} (call : Called k target) → IsAt code target call.after
-  begins_at call = record { stands = call.done.stands; pc_is = call.done.pc_is }
+  begins_at : {k target : ℕ} (call : Called k target) → IsAt ground.own target call.after
+  begins_at call = record { stands = stands_part ground.own_part call.done.stands; pc_is = call.done.pc_is }
 
   has_way : {k target : ℕ} (call : Called k target) → HasWayBack call.after
   has_way call =
@@ -219,7 +218,7 @@ module _ {map_of : Map} {pool : Pool} {functions : List PlacedLines} {depth buff
 
   -- ---- back from the routine
 
-  token_comes : {k target : ℕ} (most count changed bytes : ℕ) (call : Called k target) (t : Processor) → Leads count call.after t
+  token_comes : {k target : ℕ} (most count changed bytes : ℕ) (call : Called k target) (t : Processor) → Walks map_of pool count call.after t
       → t.pc ≡ value call.after.registers 1 → ((x : ℕ) → x ≢ 9 → x ≢ 5 → value t.registers x ≡ value call.after.registers x)
       → t.parts ≡ call.after.parts → t.left ≡ call.after.left → t.trace ≡ call.after.trace
       → KeepsOutside changed bytes call.after t → changed + bytes ≤ end_of pool
@@ -229,7 +228,7 @@ module _ {map_of : Map} {pool : Pool} {functions : List PlacedLines} {depth buff
       → Comes map_of pool functions depth stop code parts most old
       (placed_goes (record behind { held = held }) fs (λ x. cond ((x == 5) || (x == 10)) None (known x))
       (with_cells world next)) s
-  token_comes most count changed bytes call t leads back registers parts_are left trace keeps high clear held next holds within =
+  token_comes most count changed bytes call t walks back registers parts_are left trace keeps high clear held next holds within =
       let stand = running.frames in
       let sp_at = sp_low ground f fs known world s running in
       let under = ground.cells_below in
@@ -237,7 +236,7 @@ module _ {map_of : Map} {pool : Pool} {functions : List PlacedLines} {depth buff
       let pc_is : t.pc ≡ way = back ∙ call.way_is in
       let base_is : value t.registers 2 ≡ base = registers 2 (λ e. cc) (λ e. cc)
       ∙ call.done.kept 2 ((λ e. cc), ((λ e. cc), ((λ e. cc), tt))) in
-      let whole = Leads-then call.done.leads leads in
+      let whole = walks_then (walks_done call.done) walks in
       let same_way : s.pc + 4 * (1 + words_of_jump forms.jumps) ≡ way = omega arith in
       let here : FramesAt map_of code (most_lines functions) stop (stack_end map_of depth) s.memory way base
       (record behind { held = held } ∷ fs)
@@ -252,7 +251,7 @@ module _ {map_of : Map} {pool : Pool} {functions : List PlacedLines} {depth buff
       (record { frames = record behind { held = held } ∷ fs; registers = known'; shared = with_cells world next }) s t
       (1 + words_of_jump forms.jumps + count) whole (record {
         rests = record {
-          stands = Stands-leads whole running.rests.stands;
+          stands = Stands-leads whole.leads running.rests.stands;
           parts_are = parts_are ∙ call.done.parts_are ∙ running.rests.parts_are;
           constants = bytes_at-same t.memory s.memory map_of.constants.first (constant_bytes map_of)
               (λ x low high. outside x (clear x low high)) ∙ running.rests.constants;
@@ -307,7 +306,7 @@ module _ {map_of : Map} {pool : Pool} {functions : List PlacedLines} {depth buff
     slot_null = ap (λ x. number_at call.after.memory x 4) call.slot_is
         ∙ ap (λ m. number_at m (base + slot_offset k) 4) call.done.memory_is ∙ (running.frames.1 k 0 none).1
 
-    hold_null : IsHold pool code target → Comes map_of pool functions depth stop code parts 9 old
+    hold_null : IsHold pool ground.own target → Comes map_of pool functions depth stop code parts 9 old
         (placed_goes behind fs after_known world) s
     hold_null is_hold =
         let holds = holds_at call in
@@ -315,12 +314,12 @@ module _ {map_of : Map} {pool : Pool} {functions : List PlacedLines} {depth buff
         (has_way call) holds.memory (rw call.slot_is call.is_slot) (no_token slot_null) in
         let t = result.0 in
         let after = result.1 in
-        token_comes 9 3 0 0 call t after.returns.leads after.returns.back
+        token_comes 9 3 0 0 call t (returns_walk ground after.returns) after.returns.back
         (λ x a b. after.returns.registers x (a, (b, tt))) after.returns.parts after.left after.trace after.memory
         (omega arith) nothing_clear f.held world.cells
         (again_holds holds after.cells (λ x. after.memory x (inr (omega arith)))) (omega arith)
 
-    unhold_null : IsUnhold pool code target → Comes map_of pool functions depth stop code parts 7 old
+    unhold_null : IsUnhold pool ground.own target → Comes map_of pool functions depth stop code parts 7 old
         (placed_goes behind fs after_known world) s
     unhold_null is_unhold =
         let holds = holds_at call in
@@ -328,7 +327,7 @@ module _ {map_of : Map} {pool : Pool} {functions : List PlacedLines} {depth buff
         (has_way call) holds.memory (rw call.slot_is call.is_slot) (no_token slot_null) in
         let t = result.0 in
         let after = result.1 in
-        token_comes 7 3 0 0 call t after.returns.leads after.returns.back
+        token_comes 7 3 0 0 call t (returns_walk ground after.returns) after.returns.back
         (λ x a b. after.returns.registers x (a, (b, tt))) after.returns.parts after.left after.trace (λ x apart. ap (λ (m : ℕ
         → ℕ). m x) after.memory) (omega arith) nothing_clear f.held world.cells
         (again_holds holds after.cells (λ x. ap (λ (m : ℕ → ℕ). m x) after.memory)) (omega arith)
@@ -340,7 +339,7 @@ module _ {map_of : Map} {pool : Pool} {functions : List PlacedLines} {depth buff
     slot_has = ap (λ x. number_at call.after.memory x 4) call.slot_is
         ∙ ap (λ m. number_at m (base + slot_offset k) 4) call.done.memory_is ∙ (running.frames.1 k word word_is).1
 
-    hold_token : IsHold pool code target → is_among k f.held ≡ false → (words : ℕ → Option ℕ) → world.cells.blocks word ≡ own words
+    hold_token : IsHold pool ground.own target → is_among k f.held ≡ false → (words : ℕ → Option ℕ) → world.cells.blocks word ≡ own words
         → Comes map_of pool functions depth stop code parts 9 old
         (placed_goes (record behind { held = k ∷ f.held }) fs after_known
         (with_cells world (with_block word (kept words) world.cells))) s
@@ -372,7 +371,7 @@ module _ {map_of : Map} {pool : Pool} {functions : List PlacedLines} {depth buff
         let after = result.1 in
         let links_are : links_of map_of base (record behind { held = k ∷ f.held } ∷ fs) ≡ link ∷ links_here = ap
         (λ o. record { cell = word_of o; slot = base + slot_offset k } ∷ links_here) word_is in
-        token_comes 9 6 word 8 call t after.returns.leads after.returns.back
+        token_comes 9 6 word 8 call t (returns_walk ground after.returns) after.returns.back
         (λ x a b. after.returns.registers x (a, (b, tt))) after.returns.parts after.left after.trace after.memory
         (omega (arith, inside.0)) (cell_clear word cell.behind inside.0) (k ∷ f.held)
         (with_block word (kept words) world.cells)
@@ -385,7 +384,7 @@ module _ {map_of : Map} {pool : Pool} {functions : List PlacedLines} {depth buff
 
     -- ---- unhold
 
-    unhold_token : IsUnhold pool code target → (held : List ℕ) → f.held ≡ k ∷ held → (words : ℕ → Option ℕ)
+    unhold_token : IsUnhold pool ground.own target → (held : List ℕ) → f.held ≡ k ∷ held → (words : ℕ → Option ℕ)
         → world.cells.blocks word ≡ kept words
         → Comes map_of pool functions depth stop code parts 7 old
         (placed_goes (record behind { held = held }) fs after_known
@@ -401,7 +400,7 @@ module _ {map_of : Map} {pool : Pool} {functions : List PlacedLines} {depth buff
         (rw call.slot_is call.is_slot) (newest refl (sym call.slot_is)) in
         let t = result.0 in
         let after = result.1 in
-        token_comes 7 4 0 0 call t after.returns.leads after.returns.back
+        token_comes 7 4 0 0 call t (returns_walk ground after.returns) after.returns.back
         (λ x a b. after.returns.registers x (a, (b, tt))) after.returns.parts after.left after.trace (λ x apart. ap (λ (m : ℕ
         → ℕ). m x) after.memory) (omega arith) nothing_clear held
         (with_block word (own (past_links words)) world.cells) (unheld_holds holds words is after.cells after.memory) (omega arith)

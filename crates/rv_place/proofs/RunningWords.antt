@@ -111,10 +111,10 @@ module _ (known cells : ℕ → Option ℕ) (registers : ℕ → ℕ) (agrees : 
 
 -- ---- operations
 
-module _ {code : Code} (below : (at : ℕ) (i : Instr) → code at ≡ Some i → at + 4 < 2 ^ 32) {s : Processor} (stands : Stands code s) (constants : Constants) (at : ℕ) (pc_is : s.pc ≡ at) (rd : Register) where
+module _ (cells : ℕ) {code : Code} (below : (at : ℕ) (i : Instr) → code at ≡ Some i → at + 4 < 2 ^ 32) {s : Processor} (stands : Stands code s) (constants : Constants) (at : ℕ) (pc_is : s.pc ≡ at) (rd : Register) where
   -- an operation comes to its word, in so many instructions
   pub record Computed (operation : Operation) (word : ℕ) : Type 0 where
-    pub gets : Gets code (words_of_operation operation) (rd.number ∷ []) rd.number word (at + 4 * words_of_operation operation) s
+    pub gets : Gets cells code (words_of_operation operation) (rd.number ∷ []) rd.number word (at + 4 * words_of_operation operation) s
     pub fits : word < 2 ^ 32
     pub next_fits : at + 4 * words_of_operation operation < 2 ^ 32
 
@@ -131,7 +131,7 @@ module _ {code : Code} (below : (at : ℕ) (i : Instr) → code at ≡ Some i �
   computes (OfOperation.Register operation) (a ∷ b ∷ []) word fit is here =
       let same : register_word operation (value s.registers a.number) (value s.registers b.number) ≡ word = cc in
       subst (λ w. Computed (OfOperation.Register operation) w) same (record {
-        gets = plain_gets below stands pc_is (register_row operation rd a b) here;
+        gets = plain_gets cells below stands pc_is (register_row operation rd a b) here;
         fits = plain_fits (register_row operation rd a b) (value s.registers a.number) (value s.registers b.number) fit.0 fit.1.0;
         next_fits = below at _ here;
       })
@@ -140,7 +140,7 @@ module _ {code : Code} (below : (at : ℕ) (i : Instr) → code at ≡ Some i �
   computes (OfOperation.Immediate operation imm) (a ∷ []) word fit is here =
       let same : immediate_word operation (value s.registers a.number) imm.word ≡ word = cc in
       subst (λ w. Computed (OfOperation.Immediate operation imm) w) same (record {
-        gets = plain_gets below stands pc_is (immediate_row operation rd a imm) here;
+        gets = plain_gets cells below stands pc_is (immediate_row operation rd a imm) here;
         fits = plain_fits (immediate_row operation rd a imm) (value s.registers a.number) 0 fit.0 (lit< tt);
         next_fits = below at _ here;
       })
@@ -149,24 +149,24 @@ module _ {code : Code} (below : (at : ℕ) (i : Instr) → code at ≡ Some i �
   computes (OfOperation.Shift operation amount) (a ∷ []) word fit is here =
       let same : shift_word operation (value s.registers a.number) amount.places ≡ word = cc in
       subst (λ w. Computed (OfOperation.Shift operation amount) w) same (record {
-        gets = plain_gets below stands pc_is (shift_row operation rd a amount) here;
+        gets = plain_gets cells below stands pc_is (shift_row operation rd a amount) here;
         fits = plain_fits (shift_row operation rd a amount) (value s.registers a.number) 0 fit.0 (lit< tt);
         next_fits = below at _ here;
       })
   computes (OfOperation.Shift operation amount) (a ∷ b ∷ rs) word fit is here = cc
   computes (OfOperation.Li constant) [] word fit is here =
       let same : constant ≡ word = cc in
-      subst (λ w. Computed (OfOperation.Li constant) w) same (record { gets = word_gets below stands at pc_is rd constant here; fits = loads_fit constant here; next_fits = loads_next constant here })
+      subst (λ w. Computed (OfOperation.Li constant) w) same (record { gets = word_gets cells below stands at pc_is rd constant here; fits = loads_fit constant here; next_fits = loads_next constant here })
   computes (OfOperation.Li constant) (a ∷ rs) word fit is here = cc
   computes OfOperation.Mv [] word fit is here = cc
   computes OfOperation.Mv (a ∷ []) word fit is (imm, none, here) =
       let same : value s.registers a.number ≡ word = cc in
-      let plain = plain_gets below stands pc_is (addi_row rd a imm) here in
+      let plain = plain_gets cells below stands pc_is (addi_row rd a imm) here in
       let sum : sum_word (value s.registers a.number) imm.word ≡ value s.registers a.number = rw none (let fits = fit.0 in omega arith) in
       subst (λ w. Computed OfOperation.Mv w) (sum ∙ same) (record { gets = plain; fits = rw sum fit.0; next_fits = below at _ here })
   computes OfOperation.Mv (a ∷ b ∷ rs) word fit is here = cc
   computes (OfOperation.La index) [] word fit is here =
-      let loads = here word is in record { gets = word_gets below stands at pc_is rd word loads; fits = loads_fit word loads; next_fits = loads_next word loads }
+      let loads = here word is in record { gets = word_gets cells below stands at pc_is rd word loads; fits = loads_fit word loads; next_fits = loads_next word loads }
   computes (OfOperation.La index) (a ∷ rs) word fit is here = cc
   computes (OfOperation.Lw imm) rs word fit is here = cc
   computes (OfOperation.Sw imm) rs word fit is here = cc
@@ -175,17 +175,17 @@ module _ {code : Code} (below : (at : ℕ) (i : Instr) → code at ≡ Some i �
 
 -- ---- conditions
 
-module _ {code : Code} (below : (at : ℕ) (i : Instr) → code at ≡ Some i → at + 4 < 2 ^ 32) {s : Processor} (stands : Stands code s) (at : ℕ) (pc_is : s.pc ≡ at) (forms : Forms) (condition : Condition) (target : ℕ) where
+module _ (cells : ℕ) {code : Code} (below : (at : ℕ) (i : Instr) → code at ≡ Some i → at + 4 < 2 ^ 32) {s : Processor} (stands : Stands code s) (at : ℕ) (pc_is : s.pc ≡ at) (forms : Forms) (condition : Condition) (target : ℕ) where
   pub branches_taken : (rs : List Register) → target % 4 ≡ 0 → holds condition (words_in s.registers rs) ≡ Some true → BranchesTo forms code at condition rs target
-      → Goes code (words_of_branch forms.jumps forms.branches) (1 ∷ 0 ∷ []) s.memory target s
+      → Goes cells code (words_of_branch forms.jumps forms.branches) (1 ∷ 0 ∷ []) s.memory target s
   branches_taken [] word is here = cc
-  branches_taken (a ∷ []) word is here = branch_taken below stands at pc_is condition a zero_register target forms.jumps forms.branches here word cc
-  branches_taken (a ∷ b ∷ []) word is here = branch_taken below stands at pc_is condition a b target forms.jumps forms.branches here word cc
+  branches_taken (a ∷ []) word is here = branch_taken cells below stands at pc_is condition a zero_register target forms.jumps forms.branches here word cc
+  branches_taken (a ∷ b ∷ []) word is here = branch_taken cells below stands at pc_is condition a b target forms.jumps forms.branches here word cc
   branches_taken (a ∷ b ∷ c ∷ rs) word is here = cc
 
   pub branches_passed : (rs : List Register) → holds condition (words_in s.registers rs) ≡ Some false → BranchesTo forms code at condition rs target
-      → Goes code 1 [] s.memory (at + 4 * words_of_branch forms.jumps forms.branches) s
+      → Goes cells code 1 [] s.memory (at + 4 * words_of_branch forms.jumps forms.branches) s
   branches_passed [] is here = cc
-  branches_passed (a ∷ []) is here = branch_passed below stands at pc_is condition a zero_register target forms.jumps forms.branches here cc
-  branches_passed (a ∷ b ∷ []) is here = branch_passed below stands at pc_is condition a b target forms.jumps forms.branches here cc
+  branches_passed (a ∷ []) is here = branch_passed cells below stands at pc_is condition a zero_register target forms.jumps forms.branches here cc
+  branches_passed (a ∷ b ∷ []) is here = branch_passed cells below stands at pc_is condition a b target forms.jumps forms.branches here cc
   branches_passed (a ∷ b ∷ c ∷ rs) is here = cc

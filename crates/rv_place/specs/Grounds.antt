@@ -9,6 +9,7 @@ use Rattle.rv_isa.specs.PlacedCode.{PlacedLines}
 use Rattle.rv_isa.specs.Bytes.{Apart, bytes_at}
 use Rattle.rv_isa.specs.Processor.{Processor, can_load, can_store}
 use Rattle.rv_isa.specs.Standing.{Code, Stands}
+use Rattle.cell_runtime.specs.declared.start.TheConstants.{TEXT_WORDS}
 use Rattle.cell_runtime.specs.declared.stop.Ending.TheVariants as ending
 use Rattle.cell_runtime.specs.Prints.{buffer_bytes, IsPrintInt, IsPrintText, IsReadByte}
 use Rattle.cell_runtime.specs.Stops.{IsStop}
@@ -33,7 +34,7 @@ stack_end map depth = map.bottom + depth * map.frame
 
 -- The functions and the routines stand in the code, whose addresses are below 2^32. The frames of the stack are words that may be loaded and
 -- stored; the cells lie below them, and the buffer of the prints below these. The constants may be loaded, and no store reaches them. Behind the
--- end of main the run comes to a stop.
+-- end of main the run comes to a stop. The routines and the stops stand in the runtime's own code, which is a part of the code, and within its words.
 pub record Ground (map : Map) (pool : Pool) (functions : List PlacedLines) (depth buffer stop : ℕ) (code : Code) (parts : List Part) : Type 0 where
   pub functions_at : FunctionsAt map code map.entries functions
   pub below : (at : ℕ) (i : Instr) → code at ≡ Some i → at + 4 < 2 ^ 32
@@ -55,17 +56,20 @@ pub record Ground (map : Map) (pool : Pool) (functions : List PlacedLines) (dept
   pub constants_load : (at count : ℕ) → map.constants.first ≤ at → at + count ≤ map.constants.first + constant_bytes map → can_load parts at count ≡ true
   pub constants_kept : (x count : ℕ) → can_store parts x count ≡ true → 0 < count → Apart x count map.constants.first (constant_bytes map)
   pub runtime_word : map.runtime % 4 ≡ 0
-  pub take : HasRoutine map (symbol.Routine routine.Take) (IsTake pool code)
-  pub give_up : HasRoutine map (symbol.Routine routine.Drop) (IsDrop code)
-  pub hold : HasRoutine map symbol.Hold (IsHold pool code)
-  pub unhold : HasRoutine map symbol.Unhold (IsUnhold pool code)
-  pub print_int : HasRoutine map (symbol.Routine routine.PrintInt) (IsPrintInt buffer code)
-  pub print_text : HasRoutine map (symbol.Routine routine.PrintText) (IsPrintText code)
-  pub read_byte : HasRoutine map (symbol.Routine routine.ReadByte) (IsReadByte buffer code)
-  pub stack_full : HasRoutine map symbol.StackFull (IsStop ending.StackFull code)
+  pub own : Code
+  pub own_part : (at : ℕ) (i : Instr) → own at ≡ Some i → code at ≡ Some i
+  pub own_inside : (at : ℕ) (i : Instr) → own at ≡ Some i → (map.runtime ≤ at) × (at < map.runtime + 4 * TEXT_WORDS)
+  pub take : HasRoutine map (symbol.Routine routine.Take) (IsTake pool own)
+  pub give_up : HasRoutine map (symbol.Routine routine.Drop) (IsDrop own)
+  pub hold : HasRoutine map symbol.Hold (IsHold pool own)
+  pub unhold : HasRoutine map symbol.Unhold (IsUnhold pool own)
+  pub print_int : HasRoutine map (symbol.Routine routine.PrintInt) (IsPrintInt buffer own)
+  pub print_text : HasRoutine map (symbol.Routine routine.PrintText) (IsPrintText own)
+  pub read_byte : HasRoutine map (symbol.Routine routine.ReadByte) (IsReadByte buffer own)
+  pub stack_full : HasRoutine map symbol.StackFull (IsStop ending.StackFull own)
   pub stop_word : stop % 4 ≡ 0
   pub stop_below : stop < 2 ^ 32
-  pub ends : IsStop ending.Ended code stop
+  pub ends : IsStop ending.Ended own stop
 
 -- what is so in each state of the run
 pub record Rests (map : Map) (code : Code) (parts : List Part) (s : Processor) : Type 0 where

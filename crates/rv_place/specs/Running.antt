@@ -14,12 +14,14 @@ use Rattle.rv_isa.specs.Frames.{Frame, found}
 use Rattle.rv_isa.specs.PlacedMachine.{PlacedState, PlacedTurn, is_label_line, placed_machine}
 use Rattle.rv_isa.specs.Bytes.{number_at}
 use Rattle.rv_isa.specs.Processor.{Processor, Ending, Progress, goes, value}
+use Rattle.rv_isa.specs.FreeTouches.{TouchesNoFreeCell}
 use Rattle.rv_isa.specs.ProcessorMachine as OfProcessor
 use Rattle.rv_isa.specs.Standing.{Code}
 use Rattle.cell_heap.specs.Pool.{Pool}
 use Rattle.cell_heap.specs.View.{Link}
 use Rattle.cell_heap.specs.Blocks.{Cells}
 use Rattle.cell_heap.specs.Known.{HoldsCells}
+use Rattle.cell_runtime.specs.declared.start.TheConstants.{TEXT_WORDS}
 use Rattle.rv_world.specs.World.{World, primitives}
 use Rattle.rv_place.specs.Addresses.{slot_offset}
 use Rattle.rv_place.specs.Lines.{Map, LinesAt}
@@ -150,6 +152,6 @@ abbrev pub Related : Map → Pool → List PlacedLines → ℕ → ℕ → Code 
 Related map pool functions depth stop code parts credit idle turn progress =
     NeverStuck map pool functions depth turn × StandsFor map pool functions depth stop code parts credit idle turn progress
 
--- the processor may pass any state
-abbrev pub Any : Progress → Type 0
-Any progress = Unit {0}
+-- what a run may pass: while it goes on outside of the runtime's words, it touches no free cell
+abbrev pub Passing : Map → Pool → Progress → Type 0
+Passing map pool progress = TouchesNoFreeCell map.runtime TEXT_WORDS pool.cells progress

@@ -5,11 +5,14 @@ ghost use Rattle.kk_base.specs.Machines.{state};
 ghost use Rattle.kk_base.specs.Agreements.{Agree};
 ghost use Rattle.rv_isa.specs.declared.placed.Placed.{Placed};
 ghost use Rattle.rv_isa.specs.Execution.{rv32im, run};
+ghost use Rattle.rv_isa.specs.FreeTouches.{TouchesNoFreeCell};
 ghost use Rattle.rv_isa.specs.Primitives.{ended};
 ghost use Rattle.rv_isa.specs.PlacedCode.{PlacedLines, placed_functions};
 ghost use Rattle.rv_isa.specs.PlacedMachine.{placed_machine, placed_start};
 ghost use Rattle.rv_isa.specs.Processor.{Ending, goes};
 ghost use Rattle.rv_isa.specs.ProcessorMachine.{processor_machine};
+ghost use Rattle.elf_image.specs.Program.{text_start};
+ghost use Rattle.cell_runtime.specs.declared.start.TheConstants.{TEXT_WORDS};
 ghost use Rattle.rv_world.specs.World.{World, first_world, primitives};
 ghost use Rattle.rv_place.specs.declared.words.Words.{Words};
 ghost use Rattle.rv_place.specs.Images.{first_processor, outside_lines, IsPlacedImage, EndsWithCells};
@@ -36,4 +39,14 @@ pub fn placed_text_ends_with_its_cells()
         → (steps : ℕ) (how : Ending) (world : World)
         → state (placed_machine (primitives (constants_of runtime program) (pool_in cells runtime program)) depth (placed_functions program)) steps (placed_start main (first_world (pool_in cells runtime program) input)) ≡ ended how world
         → (count : ℕ) × EndsWithCells (pool_in cells runtime program) how world (run count (first_processor text runtime.memory.size input)) }
+{}
+
+/// At each moment of a run of the image of a placed text, before its end, at which the program counter is outside of the
+/// runtime's words, which are the first ones, the instruction that is executed next loads and stores no byte of a free cell. A
+/// run of the placed form must never come to a state in which it can do nothing more. It is a law, and does nothing.
+pub fn placed_text_touches_no_free_cell()
+    ensures { (cells depth : ℕ) (runtime program : Placed) (words : Words) (text input : List ℕ) (main : PlacedLines)
+        → IsPlacedImage cells depth runtime program words text main → All (λ byte. byte < 256) input
+        → NeverStuck (map_of runtime program) (pool_in cells runtime program) (placed_functions program) depth (placed_start main (first_world (pool_in cells runtime program) input))
+        → (count : ℕ) → TouchesNoFreeCell text_start TEXT_WORDS cells (run count (first_processor text runtime.memory.size input)) }
 {}

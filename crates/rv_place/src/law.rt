@@ -10,7 +10,7 @@ ghost use Rattle.cell_heap.specs.Pool.{Pool};
 ghost use Rattle.rv_world.specs.World.{primitives};
 ghost use Rattle.rv_place.specs.Lines.{Map};
 ghost use Rattle.rv_place.specs.Grounds.{Ground};
-ghost use Rattle.rv_place.specs.Running.{AllPlain, most_lines, Related, Any};
+ghost use Rattle.rv_place.specs.Running.{AllPlain, most_lines, Related, Passing};
 
 /// Placed code means, as instructions, what its machine says.
 ///
@@ -20,5 +20,5 @@ ghost use Rattle.rv_place.specs.Running.{AllPlain, most_lines, Related, Any};
 /// which it can do nothing more. At the end the memory has the cells of the world. It is a law, and does nothing.
 pub fn placed_code_keeps_meaning()
     ensures { (map : Map) (pool : Pool) (functions : List PlacedLines) (depth buffer stop : ℕ) (code : Code) (parts : List Part) → Ground map pool functions depth buffer stop code parts → AllPlain functions
-        → Simulates (placed_machine (primitives map.constants pool) depth functions) (processor_machine rv32im) (Related map pool functions depth stop code parts) Any (suc (most_lines functions)) }
+        → Simulates (placed_machine (primitives map.constants pool) depth functions) (processor_machine rv32im) (Related map pool functions depth stop code parts) (Passing map pool) (suc (most_lines functions)) }
 {}

@@ -8,6 +8,7 @@ use Rattle.kk_middle.specs.Meaning.{store_steps}
 use Rattle.kk_source.specs.Settings.{setting_of}
 use Rattle.kk_back.specs.Images.{IsRunnable, IsImageOf}
 use Rattle.kk_build.proofs.Building.{file_agrees, file_leaves, file_is_bounded}
+use Rattle.kk_build.proofs.Loading.{touches_as_loaded}
 use Rattle.kk_build.proofs.Nodes.{instances_have_no_more, program_has_some}
 use Rattle.kk_build.proofs.Runnable.{runnable}
 use Rattle.kk_build.proofs.file_of.Goals as goal
@@ -59,6 +60,7 @@ returns c =
       is_run = record { positions = compiled.table; least = compiled.least; is = refl };
       agrees = file_agrees program compiled.table positions code greatest up cells depth entry parts image keeps loaded;
       leaves_no_cell = file_leaves program compiled.table positions code greatest up cells depth entry parts image keeps loaded;
+      touches_no_free = touches_as_loaded loaded (setting_of program compiled.table cells depth) cells image.touches_no_free;
       bounded = λ nodes few.
           let most = instances_have_no_more c.requires.given.instances in
           let some = program_has_some c.requires.given.instances in

@@ -44,6 +44,6 @@ returns c main there =
     subst (λ (lines : Lines). IsAsmImage (asm_functions c.args.asm.now) (asm_constants c.args.asm.now) lines c.args.cells c.args.depth c.in_ok-image.image.entry c.in_ok-image.image.parts)
     (same_some c.requires.placeable.main main (sym c.requires.placeable.main_is ∙ there))
     (image_made {frame = c.frame_bytes.result} {asm = c.args.asm.now} c.requires.sizes c.requires.placeable c.in_ok-program.ensures.valid c.in_ok-program.ensures.shape c.frame_bytes.ensures c.in_ok-runtime.ensures c.in_ok-words.ensures c.in_ok-bytes.ensures
-    c.placed_text_agrees.ensures c.placed_text_ends_with_its_cells.ensures
+    c.placed_text_agrees.ensures c.placed_text_ends_with_its_cells.ensures c.placed_text_touches_no_free_cell.ensures
     c.in_ok-image.image.entry c.in_ok-image.image.parts c.in_ok-image.ensures.is_program c.in_ok-image.ensures.entry
     (c.in_ok-image.ensures.parts ∙ ap (λ (text : List ℕ). program_parts text c.in_ok-runtime.runtime.memory.size) c.from_vec.ensures))
