@@ -49,3 +49,4 @@ pub mod Drafted
 pub mod Working
 pub mod Seeing
 pub mod Programs
+pub mod TokenedViews

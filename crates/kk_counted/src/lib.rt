@@ -11,6 +11,7 @@ mod form;
 mod law;
 mod lists;
 mod shape;
+mod tokened;
 mod work;
 
 pub use copies::copied_decisions;
@@ -25,3 +26,4 @@ pub use law::{
     sound_heaps_are_functions, tokens_follow_their_forms, tokens_keep_runs_the_same,
 };
 pub use shape::{InstanceShape, Parameter, Shape};
+pub use tokened::{Tokened, TokenedBlock, TokenedFun, TokenedLast, TokenedStep};
