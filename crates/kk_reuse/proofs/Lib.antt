@@ -3,3 +3,7 @@ mod Examples
 pub mod Spends
 pub mod Pairs
 pub mod Programs
+pub mod Ahead
+pub mod Walks
+pub mod Steps
+pub mod Writing

@@ -2,6 +2,11 @@
 //! laws say that its runs are the same.
 #![tactic(auto)]
 
+mod following;
 mod law;
+mod pairing;
+mod program;
+mod slots;
 
 pub use law::{paired_code_runs_the_same, paired_code_spends_its_tokens};
+pub use program::run;
