@@ -13,7 +13,8 @@ use Rattle.kk_counted.specs.TokenedForms.{TokenedMove, put_tokened, plug_tokened
 pub tokened_block_is : (block : TokenedBlock) → tokened_code block ≡ put_steps block.steps.items (tokened_last_code block.last)
 tokened_block_is block = fold_out-TokenedBlock Tokened TokenedMove Tokened tokened_last_step tokened_step_step tokened_block_step block
 
-pub let_step : (x : ℕ) (form : Form) (arguments others : _) → tokened_move (OfStep.Let x form arguments others) ≡ TokenedMove.computes x form arguments.items others.items
+pub let_step : (x : ℕ) (form : Form) (arguments others : _) → tokened_move (OfStep.Let x form arguments others)
+    ≡ TokenedMove.computes x form arguments.items others.items
 let_step x form arguments others =
     ap tokened_move (sym (OfStep.rolls-Let x form arguments others))
     ∙ fold-roll-TokenedStep Tokened TokenedMove Tokened tokened_last_step tokened_step_step tokened_block_step _
@@ -28,12 +29,14 @@ read_step x c fields =
     ap tokened_move (sym (OfStep.rolls-Read x c fields))
     ∙ fold-roll-TokenedStep Tokened TokenedMove Tokened tokened_last_step tokened_step_step tokened_block_step _
 
-pub open_step : (x c : ℕ) (fields used : _) (y : ℕ) → tokened_move (OfStep.Open x c fields used y) ≡ TokenedMove.opens x c fields.items used.items y
+pub open_step : (x c : ℕ) (fields used : _) (y : ℕ) → tokened_move (OfStep.Open x c fields used y)
+    ≡ TokenedMove.opens x c fields.items used.items y
 open_step x c fields used y =
     ap tokened_move (sym (OfStep.rolls-Open x c fields used y))
     ∙ fold-roll-TokenedStep Tokened TokenedMove Tokened tokened_last_step tokened_step_step tokened_block_step _
 
-pub if_unique_step : (x c : ℕ) (fields used : _) (y : ℕ) → tokened_move (OfStep.IfUnique x c fields used y) ≡ TokenedMove.opens_unique x c fields.items used.items y
+pub if_unique_step : (x c : ℕ) (fields used : _) (y : ℕ) → tokened_move (OfStep.IfUnique x c fields used y)
+    ≡ TokenedMove.opens_unique x c fields.items used.items y
 if_unique_step x c fields used y =
     ap tokened_move (sym (OfStep.rolls-IfUnique x c fields used y))
     ∙ fold-roll-TokenedStep Tokened TokenedMove Tokened tokened_last_step tokened_step_step tokened_block_step _
@@ -48,7 +51,8 @@ drop_step x =
     ap tokened_move (sym (OfStep.rolls-Drop x))
     ∙ fold-roll-TokenedStep Tokened TokenedMove Tokened tokened_last_step tokened_step_step tokened_block_step _
 
-pub fill_step : (x y c first : ℕ) (arguments kept others : _) → tokened_move (OfStep.Fill x y c first arguments kept others) ≡ TokenedMove.fills x y c first arguments.items kept.items others.items
+pub fill_step : (x y c first : ℕ) (arguments kept others : _)
+    → tokened_move (OfStep.Fill x y c first arguments kept others) ≡ TokenedMove.fills x y c first arguments.items kept.items others.items
 fill_step x y c first arguments kept others =
     ap tokened_move (sym (OfStep.rolls-Fill x y c first arguments kept others))
     ∙ fold-roll-TokenedStep Tokened TokenedMove Tokened tokened_last_step tokened_step_step tokened_block_step _
@@ -91,13 +95,15 @@ tail_call_end f arguments =
     ∙ fold-roll-TokenedLast Tokened TokenedMove Tokened tokened_last_step tokened_step_step tokened_block_step _
 
 pub if_end : (x : ℕ) (positive negative : _)
-    → tokened_last_code (OfLast.If x positive negative) ≡ Tokened.branch x (tokened_code positive.value) (tokened_code negative.value)
+    → tokened_last_code (OfLast.If x positive negative) ≡ Tokened.branch x (tokened_code positive.value)
+    (tokened_code negative.value)
 if_end x positive negative =
     ap tokened_last_code (sym (OfLast.rolls-If x positive negative))
     ∙ fold-roll-TokenedLast Tokened TokenedMove Tokened tokened_last_step tokened_step_step tokened_block_step _
 
 pub case_end : (x : ℕ) (decisions : _) (arms : _)
-    → tokened_last_code (OfLast.Case x decisions arms) ≡ Tokened.case x (decisions_of decisions) (tokened_arms (map tokened_code arms.items))
+    → tokened_last_code (OfLast.Case x decisions arms) ≡ Tokened.case x (decisions_of decisions) (tokened_arms
+    (map tokened_code arms.items))
 case_end x decisions arms =
     ap tokened_last_code (sym (OfLast.rolls-Case x decisions arms))
     ∙ fold-roll-TokenedLast Tokened TokenedMove Tokened tokened_last_step tokened_step_step tokened_block_step _

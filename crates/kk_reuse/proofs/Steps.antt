@@ -82,7 +82,8 @@ arms_paired b l n [] = refl
 arms_paired b l n (code ∷ codes) = ap (TokenedArms.arm (paired_block b l n code)) (arms_paired b l n codes)
 
 pub arms_written : (b : Bool) (l n : ℕ) (made : List TokenedBlock) (arms : List Block) (i : ℕ) → length arms ≤ i
-    → map tokened_code made ++ map (paired_block b l n) (map block_code (drop i arms)) ≡ map (paired_block b l n) (map block_code arms)
+    → map tokened_code made ++ map (paired_block b l n) (map block_code (drop i arms)) ≡ map (paired_block b l n)
+    (map block_code arms)
     → tokened_arms (map tokened_code made) ≡ paired_arms b l n (arms_of (map block_code arms))
 arms_written b l n made arms i all so_far =
     ap tokened_arms (sym (append-nil (map tokened_code made))

@@ -40,7 +40,8 @@ pub arm_leaves : (n most leaf next total : ℕ) (arms : List Block) (i : ℕ) (i
     → max next (arms_leave true n (arms_of (map block_code (drop (i + 1) arms)))) ≡ total
 arm_leaves n most leaf next total arms i item less is here grown so_far =
     one_more_most most leaf next (leaves true (kept true (block_code item) n) (block_code item))
-    (arms_leave true n (arms_of (map block_code (drop (i + 1) arms)))) (arms_leave true n (arms_of (map block_code (drop i arms)))) total
+    (arms_leave true n (arms_of (map block_code (drop (i + 1) arms)))) (arms_leave true n
+    (arms_of (map block_code (drop i arms)))) total
     (ap (λ xs. arms_leave true n (arms_of (map block_code xs))) (one_dropped arms i item less is))
     (leaves_kept (block_code item) n ∙ sym here) grown so_far
 
@@ -64,7 +65,8 @@ pub block_leaves : (n left : ℕ) (block : Block) (items : List Step) (i : ℕ) 
     → (past : ℕ) → past ≡ leaves true left (last_code block.last) → past ≡ leaves true n (block_code block)
 block_leaves n left block items i is all so_far past here =
     here ∙ sym (ap (λ xs. leaves true left (plug (map step_move xs) (last_code block.last))) (drop_of_length-le items all))
-    ∙ so_far ∙ ap (λ xs. leaves true n (plug (map step_move xs) (last_code block.last))) is ∙ sym (ap (leaves true n) (block_is block))
+    ∙ so_far ∙ ap (λ xs. leaves true n (plug (map step_move xs) (last_code block.last))) is ∙ sym (ap (leaves true n)
+    (block_is block))
 
 pub block_may_make : (b : Bool) (block : Block)
     → may_make b (block_code block) ≡ moves_may_make (may_make b (last_code block.last)) (map step_move block.steps.items)

@@ -22,7 +22,7 @@ use Rattle.kk_counted.specs.Programs.{function_of, program_of}
 use Rattle.kk_counted.specs.TokenedCodes.{Tokened, TokenedFunction, TokenedProgram}
 use Rattle.kk_counted.specs.TokenedForms.{TokenedMove, put_tokened, put_steps, tokened_code, tokened_last_code, tokened_move, tokened_function, tokened_program}
 use Rattle.kk_counted.proofs.FormViews.{step_read, step_open, step_dup, step_drop}
-use Rattle.kk_counted.proofs.TokenedViews.{tokened_block_is, step_pushed, let_step, inside_step, read_step, open_step, if_unique_step, dup_step, drop_step, fill_step}
+use Rattle.kk_counted.proofs.TokenedViews.{tokened_block_is, step_pushed, let_step, inside_step, dup_step, drop_step, fill_step}
 use Rattle.kk_reuse.specs.Following.{may_make, kept, leaves}
 use Rattle.kk_reuse.specs.Pairing.{slots_below, frees, holds, unholds, paired_form, paired, paired_function, paired_program}
 use Rattle.kk_reuse.specs.PairedForms.{moves_may_make, paired_block, paired_move, tokens_behind}
@@ -58,7 +58,8 @@ filled n slot x c first d form (y ∷ ys) arguments rest one is some here others
     ∙ sym (ap (λ k. paired_form k x form (y ∷ ys) rest) {x = n} {y = suc slot} (omega (arith, one))
     ∙ ap (λ f. paired_form (suc slot) x f (y ∷ ys) rest) is)
 
-pub fill_written : (before after : List TokenedStep) (n slot x c first d : ℕ) (form : Form) (arguments kept others : Vec ℕ) (given : List ℕ)
+pub fill_written : (before after : List TokenedStep) (n slot x c first d : ℕ) (form : Form) (arguments kept others : Vec ℕ)
+    (given : List ℕ)
     → after ≡ before ++ OfStep.Fill x slot c first arguments kept others ∷ [] → n ≡ slot + 1 → form ≡ Construct c
     → 1 ≤ length given → first ≡ get_or given 0 d → arguments.items ≡ drop 1 given → kept.items ≡ []
     → others.items ≡ slots_below slot
@@ -103,7 +104,8 @@ one_written b makes l n behind after i steps step last total old middle new less
     ∙ sym (ap (λ xs. put_steps old (paired b l n (plug (map step_move xs) last))) (one_dropped steps i step less is)) ∙ so_far
 
 -- the steps of a block are written, and its end
-pub block_written : (b : Bool) (l tokens i : ℕ) (block : Block) (items : List Step) (made : TokenedBlock) (before : List TokenedStep)
+pub block_written : (b : Bool) (l tokens i : ℕ) (block : Block) (items : List Step) (made : TokenedBlock)
+    (before : List TokenedStep)
     (total : Tokened) → items ≡ block.steps.items → length items ≤ i
     → put_steps before (paired b l tokens (plug (map step_move (drop i block.steps.items)) (last_code block.last))) ≡ total
     → put_steps made.steps.items (tokened_last_code made.last) ≡ put_steps before (paired b l tokens (last_code block.last))
@@ -116,7 +118,8 @@ block_written b l tokens i block items made before total is all so_far end =
 
 -- ---- other steps
 
-written : (before after : List TokenedStep) (made : TokenedStep) (step : Step) (tokened : TokenedMove) (move : Move) (makes : Bool) (n : ℕ)
+written : (before after : List TokenedStep) (made : TokenedStep) (step : Step) (tokened : TokenedMove) (move : Move) (makes : Bool)
+    (n : ℕ)
     → after ≡ before ++ made ∷ [] → tokened_move made ≡ tokened → step_move step ≡ move
     → ((rest : Tokened) → put_tokened tokened rest ≡ paired_move makes n move rest)
     → (rest : Tokened) → put_steps after rest ≡ put_steps before (paired_move makes n (step_move step) rest)
@@ -127,34 +130,28 @@ written before after made step tokened move makes n grown is of same rest =
 step_if_unique : (x c : ℕ) (fields used : Vec ℕ)
     → step_move (OfPlain.IfUnique x c fields used) ≡ opens_unique x c fields.items used.items
 step_if_unique x c fields used =
-    ap step_move (sym (OfPlain.rolls-IfUnique x c fields used)) ∙ fold-roll-Step Counted Move Counted last_step step_step block_step _
+    ap step_move (sym (OfPlain.rolls-IfUnique x c fields used))
+    ∙ fold-roll-Step Counted Move Counted last_step step_step block_step _
 
-pub read_written : (before after : List TokenedStep) (step : Step) (makes : Bool) (n x c : ℕ) (fields copied : Vec ℕ)
-    → step ≡ OfPlain.Read x c fields → copied.items ≡ fields.items → after ≡ before ++ OfStep.Read x c copied ∷ []
+pub read_written : (before after : List TokenedStep) (step : Step) (made : TokenedStep) (makes : Bool) (n x c : ℕ) (fields : Vec ℕ)
+    → step ≡ OfPlain.Read x c fields → tokened_move made ≡ TokenedMove.reads x c fields.items → after ≡ before ++ made ∷ []
     → (rest : Tokened) → put_steps after rest ≡ put_steps before (paired_move makes n (step_move step) rest)
-read_written before after step makes n x c fields copied is same grown =
-    written before after _ step _ _ makes n grown (read_step x c copied ∙ ap (TokenedMove.reads x c) same)
-    (ap step_move is ∙ step_read x c fields) (λ rest. refl)
+read_written before after step made makes n x c fields is same grown =
+    written before after made step _ _ makes n grown same (ap step_move is ∙ step_read x c fields) (λ rest. refl)
 
-pub open_written : (before after : List TokenedStep) (step : Step) (makes : Bool) (n x c : ℕ) (fields used copied kept : Vec ℕ)
-    → step ≡ OfPlain.Open x c fields used → copied.items ≡ fields.items → kept.items ≡ used.items
-    → after ≡ before ++ OfStep.Open x c copied kept n ∷ []
+pub open_written : (before after : List TokenedStep) (step : Step) (made : TokenedStep) (makes : Bool) (n x c : ℕ)
+    (fields used : Vec ℕ) → step ≡ OfPlain.Open x c fields used
+    → tokened_move made ≡ TokenedMove.opens x c fields.items used.items n → after ≡ before ++ made ∷ []
     → (rest : Tokened) → put_steps after rest ≡ put_steps before (paired_move makes n (step_move step) rest)
-open_written before after step makes n x c fields used copied kept is same also_same grown =
-    written before after _ step _ _ makes n grown
-    (open_step x c copied kept n ∙ ap (λ xs. TokenedMove.opens x c xs kept.items n) same
-    ∙ ap (λ xs. TokenedMove.opens x c fields.items xs n) also_same)
-    (ap step_move is ∙ step_open x c fields used) (λ rest. refl)
+open_written before after step made makes n x c fields used is same grown =
+    written before after made step _ _ makes n grown same (ap step_move is ∙ step_open x c fields used) (λ rest. refl)
 
-pub if_unique_written : (before after : List TokenedStep) (step : Step) (makes : Bool) (n x c : ℕ) (fields used copied kept : Vec ℕ)
-    → step ≡ OfPlain.IfUnique x c fields used → copied.items ≡ fields.items → kept.items ≡ used.items
-    → after ≡ before ++ OfStep.IfUnique x c copied kept n ∷ []
+pub if_unique_written : (before after : List TokenedStep) (step : Step) (made : TokenedStep) (makes : Bool) (n x c : ℕ)
+    (fields used : Vec ℕ) → step ≡ OfPlain.IfUnique x c fields used
+    → tokened_move made ≡ TokenedMove.opens_unique x c fields.items used.items n → after ≡ before ++ made ∷ []
     → (rest : Tokened) → put_steps after rest ≡ put_steps before (paired_move makes n (step_move step) rest)
-if_unique_written before after step makes n x c fields used copied kept is same also_same grown =
-    written before after _ step _ _ makes n grown
-    (if_unique_step x c copied kept n ∙ ap (λ xs. TokenedMove.opens_unique x c xs kept.items n) same
-    ∙ ap (λ xs. TokenedMove.opens_unique x c fields.items xs n) also_same)
-    (ap step_move is ∙ step_if_unique x c fields used) (λ rest. refl)
+if_unique_written before after step made makes n x c fields used is same grown =
+    written before after made step _ _ makes n grown same (ap step_move is ∙ step_if_unique x c fields used) (λ rest. refl)
 
 pub dup_written : (before after : List TokenedStep) (step : Step) (makes : Bool) (n x : ℕ) → step ≡ OfPlain.Dup x
     → after ≡ before ++ OfStep.Dup x ∷ []
@@ -221,9 +218,11 @@ function_written before after fun functions i of total less is grown many same s
     ∙ sym (ap (λ xs. map tokened_function before ++ map paired_function (map function_of xs)) (one_dropped functions i of less is))
     ∙ so_far
 
-pub program_written : (made : List TokenedFun) (items functions : List CountedFun) (i : ℕ) (texts : List (List ℕ)) → items ≡ functions
+pub program_written : (made : List TokenedFun) (items functions : List CountedFun) (i : ℕ) (texts : List (List ℕ))
+    → items ≡ functions
     → length items ≤ i
-    → map tokened_function made ++ map paired_function (map function_of (drop i items)) ≡ map paired_function (map function_of items)
+    → map tokened_function made ++ map paired_function (map function_of (drop i items)) ≡ map paired_function
+    (map function_of items)
     → tokened_program made texts ≡ paired_program (program_of functions texts)
 program_written made items functions i texts is all so_far =
     ap of (sym (append-nil (map tokened_function made))

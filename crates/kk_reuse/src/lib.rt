@@ -1,5 +1,5 @@
-//! Reuse: counted code whose constructions take the cells that openings have freed. What it makes of code is a function in specs/;
-//! laws say that its runs are the same.
+//! Reuse: counted code whose constructions take the cells that openings have freed. What it makes of code is a function in specs/,
+//! which `run` computes; laws say that its runs are the same.
 #![tactic(auto)]
 
 mod following;

@@ -3,7 +3,7 @@
 ghost use Rattle.std.specs.Prelude.{◌≡◌, [], map, if◌then◌else◌, OnOk, IfOk};
 ghost use Rattle.kk_counted.specs.CountedForms.{arms_of, block_code, last_code, runs, step_move};
 ghost use Rattle.kk_counted.specs.TokenedCodes.{Tokened};
-ghost use Rattle.kk_counted.specs.TokenedForms.{tokened_arms, tokened_code, tokened_last_code, put_steps};
+ghost use Rattle.kk_counted.specs.TokenedForms.{TokenedMove, tokened_arms, tokened_code, tokened_last_code, tokened_move, put_steps};
 ghost use Rattle.kk_reuse.specs.Pairing.{frees, paired, paired_arms, paired_form};
 ghost use Rattle.kk_reuse.specs.PairedForms.{paired_block, paired_move, tokens_behind};
 
@@ -79,33 +79,20 @@ fn paired_step(
             alloc, makes, tokens, *variable, block, steps,
         ),
         Step::Read(variable, constructor, fields) => {
-            steps.push(TokenedStep::Read {
-                variable: *variable,
-                constructor: *constructor,
-                fields: Vec::from_slice(alloc, fields)?,
-            })?;
+            let read = reading(alloc, *variable, *constructor, fields)?;
+            steps.push(read)?;
             Ok(tokens)
         }
         Step::Open(variable, constructor, fields, used) => {
             let more = one_more(tokens)?;
-            steps.push(TokenedStep::Open {
-                variable: *variable,
-                constructor: *constructor,
-                fields: Vec::from_slice(alloc, fields)?,
-                used: Vec::from_slice(alloc, used)?,
-                slot: tokens,
-            })?;
+            let open = opening(alloc, *variable, *constructor, fields, used, tokens)?;
+            steps.push(open)?;
             Ok(more)
         }
         Step::IfUnique(variable, constructor, fields, used) => {
             let more = one_more(tokens)?;
-            steps.push(TokenedStep::IfUnique {
-                variable: *variable,
-                constructor: *constructor,
-                fields: Vec::from_slice(alloc, fields)?,
-                used: Vec::from_slice(alloc, used)?,
-                slot: tokens,
-            })?;
+            let open = opening_by_count(alloc, *variable, *constructor, fields, used, tokens)?;
+            steps.push(open)?;
             Ok(more)
         }
         Step::Dup(variable) => {
@@ -121,6 +108,67 @@ fn paired_step(
             Ok(tokens)
         }
     }
+}
+
+/// A step that reads fields.
+fn reading(
+    alloc: Global,
+    variable: u32,
+    constructor: u32,
+    fields: &[u32],
+) -> Result<TokenedStep, NoMemory>
+    ensures { IfOk result (λ made. tokened_move made ≡ TokenedMove.reads variable constructor fields.now) }
+{
+    let fields = Vec::from_slice(alloc, fields)?;
+    Ok(TokenedStep::Read {
+        variable,
+        constructor,
+        fields,
+    })
+}
+
+/// A step that opens a cell.
+fn opening(
+    alloc: Global,
+    variable: u32,
+    constructor: u32,
+    fields: &[u32],
+    used: &[u32],
+    slot: u32,
+) -> Result<TokenedStep, NoMemory>
+    ensures { IfOk result (λ made. tokened_move made ≡ TokenedMove.opens variable constructor fields.now used.now slot) }
+{
+    let fields = Vec::from_slice(alloc, fields)?;
+    let used = Vec::from_slice(alloc, used)?;
+    Ok(TokenedStep::Open {
+        variable,
+        constructor,
+        fields,
+        used,
+        slot,
+    })
+}
+
+/// A step that opens a cell by its count.
+fn opening_by_count(
+    alloc: Global,
+    variable: u32,
+    constructor: u32,
+    fields: &[u32],
+    used: &[u32],
+    slot: u32,
+) -> Result<TokenedStep, NoMemory>
+    ensures { IfOk result (λ made. tokened_move made ≡ TokenedMove.opens_unique variable constructor fields.now used.now slot) }
+{
+    let fields = Vec::from_slice(alloc, fields)?;
+    let used = Vec::from_slice(alloc, used)?;
+    Ok(TokenedStep::IfUnique {
+        variable,
+        constructor,
+        fields,
+        used,
+        slot,
+    })
 }
 
 /// Adds a form on variables with so many tokens. A construction with fields takes the newest one. At a call all are held.

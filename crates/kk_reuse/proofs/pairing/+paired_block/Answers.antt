@@ -1,5 +1,6 @@
 use Rattle.std.proofs.Common.{◌≡◌, ◌+◌, ◌<◌, true, map, length, drop, get_or, [], ◌++◌, ap, arith, refl, subst, sym, ◌∙◌}
 use Rattle.kk_counted.specs.CountedForms.{block_code, last_code, step_move}
+use Rattle.kk_counted.specs.TokenedForms.{TokenedMove}
 use Rattle.kk_reuse.specs.PairedForms.{moves_may_make}
 use Rattle.kk_reuse.proofs.Steps.{arms_paired, arms_written}
 use Rattle.kk_reuse.proofs.Writing.{block_written, drop_written, dup_written, if_unique_written, inside_written, left_of_none, left_of_some, one_written, open_written, read_written, to_end}
@@ -14,8 +15,10 @@ paired_block-loop-i-preserved t c =
     (subst (λ items. c.loop-i.i < length items) c.deref-step-items.ensures.value c.loop-i-test.true)
     (c.step-item.is ∙ ap (λ items. get_or items c.loop-i.i c.step-item.result) c.deref-step-items.ensures.value)
     (c.steps_may_make-makes.ensures
-    ∙ ap (λ items. moves_may_make c.last_may_make-end_makes.result (map step_move items)) (to_end c.deref.result.now (c.loop-i.i + 1))
-    ∙ ap (λ items. moves_may_make c.last_may_make-end_makes.result (map step_move (drop (c.loop-i.i + 1) items))) c.deref.ensures.value
+    ∙ ap (λ items. moves_may_make c.last_may_make-end_makes.result (map step_move items)) (to_end c.deref.result.now
+    (c.loop-i.i + 1))
+    ∙ ap (λ items. moves_may_make c.last_may_make-end_makes.result (map step_move (drop (c.loop-i.i + 1) items)))
+    c.deref.ensures.value
     ∙ ap (λ makes. moves_may_make makes (map step_move (drop (c.loop-i.i + 1) c.args.block.now.steps.items)))
     c.last_may_make-end_makes.ensures)
     c.in_ok-tokens-2.ensures.left c.in_ok-tokens-3.ensures.left c.in_ok-tokens-2.ensures.code c.in_ok-tokens-3.ensures.code
@@ -28,23 +31,36 @@ paired_block-returns t c =
 
 pub paired_step-returns-in_ok-push-in-Read-clause-code : goal.paired_step-returns-in_ok-push-in-Read-clause-code
 paired_step-returns-in_ok-push-in-Read-clause-code t c =
-    read_written c.args.steps.now.items c.push.new.self.items c.args.step.now c.args.makes c.args.tokens c.in-Read.variable
-    c.in-Read.constructor c.in-Read.fields c.in_ok-from_slice-in-Read.field-0 c.in-Read.is
-    (c.in_ok-from_slice-in-Read.ensures.items ∙ c.deref-in-Read.ensures.value) c.in_ok-push-in-Read.ensures.items
+    read_written c.args.steps.now.items c.push.new.self.items c.args.step.now c.in_ok-read-in-Read.read c.args.makes c.args.tokens
+    c.in-Read.variable c.in-Read.constructor c.in-Read.fields c.in-Read.is
+    (c.in_ok-read-in-Read.ensures
+    ∙ ap (TokenedMove.reads c.in-Read.variable c.in-Read.constructor) c.deref-in-Read.ensures.value)
+    c.in_ok-push-in-Read.ensures.items
 
 pub paired_step-returns-in_ok-push-in-Open-clause-code : goal.paired_step-returns-in_ok-push-in-Open-clause-code
 paired_step-returns-in_ok-push-in-Open-clause-code t c =
-    open_written c.args.steps.now.items c.push-in-Open.new.self.items c.args.step.now c.args.makes c.args.tokens c.in-Open.variable
-    c.in-Open.constructor c.in-Open.fields c.in-Open.used c.in_ok-from_slice-in-Open.field-0 c.in_ok-from_slice-in-Open-2.field-0
-    c.in-Open.is (c.in_ok-from_slice-in-Open.ensures.items ∙ c.deref-in-Open.ensures.value)
-    (c.in_ok-from_slice-in-Open-2.ensures.items ∙ c.deref-in-Open-2.ensures.value) c.in_ok-push-in-Open.ensures.items
+    open_written c.args.steps.now.items c.push-in-Open.new.self.items c.args.step.now c.in_ok-open-in-Open.open c.args.makes
+    c.args.tokens c.in-Open.variable c.in-Open.constructor c.in-Open.fields c.in-Open.used c.in-Open.is
+    (c.in_ok-open-in-Open.ensures
+    ∙ ap (λ xs. TokenedMove.opens c.in-Open.variable c.in-Open.constructor xs c.deref-in-Open-2.result.now c.args.tokens)
+    c.deref-in-Open.ensures.value
+    ∙ ap (λ xs. TokenedMove.opens c.in-Open.variable c.in-Open.constructor c.in-Open.fields.items xs c.args.tokens)
+    c.deref-in-Open-2.ensures.value)
+    c.in_ok-push-in-Open.ensures.items
 
 pub paired_step-returns-in_ok-push-in-IfUnique-clause-code : goal.paired_step-returns-in_ok-push-in-IfUnique-clause-code
 paired_step-returns-in_ok-push-in-IfUnique-clause-code t c =
-    if_unique_written c.args.steps.now.items c.push-in-IfUnique.new.self.items c.args.step.now c.args.makes c.args.tokens c.in-IfUnique.variable
-    c.in-IfUnique.constructor c.in-IfUnique.fields c.in-IfUnique.used c.in_ok-from_slice-in-IfUnique.field-0 c.in_ok-from_slice-in-IfUnique-2.field-0
-    c.in-IfUnique.is (c.in_ok-from_slice-in-IfUnique.ensures.items ∙ c.deref-in-IfUnique.ensures.value)
-    (c.in_ok-from_slice-in-IfUnique-2.ensures.items ∙ c.deref-in-IfUnique-2.ensures.value) c.in_ok-push-in-IfUnique.ensures.items
+    if_unique_written c.args.steps.now.items c.push-in-IfUnique.new.self.items c.args.step.now c.in_ok-open-in-IfUnique.open
+    c.args.makes c.args.tokens c.in-IfUnique.variable c.in-IfUnique.constructor c.in-IfUnique.fields c.in-IfUnique.used
+    c.in-IfUnique.is
+    (c.in_ok-open-in-IfUnique.ensures
+    ∙ ap (λ xs. TokenedMove.opens_unique c.in-IfUnique.variable c.in-IfUnique.constructor xs c.deref-in-IfUnique-2.result.now
+    c.args.tokens)
+    c.deref-in-IfUnique.ensures.value
+    ∙ ap (λ xs. TokenedMove.opens_unique c.in-IfUnique.variable c.in-IfUnique.constructor c.in-IfUnique.fields.items xs
+    c.args.tokens)
+    c.deref-in-IfUnique-2.ensures.value)
+    c.in_ok-push-in-IfUnique.ensures.items
 
 pub paired_step-returns-in_ok-push-in-Dup-clause-code : goal.paired_step-returns-in_ok-push-in-Dup-clause-code
 paired_step-returns-in_ok-push-in-Dup-clause-code t c =
@@ -60,7 +76,8 @@ pub paired_inside-returns-clause-left : goal.paired_inside-returns-clause-left
 paired_inside-returns-clause-left t c =
     elim c.if-makes.branch [
       | paired_inside-then-makes+in_ok-left w ↦
-          left_of_some c.args.makes c.args.tokens c.if-makes.left (block_code c.args.block.now) w.if-makes.true (w.left-is ∙ w.in_ok-left.ensures)
+          left_of_some c.args.makes c.args.tokens c.if-makes.left (block_code c.args.block.now) w.if-makes.true (w.left-is
+          ∙ w.in_ok-left.ensures)
       | paired_inside-else-makes w ↦
           left_of_none c.args.makes c.args.tokens c.if-makes.left (block_code c.args.block.now) w.if-makes.false w.left-is
     ]

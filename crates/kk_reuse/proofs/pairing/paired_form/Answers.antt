@@ -8,7 +8,8 @@ returns-in_ok-push-in-Construct-len1-up c =
     c.in-Construct-len1-up.constructor _ 0 c.args.form c.in_ok-arguments-in-Construct-len1-up.arguments c.new-kept.result
     c.in_ok-others-in-Construct-len1-up.others c.args.arguments.now c.in_ok-push-in-Construct-len1-up.ensures.items
     (omega (arith, c.if-tokens-gt0.true)) c.in-Construct-len1-up.is-0 c.in-Construct-len1-up.len_at_least refl
-    (c.in_ok-arguments-in-Construct-len1-up.ensures.items ∙ to_end c.args.arguments.now 1) c.new-kept.ensures.items c.in_ok-others-in-Construct-len1-up.ensures
+    (c.in_ok-arguments-in-Construct-len1-up.ensures.items ∙ to_end c.args.arguments.now 1) c.new-kept.ensures.items
+    c.in_ok-others-in-Construct-len1-up.ensures
 
 pub returns-in_ok-put_form-in-Call-default : goal.returns-in_ok-put_form-in-Call-default
 returns-in_ok-put_form-in-Call-default c =

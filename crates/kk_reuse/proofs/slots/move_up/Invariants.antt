@@ -6,7 +6,8 @@ use Rattle.kk_reuse.proofs.slots.move_up.Given as goal
 
 abbrev pub invariant-down : goal.invariant-down
 invariant-down l =
-    ((rest : Tokened) → put_steps l.steps.items (moves_up l.by l.from rest) ≡ put_steps l.initial.steps.items (moves_up l.by l.tokens rest))
+    ((rest : Tokened) → put_steps l.steps.items (moves_up l.by l.from rest) ≡ put_steps l.initial.steps.items
+    (moves_up l.by l.tokens rest))
     × (l.from ≤ l.tokens)
 
 abbrev pub decreases-down : goal.decreases-down
