@@ -50,3 +50,4 @@ pub mod Drafted
 pub mod Working
 pub mod Seeing
 pub mod Programs
+pub mod TokenedViews

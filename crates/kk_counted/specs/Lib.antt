@@ -30,5 +30,6 @@ pub mod TokenRuns
 pub mod TokenSpending
 pub mod TokenStates
 pub mod TokenedCodes
+pub mod TokenedForms
 pub mod Tokens
 pub mod Works

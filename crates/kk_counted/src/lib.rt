@@ -11,6 +11,7 @@ mod form;
 mod law;
 mod lists;
 mod shape;
+mod tokened;
 mod work;
 
 pub use copies::copied_decisions;
@@ -26,3 +27,4 @@ pub use law::{
     tokens_keep_runs_the_same,
 };
 pub use shape::{InstanceShape, Parameter, Shape};
+pub use tokened::{Tokened, TokenedBlock, TokenedFun, TokenedLast, TokenedStep};

@@ -4,3 +4,7 @@ pub mod Spends
 pub mod Pairs
 pub mod Programs
 mod Rooms
+pub mod Ahead
+pub mod Walks
+pub mod Steps
+pub mod Writing

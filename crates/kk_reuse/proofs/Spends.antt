@@ -327,12 +327,12 @@ mutual
 abbrev IsIdle : Bool → ℕ → Type 0
 IsIdle makes n = makes ≡ false → n ≡ 0
 
-kept_idle : (makes : Bool) (n : ℕ) → IsIdle makes (if makes then n else 0)
+pub kept_idle : (makes : Bool) (n : ℕ) → IsIdle makes (if makes then n else 0)
 kept_idle true n = λ none. cc none
 kept_idle false n = λ none. refl
 
 mutual
-  none_left : (code : Counted) (n : ℕ) → IsIdle (may_make false code) n → leaves false n code ≤ 0
+  pub none_left : (code : Counted) (n : ℕ) → IsIdle (may_make false code) n → leaves false n code ≤ 0
   none_left (give x) n idle = let none = idle refl in omega (arith, none)
   none_left (tail_call f arguments) n idle = omega arith
   none_left (branch x positive negative) n idle =

@@ -1,3 +1,4 @@
 pub mod Following
 pub mod Pairing
 pub mod Paired
+pub mod PairedForms

@@ -1,10 +1,15 @@
-//! Reuse: counted code whose constructions take the cells that openings have freed. What it makes of code is a function in specs/;
-//! laws say that its runs are the same.
+//! Reuse: counted code whose constructions take the cells that openings have freed. What it makes of code is a function in specs/,
+//! which `run` computes; laws say that its runs are the same.
 #![tactic(auto)]
 
+mod following;
 mod law;
+mod pairing;
+mod program;
+mod slots;
 
 pub use law::{
     paired_code_costs_what_it_has_room_for, paired_code_runs_the_same,
     paired_code_spends_its_tokens,
 };
+pub use program::run;

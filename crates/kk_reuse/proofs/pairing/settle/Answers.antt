@@ -1,0 +1,1 @@
+use Rattle.kk_reuse.proofs.pairing.settle.Goals as goal

@@ -1,0 +1,1 @@
+use Rattle.kk_reuse.proofs.program.run.Goals as goal

@@ -1,0 +1,311 @@
+// The pairing of a block.
+
+ghost use Rattle.std.specs.Prelude.{◌≡◌, [], map, if◌then◌else◌, OnOk, IfOk};
+ghost use Rattle.kk_counted.specs.CountedForms.{arms_of, block_code, last_code, runs, step_move};
+ghost use Rattle.kk_counted.specs.TokenedCodes.{Tokened};
+ghost use Rattle.kk_counted.specs.TokenedForms.{TokenedMove, tokened_arms, tokened_code, tokened_last_code, tokened_move, put_steps};
+ghost use Rattle.kk_reuse.specs.Pairing.{frees, paired, paired_arms, paired_form};
+ghost use Rattle.kk_reuse.specs.PairedForms.{paired_block, paired_move, tokens_behind};
+
+use crate::following::{last_may_make, leaves, may_make, one_more, steps_may_make, taken};
+use crate::slots::{fill_up, free_all, hold_all, slots_below, unhold_all};
+use kk_base::NoMemory;
+use kk_counted::{Block, Last, Step, TokenedBlock, TokenedLast, TokenedStep, copied_decisions};
+use kk_syntax::Form;
+use std::alloc::Global;
+
+/// What comes behind a block.
+#[derive(Clone, Copy)]
+pub struct Behind {
+    /// Whether a cell may be made there.
+    pub makes: bool,
+    /// How many tokens the block leaves to it.
+    pub left: u32,
+}
+
+/// A block with its tokens, which begins with so many. Where it can make no cell, nor what comes behind it, they are freed first.
+#[cycle(paired_block)]
+pub fn paired_block(
+    alloc: Global,
+    behind: Behind,
+    tokens: u32,
+    block: &Block,
+) -> Result<TokenedBlock, NoMemory>
+    ensures { IfOk result (λ made. tokened_code made ≡ paired_block behind.makes behind.left tokens (block_code block.now)) }
+{
+    let mut steps = Vec::new(alloc);
+    let mut tokens = settle(&mut steps, may_make(behind.makes, block), tokens)?;
+    let end_makes = last_may_make(behind.makes, &block.last);
+    for (i, step) in block.steps.iter().enumerate() {
+        let makes = steps_may_make(end_makes, &block.steps[i + 1..]);
+        tokens = paired_step(alloc, makes, tokens, step, &mut steps)?;
+        tokens = settle(&mut steps, makes, tokens)?;
+    }
+    let last = paired_last(alloc, behind, tokens, &block.last, &mut steps)?;
+    Ok(TokenedBlock { steps, last })
+}
+
+/// The tokens that are kept in front of code: all where it may make a cell. Else they are freed.
+fn settle(steps: &mut Vec<TokenedStep>, makes: bool, tokens: u32) -> Result<u32, NoMemory>
+    ensures code { IfOk result (λ left. (rest : Tokened) → put_steps steps.new.items rest ≡ put_steps steps.old.items (if makes then rest else frees tokens rest)) }
+    ensures left { IfOk result (λ left. left ≡ (if makes then tokens else 0)) }
+{
+    if makes {
+        return Ok(tokens);
+    }
+    free_all(steps, tokens)?;
+    Ok(0)
+}
+
+/// Adds a step with its tokens, of which there are so many in front of it, and answers how many there are behind it. `makes` is
+/// whether a cell may be made behind it.
+#[cycle(paired_block)]
+fn paired_step(
+    alloc: Global,
+    makes: bool,
+    tokens: u32,
+    step: &Step,
+    steps: &mut Vec<TokenedStep>,
+) -> Result<u32, NoMemory>
+    ensures code { IfOk result (λ left. (rest : Tokened) → put_steps steps.new.items rest ≡ put_steps steps.old.items (paired_move makes tokens (step_move step.now) rest)) }
+    ensures left { IfOk result (λ left. left ≡ tokens_behind makes tokens (step_move step.now)) }
+{
+    match step {
+        Step::Let(variable, form, arguments) => {
+            paired_form(alloc, tokens, *variable, *form, arguments, steps)?;
+            Ok(taken(*form, arguments, tokens))
+        }
+        Step::Inside(variable, block) => paired_inside(
+            alloc, makes, tokens, *variable, block, steps,
+        ),
+        Step::Read(variable, constructor, fields) => {
+            let read = reading(alloc, *variable, *constructor, fields)?;
+            steps.push(read)?;
+            Ok(tokens)
+        }
+        Step::Open(variable, constructor, fields, used) => {
+            let more = one_more(tokens)?;
+            let open = opening(alloc, *variable, *constructor, fields, used, tokens)?;
+            steps.push(open)?;
+            Ok(more)
+        }
+        Step::IfUnique(variable, constructor, fields, used) => {
+            let more = one_more(tokens)?;
+            let open = opening_by_count(alloc, *variable, *constructor, fields, used, tokens)?;
+            steps.push(open)?;
+            Ok(more)
+        }
+        Step::Dup(variable) => {
+            steps.push(TokenedStep::Dup {
+                variable: *variable,
+            })?;
+            Ok(tokens)
+        }
+        Step::Drop(variable) => {
+            steps.push(TokenedStep::Drop {
+                variable: *variable,
+            })?;
+            Ok(tokens)
+        }
+    }
+}
+
+/// A step that reads fields.
+fn reading(
+    alloc: Global,
+    variable: u32,
+    constructor: u32,
+    fields: &[u32],
+) -> Result<TokenedStep, NoMemory>
+    ensures { IfOk result (λ made. tokened_move made ≡ TokenedMove.reads variable constructor fields.now) }
+{
+    let fields = Vec::from_slice(alloc, fields)?;
+    Ok(TokenedStep::Read {
+        variable,
+        constructor,
+        fields,
+    })
+}
+
+/// A step that opens a cell.
+fn opening(
+    alloc: Global,
+    variable: u32,
+    constructor: u32,
+    fields: &[u32],
+    used: &[u32],
+    slot: u32,
+) -> Result<TokenedStep, NoMemory>
+    ensures { IfOk result (λ made. tokened_move made ≡ TokenedMove.opens variable constructor fields.now used.now slot) }
+{
+    let fields = Vec::from_slice(alloc, fields)?;
+    let used = Vec::from_slice(alloc, used)?;
+    Ok(TokenedStep::Open {
+        variable,
+        constructor,
+        fields,
+        used,
+        slot,
+    })
+}
+
+/// A step that opens a cell by its count.
+fn opening_by_count(
+    alloc: Global,
+    variable: u32,
+    constructor: u32,
+    fields: &[u32],
+    used: &[u32],
+    slot: u32,
+) -> Result<TokenedStep, NoMemory>
+    ensures { IfOk result (λ made. tokened_move made ≡ TokenedMove.opens_unique variable constructor fields.now used.now slot) }
+{
+    let fields = Vec::from_slice(alloc, fields)?;
+    let used = Vec::from_slice(alloc, used)?;
+    Ok(TokenedStep::IfUnique {
+        variable,
+        constructor,
+        fields,
+        used,
+        slot,
+    })
+}
+
+/// Adds a form on variables with so many tokens. A construction with fields takes the newest one. At a call all are held.
+fn paired_form(
+    alloc: Global,
+    tokens: u32,
+    variable: u32,
+    form: Form,
+    arguments: &[u32],
+    steps: &mut Vec<TokenedStep>,
+) -> Result<(), NoMemory>
+    ensures { OnOk result ((rest : Tokened) → put_steps steps.new.items rest ≡ put_steps steps.old.items (paired_form tokens variable form arguments.now rest)) }
+{
+    match (form, arguments) {
+        (Form::Construct(constructor), [first, others @ ..]) if tokens > 0 => {
+            let slot = tokens - 1;
+            let arguments = Vec::from_slice(alloc, others)?;
+            let kept = Vec::new(alloc);
+            let others = slots_below(alloc, slot)?;
+            steps.push(TokenedStep::Fill {
+                variable,
+                slot,
+                constructor,
+                first: *first,
+                arguments,
+                kept,
+                others,
+            })?;
+            Ok(())
+        }
+        (Form::Call(_), _) => {
+            hold_all(steps, tokens)?;
+            put_form(alloc, variable, form, arguments, steps)?;
+            unhold_all(steps, tokens)
+        }
+        _ => put_form(alloc, variable, form, arguments, steps),
+    }
+}
+
+/// Adds a form on variables that takes no token.
+fn put_form(
+    alloc: Global,
+    variable: u32,
+    form: Form,
+    arguments: &[u32],
+    steps: &mut Vec<TokenedStep>,
+) -> Result<(), NoMemory>
+    ensures { OnOk result ((rest : Tokened) → put_steps steps.new.items rest ≡ put_steps steps.old.items (Tokened.compute variable form arguments.now [] rest)) }
+{
+    let arguments = Vec::from_slice(alloc, arguments)?;
+    let others = Vec::new(alloc);
+    steps.push(TokenedStep::Let {
+        variable,
+        form,
+        arguments,
+        others,
+    })?;
+    Ok(())
+}
+
+/// Adds a block whose value a variable takes, and answers how many tokens it leaves.
+#[cycle(paired_block)]
+fn paired_inside(
+    alloc: Global,
+    makes: bool,
+    tokens: u32,
+    variable: u32,
+    block: &Block,
+    steps: &mut Vec<TokenedStep>,
+) -> Result<u32, NoMemory>
+    ensures code { IfOk result (λ left. (rest : Tokened) → put_steps steps.new.items rest ≡ put_steps steps.old.items (paired_move makes tokens (runs variable (block_code block.now)) rest)) }
+    ensures left { IfOk result (λ left. left ≡ tokens_behind makes tokens (runs variable (block_code block.now))) }
+{
+    let left = if makes { leaves(tokens, block)? } else { 0 };
+    let block = paired_block(alloc, Behind { makes, left }, tokens, block)?;
+    steps.push(TokenedStep::Inside { variable, block })?;
+    Ok(left)
+}
+
+/// The end of a block with so many tokens in front of it. A value's block leaves as many as are asked for; in front of a tail call
+/// all are freed.
+#[cycle(paired_block)]
+fn paired_last(
+    alloc: Global,
+    behind: Behind,
+    tokens: u32,
+    last: &Last,
+    steps: &mut Vec<TokenedStep>,
+) -> Result<TokenedLast, NoMemory>
+    ensures { IfOk result (λ made. put_steps steps.new.items (tokened_last_code made) ≡ put_steps steps.old.items (paired behind.makes behind.left tokens (last_code last.now))) }
+{
+    match last {
+        Last::Return(variable) => {
+            fill_up(steps, behind.left, tokens)?;
+            Ok(TokenedLast::Return(*variable))
+        }
+        Last::TailCall(function, arguments) => {
+            free_all(steps, tokens)?;
+            Ok(TokenedLast::TailCall(*function, Vec::from_slice(alloc, arguments)?))
+        }
+        Last::If(variable, positive, negative) => Ok(TokenedLast::If(
+            *variable,
+            boxed(alloc, behind, tokens, positive)?,
+            boxed(alloc, behind, tokens, negative)?,
+        )),
+        Last::Case(variable, decisions, arms) => {
+            let decisions = copied_decisions(alloc, decisions)?;
+            let arms = paired_arms(alloc, behind, tokens, arms)?;
+            Ok(TokenedLast::Case(*variable, decisions, arms))
+        }
+    }
+}
+
+#[cycle(paired_block)]
+fn boxed(
+    alloc: Global,
+    behind: Behind,
+    tokens: u32,
+    block: &Block,
+) -> Result<Box<TokenedBlock>, NoMemory>
+    ensures { IfOk result (λ made. tokened_code made.value ≡ paired_block behind.makes behind.left tokens (block_code block.now)) }
+{
+    Ok(Box::new(alloc, paired_block(alloc, behind, tokens, block)?)?)
+}
+
+#[cycle(paired_block)]
+fn paired_arms(
+    alloc: Global,
+    behind: Behind,
+    tokens: u32,
+    arms: &[Block],
+) -> Result<Vec<TokenedBlock>, NoMemory>
+    ensures { IfOk result (λ made. tokened_arms (map tokened_code made.items) ≡ paired_arms behind.makes behind.left tokens (arms_of (map block_code arms.now))) }
+{
+    let mut made = Vec::new(alloc);
+    for arm in arms {
+        made.push(paired_block(alloc, behind, tokens, arm)?)?;
+    }
+    Ok(made)
+}
