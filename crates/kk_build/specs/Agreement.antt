@@ -46,8 +46,8 @@ LeavesNoCell file setting =
     × AreAllFree setting.cells (file_after file input count).processor
 
 -- On every input of bytes, at each moment before the end at which the program counter is outside of the runtime's words, which are
--- the first ones from the entry on, the instruction that is executed next loads and stores no byte of a free cell, of which there are
--- at most so many.
+-- the first ones from the entry on, the instruction that is executed next loads and stores no byte of a cell in the list of free
+-- cells, of which so many are listed at most, and it is no call of the environment.
 abbrev pub TouchesNoFree : ℕ → List ℕ → Type 0
 TouchesNoFree cells file =
     (input : List ℕ) → All (λ byte. byte < 256) input

@@ -69,7 +69,7 @@ pub fn specialised_code_can_be_lowered()
     ensures short { (functions : List CountedFunction) → AreShort functions → AreShort (map special_function functions) }
 {}
 
-/// Specialised code has as many openings on a path as the code that it is made of. It is a law, and does nothing.
-pub fn specialised_code_opens_as_often()
+/// Specialised code has no more openings on a path than the code that it is made of. It is a law, and does nothing.
+pub fn specialised_code_opens_no_more()
     ensures { (most : ℕ) (program : CountedProgram) → OpenAtMost most program → OpenAtMost most (special_program program) }
 {}

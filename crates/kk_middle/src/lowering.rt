@@ -16,7 +16,7 @@ ghost use Rattle.kk_middle.specs.LentNames.{AllKeepLent};
 ghost use Rattle.kk_middle.specs.Lowerings.{CanBeLowered};
 
 use crate::meaning::compiled_core_forms_are_insertable;
-use kk_dropspec::{specialised_code_can_be_lowered, specialised_code_opens_as_often};
+use kk_dropspec::{specialised_code_can_be_lowered, specialised_code_opens_no_more};
 use kk_insert::{
     inserted_code_can_be_lowered, inserted_code_is_short, inserted_code_is_spent,
     inserted_code_opens_no_more, typed_code_is_marked,
@@ -61,5 +61,5 @@ pub fn compiled_programs_open_few_cells()
 {
     core_forms_open_few_cells();
     inserted_code_opens_no_more();
-    specialised_code_opens_as_often();
+    specialised_code_opens_no_more();
 }

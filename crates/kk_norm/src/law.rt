@@ -50,8 +50,7 @@ pub fn core_forms_are_whole()
     ensures { (program : ProgramTree) (code : ProgramCode) → IsCoreForm program code → CasesAreWhole code }
 {}
 
-/// A core form opens fewer cells on a path than the greatest body of its program has nodes: at most one for each constructor in a
-/// pattern. It is a law, and does nothing.
+/// A core form opens fewer cells on a path than the greatest body of its program has nodes. It is a law, and does nothing.
 pub fn core_forms_open_few_cells()
     ensures { (program : ProgramTree) (code : ProgramCode) → IsCoreForm program code
         → (nodes : ℕ) → greatest_nodes program ≤ nodes → UnpackAtMost (nodes - 1) code }

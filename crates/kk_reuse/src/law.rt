@@ -37,9 +37,9 @@ pub fn paired_code_runs_the_same()
 }
 
 /// Paired code has room for its tokens, where a step pays 36 for each opening of the function that has most of them. So it costs no
-/// more than the code that it is made of with this room, and as much at the start. In each state of its run, whatever its steps
-/// weigh, the tokens are kept, and it is not stuck; without its tokens it is a state of the run of that code. It is a law, and does
-/// nothing.
+/// more than the code that it is made of costs with this room, and with as much more at the start. In each state of its run,
+/// whatever its steps weigh, the tokens are kept, and it is not stuck; without its tokens it is a state of the run of that code. It
+/// is a law, and does nothing.
 pub fn paired_code_costs_what_it_has_room_for()
     ensures room { (most : ℕ) (program : CountedProgram) → OpenAtMost most program → HasRoom (36 * most) (paired_program program) }
     ensures costs { (most : ℕ) (setting : CountedSetting) (input : List ℕ)

@@ -1,4 +1,5 @@
--- When the cells of a program hold a counted heap: each counted cell stands in a block of its own, and all other blocks are free.
+-- When the cells of a program hold a counted heap: each counted cell stands in a block of its own. Each other block is free, or a
+-- cell that is not counted: it is in hand, or held as a token.
 use Rattle.std.specs.Prelude.{◌≡◌, ◌≢◌, ℕ, zero, suc, ◌%◌, ◌<◌, ◌≤◌, Bool, true, false, List, [], ◌∷◌, Option, Some, nat_eq, if◌then◌else◌}
 use Rattle.rv_isa.specs.Arithmetic.{bit_of}
 use Rattle.cell_heap.specs.Cells.{occurs}

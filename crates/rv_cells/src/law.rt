@@ -36,7 +36,7 @@ pub fn unused_cells_hold_no_heap()
 {}
 
 /// A request is served by a free cell exactly where fewer cells are counted and set aside than there are; else by the newest held
-/// token, and where none is held the heap is full. It is a law, and does nothing.
+/// token that it names, and where it names none the heap is full. It is a law, and does nothing.
 pub fn requests_find_free_cells()
     ensures served { (pool : Pool) (layout : Layout) (address : ℕ → ℕ) (owners : ℕ → Owner) (heap : Heap) (cells : Cells)
         → pool.first % 32 ≡ 0 → Follows pool layout address owners heap cells

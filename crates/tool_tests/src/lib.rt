@@ -1,5 +1,5 @@
-//! Tests of the program over devices in memory, of the layers that `build` goes through, and of the adapters over real files: tests
-//! alone.
+//! Tests of the program over devices in memory, of the layers that `build` goes through, of the pairing of tokens, and of the
+//! adapters over real files: tests alone.
 #![tactic(auto)]
 
 #[cfg(test)]
@@ -10,3 +10,5 @@ mod commands;
 mod devices;
 #[cfg(test)]
 mod layers;
+#[cfg(test)]
+mod tokens;

@@ -14,6 +14,6 @@ returns c typed given made compiled nodes few =
     let code : ProgramCode = core_code compiled.core in
     let own : PositionTable = instance_positions given compiled.table in
     subst (λ (program : CountedProgram). OpenAtMost (nodes - 1) program) (sym (compiled_program typed given made compiled))
-    (c.specialised_code_opens_as_often.ensures (nodes - 1) (inserted own code)
+    (c.specialised_code_opens_no_more.ensures (nodes - 1) (inserted own code)
     (c.inserted_code_opens_no_more.ensures own (nodes - 1) code
     (c.core_forms_open_few_cells.ensures (ground_program given) code compiled.form nodes few)))

@@ -1,5 +1,5 @@
 use Rattle.kk_dropspec.proofs.Opens.{special_opens}
-use Rattle.kk_dropspec.proofs.law.specialised_code_opens_as_often.Goals as goal
+use Rattle.kk_dropspec.proofs.law.specialised_code_opens_no_more.Goals as goal
 
 pub returns : goal.returns
 returns c = special_opens
