@@ -25,6 +25,8 @@ pub mod Shaping
 pub mod Spending
 pub mod TokenCosts
 pub mod TokenKeeping
+pub mod TokenLengths
+pub mod TokenLowerable
 pub mod TokenMachine
 pub mod TokenRuns
 pub mod TokenSpending

@@ -30,6 +30,8 @@ pub mod Stepping
 pub mod Written
 pub mod Grown
 pub mod Standing
+pub mod TokenLineCosts
+pub mod TokenStanding
 pub mod Blocks
 pub mod Celled
 pub mod Computing
@@ -56,3 +58,17 @@ pub mod FormedFunctions
 pub mod FormLengths
 pub mod TestLengths
 pub mod CodeLengths
+pub mod TokenFrames
+pub mod TokenTaken
+pub mod TokenCells
+pub mod TokenLanding
+pub mod TokenGiving
+pub mod TokenEntering
+pub mod TokenHolds
+pub mod TokenRequests
+pub mod TokenUniques
+pub mod TokenFills
+pub mod TokenSlots
+pub mod TokenCelled
+pub mod TokenInside
+pub mod TokenMoves

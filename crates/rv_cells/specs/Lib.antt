@@ -3,6 +3,7 @@ pub mod Follows
 pub mod Steps
 pub mod CellLines
 pub mod CountedLines
+pub mod TokenedLines
 pub mod Written
 pub mod Marked
 pub mod Fitting

@@ -1,0 +1,113 @@
+-- What code with tokens owes to be lowered to assembler code, beside what its bare form owes (Lowerable): its slots are few, openings go
+-- by counts, and tokens are held around calls alone.
+use Rattle.std.specs.Prelude.{◌≡◌, ℕ, suc, ◌≤◌, false, List, [], ◌∷◌, max, Some, slice_get}
+use Rattle.kk_syntax.specs.Shapes.{is_among}
+use Rattle.kk_syntax.specs.declared.program.Form.TheVariants.{Call}
+use Rattle.kk_core.specs.Sizes.{most_nodes}
+use Rattle.kk_counted.specs.TokenedCodes.{Tokened, TokenedArms, TokenedFunction}
+
+-- ---- slots
+
+-- one more than the greatest of some slots
+abbrev pub slots_of : List ℕ → ℕ
+slots_of [] = 0
+slots_of (y ∷ ys) = max (suc y) (slots_of ys)
+
+-- how many slots a code has: one more than the greatest that it names
+abbrev mutual
+  pub slots_in : Tokened → ℕ
+  slots_in (Tokened.give x) = 0
+  slots_in (Tokened.tail_call f arguments) = 0
+  slots_in (Tokened.branch x positive negative) = max (slots_in positive) (slots_in negative)
+  slots_in (Tokened.case x decisions arms) = slots_in_arms arms
+  slots_in (Tokened.compute x form arguments others rest) = max (slots_of others) (slots_in rest)
+  slots_in (Tokened.inside x block rest) = max (slots_in block) (slots_in rest)
+  slots_in (Tokened.read x c fields rest) = slots_in rest
+  slots_in (Tokened.open_cell x c fields used y rest) = max (suc y) (slots_in rest)
+  slots_in (Tokened.if_unique x c fields used y rest) = max (suc y) (slots_in rest)
+  slots_in (Tokened.dup x rest) = slots_in rest
+  slots_in (Tokened.drop x rest) = slots_in rest
+  slots_in (Tokened.fill x y c first arguments kept others rest) = max (suc y) (max (slots_of others) (slots_in rest))
+  slots_in (Tokened.free y rest) = max (suc y) (slots_in rest)
+  slots_in (Tokened.null y rest) = max (suc y) (slots_in rest)
+  slots_in (Tokened.move to of rest) = max (suc to) (max (suc of) (slots_in rest))
+  slots_in (Tokened.hold y rest) = max (suc y) (slots_in rest)
+  slots_in (Tokened.unhold y rest) = max (suc y) (slots_in rest)
+  slots_in (Tokened.if_token y there absent) = max (suc y) (max (slots_in there) (slots_in absent))
+
+  pub slots_in_arms : TokenedArms → ℕ
+  slots_in_arms TokenedArms.no_arm = 0
+  slots_in_arms (TokenedArms.arm body rest) = max (slots_in body) (slots_in_arms rest)
+
+-- the most slots of a function: it opens no more cells on a path than it has nodes
+abbrev pub most_slots : ℕ
+most_slots = most_nodes
+
+-- ---- forms
+
+-- openings go by the count of the cell, and forms on values name no other tokens
+abbrev mutual
+  pub HasPlainForms : Tokened → Type 0
+  HasPlainForms (Tokened.give x) = Unit {0}
+  HasPlainForms (Tokened.tail_call f arguments) = Unit {0}
+  HasPlainForms (Tokened.branch x positive negative) = HasPlainForms positive × HasPlainForms negative
+  HasPlainForms (Tokened.case x decisions arms) = HavePlainForms arms
+  HasPlainForms (Tokened.compute x form arguments others rest) = (others ≡ []) × HasPlainForms rest
+  HasPlainForms (Tokened.inside x block rest) = HasPlainForms block × HasPlainForms rest
+  HasPlainForms (Tokened.read x c fields rest) = HasPlainForms rest
+  HasPlainForms (Tokened.open_cell x c fields used y rest) = ⊥
+  HasPlainForms (Tokened.if_unique x c fields used y rest) = HasPlainForms rest
+  HasPlainForms (Tokened.dup x rest) = HasPlainForms rest
+  HasPlainForms (Tokened.drop x rest) = HasPlainForms rest
+  HasPlainForms (Tokened.fill x y c first arguments kept others rest) = HasPlainForms rest
+  HasPlainForms (Tokened.free y rest) = HasPlainForms rest
+  HasPlainForms (Tokened.null y rest) = HasPlainForms rest
+  HasPlainForms (Tokened.move to of rest) = HasPlainForms rest
+  HasPlainForms (Tokened.hold y rest) = HasPlainForms rest
+  HasPlainForms (Tokened.unhold y rest) = HasPlainForms rest
+  HasPlainForms (Tokened.if_token y there absent) = HasPlainForms there × HasPlainForms absent
+
+  pub HavePlainForms : TokenedArms → Type 0
+  HavePlainForms TokenedArms.no_arm = Unit {0}
+  HavePlainForms (TokenedArms.arm body rest) = HasPlainForms body × HavePlainForms rest
+
+-- ---- held tokens
+
+-- Code before which the tokens of these slots are held, the newest first: each is held up to its Unhold, and between the two there are
+-- calls alone.
+abbrev mutual
+  pub HoldsAtCalls : List ℕ → Tokened → Type 0
+  HoldsAtCalls held (Tokened.give x) = held ≡ []
+  HoldsAtCalls held (Tokened.tail_call f arguments) = held ≡ []
+  HoldsAtCalls held (Tokened.branch x positive negative) = (held ≡ []) × (HoldsAtCalls [] positive × HoldsAtCalls [] negative)
+  HoldsAtCalls held (Tokened.case x decisions arms) = (held ≡ []) × HoldAtCalls arms
+  HoldsAtCalls held (Tokened.compute x (Call f) arguments others rest) = HoldsAtCalls held rest
+  HoldsAtCalls held (Tokened.compute x form arguments others rest) = (held ≡ []) × HoldsAtCalls [] rest
+  HoldsAtCalls held (Tokened.inside x block rest) = (held ≡ []) × (HoldsAtCalls [] block × HoldsAtCalls [] rest)
+  HoldsAtCalls held (Tokened.read x c fields rest) = (held ≡ []) × HoldsAtCalls [] rest
+  HoldsAtCalls held (Tokened.open_cell x c fields used y rest) = (held ≡ []) × HoldsAtCalls [] rest
+  HoldsAtCalls held (Tokened.if_unique x c fields used y rest) = (held ≡ []) × HoldsAtCalls [] rest
+  HoldsAtCalls held (Tokened.dup x rest) = (held ≡ []) × HoldsAtCalls [] rest
+  HoldsAtCalls held (Tokened.drop x rest) = (held ≡ []) × HoldsAtCalls [] rest
+  HoldsAtCalls held (Tokened.fill x y c first arguments kept others rest) = (held ≡ []) × HoldsAtCalls [] rest
+  HoldsAtCalls held (Tokened.free y rest) = (held ≡ []) × HoldsAtCalls [] rest
+  HoldsAtCalls held (Tokened.null y rest) = (held ≡ []) × HoldsAtCalls [] rest
+  HoldsAtCalls held (Tokened.move to of rest) = (held ≡ []) × HoldsAtCalls [] rest
+  HoldsAtCalls held (Tokened.hold y rest) = (is_among held y ≡ false) × HoldsAtCalls (y ∷ held) rest
+  HoldsAtCalls held (Tokened.unhold y rest) = (older : List ℕ) × ((held ≡ y ∷ older) × HoldsAtCalls older rest)
+  HoldsAtCalls held (Tokened.if_token y there absent) = (held ≡ []) × (HoldsAtCalls [] there × HoldsAtCalls [] absent)
+
+  pub HoldAtCalls : TokenedArms → Type 0
+  HoldAtCalls TokenedArms.no_arm = Unit {0}
+  HoldAtCalls (TokenedArms.arm body rest) = HoldsAtCalls [] body × HoldAtCalls rest
+
+-- ---- functions
+
+pub record IsTokenLowerable (function : TokenedFunction) : Type 0 where
+  pub slots : slots_in function.body ≤ most_slots
+  pub plain : HasPlainForms function.body
+  pub straight : HoldsAtCalls [] function.body
+
+abbrev pub AreTokensLowerable : List TokenedFunction → Type 0
+AreTokensLowerable functions =
+    (f : ℕ) (function : TokenedFunction) → slice_get functions f ≡ Some function → IsTokenLowerable function

@@ -1,0 +1,206 @@
+-- The lines of a construction in the cell of a token do the step of the machine with tokens.
+use Rattle.std.proofs.Common.{◌≡◌, ◌≢◌, ℕ, zero, suc, ◌+◌, ◌*◌, ◌<◌, ◌≤◌, ◌==◌, inl, inr, Bool, true, false, List, [], ◌∷◌, ◌++◌, length, map, Option, Some, None, refl, sym, ◌∙◌, ap, subst, arith, ne_eqb, append_assoc}
+use Rattle.std.specs.Prelude.{if◌then◌else◌, ◌&&◌}
+use Rattle.kk_syntax.specs.Shapes.{is_among, without}
+use Rattle.kk_source.specs.State.{Value, place, Environment}
+use Rattle.kk_source.specs.Live.{value_of}
+use Rattle.kk_source.specs.Actions.{Action, goes, builds}
+use Rattle.kk_counted.specs.Heaps.{Heap, busy, fields_held}
+use Rattle.kk_counted.specs.Keeping.{values_of}
+use Rattle.kk_counted.specs.Marks.{field_marks}
+use Rattle.kk_counted.specs.TokenKeeping.{ArePooled, Lists, IsJudged, ListsAfter, AreKeptBy}
+use Rattle.kk_counted.specs.TokenMachine.{token_code_step, fill_step, make_step, filled, bound_to, token_at_stuck}
+use Rattle.kk_counted.specs.TokenRuns.{AllLead}
+use Rattle.kk_counted.specs.TokenStates.{TokenJoin, TokenFrame, TokenConfiguration, TokenState}
+use Rattle.kk_counted.specs.TokenedCodes.{Tokened}
+use Rattle.kk_counted.specs.Tokens.{Slot, spent, null, token, is_unspent, Mark, plain, token_of, one_if_token, Tokens, is_linked, by_token, marked, marks_with, slots_with, blanked, released, has_room, request}
+use Rattle.kk_counted.proofs.Chaining.{EqualBelow, equal_one, frames_many, not_linked}
+use Rattle.kk_counted.proofs.Pooling.{slot_here, slot_there, mark_there, by_cell}
+use Rattle.rv_isa.specs.declared.asm.Action.TheVariants.{Label, Branch, Routine as Calls}
+use Rattle.rv_isa.specs.declared.asm.Condition.TheVariants.{NotEqual}
+use Rattle.rv_isa.specs.declared.routine.Routine.TheVariants.{Take}
+use Rattle.rv_isa.specs.AsmCode.{Line}
+use Rattle.rv_isa.specs.Frames.{Frame, put}
+use Rattle.cell_heap.specs.Blocks.{Cells}
+use Rattle.rv_lower.specs.Lines.{copies_to, acts}
+use Rattle.rv_lower.proofs.Performing.{put_other}
+use Rattle.rv_cells.specs.Layout.{FitFields, header_of}
+use Rattle.rv_cells.specs.Follows.{Owner, cell_of, in_hand, is_aside, with_owner, assign}
+use Rattle.rv_cells.specs.CellLines.{hold_lines, unhold_lines}
+use Rattle.rv_cells.proofs.Celled.{all_among, apart_above}
+use Rattle.rv_cells.proofs.Blocks.{within_itself, within_one}
+use Rattle.rv_cells.proofs.Constructing.{IsMaking, made_spot}
+use Rattle.rv_cells.proofs.Filling.{fill_cost, from_label, whole_lines, fills_own}
+use Rattle.rv_cells.proofs.Owners.{chosen_same, chosen_other}
+use Rattle.rv_cells.proofs.Runs.{turn_of}
+use Rattle.rv_cells.proofs.Spots.{Spot, Known, Here}
+use Rattle.rv_cells.proofs.Values.{has_cell, among_by}
+use Rattle.rv_cells.proofs.Words.{hand_owned}
+use Rattle.rv_cells.specs.TokenedLines.{values_of_slots}
+use Rattle.rv_cells.proofs.TokenCells.{cell_goes}
+use Rattle.rv_cells.proofs.TokenEntering.{arguments_fit}
+use Rattle.rv_cells.proofs.TokenFrames.{slots_moved, all_carried, all_wait_at}
+use Rattle.rv_cells.proofs.TokenLineCosts.{forms}
+use Rattle.rv_cells.proofs.TokenLanding.{lands_leads, token_at, machine_at, seen_action, silent_builds, goes_on, kept_after}
+use Rattle.rv_cells.proofs.TokenStanding.{SlotIs, IsTokenCell, HaveSlotValues, HaveTokenCells, finds, held_values, Lowering, setting, upper, known_of, AllWait, At, IsFitFrom, Follows_step}
+use Rattle.rv_cells.proofs.TokenUniques.{slots_set}
+
+abbrev takes_into : ℕ → Line
+takes_into x = record { action = Calls Take; args = []; into = Some x }
+
+-- a label behind the row of tokens that are held and taken back
+label_split : (before hs us label : List Line) (a b c t : Line) → before ++ (a ∷ b ∷ c ∷ (hs ++ (t ∷ (us ++ label))))
+    ≡ (before ++ (a ∷ b ∷ c ∷ (hs ++ (t ∷ us)))) ++ label
+label_split before hs us label a b c t =
+    ap (λ ls. before ++ (a ∷ b ∷ c ∷ ls)) (sym (append_assoc hs (t ∷ us) label))
+    ∙ sym (append_assoc before (a ∷ b ∷ c ∷ (hs ++ (t ∷ us))) label)
+
+-- the next name is no token's
+beyond_plain : (cells : ℕ) (heap : Heap) (tokens : Tokens) → ArePooled cells heap tokens → tokens.marks (length heap) ≡ plain
+beyond_plain cells heap tokens pooled = by (tokens.marks (length heap)) refl
+  where
+    by : (mark : Mark) → tokens.marks (length heap) ≡ mark → tokens.marks (length heap) ≡ plain
+    by plain is = is
+    by (token_of f z) is = (let less = pooled.there f z (length heap) is in absurd (omega arith))
+
+none_more : (m : ℕ) → 0 + m ≡ m
+none_more m = omega arith
+
+another : (n y z : ℕ) → z ≢ y → ((n == n) && (z == y)) ≡ false
+another n y z differ =
+    let itself : (n == n) ≡ true = grind arith in
+    let other : (z == y) ≡ false = ne_eqb z y differ in
+    rw itself other
+
+module _ (program : Lowering) (x y c first : ℕ) (arguments kept_at others : List ℕ) (rest : Tokened) (idle : ℕ) (inner : List TokenJoin)
+    (frames : List TokenFrame) (tokens : Tokens) (input : List ℕ) (s : Spot) (fs : List (Frame Line)) (left : List Line)
+    (idle_is : idle ≡ suc (forms rest))
+    (at : At program (Tokened.fill x y c first arguments kept_at others rest) inner frames tokens input s fs left)
+    (fit : IsFitFrom program (token_at program (Tokened.fill x y c first arguments kept_at others rest) s.environment inner frames s.heap tokens input)) where
+  abbrev pub Fill_steps : Type 0
+  Fill_steps =
+      Follows_step program idle
+      (token_at program (Tokened.fill x y c first arguments kept_at others rest) s.environment inner frames s.heap tokens input)
+      (turn_of left s.frame fs s.world)
+
+  making : IsMaking (known_of program at.shape) s x c (first ∷ arguments)
+  making =
+      let p = at.does.placed in
+      let all = all_among (first ∷ arguments) s.bound p.marked.0 in
+      let low = p.numbered.0 in
+      record {
+        below = omega arith;
+        bound = all;
+        apart = apart_above x (first ∷ arguments) s.bound p.numbered.1.0 all;
+        holds = p.marked.1.0.1;
+        fits = subst (λ marks. FitFields marks (values_of s.environment (first ∷ arguments))) (sym (program.fields_are c))
+            (arguments_fit at.has.values (first ∷ arguments) (field_marks program.marks c) all p.marked.1.0.0);
+        older = (fit 0).sound.older;
+      }
+
+  -- its own token is there
+  pub fills_token : (q : ℕ) → tokens.slots (length at.lists.older) y ≡ token q
+      → fill_cost (known_of program at.shape) (values_of_slots at.shape.variables others) (first ∷ arguments)
+      ≤ (upper program).weight (token_at program (Tokened.fill x y c first arguments kept_at others rest) s.environment inner frames s.heap tokens input)
+      → Fill_steps
+  fills_token q has cheap =
+      let p = at.does.placed in
+      let code = Tokened.fill x y c first arguments kept_at others rest in
+      let known = known_of program at.shape in
+      let v = at.shape.variables in
+      let base = at.shape.variables + at.shape.slots in
+      let n = length at.lists.older in
+      let size = length s.heap in
+      let address = s.address q in
+      let pooled = at.judged.are.pooled in
+      let many = frames_many tokens.slots at.lists.older frames at.judged.waiting in
+      let here : Here known s = record { follows = at.follows; values = at.has.values } in
+      let values_are = values_of_slots v others in
+      let rest_lines = p.lines.1 ++ p.after in
+      let whole_is = whole_lines known rest_lines fs s x (v + y) c values_are p.low (first ∷ arguments) p.lines.0 here making p.lines.2 in
+      let mark = pooled.marks n y q has in
+      let nothing = at.judged.spends.0 in
+      let free : is_linked n y tokens.chain ≡ false = ap (is_linked n y) at.judged.are.chain
+      ∙ not_linked tokens.slots at.lists.held at.lists.older y (ap (λ (ys : List ℕ). is_among ys y) nothing) in
+      let hand = subst (λ b. IsTokenCell b (s.owners address)) free (at.cells.are n y q mark) in
+      let value : s.frame.cells (v + y) ≡ Some address = subst (λ slot. SlotIs s.address slot (s.frame.cells (v + y))) has
+      (at.has.tokens.are y) in
+      let vs = values_of s.environment (first ∷ arguments) in
+      let after : Tokens = released n y q spent tokens in
+      let found_at = finds p.low s.frame.whole
+      (p.before ++ (copies_to (v + y) x ∷ copies_to x base ∷ acts (Branch NotEqual p.low) (base ∷ [])
+      ∷ (hold_lines values_are ++ (takes_into x ∷ unhold_lines values_are))))
+      (p.lines.2.0 ++ rest_lines) at.has.formed
+      (p.place ∙ ap (λ ls. p.before ++ ls) (p.left_is ∙ ap (λ own. own ++ p.after) p.lines.4
+      ∙ append_assoc p.lines.0 p.lines.1 p.after ∙ whole_is)
+      ∙ label_split p.before (hold_lines values_are) (unhold_lines values_are)
+      (from_label known rest_lines fs s x (v + y) c values_are p.low (first ∷ arguments) p.lines.0 here making p.lines.2)
+      (copies_to (v + y) x) (copies_to x base) (acts (Branch NotEqual p.low) (base ∷ [])) (takes_into x)) in
+      let done = fills_own known rest_lines fs s x (v + y) c values_are p.low (first ∷ arguments) p.lines.0 here making p.lines.2
+      address hand.0 value hand.1 program.some found_at in
+      let later = assign size address s.address in
+      let f : Frame Line = record s.frame {
+        cells = put base (Some 1) (put base (Some (header_of program.layout c)) (put base (Some address) (put x (Some address) s.frame.cells)));
+      } in
+      let to : Spot = made_spot s x c vs address f done.0 in
+      let from = machine_at program code s.environment inner frames s.heap tokens in
+      let puts : Value → TokenConfiguration = λ w. bound_to x w rest s.environment inner from in
+      let step : token_code_step (setting program) code s.environment inner from
+      ≡ builds (busy s.heap) (machine_at program rest to.environment inner frames to.heap after)
+      = ap (λ g. by_token (goes (token_at_stuck from))
+      (make_step (request program.pool.cells others g s.heap (blanked g y spent tokens)) c vs puts from)
+      (λ r. make_step (has_room (released g y r spent tokens)) c vs puts from) g y tokens) many
+      ∙ by_cell program.pool.cells (goes (token_at_stuck from))
+      (make_step (request program.pool.cells others n s.heap (blanked n y spent tokens)) c vs puts from)
+      (λ r. make_step (has_room (released n y r spent tokens)) c vs puts from) n y q s.heap tokens pooled has in
+      let kept = subst (AllLead (AreKeptBy program.pool.cells (ListsAfter code inner at.lists))) step
+      (kept_after program code inner frames tokens input s fs left at refl) in
+      let stays : (r : ℕ) → r < size → later r ≡ s.address r = λ r less. chosen_other r size address s.address (λ e. omega (arith, e, less)) in
+      let below = pooled.there n y q mark in
+      let fresh : one_if_token (after.marks size) ≡ 0 = ap one_if_token
+      (mark_there q size plain tokens.marks (ne_eqb size q (λ e. omega (arith, e, below)))
+      ∙ beyond_plain program.pool.cells s.heap tokens pooled) in
+      let moved = slots_moved {later = later} {others = f.cells} at.has.tokens (λ z r is. stays r (pooled.there n z r (pooled.marks n z r is)))
+      (λ z few unspent. put_other base (v + z) 1 (put base (Some (header_of program.layout c)) (put base (Some address) (put x (Some address) s.frame.cells))) (λ e. omega (arith, e, few))
+      ∙ put_other base (v + z) (header_of program.layout c) (put base (Some address) (put x (Some address) s.frame.cells)) (λ e. omega (arith, e, few))
+      ∙ put_other base (v + z) address (put x (Some address) s.frame.cells) (λ e. omega (arith, e, few))
+      ∙ put_other x (v + z) address s.frame.cells (λ e. let low = p.numbered.0 in omega (arith, e, low))) in
+      let few = p.short in
+      goes_on program code inner frames tokens input s fs left at idle fit rest p.lines.0 p.lines.1 to fs after (x ∷ s.bound)
+      (record at.lists { unspent = without (y ∷ []) at.lists.unspent })
+      (fill_cost known values_are (first ∷ arguments)) (builds (busy s.heap)) (lands_leads done.1)
+      (record {
+        parts = p.lines.4;
+        low = p.low + 1;
+        lines = p.lines.3;
+        within = within_itself (x ∷ s.bound);
+        older = within_one x s.bound;
+        below = λ z is. elim (among_by x s.bound z is) [
+          | inl e ↦ (let low = p.numbered.0 in omega (arith, e, low))
+          | inr among ↦ at.has.below z among
+        ];
+        marked = p.marked.1.1;
+        numbered = p.numbered.1.1;
+        has = p.has.1.1;
+        judged = subst (λ (l : Lists). IsJudged program.pool.cells l.left l.unspent l.held l.older rest inner frames to.heap after)
+            kept.1.0 kept.1.1;
+        cells = cell_goes at.cells program.aligned n y q later (with_owner address (cell_of size) s.owners) to.heap after
+            (hand_owned at.follows address hand.0 hand.1).0 below mark refl
+            (λ g z r differ is. stays r (pooled.there g z r is))
+            (λ g z r differ is. refl)
+            (λ one linked differ is. subst (IsTokenCell linked) (sym (chosen_other one address (cell_of size) s.owners differ)) is)
+            (ap is_aside (chosen_same address address (cell_of size) s.owners refl))
+            (λ one differ. ap is_aside (chosen_other one address (cell_of size) s.owners differ))
+            (ap (λ k. k + marked after.marks size) fresh ∙ none_more (marked after.marks size));
+        slots_are = slots_set moved y spent p.has.0 (slot_here n y spent tokens.slots) tt
+            (λ z differ. slot_there n y n z spent tokens.slots (another n y z differ)) (λ z differ low. refl);
+        held_is = at.has.held_is ∙ ap (held_values (tokens.slots n) v) nothing
+            ∙ sym (ap (held_values (after.slots n) v) nothing);
+        waits = all_wait_at program later (suc size) tokens.slots after.slots at.lists.older frames fs at.shape.result
+            (equal_one n n y spent tokens.slots (omega arith))
+            (all_carried program s.address size later (suc size) tokens.slots at.lists.older frames fs at.shape.result
+            (λ holds most bound environment values has_values. has_cell has_values address)
+            (λ g z r is. stays r (pooled.there g z r (pooled.marks g z r is))) at.waits);
+      })
+      (silent_builds program (busy s.heap)) cheap
+      (ap (λ action. seen_action program action input) step) (omega (arith, idle_is)) (omega arith)

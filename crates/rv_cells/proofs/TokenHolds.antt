@@ -1,0 +1,363 @@
+-- The lines that hold a token and that take it back do the steps of the machine with tokens.
+use Rattle.std.proofs.Common.{◌≡◌, ◌≢◌, ℕ, suc, ◌+◌, ◌*◌, ◌<◌, ◌≤◌, ◌==◌, Bool, true, false, List, [], ◌∷◌, ◌++◌, length, Option, Some, None, refl, sym, ◌∙◌, ap, subst, arith, eqb-true}
+use Rattle.std.specs.Prelude.{if◌then◌else◌, ◌&&◌, ◌||◌}
+use Rattle.kk_syntax.specs.Shapes.{is_among}
+use Rattle.kk_source.specs.Actions.{goes}
+use Rattle.kk_counted.specs.TokenKeeping.{chain_of, Lists, IsJudged, ListsAfter, AreKeptBy}
+use Rattle.kk_counted.specs.TokenMachine.{token_code_step, at_code, to_tokens}
+use Rattle.kk_counted.specs.TokenStates.{TokenJoin, TokenFrame, TokenConfiguration, TokenState}
+use Rattle.kk_counted.specs.TokenedCodes.{Tokened}
+use Rattle.kk_counted.specs.Tokens.{Slot, null, token, is_unspent, is_token, token_of, Link, Tokens, is_linked, by_token, hold_link, unlinked, with_chain, unheld, held as holds_slot}
+use Rattle.kk_counted.proofs.Chaining.{frames_many, not_linked}
+use Rattle.kk_counted.proofs.Pooling.{by_null, by_cell}
+use Rattle.kk_counted.proofs.TokenForms.{Has, is_null, has_cell, unspent_has}
+use Rattle.rv_isa.specs.declared.asm.Action.TheVariants.{Hold, Unhold}
+use Rattle.rv_isa.specs.AsmCode.{Line}
+use Rattle.rv_isa.specs.Frames.{Frame, is_among as is_out}
+use Rattle.cell_heap.specs.Blocks.{past_links}
+use Rattle.kk_counted.specs.Spending.{AreApart}
+use Rattle.rv_world.specs.World.{with_cells}
+use Rattle.rv_lower.specs.Lines.{acts}
+use Rattle.rv_cells.specs.Follows.{in_hand, kept_aside, with_owner}
+use Rattle.rv_cells.specs.Steps.{PutAside, TakenBack}
+use Rattle.rv_cells.proofs.Counts.{put_aside, taken_back}
+use Rattle.rv_cells.proofs.Words.{hand_owned, aside_owned}
+use Rattle.rv_cells.proofs.HeldTokens.{holding_now, hold_runs, hold_null_runs, unhold_runs, unhold_null_runs}
+use Rattle.rv_cells.proofs.Runs.{turn_of}
+use Rattle.rv_cells.proofs.Spots.{Spot, Here}
+use Rattle.rv_cells.proofs.Blocks.{within_itself}
+use Rattle.rv_cells.proofs.TokenCells.{cell_turns}
+use Rattle.rv_cells.proofs.TokenLineCosts.{forms}
+use Rattle.rv_cells.proofs.TokenStanding.{SlotIs, IsTokenCell, HaveTokenCells, HaveSlotValues, held_values, Lowering, AllWait, target, setting, upper, known_of, At, IsFitFrom, Follows_step}
+use Rattle.rv_cells.proofs.TokenLanding.{Lands, token_at, machine_at, CodeSteps, silent_goes, seen_action, GoesOn, goes_on, kept_quiet}
+
+-- a slot that is not among the held ones has a value that is not held
+held_out : (slots : ℕ → Slot) (variables y : ℕ) (ys : List ℕ) → is_among ys y ≡ false
+    → is_out (variables + y) (held_values slots variables ys) ≡ false
+held_out slots variables y [] none = refl
+held_out slots variables y (z ∷ zs) none =
+    by (z == y) refl none (is_token (slots z)) (held_out slots variables y zs)
+  where
+    by : (same : Bool) → (z == y) ≡ same → (same || is_among zs y) ≡ false → (b : Bool)
+        → (is_among zs y ≡ false → is_out (variables + y) (held_values slots variables zs) ≡ false)
+        → is_out (variables + y) (if b then (variables + z) ∷ held_values slots variables zs else held_values slots variables zs) ≡ false
+    by true test among b later = cc
+    by false test among false later = later among
+    by false test among true later =
+        let apart : (variables + z == variables + y) ≡ false = grind arith in
+        rw apart (later among)
+
+linked_here : (n y : ℕ) (chain : List Link) → is_linked n y (record { frame = n; slot = y } ∷ chain) ≡ true
+linked_here n y chain =
+    let first : (n == n) ≡ true = grind arith in
+    let second : (y == y) ≡ true = grind arith in
+    rw first (rw second refl)
+
+linked_other : (n y g z : ℕ) (chain : List Link) → (n ≡ g → y ≡ z → ⊥)
+    → is_linked g z (record { frame = n; slot = y } ∷ chain) ≡ is_linked g z chain
+linked_other n y g z chain apart = by (n == g) refl (y == z) refl
+  where
+    by : (b : Bool) → (n == g) ≡ b → (c : Bool) → (y == z) ≡ c
+        → is_linked g z (record { frame = n; slot = y } ∷ chain) ≡ is_linked g z chain
+    by true first true second = absurd (apart (eqb-true n g first) (eqb-true y z second))
+    by true first false second = rw first (rw second refl)
+    by false first c second = rw first refl
+
+unlinked_here : (n y : ℕ) (links : List Link) → unlinked n y (record { frame = n; slot = y } ∷ links) ≡ Some links
+unlinked_here n y links =
+    let first : (n == n) ≡ true = grind arith in
+    let second : (y == y) ≡ true = grind arith in
+    rw first (rw second refl)
+
+rest_of : {a b : ℕ} {xs ys : List ℕ} → a ∷ xs ≡ b ∷ ys → xs ≡ ys
+rest_of e = cc
+
+cell_same : {a b : ℕ} → token a ≡ token b → a ≡ b
+cell_same e = cc
+
+module _ (program : Lowering) (y : ℕ) (rest : Tokened) where
+  pub at_hold : CodeSteps program (Tokened.hold y rest)
+  at_hold idle inner frames tokens input s fs left idle_is at fit =
+      by (unspent_has (tokens.slots (length at.lists.older) y) (at.judged.slots_are y ∙ at.judged.spends.0))
+    where
+      by : Has (tokens.slots (length at.lists.older) y)
+          → Follows_step program idle (token_at program (Tokened.hold y rest) s.environment inner frames s.heap tokens input)
+          (turn_of left s.frame fs s.world)
+      by (is_null empty) =
+          let p = at.does.placed in
+          let v = at.shape.variables in
+          let n = length at.lists.older in
+          let many = frames_many tokens.slots at.lists.older frames at.judged.waiting in
+          let slots = tokens.slots (length at.lists.older) in
+          let line = acts Hold ((v + y) ∷ []) in
+          let out : is_out (v + y) s.frame.held ≡ false = ap (is_out (v + y)) at.has.held_is
+          ∙ held_out slots v y at.lists.held at.judged.spends.1.0 in
+          let value : s.frame.cells (v + y) ≡ Some 0 = subst (λ slot. SlotIs s.address slot (s.frame.cells (v + y))) empty
+          (at.has.tokens.are y) in
+          let from = machine_at program (Tokened.hold y rest) s.environment inner frames s.heap tokens in
+          let step : token_code_step (setting program) (Tokened.hold y rest) s.environment inner from
+          ≡ goes (machine_at program rest s.environment inner frames s.heap tokens)
+          = ap (λ o. goes (to_tokens o from (at_code rest s.environment inner from)))
+          (ap (λ f. holds_slot f y tokens) many
+          ∙ by_null program.pool.cells None (Some tokens) (λ q. hold_link n y tokens) n y tokens empty) in
+          let kept = kept_quiet program (Tokened.hold y rest) inner frames tokens input s fs left at
+          (machine_at program rest s.environment inner frames s.heap tokens) step refl in
+          let few = p.short in
+          goes_on program (Tokened.hold y rest) inner frames tokens input s fs left at idle fit rest (line ∷ []) p.lines.0 s fs tokens
+          s.bound (record at.lists { held = y ∷ at.lists.held }) 12 goes
+          (record {
+            cost = 11;
+            steps = 1;
+            within = omega arith;
+            runs = hold_null_runs (target program) (p.lines.0 ++ p.after) s.frame fs s.world (v + y) value out;
+            here = record { follows = at.follows; values = at.has.values };
+            left = refl;
+            whole = refl;
+          })
+          (record {
+            parts = p.lines.2;
+            low = p.low;
+            lines = p.lines.1;
+            within = within_itself s.bound;
+            older = within_itself s.bound;
+            below = at.has.below;
+            marked = p.marked;
+            numbered = p.numbered;
+            has = p.has.1;
+            judged = subst (λ (l : Lists). IsJudged program.pool.cells l.left l.unspent l.held l.older rest inner frames s.heap tokens)
+                kept.1.0 kept.1.1;
+            cells = at.cells;
+            slots_are = at.has.tokens;
+            held_is = at.has.held_is
+                ∙ sym (ap (λ slot. if is_token slot then (v + y) ∷ held_values slots v at.lists.held else
+                held_values slots v at.lists.held) empty);
+            waits = at.waits;
+          })
+          (silent_goes program) (omega arith)
+          (ap (λ action. seen_action program action input) step) (omega (arith, idle_is)) (omega arith)
+      by (has_cell q has) =
+          let p = at.does.placed in
+          let v = at.shape.variables in
+          let n = length at.lists.older in
+          let many = frames_many tokens.slots at.lists.older frames at.judged.waiting in
+          let slots = tokens.slots (length at.lists.older) in
+          let pooled = at.judged.are.pooled in
+          let line = acts Hold ((v + y) ∷ []) in
+          let out : is_out (v + y) s.frame.held ≡ false = ap (is_out (v + y)) at.has.held_is
+          ∙ held_out slots v y at.lists.held at.judged.spends.1.0 in
+          let value : s.frame.cells (v + y) ≡ Some (s.address q) = subst (λ slot. SlotIs s.address slot (s.frame.cells (v + y))) has
+          (at.has.tokens.are y) in
+          let links : List Link = record { frame = n; slot = y } ∷ tokens.chain in
+          let after : Tokens = record tokens { chain = links } in
+          let from = machine_at program (Tokened.hold y rest) s.environment inner frames s.heap tokens in
+          let free : is_linked n y tokens.chain ≡ false = ap (is_linked n y) at.judged.are.chain
+          ∙ not_linked tokens.slots at.lists.held at.lists.older y at.judged.spends.1.0 in
+          let step : token_code_step (setting program) (Tokened.hold y rest) s.environment inner from
+          ≡ goes (machine_at program rest s.environment inner frames s.heap after)
+          = ap (λ o. goes (to_tokens o from (at_code rest s.environment inner from)))
+          (ap (λ f. holds_slot f y tokens) many
+          ∙ by_cell program.pool.cells None (Some tokens) (λ r. hold_link n y tokens) n y q s.heap tokens pooled has
+          ∙ ap (λ b. if b then None else Some after) free) in
+          let kept = kept_quiet program (Tokened.hold y rest) inner frames tokens input s fs left at
+          (machine_at program rest s.environment inner frames s.heap after) step refl in
+          let mark = pooled.marks n y q has in
+          let hand = subst (λ b. IsTokenCell b (s.owners (s.address q))) free (at.cells.are n y q mark) in
+          let cell = (hand_owned at.follows (s.address q) hand.0 hand.1).0 in
+          let behind = cell.behind in
+          let some = program.some in
+          let put = put_aside at.follows (s.address q) hand.0 hand.1 in
+          let to : Spot = record s {
+            owners = with_owner (s.address q) (kept_aside hand.0) s.owners;
+            frame = holding_now ((v + y) ∷ s.frame.held) s.frame;
+            world = with_cells s.world put.now;
+          } in
+          let few = p.short in
+          goes_on program (Tokened.hold y rest) inner frames tokens input s fs left at idle fit rest (line ∷ []) p.lines.0 to fs after
+          s.bound (record at.lists { held = y ∷ at.lists.held }) 12 goes
+          (record {
+            cost = 11;
+            steps = 1;
+            within = omega arith;
+            runs = hold_runs (target program) (p.lines.0 ++ p.after) s.frame fs s.world (v + y) (s.address q) put.now value
+                (λ e. omega arith) out put.is;
+            here = record { follows = put.holds; values = at.has.values };
+            left = refl;
+            whole = refl;
+          })
+          (record {
+            parts = p.lines.2;
+            low = p.low;
+            lines = p.lines.1;
+            within = within_itself s.bound;
+            older = within_itself s.bound;
+            below = at.has.below;
+            marked = p.marked;
+            numbered = p.numbered;
+            has = p.has.1;
+            judged = subst (λ (l : Lists). IsJudged program.pool.cells l.left l.unspent l.held l.older rest inner frames s.heap after)
+                kept.1.0 kept.1.1;
+            cells = cell_turns at.cells program.aligned n y q (kept_aside hand.0) links cell mark
+                (subst (λ b. IsTokenCell b (kept_aside hand.0)) (sym (linked_here n y tokens.chain)) (hand.0, refl))
+                (λ g z r differ is. linked_other n y g z tokens.chain (λ e e2. differ (cell_same (sym (pooled.slots g z r is)
+                ∙ sym (ap (λ h. tokens.slots h z) e) ∙ sym (ap (tokens.slots n) e2) ∙ has))));
+            slots_are = at.has.tokens;
+            held_is = ap (λ h. (v + y) ∷ h) at.has.held_is
+                ∙ sym (ap (λ slot. if is_token slot then (v + y) ∷ held_values slots v at.lists.held else
+                held_values slots v at.lists.held) has);
+            waits = at.waits;
+          })
+          (silent_goes program) (omega arith)
+          (ap (λ action. seen_action program action input) step) (omega (arith, idle_is)) (omega arith)
+
+  pub at_unhold : CodeSteps program (Tokened.unhold y rest)
+  at_unhold idle inner frames tokens input s fs left idle_is at fit =
+      by (unspent_has (tokens.slots (length at.lists.older) y) (at.judged.slots_are y ∙ at.judged.spends.1.1.0))
+    where
+      lists_held : (a b : Lists) → a ≡ record b { held = y ∷ b.held } → (a.held ≡ y ∷ b.held) × (a.older ≡ b.older)
+      lists_held a b e = (ap (λ (l : Lists). l.held) e, ap (λ (l : Lists). l.older) e)
+
+      by : Has (tokens.slots (length at.lists.older) y)
+          → Follows_step program idle (token_at program (Tokened.unhold y rest) s.environment inner frames s.heap tokens input)
+          (turn_of left s.frame fs s.world)
+      by (is_null empty) =
+          let p = at.does.placed in
+          let v = at.shape.variables in
+          let n = length at.lists.older in
+          let many = frames_many tokens.slots at.lists.older frames at.judged.waiting in
+          let slots = tokens.slots (length at.lists.older) in
+          let line = acts Unhold ((v + y) ∷ []) in
+          let from = machine_at program (Tokened.unhold y rest) s.environment inner frames s.heap tokens in
+          let step : token_code_step (setting program) (Tokened.unhold y rest) s.environment inner from
+          ≡ goes (machine_at program rest s.environment inner frames s.heap tokens)
+          = ap (λ o. goes (to_tokens o from (at_code rest s.environment inner from)))
+          (ap (λ f. unheld f y tokens) many
+          ∙ by_null program.pool.cells None (Some tokens) (λ q. with_chain tokens (unlinked n y tokens.chain)) n y tokens empty) in
+          let kept = kept_quiet program (Tokened.unhold y rest) inner frames tokens input s fs left at
+          (machine_at program rest s.environment inner frames s.heap tokens) step refl in
+          let next = kept.0 in
+          let parts = lists_held at.lists next kept.1.0 in
+          let fresh : is_among next.held y ≡ false = (subst AreApart parts.0 at.judged.apart).0 in
+          let left_held : held_values slots v at.lists.held ≡ held_values slots v next.held = ap (held_values slots v) parts.0
+          ∙ ap (λ slot. if is_token slot then (v + y) ∷ held_values slots v next.held else held_values slots v next.held) empty in
+          let out : is_out (v + y) s.frame.held ≡ false = ap (is_out (v + y)) (at.has.held_is ∙ left_held)
+          ∙ held_out slots v y next.held fresh in
+          let value : s.frame.cells (v + y) ≡ Some 0 = subst (λ slot. SlotIs s.address slot (s.frame.cells (v + y))) empty
+          (at.has.tokens.are y) in
+          let few = p.short in
+          goes_on program (Tokened.unhold y rest) inner frames tokens input s fs left at idle fit rest (line ∷ []) p.lines.0 s fs tokens
+          s.bound next 12 goes
+          (record {
+            cost = 9;
+            steps = 1;
+            within = omega arith;
+            runs = unhold_null_runs (target program) (p.lines.0 ++ p.after) s.frame fs s.world (v + y) value out;
+            here = record { follows = at.follows; values = at.has.values };
+            left = refl;
+            whole = refl;
+          })
+          (record {
+            parts = p.lines.2;
+            low = p.low;
+            lines = p.lines.1;
+            within = within_itself s.bound;
+            older = within_itself s.bound;
+            below = at.has.below;
+            marked = p.marked;
+            numbered = p.numbered;
+            has = p.has.1;
+            judged = kept.1.1;
+            cells = at.cells;
+            slots_are = subst (λ (o : List (List ℕ)). HaveSlotValues s.address (tokens.slots (length o)) v at.shape.slots s.frame.cells)
+                parts.1 at.has.tokens;
+            held_is = subst (λ (o : List (List ℕ)). s.frame.held ≡ held_values (tokens.slots (length o)) v next.held) parts.1
+                (at.has.held_is ∙ left_held);
+            waits = subst (λ o. AllWait program s.address (length s.heap) tokens.slots o frames fs at.shape.result) parts.1 at.waits;
+          })
+          (silent_goes program) (omega arith)
+          (ap (λ action. seen_action program action input) step) (omega (arith, idle_is)) (omega arith)
+      by (has_cell q has) =
+          let p = at.does.placed in
+          let v = at.shape.variables in
+          let n = length at.lists.older in
+          let many = frames_many tokens.slots at.lists.older frames at.judged.waiting in
+          let slots = tokens.slots (length at.lists.older) in
+          let pooled = at.judged.are.pooled in
+          let line = acts Unhold ((v + y) ∷ []) in
+          let from = machine_at program (Tokened.unhold y rest) s.environment inner frames s.heap tokens in
+          let older_held = at.judged.spends.0 in
+          let held_eq : at.lists.held ≡ y ∷ older_held = at.judged.spends.1.0 in
+          let fresh : is_among older_held y ≡ false = (subst AreApart held_eq at.judged.apart).0 in
+          let links : List Link = chain_of tokens.slots (older_held ∷ at.lists.older) in
+          let after : Tokens = record tokens { chain = links } in
+          let chain_is : tokens.chain ≡ record { frame = n; slot = y } ∷ links
+          = at.judged.are.chain ∙ ap (λ h. chain_of tokens.slots (h ∷ at.lists.older)) held_eq
+          ∙ ap (λ slot. if is_token slot then record { frame = n; slot = y } ∷ links else links) has in
+          let top_is : with_chain tokens (unlinked n y tokens.chain) ≡ Some after
+          = ap (λ ls. with_chain tokens (unlinked n y ls)) chain_is ∙ ap (with_chain tokens) (unlinked_here n y links) in
+          let step : token_code_step (setting program) (Tokened.unhold y rest) s.environment inner from
+          ≡ goes (machine_at program rest s.environment inner frames s.heap after)
+          = ap (λ o. goes (to_tokens o from (at_code rest s.environment inner from)))
+          (ap (λ f. unheld f y tokens) many
+          ∙ by_cell program.pool.cells None (Some tokens) (λ r. with_chain tokens (unlinked n y tokens.chain)) n y q s.heap tokens
+          pooled has ∙ top_is) in
+          let kept = kept_quiet program (Tokened.unhold y rest) inner frames tokens input s fs left at
+          (machine_at program rest s.environment inner frames s.heap after) step refl in
+          let next = kept.0 in
+          let parts = lists_held at.lists next kept.1.0 in
+          let same_held : older_held ≡ next.held = rest_of (sym held_eq ∙ parts.0) in
+          let held_now : s.frame.held ≡ (v + y) ∷ held_values slots v older_held = at.has.held_is
+          ∙ ap (held_values slots v) held_eq
+          ∙ ap (λ slot. if is_token slot then (v + y) ∷ held_values slots v older_held else held_values slots v older_held) has in
+          let value : s.frame.cells (v + y) ≡ Some (s.address q) = subst (λ slot. SlotIs s.address slot (s.frame.cells (v + y))) has
+          (at.has.tokens.are y) in
+          let mark = pooled.marks n y q has in
+          let linked : is_linked n y tokens.chain ≡ true = ap (is_linked n y) chain_is ∙ linked_here n y links in
+          let aside = subst (λ b. IsTokenCell b (s.owners (s.address q))) linked (at.cells.are n y q mark) in
+          let cell = (aside_owned at.follows (s.address q) aside.0 aside.1).0 in
+          let behind = cell.behind in
+          let some = program.some in
+          let back = taken_back at.follows (s.address q) aside.0 aside.1 in
+          let owner = in_hand (past_links aside.0) in
+          let to : Spot = record s {
+            owners = with_owner (s.address q) owner s.owners;
+            frame = holding_now (held_values slots v older_held) s.frame;
+            world = with_cells s.world back.now;
+          } in
+          let few = p.short in
+          goes_on program (Tokened.unhold y rest) inner frames tokens input s fs left at idle fit rest (line ∷ []) p.lines.0 to fs after
+          s.bound next 12 goes
+          (record {
+            cost = 9;
+            steps = 1;
+            within = omega arith;
+            runs = unhold_runs (target program) (p.lines.0 ++ p.after) s.frame fs s.world (v + y) (s.address q)
+                (held_values slots v older_held) back.now value (λ e. omega arith) held_now back.is;
+            here = record { follows = back.holds; values = at.has.values };
+            left = refl;
+            whole = refl;
+          })
+          (record {
+            parts = p.lines.2;
+            low = p.low;
+            lines = p.lines.1;
+            within = within_itself s.bound;
+            older = within_itself s.bound;
+            below = at.has.below;
+            marked = p.marked;
+            numbered = p.numbered;
+            has = p.has.1;
+            judged = kept.1.1;
+            cells = cell_turns at.cells program.aligned n y q owner links cell mark
+                (subst (λ b. IsTokenCell b owner) (sym (not_linked tokens.slots older_held at.lists.older y fresh))
+                (past_links aside.0, refl))
+                (λ g z r differ is. sym (ap (is_linked g z) chain_is ∙ linked_other n y g z links
+                (λ e e2. differ (cell_same (sym (pooled.slots g z r is)
+                ∙ sym (ap (λ h. tokens.slots h z) e) ∙ sym (ap (tokens.slots n) e2) ∙ has)))));
+            slots_are = subst (λ (o : List (List ℕ)). HaveSlotValues s.address (tokens.slots (length o)) v at.shape.slots s.frame.cells)
+                parts.1 at.has.tokens;
+            held_is = subst (λ (o : List (List ℕ)). held_values slots v older_held ≡ held_values (tokens.slots (length o)) v next.held)
+                parts.1 (ap (held_values slots v) same_held);
+            waits = subst (λ o. AllWait program s.address (length s.heap) tokens.slots o frames fs at.shape.result) parts.1 at.waits;
+          })
+          (silent_goes program) (omega arith)
+          (ap (λ action. seen_action program action input) step) (omega (arith, idle_is)) (omega arith)

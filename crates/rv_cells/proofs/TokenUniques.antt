@@ -1,0 +1,441 @@
+-- The lines of an opening by the count of its cell, whose slot takes the cell, do the step of the machine with tokens.
+use Rattle.std.proofs.Common.{◌≡◌, ◌≢◌, ℕ, zero, suc, ◌+◌, ◌*◌, ◌<◌, ◌≤◌, ◌==◌, ◌⊎◌, inl, inr, ◌^◌, Bool, true, false, List, [], ◌∷◌, ◌++◌, length, filter, map, Option, Some, None, refl, sym, ◌∙◌, ap, subst, arith, eqb-true, ne_eqb, append_assoc}
+use Rattle.std.specs.Prelude.{not, ◌&&◌, if◌then◌else◌}
+use Rattle.std.proofs.lemmas.List.{length-map}
+use Rattle.std.proofs.lemmas.Bool.{or_right, or_left}
+use Rattle.kk_syntax.specs.Shapes.{is_among}
+use Rattle.kk_source.specs.State.{Value, integer, unit, constant, place, Environment}
+use Rattle.kk_source.specs.Live.{value_of}
+use Rattle.kk_source.specs.Actions.{goes, performed}
+use Rattle.kk_core.specs.CoreMachine.{bind_fields}
+use Rattle.kk_counted.specs.CountedMachine.{Named, cell_named, used_values, other_values, unique_heap, NotStuck}
+use Rattle.kk_counted.specs.Heaps.{Heap, count_at, set_count, more, dup_value, dup_all, drop_all}
+use Rattle.kk_counted.specs.Lowerable.{AreBelow, bound_list}
+use Rattle.kk_counted.specs.Marks.{field_marks, HaveMarks}
+use Rattle.kk_counted.specs.Spending.{AreApart}
+use Rattle.kk_counted.specs.TokenKeeping.{Lists, IsJudged, ListsAfter, AreKeptBy}
+use Rattle.kk_counted.specs.TokenMachine.{token_code_step, token_open_step, to_opened, at_code}
+use Rattle.kk_counted.specs.TokenRuns.{AllLead}
+use Rattle.kk_counted.specs.TokenStates.{TokenJoin, TokenFrame, TokenConfiguration, TokenState, bare_join, bare_configuration}
+use Rattle.kk_counted.specs.BareForms.{bare}
+use Rattle.kk_counted.specs.TokenedCodes.{Tokened}
+use Rattle.kk_counted.specs.Tokens.{Slot, spent, null, token, is_unspent, Mark, plain, token_of, Tokens, is_linked, slots_with, opened_tokens, blanked, gained, marked}
+use Rattle.kk_counted.proofs.Chaining.{EqualBelow, equal_one, frames_many, not_linked}
+use Rattle.kk_counted.proofs.Counting.{counted_within, count_set, count_other}
+use Rattle.kk_counted.proofs.Easing.{EasedTo, eased_unique}
+use Rattle.kk_counted.proofs.Pooling.{slot_here, slot_there}
+use Rattle.rv_isa.specs.declared.asm.Action.TheVariants.{Label}
+use Rattle.rv_isa.specs.AsmCode.{Line}
+use Rattle.rv_isa.specs.Frames.{Frame}
+use Rattle.cell_heap.specs.Blocks.{Cells}
+use Rattle.rv_lower.specs.Lines.{acts}
+use Rattle.rv_cells.specs.Layout.{words_in}
+use Rattle.rv_cells.specs.Follows.{Owner, cell_of, in_hand, is_aside}
+use Rattle.rv_cells.proofs.Held.{some-is}
+use Rattle.rv_cells.proofs.Celled.{marks_are}
+use Rattle.rv_cells.proofs.Rooms.{named_cell}
+use Rattle.rv_cells.proofs.Rows.{then_some, IsReading}
+use Rattle.rv_cells.proofs.CountOpenings.{others_of}
+use Rattle.rv_cells.proofs.LineCosts.{most_moves, row_cost}
+use Rattle.rv_cells.proofs.Openings.{bound_older, opened_spot}
+use Rattle.rv_cells.proofs.Runs.{turn_of}
+use Rattle.rv_cells.proofs.Spots.{Spot, Known, Here}
+use Rattle.rv_cells.proofs.Standing.{AreWithin}
+use Rattle.rv_cells.proofs.Values.{among_by}
+use Rattle.rv_cells.proofs.TokenOpenings.{HasCell, IsNull, TokenIs, Leads, token_cost, for_shared, shared_lines, head_lines, whole_lines, opens_to_token}
+use Rattle.rv_cells.proofs.TokenCells.{token_aside, cells_stay, cell_comes}
+use Rattle.rv_cells.proofs.TokenFrames.{none_behind, all_wait_at}
+use Rattle.rv_cells.proofs.TokenLineCosts.{forms}
+use Rattle.rv_cells.proofs.TokenStanding.{SlotIs, IsTokenCell, HaveSlotValues, HaveTokenCells, finds, held_values, Lowering, setting, upper, known_of, AllWait, At, IsFitFrom, Follows_step}
+use Rattle.rv_cells.proofs.TokenLanding.{lands_leads, token_at, machine_at, CodeSteps, seen_action, silent_goes, goes_on, kept_after}
+
+-- a slot is given another token, of which a frame has the value, and the values of the other unspent slots are the same
+pub slots_set : {address : ℕ → ℕ} {slots others : ℕ → Slot} {variables count : ℕ} {values after : ℕ → Option ℕ}
+    → HaveSlotValues address slots variables count values → (y : ℕ) (slot : Slot) → y < count → others y ≡ slot
+    → SlotIs address slot (after (variables + y)) → ((z : ℕ) → z ≢ y → others z ≡ slots z)
+    → ((z : ℕ) → z ≢ y → z < count → after (variables + z) ≡ values (variables + z))
+    → HaveSlotValues address others variables count after
+slots_set {address} {slots} {others} {variables} {count} {values} {after} have y slot low is value same stay = record {
+  below = λ z. (by z (z == y) refl).0;
+  are = λ z. (by z (z == y) refl).1;
+}
+  where
+    kept : (z : ℕ) (one : Slot) → SlotIs address one (values (variables + z)) → (is_unspent one ≡ true → z < count)
+        → (z < count → after (variables + z) ≡ values (variables + z)) → SlotIs address one (after (variables + z))
+    kept z spent was below stays = tt
+    kept z null was below stays = stays (below refl) ∙ was
+    kept z (token p) was below stays = stays (below refl) ∙ was
+
+    by : (z : ℕ) (b : Bool) → (z == y) ≡ b → (is_unspent (others z) ≡ true → z < count)
+        × SlotIs address (others z) (after (variables + z))
+    by z true test =
+        let e : y ≡ z = sym (eqb-true z y test) in
+        subst (λ x. (is_unspent (others x) ≡ true → x < count) × SlotIs address (others x) (after (variables + x))) e
+        (λ unspent. low, subst (λ sl. SlotIs address sl (after (variables + y))) (sym is) value)
+    by z false test =
+        let differ : z ≢ y = λ e. let itself : (z == y) ≡ true = grind arith in let both = sym itself ∙ test in cc in
+        let still = same z differ in (
+          λ unspent. have.below z (ap is_unspent (sym still) ∙ unspent),
+          subst (λ sl. SlotIs address sl (after (variables + z))) (sym still)
+              (kept z (slots z) (have.are z) (have.below z) (stay z differ)),
+        )
+
+-- ---- counts after openings
+
+-- a counted cell stays so where references are more
+dup_counted : (at : ℕ) (v : Value) (heap next : Heap) → 1 ≤ count_at heap at → dup_value v heap ≡ Some next → 1 ≤ count_at next at
+dup_counted at (integer n) heap next some is = subst (λ h. 1 ≤ count_at h at) (some-is is) some
+dup_counted at unit heap next some is = subst (λ h. 1 ≤ count_at h at) (some-is is) some
+dup_counted at (constant c) heap next some is = subst (λ h. 1 ≤ count_at h at) (some-is is) some
+dup_counted at (place q) heap next some is = by (count_at heap q) refl is
+  where
+    by : (count : ℕ) → count_at heap q ≡ count → more q count heap ≡ Some next → 1 ≤ count_at next at
+    by zero counts given = cc
+    by (suc k) counts given =
+        subst (λ h. 1 ≤ count_at h at) (some-is given) (here (q == at) refl)
+      where
+        here : (b : Bool) → (q == at) ≡ b → 1 ≤ count_at (set_count q (suc (suc k)) heap) at
+        here true test =
+            let e : q ≡ at = eqb-true q at test in
+            let now = ap (count_at (set_count q (suc (suc k)) heap)) (sym e) ∙ count_set q (suc (suc k)) k heap counts in
+            omega (arith, now)
+        here false test = let now = count_other q (suc (suc k)) at heap test in omega (arith, now, some)
+
+dups_counted : (at : ℕ) (vs : List Value) (heap next : Heap) → 1 ≤ count_at heap at → dup_all vs heap ≡ Some next
+    → 1 ≤ count_at next at
+dups_counted at [] heap next some is = subst (λ h. 1 ≤ count_at h at) (some-is is) some
+dups_counted at (v ∷ vs) heap next some is =
+    let m = then_some (dup_value v heap) (dup_all vs) next is in
+    dups_counted at vs m.0 next (dup_counted at v heap m.0 some m.1) m.2
+
+-- a cell of several references is counted behind its opening
+pub shared_counted : (n at : ℕ) (used others : List Value) (heap next : Heap) → count_at heap at ≡ suc (suc n)
+    → unique_heap (suc (suc n)) at used others heap ≡ Some next → 1 ≤ count_at next at
+shared_counted n at used others heap next counts is =
+    let now = count_set at (suc n) (suc n) heap counts in
+    dups_counted at used (set_count at (suc n) heap) next (omega (arith, now)) is
+
+named_there : (o : Option Named) (heap : Named → Option Heap) (fields : List ℕ) (y : ℕ) (rest : Tokened) (environment : Environment)
+    (inner : List TokenJoin) (from : TokenConfiguration) (input : List ℕ)
+    → NotStuck (bare_configuration (performed (token_open_step o heap fields y rest environment inner from) input).1.machine).control
+    → (named : Named) × (o ≡ Some named)
+named_there None heap fields y rest environment inner from input going = absurd going
+named_there (Some named) heap fields y rest environment inner from input going = (named, refl)
+
+opened_there : (o : Option Heap) (at y : ℕ) (from to : TokenConfiguration)
+    → NotStuck (bare_configuration (to_opened o at y from to)).control → (next : Heap) × (o ≡ Some next)
+opened_there None at y from to going = absurd going
+opened_there (Some next) at y from to going = (next, refl)
+
+-- ---- fields
+
+among_front : (fields bound : List ℕ) (z : ℕ) → is_among (fields ++ bound) z ≡ true
+    → (is_among fields z ≡ true) ⊎ (is_among bound z ≡ true)
+among_front [] bound z is = inr is
+among_front (x ∷ xs) bound z is =
+    elim (among_by x (xs ++ bound) z is) [
+      | inl e ↦ inl (or_left (x == z) (is_among xs z) (grind arith))
+      | inr later ↦ elim (among_front xs bound z later) [
+        | inl among ↦ inl (or_right (x == z) (is_among xs z) among)
+        | inr among ↦ inr among
+      ]
+    ]
+
+bound_field : (fields bound : List ℕ) (z : ℕ) → is_among fields z ≡ true → is_among (bound_list fields bound) z ≡ true
+bound_field [] bound z is = cc
+bound_field (x ∷ xs) bound z is =
+    elim (among_by x xs z is) [
+      | inl e ↦ bound_older xs (x ∷ bound) z (or_left (x == z) (is_among bound z) (grind arith))
+      | inr later ↦ bound_field xs (x ∷ bound) z later
+    ]
+
+pub within_fields : (fields bound : List ℕ) → AreWithin (fields ++ bound) (bound_list fields bound)
+within_fields fields bound = λ z is. elim (among_front fields bound z is) [
+  | inl among ↦ bound_field fields bound z among
+  | inr among ↦ bound_older fields bound z among
+]
+
+pub within_front : (fields bound : List ℕ) → AreWithin bound (fields ++ bound)
+within_front [] bound = λ z is. is
+within_front (x ∷ xs) bound = λ z is. or_right (x == z) (is_among (xs ++ bound) z) (within_front xs bound z is)
+
+pub below_list : (most : ℕ) (fields bound : List ℕ) → AreBelow most fields → ((z : ℕ) → is_among bound z ≡ true → z < most)
+    → (z : ℕ) → is_among (bound_list fields bound) z ≡ true → z < most
+below_list most [] bound fields_below below z is = below z is
+below_list most (x ∷ xs) bound fields_below below z is =
+    below_list most xs (x ∷ bound) fields_below.1
+    (λ w among. elim (among_by x bound w among) [
+      | inl e ↦ (let low = fields_below.0 in omega (arith, e, low))
+      | inr later ↦ below w later
+    ]) z is
+
+pub below_more : (most more : ℕ) (xs : List ℕ) → most ≤ more → AreBelow most xs → AreBelow more xs
+below_more most more [] high below = tt
+below_more most more (x ∷ xs) high below = ((let low = below.0 in omega (arith, low, high)), below_more most more xs high below.1)
+
+pub row_times : (xs : List ℕ) (k : ℕ) → row_cost xs k ≡ k * length xs
+row_times [] k = omega arith
+row_times (x ∷ xs) k = let later = row_times xs k in let step : k * suc (length xs) ≡ k + k * length xs = grind arith in omega (arith, later, step)
+
+filter_length : (takes : ℕ → Bool) (xs : List ℕ) → length (filter takes xs) ≤ length xs
+filter_length takes [] = omega arith
+filter_length takes (x ∷ xs) = by (takes x) (filter_length takes xs)
+  where
+    by : (b : Bool) → length (filter takes xs) ≤ length xs → length (if b then x ∷ filter takes xs else filter takes xs) ≤ suc
+        (length xs)
+    by true few = omega (arith, few)
+    by false few = omega (arith, few)
+
+pub another : (n y z : ℕ) → z ≢ y → ((n == n) && (z == y)) ≡ false
+another n y z differ =
+    let itself : (n == n) ≡ true = grind arith in
+    let other : (z == y) ≡ false = ne_eqb z y differ in
+    rw itself other
+
+alone_value : (v y z : ℕ) → z ≢ y → is_among ((v + y) ∷ []) (v + z) ≡ false
+alone_value v y z differ =
+    let other : (v + y == v + z) ≡ false = ne_eqb (v + y) (v + z) (λ e. differ (omega (arith, e))) in
+    rw other refl
+
+same_bools : (b c : Bool) → (b ≡ true → c ≡ true) → (c ≡ true → b ≡ true) → b ≡ c
+same_bools true c there back = sym (there refl)
+same_bools false true there back = back refl
+same_bools false false there back = refl
+
+module _ (program : Lowering) (x c : ℕ) (fields used : List ℕ) (y : ℕ) (rest : Tokened) (idle : ℕ) (inner : List TokenJoin)
+    (frames : List TokenFrame) (tokens : Tokens) (input : List ℕ) (s : Spot) (fs : List (Frame Line)) (left : List Line)
+    (idle_is : idle ≡ suc (forms rest))
+    (at : At program (Tokened.if_unique x c fields used y rest) inner frames tokens input s fs left)
+    (fit : IsFitFrom program (token_at program (Tokened.if_unique x c fields used y rest) s.environment inner frames s.heap tokens input)) where
+  abbrev n : ℕ
+  n = length at.lists.older
+
+  abbrev v : ℕ
+  v = at.shape.variables
+
+  abbrev opened_to : Named → Heap → Frame Line → (ℕ → Owner) → Cells → Spot
+  opened_to named next frame owners cells = opened_spot (known_of program at.shape) s fields named.fields next frame owners cells
+
+  abbrev Steps_on : Type 0
+  Steps_on =
+      Follows_step program idle
+      (token_at program (Tokened.if_unique x c fields used y rest) s.environment inner frames s.heap tokens input)
+      (turn_of left s.frame fs s.world)
+
+  abbrev from : TokenConfiguration
+  from = machine_at program (Tokened.if_unique x c fields used y rest) s.environment inner frames s.heap tokens
+
+  -- the slot has its token, and the code goes on
+  finish : (named : Named) (next : Heap) (frame : Frame Line) (owners : ℕ → Owner) (cells : Cells)
+      → Leads (known_of program at.shape) (token_cost (known_of program at.shape) fields used) at.does.placed.lines.0
+      (at.does.placed.lines.1 ++ at.does.placed.after) fs fs s (opened_to named next frame owners cells) ((v + y) ∷ [])
+      → (after : Tokens) (slot : Slot)
+      → token_code_step (setting program) (Tokened.if_unique x c fields used y rest) s.environment inner from
+      ≡ goes (machine_at program rest (bind_fields fields named.fields s.environment) inner frames next after)
+      → length next ≡ length s.heap → slots_with n y slot tokens.slots ≡ after.slots → SlotIs s.address slot (frame.cells (v + y))
+      → HaveTokenCells program.pool s.address owners next after → Steps_on
+  finish named next frame owners cells leads after slot step long slots_is value token_cells =
+      let p = at.does.placed in
+      let code = Tokened.if_unique x c fields used y rest in
+      let to = opened_to named next frame owners cells in
+      let kept = subst (AllLead (AreKeptBy program.pool.cells (ListsAfter code inner at.lists))) step
+      (kept_after program code inner frames tokens input s fs left at refl) in
+      let few = p.short in
+      let one = row_times fields (most_moves + 2) in
+      let two = row_times (filter (is_among used) fields) (most_moves + 5) in
+      let three = row_times (others_of used fields) (2 * most_moves + 16) in
+      let nothing = at.judged.spends.0 in
+      let list_below = below_list v fields s.bound p.numbered.0.0 at.has.below in
+      goes_on program code inner frames tokens input s fs left at idle fit rest p.lines.0 p.lines.1 to fs after (fields ++ s.bound)
+      (record at.lists { unspent = y ∷ at.lists.unspent }) (token_cost (known_of program at.shape) fields used) goes
+      (lands_leads leads)
+      (record {
+        parts = p.lines.4;
+        low = p.low + 2;
+        lines = p.lines.3;
+        within = within_fields fields s.bound;
+        older = within_front fields s.bound;
+        below = λ z is. list_below z (within_fields fields s.bound z is);
+        marked = p.marked.1;
+        numbered = p.numbered.1;
+        has = p.has.1;
+        judged = subst (λ (l : Lists). IsJudged program.pool.cells l.left l.unspent l.held l.older rest inner frames next after)
+            kept.1.0 kept.1.1;
+        cells = token_cells;
+        slots_are = slots_set at.has.tokens y slot p.has.0
+            (ap (λ (sl : ℕ → ℕ → Slot). sl n y) (sym slots_is) ∙ slot_here n y slot tokens.slots) value
+            (λ z differ. ap (λ (sl : ℕ → ℕ → Slot). sl n z) (sym slots_is) ∙ slot_there n y n z slot tokens.slots (another n y z differ))
+            (λ z differ low. leads.spared (v + z) (omega (arith, low)) (alone_value v y z differ)
+            (none_behind (bound_list fields s.bound) v z list_below));
+        held_is = leads.held ∙ at.has.held_is ∙ ap (held_values (tokens.slots n) v) nothing
+            ∙ sym (ap (held_values (after.slots n) v) nothing);
+        waits = subst (λ m. AllWait program s.address m after.slots at.lists.older frames fs at.shape.result) (sym long)
+            (all_wait_at program s.address (length s.heap) tokens.slots after.slots at.lists.older frames fs at.shape.result
+            (subst (EqualBelow n tokens.slots) slots_is (equal_one n n y slot tokens.slots (omega arith))) at.waits);
+      })
+      (silent_goes program) (omega arith)
+      (ap (λ action. seen_action program action input) step) (omega (arith, idle_is)) (omega arith)
+
+  -- a cell of one reference: it is the slot's token
+  gains : (named : Named) (next : Heap) (frame : Frame Line) (owners : ℕ → Owner) (cells : Cells)
+      → Leads (known_of program at.shape) (token_cost (known_of program at.shape) fields used) at.does.placed.lines.0
+      (at.does.placed.lines.1 ++ at.does.placed.after) fs fs s (opened_to named next frame owners cells) ((v + y) ∷ [])
+      → token_code_step (setting program) (Tokened.if_unique x c fields used y rest) s.environment inner from
+      ≡ goes (machine_at program rest (bind_fields fields named.fields s.environment) inner frames next
+      (opened_tokens (count_at next named.at) (length frames) y named.at tokens))
+      → length next ≡ length s.heap → count_at s.heap named.at ≡ 1 → (words : List ℕ)
+      → HasCell s (opened_to named next frame owners cells) (v + y) (s.address named.at) words → Steps_on
+  gains named next frame owners cells leads step long once words has = by (count_at next named.at) refl
+    where
+      owns : s.owners (s.address named.at) ≡ cell_of named.at
+      owns = at.follows.named named.at (omega (arith, once))
+
+      plain_mark : (mark : Mark) → tokens.marks named.at ≡ mark → tokens.marks named.at ≡ plain
+      plain_mark plain is = is
+      plain_mark (token_of f z) is = (let none = at.judged.are.pooled.uncounted f z named.at is in absurd (omega (arith, none, once)))
+
+      unspent_not : is_among at.lists.held y ≡ false
+      unspent_not = ap (λ (ys : List ℕ). is_among ys y) at.judged.spends.0
+
+      free_slot : is_linked n y tokens.chain ≡ false
+      free_slot = ap (is_linked n y) at.judged.are.chain ∙ not_linked tokens.slots at.lists.held at.lists.older y unspent_not
+
+      by : (count : ℕ) → count_at next named.at ≡ count → Steps_on
+      by zero counts =
+          let many = frames_many tokens.slots at.lists.older frames at.judged.waiting in
+          finish named next frame owners cells leads (gained n y named.at tokens) (token named.at)
+          (step ∙ ap (λ k. goes (machine_at program rest (bind_fields fields named.fields s.environment) inner frames next
+          (opened_tokens k (length frames) y named.at tokens))) counts
+          ∙ ap (λ f. goes (machine_at program rest (bind_fields fields named.fields s.environment) inner frames next
+          (gained f y named.at tokens))) many)
+          long refl has.value
+          (cell_comes at.cells program.aligned n y named.at owners next (gained n y named.at tokens)
+          (named_cell program.aligned at.follows named.at (omega (arith, once))).cell
+          (counted_within s.heap named.at 0 once) (plain_mark (tokens.marks named.at) refl) refl refl long
+          (subst (λ b. IsTokenCell b (owners (s.address named.at))) (sym free_slot) (has.words, has.hand))
+          (ap is_aside owns)
+          (λ z linked differ is. subst (IsTokenCell linked) (sym (has.aside z differ (token_aside linked (s.owners z) is))) is)
+          (λ z differ. same_bools (is_aside (owners z)) (is_aside (s.owners z))
+          (λ is. sym (ap is_aside (has.was z differ is)) ∙ is) (λ is. ap is_aside (has.aside z differ is) ∙ is)))
+      by (suc k) counts =
+          let both : in_hand has.words ≡ cell_of named.at = sym has.hand
+          ∙ leads.here.follows.named named.at (omega (arith, counts)) in cc
+
+  -- a cell of several references: the slot is null
+  blanks : (named : Named) (next : Heap) (frame : Frame Line) (owners : ℕ → Owner) (cells : Cells)
+      → Leads (known_of program at.shape) (token_cost (known_of program at.shape) fields used) at.does.placed.lines.0
+      (at.does.placed.lines.1 ++ at.does.placed.after) fs fs s (opened_to named next frame owners cells) ((v + y) ∷ [])
+      → token_code_step (setting program) (Tokened.if_unique x c fields used y rest) s.environment inner from
+      ≡ goes (machine_at program rest (bind_fields fields named.fields s.environment) inner frames next
+      (opened_tokens (count_at next named.at) (length frames) y named.at tokens))
+      → length next ≡ length s.heap → 1 ≤ count_at next named.at
+      → IsNull s (opened_to named next frame owners cells) (v + y) → Steps_on
+  blanks named next frame owners cells leads step long some has = by (count_at next named.at) refl
+    where
+      by : (count : ℕ) → count_at next named.at ≡ count → Steps_on
+      by zero counts = absurd (omega (arith, some, counts))
+      by (suc k) counts =
+          let many = frames_many tokens.slots at.lists.older frames at.judged.waiting in
+          let stay = cells_stay at.cells s.address owners next (λ f z q is. refl)
+          (λ z linked is. subst (IsTokenCell linked) (sym (has.aside z (token_aside linked (s.owners z) is))) is)
+          (λ z. same_bools (is_aside (owners z)) (is_aside (s.owners z))
+          (λ is. sym (ap is_aside (has.was z is)) ∙ is) (λ is. ap is_aside (has.aside z is) ∙ is))
+          (ap (marked tokens.marks) long) in
+          finish named next frame owners cells leads (blanked n y null tokens) null
+          (step ∙ ap (λ j. goes (machine_at program rest (bind_fields fields named.fields s.environment) inner frames next
+          (opened_tokens j (length frames) y named.at tokens))) counts
+          ∙ ap (λ f. goes (machine_at program rest (bind_fields fields named.fields s.environment) inner frames next
+          (blanked f y null tokens))) many)
+          long refl has.value (record { are = stay.are; apart = stay.apart; number = stay.number })
+
+  pub steps_unique : Steps_on
+  steps_unique =
+      let p = at.does.placed in
+      let code = Tokened.if_unique x c fields used y rest in
+      let known = known_of program at.shape in
+      let counts = (fit 0).counts (bare code) s.environment (map bare_join inner) refl in
+      let opens = λ (m : Named). unique_heap (count_at s.heap m.at) m.at (used_values used fields m.fields)
+      (other_values used fields m.fields) s.heap in
+      let named = named_there (cell_named c (length fields) s.heap (value_of s.environment x)) opens fields y rest s.environment inner
+      from input (fit 1).going in
+      let to = at_code rest (bind_fields fields named.0.fields s.environment) inner from in
+      let going = subst (λ o. NotStuck (bare_configuration (performed (token_open_step o opens fields y rest s.environment inner from)
+      input).1.machine).control) named.1 (fit 1).going in
+      let next = opened_there (opens named.0) named.0.at y from to going in
+      let step = ap (λ o. token_open_step o opens fields y rest s.environment inner from) named.1
+      ∙ ap (λ o. goes (to_opened o named.0.at y from to)) next.1 in
+      let here : Here known s = record { follows = at.follows; values = at.has.values } in
+      let reads : IsReading known s x c fields named.0 = record {
+        bound = p.marked.0.0;
+        is = named.1;
+        below = below_more v (at.shape.variables + at.shape.slots) fields (omega arith) p.numbered.0.0;
+        apart = p.numbered.0.1.0;
+        kinds = marks_are at.shape.holds fields (field_marks program.marks c) p.marked.0.1.1 ∙ sym (program.fields_are c);
+        older = (fit 0).sound.older;
+      } in
+      let few_used = filter_length (is_among used) fields in
+      let most = few_fields at.shape.holds c fields p.marked.0.1.1 in
+      let after = p.lines.1 ++ p.after in
+      let low = p.has.0 in
+      let token_low : v + y < at.shape.variables + at.shape.slots = omega arith in
+      let spare = none_behind (bound_list fields s.bound) v y (below_list v fields s.bound p.numbered.0.0 at.has.below) in
+      let first = head_lines known after fs s x c fields used p.low (p.low + 1) (v + y) p.lines.0 named.0 next.0 here reads
+      p.numbered.0.1.1 token_low spare p.lines.2 in
+      let shared = for_shared known after fs s x c fields used p.low (p.low + 1) (v + y) p.lines.0 named.0 next.0 here reads
+      p.numbered.0.1.1 token_low spare p.lines.2 in
+      let shared_rest = shared_lines known after fs s x c fields used p.low (p.low + 1) (v + y) p.lines.0 named.0 next.0 here reads
+      p.numbered.0.1.1 token_low spare p.lines.2 in
+      let behind = acts (Label (p.low + 1)) [] ∷ after in
+      let is : left ≡ first ++ (shared ++ behind)
+      = p.left_is ∙ ap (λ own. own ++ p.after) p.lines.4 ∙ append_assoc p.lines.0 p.lines.1 p.after
+      ∙ whole_lines known after fs s x c fields used p.low (p.low + 1) (v + y) p.lines.0 named.0 next.0 here reads
+      p.numbered.0.1.1 token_low spare p.lines.2 in
+      let shared_at : s.frame.whole ≡ (p.before ++ first) ++ (shared ++ behind)
+      = p.place ∙ ap (λ ls. p.before ++ ls) is ∙ sym (append_assoc p.before first (shared ++ behind)) in
+      let behind_at : s.frame.whole ≡ ((p.before ++ first) ++ shared) ++ behind
+      = shared_at ∙ sym (append_assoc (p.before ++ first) shared behind) in
+      let opened = opens_to_token known after fs s x c fields used p.low (p.low + 1) (v + y) p.lines.0 named.0 next.0 here reads
+      p.numbered.0.1.1 token_low spare p.lines.2 next.1 (λ name. let small = counts name in omega arith)
+      (finds p.low s.frame.whole (p.before ++ first) (shared_rest ++ behind) at.has.formed shared_at)
+      (finds (p.low + 1) s.frame.whole ((p.before ++ first) ++ shared) after at.has.formed behind_at) in
+      let words = words_in program.layout s.address named.0.fields in
+      let used_are = used_values used fields named.0.fields in
+      let others_are = other_values used fields named.0.fields in
+      let long : length next.0 ≡ length s.heap = eased_length (unique_heap (count_at s.heap named.0.at) named.0.at used_are others_are
+      s.heap) next.0 next.1 (eased_unique (count_at s.heap named.0.at) named.0.at used_are others_are s.heap refl) in
+      by named.0 next.0 opened.0 opened.1 opened.2 opened.3 step long words (count_at s.heap named.0.at) refl next.1 opened.4
+    where
+      eased_length : (o : Option Heap) (next : Heap) → o ≡ Some next → EasedTo s.heap o → length next ≡ length s.heap
+      eased_length None next is eased = cc
+      eased_length (Some one) next is eased = ap length (sym (some-is is)) ∙ eased.many
+
+      few_fields : (holds : ℕ → Bool) (k : ℕ) (xs : List ℕ) → HaveMarks holds xs (field_marks program.marks k) → length xs ≤ 6
+      few_fields holds k xs have =
+          let same : length xs ≡ length (program.layout.fields k)
+          = sym (length-map xs holds) ∙ ap length (marks_are holds xs (field_marks program.marks k) have
+          ∙ sym (program.fields_are k)) in
+          let few = program.narrow.few k in
+          omega arith
+
+      by : (named : Named) (next : Heap) (frame : Frame Line) (owners : ℕ → Owner) (cells : Cells)
+          → Leads (known_of program at.shape) (token_cost (known_of program at.shape) fields used) at.does.placed.lines.0
+          (at.does.placed.lines.1 ++ at.does.placed.after) fs fs s (opened_to named next frame owners cells) ((v + y) ∷ [])
+          → token_code_step (setting program) (Tokened.if_unique x c fields used y rest) s.environment inner from
+          ≡ goes (machine_at program rest (bind_fields fields named.fields s.environment) inner frames next
+          (opened_tokens (count_at next named.at) (length frames) y named.at tokens))
+          → length next ≡ length s.heap → (words : List ℕ) (count : ℕ) → count_at s.heap named.at ≡ count
+          → unique_heap count named.at (used_values used fields named.fields) (other_values used fields named.fields) s.heap
+          ≡ Some next
+          → TokenIs count s (opened_to named next frame owners cells) (v + y) (s.address named.at) words → Steps_on
+      by named next frame owners cells leads step long words zero counts given is = absurd is
+      by named next frame owners cells leads step long words (suc zero) counts given is =
+          gains named next frame owners cells leads step long counts words is
+      by named next frame owners cells leads step long words (suc (suc m)) counts given is =
+          blanks named next frame owners cells leads step long
+          (shared_counted m named.at (used_values used fields named.fields) (other_values used fields named.fields) s.heap next counts
+          given) is
+
+pub at_unique : (program : Lowering) (x c : ℕ) (fields used : List ℕ) (y : ℕ) (rest : Tokened)
+    → CodeSteps program (Tokened.if_unique x c fields used y rest)
+at_unique program x c fields used y rest idle inner frames tokens input s fs left idle_is at fit =
+    steps_unique program x c fields used y rest idle inner frames tokens input s fs left idle_is at fit

@@ -1,0 +1,169 @@
+-- The assembler code of a program in counted form with tokens. The value of slot y is that many behind the variables; the
+-- temporaries come behind the slots.
+use Rattle.std.specs.Prelude.{◌≡◌, ℕ, ◌+◌, ◌<◌, ◌≤◌, Bool, List, [], ◌∷◌, ◌++◌, map, length, Some, slice_get}
+use Rattle.kk_syntax.specs.declared.program.Form.{Form}
+use Rattle.kk_syntax.specs.declared.program.Form.TheVariants.{Construct}
+use Rattle.kk_core.specs.Sizes.{most_variables}
+use Rattle.kk_counted.specs.Arms.{arm_count}
+use Rattle.kk_counted.specs.BareForms.{bare, bare_arms, bare_function}
+use Rattle.kk_counted.specs.Lowerable.{AreBelow, AreNumbered}
+use Rattle.kk_counted.specs.Marks.{CellMarks, IsMarked}
+use Rattle.kk_counted.specs.Spending.{numbers_from}
+use Rattle.kk_counted.specs.TokenedCodes.{Tokened, TokenedArms, TokenedFunction}
+use Rattle.rv_isa.specs.declared.asm.Action.TheVariants.{Compute, Label, Branch, TailCall, Hold, Unhold}
+use Rattle.rv_isa.specs.declared.asm.Condition.TheVariants.{Equal}
+use Rattle.rv_isa.specs.declared.asm.Operation.TheVariants as Op
+use Rattle.rv_isa.specs.AsmCode.{Line, Lines}
+use Rattle.rv_lower.specs.Lines.{sets, copies_to, acts, copies, temporaries, Texts}
+use Rattle.rv_lower.specs.Lowered.{Goal, returns, joins, goal_lines, test_lines, from_to}
+use Rattle.rv_cells.specs.Layout.{Layout, header_of}
+use Rattle.rv_cells.specs.CellLines.{FillLines, ReadLines, OpenLines, TokenUniqueLines, dup_lines, drop_lines}
+use Rattle.rv_cells.specs.CountedLines.{Setting, ComputeLines, NodesLines}
+
+-- ---- slots
+
+-- the values of slots, where variables are those below a number
+abbrev pub values_of_slots : ℕ → List ℕ → List ℕ
+values_of_slots variables slots = map (λ y. variables + y) slots
+
+-- a function has so many slots: each that its code names is one of them
+module _ (slots : ℕ) where
+  abbrev mutual
+    pub HasSlots : Tokened → Type 0
+    HasSlots (Tokened.give x) = Unit {0}
+    HasSlots (Tokened.tail_call f arguments) = Unit {0}
+    HasSlots (Tokened.branch x positive negative) = HasSlots positive × HasSlots negative
+    HasSlots (Tokened.case x decisions arms) = HaveSlots arms
+    HasSlots (Tokened.compute x form arguments others rest) = AreBelow slots others × HasSlots rest
+    HasSlots (Tokened.inside x block rest) = HasSlots block × HasSlots rest
+    HasSlots (Tokened.read x c fields rest) = HasSlots rest
+    HasSlots (Tokened.open_cell x c fields used y rest) = (y < slots) × HasSlots rest
+    HasSlots (Tokened.if_unique x c fields used y rest) = (y < slots) × HasSlots rest
+    HasSlots (Tokened.dup x rest) = HasSlots rest
+    HasSlots (Tokened.drop x rest) = HasSlots rest
+    HasSlots (Tokened.fill x y c first arguments kept others rest) = (y < slots) × (AreBelow slots others × HasSlots rest)
+    HasSlots (Tokened.free y rest) = (y < slots) × HasSlots rest
+    HasSlots (Tokened.null y rest) = (y < slots) × HasSlots rest
+    HasSlots (Tokened.move to of rest) = (to < slots) × ((of < slots) × HasSlots rest)
+    HasSlots (Tokened.hold y rest) = (y < slots) × HasSlots rest
+    HasSlots (Tokened.unhold y rest) = (y < slots) × HasSlots rest
+    HasSlots (Tokened.if_token y there absent) = (y < slots) × (HasSlots there × HasSlots absent)
+
+    pub HaveSlots : TokenedArms → Type 0
+    HaveSlots TokenedArms.no_arm = Unit {0}
+    HaveSlots (TokenedArms.arm body rest) = HasSlots body × HaveSlots rest
+
+-- ---- code
+
+-- The lines of a form on variables, with labels from one number to below another. A construction with fields that names other
+-- tokens fills the cell of a null token, which its variable has: so those are held around its request.
+abbrev pub AskLines : Setting → ℕ → ℕ → ℕ → Form → List ℕ → List ℕ → List Line → ℕ → Type 0
+AskLines setting variables low x (Construct c) (a ∷ more) (other ∷ others) lines high =
+    (own : List Line)
+    × FillLines setting.base x x (values_of_slots variables (other ∷ others)) low (header_of setting.layout c) (a ∷ more) own
+    × (lines ≡ sets 0 x ∷ own) × (low + 1 ≡ high)
+AskLines setting variables low x (Construct c) (a ∷ more) [] lines high =
+    ComputeLines setting x (Construct c) (a ∷ more) lines × (low ≡ high)
+AskLines setting variables low x (Construct c) [] others lines high =
+    ComputeLines setting x (Construct c) [] lines × (low ≡ high)
+AskLines setting variables low x form arguments others lines high = ComputeLines setting x form arguments lines × (low ≡ high)
+
+-- The lines of a code whose value goes to a goal. Its labels are numbers from `low` on, below `high`. The fields that a
+-- construction may leave as they are are written too.
+abbrev mutual
+  pub CodeLines : Setting → ℕ → Goal → ℕ → Tokened → List Line → ℕ → Type 0
+  CodeLines setting variables goal low (Tokened.give x) lines high = (lines ≡ goal_lines goal x) × (low ≡ high)
+  CodeLines setting variables goal low (Tokened.tail_call f arguments) lines high =
+      (lines ≡ copies setting.base arguments ++ acts (TailCall f) (temporaries setting.base arguments) ∷ []) × (low ≡ high)
+  CodeLines setting variables goal low (Tokened.branch x positive negative) lines high =
+      (yes : List Line) × (no : List Line) × (middle : ℕ) × CodeLines setting variables goal (low + 1) positive yes middle
+      × CodeLines setting variables goal middle negative no high
+      × (lines ≡ test_lines setting.base x low ++ (yes ++ (acts (Label low) [] ∷ no)))
+  CodeLines setting variables goal low (Tokened.case x decisions arms) lines high =
+      (choice : List Line) × (bodies : List Line) × (nodes : ℕ) × (nodes ≡ low + arm_count (bare_arms arms))
+      × NodesLines setting.layout setting.base nodes low x 0 decisions choice
+      × ArmsLines setting variables goal low (nodes + length decisions) arms bodies high × (lines ≡ choice ++ bodies)
+  CodeLines setting variables goal low (Tokened.compute x form arguments others rest) lines high =
+      (own : List Line) × (more : List Line) × (middle : ℕ) × AskLines setting variables low x form arguments others own middle
+      × CodeLines setting variables goal middle rest more high × (lines ≡ own ++ more)
+  CodeLines setting variables goal low (Tokened.inside x block rest) lines high =
+      (part : List Line) × (more : List Line) × (middle : ℕ)
+      × CodeLines setting variables (joins x low) (low + 1) block part middle
+      × CodeLines setting variables goal middle rest more high × (lines ≡ part ++ (acts (Label low) [] ∷ more))
+  CodeLines setting variables goal low (Tokened.read x c fields rest) lines high =
+      (own : List Line) × (more : List Line) × ReadLines x fields own × CodeLines setting variables goal low rest more high
+      × (lines ≡ own ++ more)
+  CodeLines setting variables goal low (Tokened.open_cell x c fields used y rest) lines high =
+      (own : List Line) × (more : List Line)
+      × TokenUniqueLines setting.base setting.holds low (low + 1) x fields used (variables + y) own
+      × CodeLines setting variables goal (low + 2) rest more high × (lines ≡ own ++ more)
+  CodeLines setting variables goal low (Tokened.if_unique x c fields used y rest) lines high =
+      (own : List Line) × (more : List Line)
+      × TokenUniqueLines setting.base setting.holds low (low + 1) x fields used (variables + y) own
+      × CodeLines setting variables goal (low + 2) rest more high × (lines ≡ own ++ more)
+  CodeLines setting variables goal low (Tokened.dup x rest) lines high =
+      (more : List Line) × CodeLines setting variables goal low rest more high × (lines ≡ dup_lines setting.holds x ++ more)
+  CodeLines setting variables goal low (Tokened.drop x rest) lines high =
+      (more : List Line) × CodeLines setting variables goal low rest more high
+      × (lines ≡ drop_lines setting.base setting.holds x ++ more)
+  CodeLines setting variables goal low (Tokened.fill x y c first arguments kept others rest) lines high =
+      (own : List Line) × (more : List Line)
+      × FillLines setting.base x (variables + y) (values_of_slots variables others) low (header_of setting.layout c)
+      (first ∷ arguments) own
+      × CodeLines setting variables goal (low + 1) rest more high × (lines ≡ own ++ more)
+  CodeLines setting variables goal low (Tokened.free y rest) lines high =
+      (more : List Line) × CodeLines setting variables goal low rest more high
+      × (lines ≡ acts (Compute Op.Free) ((variables + y) ∷ []) ∷ more)
+  CodeLines setting variables goal low (Tokened.null y rest) lines high =
+      (more : List Line) × CodeLines setting variables goal low rest more high × (lines ≡ sets 0 (variables + y) ∷ more)
+  CodeLines setting variables goal low (Tokened.move to of rest) lines high =
+      (more : List Line) × CodeLines setting variables goal low rest more high
+      × (lines ≡ copies_to (variables + of) (variables + to) ∷ more)
+  CodeLines setting variables goal low (Tokened.hold y rest) lines high =
+      (more : List Line) × CodeLines setting variables goal low rest more high
+      × (lines ≡ acts Hold ((variables + y) ∷ []) ∷ more)
+  CodeLines setting variables goal low (Tokened.unhold y rest) lines high =
+      (more : List Line) × CodeLines setting variables goal low rest more high
+      × (lines ≡ acts Unhold ((variables + y) ∷ []) ∷ more)
+  CodeLines setting variables goal low (Tokened.if_token y there absent) lines high =
+      (yes : List Line) × (no : List Line) × (middle : ℕ) × CodeLines setting variables goal (low + 1) there yes middle
+      × CodeLines setting variables goal middle absent no high
+      × (lines ≡ copies_to (variables + y) setting.base ∷ acts (Branch Equal low) (setting.base ∷ [])
+      ∷ (yes ++ (acts (Label low) [] ∷ no)))
+
+  -- the arms, each behind its label
+  pub ArmsLines : Setting → ℕ → Goal → ℕ → ℕ → TokenedArms → List Line → ℕ → Type 0
+  ArmsLines setting variables goal label low TokenedArms.no_arm lines high = (lines ≡ []) × (low ≡ high)
+  ArmsLines setting variables goal label low (TokenedArms.arm body rest) lines high =
+      (first : List Line) × (more : List Line) × (middle : ℕ) × CodeLines setting variables goal low body first middle
+      × ArmsLines setting variables goal (label + 1) middle rest more high
+      × (lines ≡ acts (Label label) [] ∷ (first ++ more))
+
+-- ---- functions
+
+-- a function's assembler code
+pub record IsFunctionLowered (layout : Layout) (texts : Texts) (function : TokenedFunction) (lines : Lines) : Type 0 where
+  pub holds : ℕ → Bool
+  pub variables : ℕ
+  pub slots : ℕ
+  pub params : lines.params ≡ from_to 0 function.parameters
+  pub labels : ℕ
+  pub code : CodeLines (record { layout = layout; holds = holds; base = variables + slots; texts = texts }) variables returns 0
+      function.body lines.code labels
+
+-- The assembler code of a function of a number: its variables are of types with cells as marked, the values of its slots are above
+-- all of its variables and its temporaries above these, and they are few.
+pub record IsFunctionOf (layout : Layout) (texts : Texts) (marks : CellMarks) (f : ℕ) (function : TokenedFunction) (lines : Lines)
+    : Type 0 where
+  pub lowered : IsFunctionLowered layout texts function lines
+  pub marked : IsMarked marks lowered.holds f (bare_function function)
+  pub few : function.parameters ≤ lowered.variables
+  pub low : lowered.variables + lowered.slots ≤ most_variables
+  pub numbered : AreNumbered lowered.variables (numbers_from 0 function.parameters) (bare function.body)
+  pub has : HasSlots lowered.slots function.body
+
+-- the assembler code of all functions, each by its number
+abbrev pub AreFunctionsOf : Layout → Texts → CellMarks → List TokenedFunction → List Lines → Type 0
+AreFunctionsOf layout texts marks functions each =
+    (f : ℕ) (function : TokenedFunction) → slice_get functions f ≡ Some function
+    → (lines : Lines) × (slice_get each f ≡ Some lines) × IsFunctionOf layout texts marks f function lines
