@@ -11,3 +11,5 @@ pub mod Meaning
 pub mod Marking
 pub mod Tables
 pub mod Lowered
+pub mod TokenedLowered
+pub mod TokenedMeaning

@@ -9,6 +9,7 @@ use Rattle.kk_counted.specs.BareForms.{bare, bare_arms, bare_function}
 use Rattle.kk_counted.specs.Lowerable.{AreBelow, AreNumbered}
 use Rattle.kk_counted.specs.Marks.{CellMarks, IsMarked}
 use Rattle.kk_counted.specs.Spending.{numbers_from}
+use Rattle.kk_counted.specs.TokenLowerable.{most_slots}
 use Rattle.kk_counted.specs.TokenedCodes.{Tokened, TokenedArms, TokenedFunction}
 use Rattle.rv_isa.specs.declared.asm.Action.TheVariants.{Compute, Label, Branch, TailCall, Hold, Unhold}
 use Rattle.rv_isa.specs.declared.asm.Condition.TheVariants.{Equal}
@@ -158,7 +159,7 @@ pub record IsFunctionOf (layout : Layout) (texts : Texts) (marks : CellMarks) (f
   pub lowered : IsFunctionLowered layout texts function lines
   pub marked : IsMarked marks lowered.holds f (bare_function function)
   pub few : function.parameters ≤ lowered.variables
-  pub low : lowered.variables + lowered.slots ≤ most_variables
+  pub low : lowered.variables + lowered.slots ≤ most_variables + most_slots
   pub numbered : AreNumbered lowered.variables (numbers_from 0 function.parameters) (bare function.body)
   pub has : HasSlots lowered.slots function.body
 
