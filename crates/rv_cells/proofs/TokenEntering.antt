@@ -259,6 +259,7 @@ module _ (program : Lowering) where
               marked = of.marked.body_marked;
               numbered = of.numbered;
               has = of.has;
+              plain = program.plain f function function_is;
               short = program.short f function function_is;
             };
             continues = refl;
@@ -350,6 +351,7 @@ module _ (program : Lowering) where
                   marked = p.marked.1.1;
                   numbered = p.numbered.1.1;
                   has = p.has.1;
+                  plain = p.plain.1;
                   short = omega arith;
                 };
                 continues = continues_more program at.shape s.frame.whole inner at.does.goal at.does.given s.bound (x ∷ s.bound)

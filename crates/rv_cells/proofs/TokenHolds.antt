@@ -124,6 +124,7 @@ module _ (program : Lowering) (y : ℕ) (rest : Tokened) where
             marked = p.marked;
             numbered = p.numbered;
             has = p.has.1;
+            plain = p.plain;
             judged = subst (λ (l : Lists). IsJudged program.pool.cells l.left l.unspent l.held l.older rest inner frames s.heap tokens)
                 kept.1.0 kept.1.1;
             cells = at.cells;
@@ -194,6 +195,7 @@ module _ (program : Lowering) (y : ℕ) (rest : Tokened) where
             marked = p.marked;
             numbered = p.numbered;
             has = p.has.1;
+            plain = p.plain;
             judged = subst (λ (l : Lists). IsJudged program.pool.cells l.left l.unspent l.held l.older rest inner frames s.heap after)
                 kept.1.0 kept.1.1;
             cells = cell_turns at.cells program.aligned n y q (kept_aside hand.0) links cell mark
@@ -265,6 +267,7 @@ module _ (program : Lowering) (y : ℕ) (rest : Tokened) where
             marked = p.marked;
             numbered = p.numbered;
             has = p.has.1;
+            plain = p.plain;
             judged = kept.1.1;
             cells = at.cells;
             slots_are = subst (λ (o : List (List ℕ)). HaveSlotValues s.address (tokens.slots (length o)) v at.shape.slots s.frame.cells)
@@ -346,6 +349,7 @@ module _ (program : Lowering) (y : ℕ) (rest : Tokened) where
             marked = p.marked;
             numbered = p.numbered;
             has = p.has.1;
+            plain = p.plain;
             judged = kept.1.1;
             cells = cell_turns at.cells program.aligned n y q owner links cell mark
                 (subst (λ b. IsTokenCell b owner) (sym (not_linked tokens.slots older_held at.lists.older y fresh))

@@ -259,6 +259,7 @@ module _ (program : Lowering) (x c : ℕ) (fields used : List ℕ) (y : ℕ) (re
         marked = p.marked.1;
         numbered = p.numbered.1;
         has = p.has.1;
+        plain = p.plain;
         judged = subst (λ (l : Lists). IsJudged program.pool.cells l.left l.unspent l.held l.older rest inner frames next after)
             kept.1.0 kept.1.1;
         cells = token_cells;
