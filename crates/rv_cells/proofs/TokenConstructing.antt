@@ -1,11 +1,11 @@
 -- The lines of a construction with fields do the step of the machine with tokens, where the function has no unspent token.
-use Rattle.std.proofs.Common.{◌≡◌, ◌≢◌, ℕ, suc, ◌+◌, ◌*◌, ◌<◌, ◌≤◌, inl, inr, Bool, true, false, List, [], ◌∷◌, ◌++◌, length, Option, Some, None, refl, sym, ◌∙◌, ap, subst, arith, append_assoc}
+use Rattle.std.proofs.Common.{◌≡◌, ℕ, suc, ◌+◌, ◌*◌, ◌<◌, ◌≤◌, inl, inr, true, false, List, [], ◌∷◌, ◌++◌, length, Option, Some, refl, sym, ◌∙◌, ap, subst, arith, append_assoc}
 use Rattle.std.proofs.lemmas.List.{length-map}
 use Rattle.kk_syntax.specs.declared.program.Form.TheVariants.{Construct}
 use Rattle.kk_syntax.specs.Shapes.{is_among}
 use Rattle.kk_source.specs.State.{Value, heap_full}
 use Rattle.kk_source.specs.Live.{value_of}
-use Rattle.kk_source.specs.Actions.{Action, builds}
+use Rattle.kk_source.specs.Actions.{builds}
 use Rattle.kk_counted.specs.Heaps.{Heap, busy}
 use Rattle.kk_counted.specs.Keeping.{values_of}
 use Rattle.kk_counted.specs.Marks.{field_marks}
@@ -22,7 +22,7 @@ use Rattle.rv_isa.specs.declared.routine.Routine.TheVariants.{Take}
 use Rattle.rv_isa.specs.Processor.{Ending, exited}
 use Rattle.rv_isa.specs.AsmCode.{Line}
 use Rattle.rv_isa.specs.AsmMachine.{AsmTurn}
-use Rattle.rv_isa.specs.Frames.{Frame, put, top, top_in, top_taken}
+use Rattle.rv_isa.specs.Frames.{Frame, top, top_in, top_taken}
 use Rattle.rv_isa.specs.Primitives.{ended}
 use Rattle.cell_heap.specs.Blocks.{Cells, nothing}
 use Rattle.cell_runtime.specs.Stops.{number_of}
@@ -87,7 +87,8 @@ module _ (known : Known) (rest : List Line) (fs : List (Frame Line)) (s : Spot) 
       let t6 = turn_of rest (last_frame at) gs (with_cells s.world filled.0) in
       let storing = 1 + (1 + (length arguments + (1 + 1))) in
       let runs : Runs known.target ((moves + 10) + (4 * moves + 10 + row)) (1 + storing) t0 t6 =
-      subst (λ ls. Runs known.target ((moves + 10) + (4 * moves + 10 + row)) (1 + storing) (turn_of (ls ++ rest) s.frame fs s.world) t6)
+      subst (λ ls. Runs known.target ((moves + 10) + (4 * moves + 10 + row)) (1 + storing)
+      (turn_of (ls ++ rest) s.frame fs s.world) t6)
       (sym constructs.6)
       (runs_then known.target (moves + 10) (4 * moves + 10 + row) 1 storing
       (turn_of (record { action = Calls Take; args = []; into = Some x } ∷ behind) s.frame fs s.world)
@@ -118,8 +119,8 @@ module _ (program : Lowering) (x c a : ℕ) (more : List ℕ) (rest : Tokened) (
     (frames : List TokenFrame) (tokens : Tokens) (input : List ℕ) (s : Spot) (fs : List (Frame Line)) (left : List Line)
     (idle_is : idle ≡ suc (forms rest))
     (at : At program (Tokened.compute x (Construct c) (a ∷ more) [] rest) inner frames tokens input s fs left)
-    (fit : IsFitFrom program (token_at program (Tokened.compute x (Construct c) (a ∷ more) [] rest) s.environment inner frames s.heap tokens input))
-    where
+    (fit : IsFitFrom program
+    (token_at program (Tokened.compute x (Construct c) (a ∷ more) [] rest) s.environment inner frames s.heap tokens input)) where
   abbrev code : Tokened
   code = Tokened.compute x (Construct c) (a ∷ more) [] rest
 
@@ -213,7 +214,8 @@ module _ (program : Lowering) (x c a : ℕ) (more : List ℕ) (rest : Tokened) (
       ≡ builds (busy s.heap) (machine_at program rest to.environment inner frames to.heap after) = asked (has_room after) served in
       let kept = subst (AllLead (AreKeptBy program.pool.cells (ListsAfter code inner at.lists))) step
       (kept_after program code inner frames tokens input s fs left at refl) in
-      let judged : IsJudged program.pool.cells at.lists.left at.lists.unspent at.lists.held at.lists.older rest inner frames to.heap after
+      let judged : IsJudged program.pool.cells at.lists.left at.lists.unspent at.lists.held at.lists.older rest inner frames
+      to.heap after
       = subst (λ (l : Lists). IsJudged program.pool.cells l.left l.unspent l.held l.older rest inner frames to.heap after) kept.1.0
       kept.1.1 in
       let old = λ (g z r : ℕ) (is : after.slots g z ≡ token r).
@@ -221,8 +223,8 @@ module _ (program : Lowering) (x c a : ℕ) (more : List ℕ) (rest : Tokened) (
       judged.are.pooled g z r is in
       let few = p.short in
       let row = row_times more (most_moves + 2) in
-      goes_on program code inner frames tokens input s fs left at idle fit rest p.lines.0 p.lines.1 to gs after (x ∷ s.bound) at.lists
-      (construct_cost known (a ∷ more)) (builds (busy s.heap)) lands
+      goes_on program code inner frames tokens input s fs left at idle fit rest p.lines.0 p.lines.1 to gs after (x ∷ s.bound)
+      at.lists (construct_cost known (a ∷ more)) (builds (busy s.heap)) lands
       (record {
         parts = p.lines.5;
         low = p.lines.2;
@@ -289,14 +291,14 @@ module _ (program : Lowering) (x c a : ℕ) (more : List ℕ) (rest : Tokened) (
       let linked : is_linked link.frame link.slot tokens.chain ≡ true = ap (is_linked link.frame link.slot) chain
       ∙ linked_here link.frame link.slot links in
       let kept = subst (λ b. IsTokenCell b (s.owners place)) linked (at.cells.are link.frame link.slot p mark) in
-      let taken = taken_from program s.address size tokens.slots at.lists.older frames fs at.shape.result at.waits all_apart link links
-      top_is p has in
-      let made = construct_held known rest_lines fs s x c (a ∷ more) at.does.placed.lines.0 here making at.does.placed.lines.3.0 taken.gs
-      place kept.0 holds_none taken.newest taken.taken kept.1 (omega (arith, full, number)) in
+      let taken = taken_from program s.address size tokens.slots at.lists.older frames fs at.shape.result at.waits all_apart link
+      links top_is p has in
+      let made = construct_held known rest_lines fs s x c (a ∷ more) at.does.placed.lines.0 here making at.does.placed.lines.3.0
+      taken.gs place kept.0 holds_none taken.newest taken.taken kept.1 (omega (arith, full, number)) in
       let owners = with_owner place (cell_of size) s.owners in
       goes_there taken.gs place
-      (last_frame known rest_lines fs s x c (a ∷ more) at.does.placed.lines.0 here making at.does.placed.lines.3.0 place) made.0 after
-      (lands_leads made.1) refl
+      (last_frame known rest_lines fs s x c (a ∷ more) at.does.placed.lines.0 here making at.does.placed.lines.3.0 place) made.0
+      after (lands_leads made.1) refl
       (λ z low. made.1.spared (v + z) (omega (arith, low)) refl (slot_spare z)) served
       (cell_goes at.cells program.aligned link.frame link.slot p (later place) owners heap_made after
       (aside_owned at.follows place kept.0 kept.1).0 (pooled.there link.frame link.slot p mark) mark refl

@@ -1,21 +1,19 @@
 -- The lines of a construction that fills the cell of a slot do the step of the machine with tokens: where the slot is null too.
-use Rattle.std.proofs.Common.{◌≡◌, ◌≢◌, ℕ, zero, suc, ◌+◌, ◌*◌, ◌<◌, ◌≤◌, ◌==◌, inl, inr, Bool, true, false, List, [], ◌∷◌, ◌++◌, length, map, Option, Some, None, refl, sym, ◌∙◌, ap, subst, arith, ne_eqb, append_assoc}
-use Rattle.std.specs.Prelude.{◌&&◌}
+use Rattle.std.proofs.Common.{◌≡◌, ◌≢◌, ℕ, suc, ◌+◌, ◌<◌, ◌≤◌, inl, inr, Bool, true, false, List, [], ◌∷◌, ◌++◌, length, Option, Some, refl, sym, ◌∙◌, ap, subst, arith, append_assoc}
 use Rattle.std.proofs.lemmas.Bool.{cases_eq}
 use Rattle.std.proofs.lemmas.List.{length-map}
 use Rattle.kk_syntax.specs.Shapes.{is_among, without}
 use Rattle.kk_source.specs.State.{Value, heap_full}
-use Rattle.kk_source.specs.Live.{value_of}
-use Rattle.kk_source.specs.Actions.{Action, goes, builds}
+use Rattle.kk_source.specs.Actions.{goes, builds}
 use Rattle.kk_counted.specs.Heaps.{Heap, busy}
 use Rattle.kk_counted.specs.Keeping.{values_of}
-use Rattle.kk_counted.specs.TokenKeeping.{ArePooled, AreTokens, chain_of, Lists, IsJudged, ListsAfter, AreKeptBy}
+use Rattle.kk_counted.specs.TokenKeeping.{AreTokens, chain_of, Lists, IsJudged, ListsAfter, AreKeptBy}
 use Rattle.kk_counted.specs.TokenMachine.{token_code_step, make_step, bound_to, token_at_end, token_at_stuck}
 use Rattle.kk_counted.specs.TokenRuns.{AllLead}
 use Rattle.kk_counted.specs.TokenStates.{TokenJoin, TokenFrame, TokenConfiguration, TokenState}
 use Rattle.kk_counted.specs.TokenedCodes.{Tokened}
-use Rattle.kk_counted.specs.Tokens.{Slot, spent, null, token, is_unspent, token_of, Link, Tokens, is_linked, by_token, marked, slots_with, blanked, released, Room, has_room, no_room, request}
-use Rattle.kk_counted.proofs.Chaining.{EqualBelow, equal_one, frames_many, frames_apart, not_linked, AllApart, chain_top}
+use Rattle.kk_counted.specs.Tokens.{spent, null, token, is_unspent, Link, Tokens, is_linked, by_token, marked, blanked, released, Room, has_room, no_room, request}
+use Rattle.kk_counted.proofs.Chaining.{equal_one, frames_many, frames_apart, not_linked, AllApart, chain_top}
 use Rattle.kk_counted.proofs.Pooling.{slot_here, slot_there, by_null, pooled_released}
 use Rattle.kk_counted.proofs.TokenForms.{AreNow, Has, is_null, has_cell, unspent_has, spent_null_now}
 use Rattle.rv_isa.specs.Processor.{Ending, exited}
@@ -23,23 +21,22 @@ use Rattle.rv_isa.specs.AsmCode.{Line}
 use Rattle.rv_isa.specs.AsmMachine.{AsmTurn}
 use Rattle.rv_isa.specs.Frames.{Frame, put}
 use Rattle.rv_isa.specs.Primitives.{ended}
-use Rattle.cell_heap.specs.Pool.{IsCell}
 use Rattle.cell_heap.specs.Blocks.{nothing}
 use Rattle.cell_runtime.specs.Stops.{number_of}
 use Rattle.cell_runtime.specs.declared.stop.Ending.TheVariants as OfEnding
 use Rattle.rv_world.specs.World.{World, with_cells}
 use Rattle.rv_lower.proofs.Performing.{put_other}
 use Rattle.rv_cells.specs.Layout.{header_of}
-use Rattle.rv_cells.specs.Follows.{Owner, cell_of, in_hand, is_aside, set_aside, with_owner, assign}
+use Rattle.rv_cells.specs.Follows.{Owner, cell_of, in_hand, is_aside, with_owner, assign}
 use Rattle.rv_cells.specs.TokenedLines.{values_of_slots}
 use Rattle.rv_cells.proofs.Blocks.{within_itself, within_one}
 use Rattle.rv_cells.proofs.Constructing.{IsMaking, made_spot}
-use Rattle.rv_cells.proofs.Filling.{fill_cost, named, with_values, last_frame, Fills}
+use Rattle.rv_cells.proofs.Filling.{fill_cost, Fills}
 use Rattle.rv_cells.proofs.FillingHeld.{AllSame, AreApartFrom, both_same, puts_same, tokens1, row, fills_free, fills_newest, fills_held, fills_none}
 use Rattle.rv_cells.proofs.Held.{some-is}
 use Rattle.rv_cells.proofs.HeldRows.{AreTokensIn, AllOut, all_held, all_back, live}
 use Rattle.rv_cells.proofs.LineCosts.{most_moves, row_cost}
-use Rattle.rv_cells.proofs.Owners.{chosen_by, chosen_same, chosen_other}
+use Rattle.rv_cells.proofs.Owners.{chosen_same, chosen_other}
 use Rattle.rv_cells.proofs.Runs.{turn_of, Runs}
 use Rattle.rv_cells.proofs.Spots.{Spot, Known, Here, saved}
 use Rattle.rv_cells.proofs.Values.{has_cell as carries_cell, among_by}
@@ -47,7 +44,7 @@ use Rattle.rv_cells.proofs.Words.{hand_owned, aside_owned}
 use Rattle.rv_cells.proofs.TokenCells.{token_aside, cells_stay, cell_goes}
 use Rattle.rv_cells.proofs.TokenFills.{making, Fill_steps, fill_cheap, fills_token}
 use Rattle.rv_cells.proofs.TokenFillingCells.{none_out, slots_apart, slots_unbound, aside_some, slots_tokens, named_before, slots_below, AllKept, same_kept, null_kept, aside_restored, restored, linked_here, linked_behind, marked_more}
-use Rattle.rv_cells.proofs.TokenFrames.{none_behind, slots_moved, slots_put, all_carried, all_wait_at}
+use Rattle.rv_cells.proofs.TokenFrames.{slots_moved, slots_put, all_carried, all_wait_at}
 use Rattle.rv_cells.proofs.TokenLineCosts.{forms}
 use Rattle.rv_cells.proofs.TokenLanding.{lands_leads, token_at, machine_at, CodeSteps, seen_action, silent_builds, does_by, goes_on, kept_after}
 use Rattle.rv_cells.proofs.TokenRequests.{live_slots, Requested, by_free, by_own, by_older, by_none, requested}
@@ -55,11 +52,13 @@ use Rattle.rv_cells.proofs.TokenStanding.{SlotIs, IsTokenCell, HaveSlotValues, H
 use Rattle.rv_cells.proofs.TokenTaken.{taken_from, none_held}
 use Rattle.rv_cells.proofs.TokenUniques.{slots_set, another, row_times}
 
-module _ (program : Lowering) (x y c first : ℕ) (arguments kept_at others : List ℕ) (rest : Tokened) (idle : ℕ) (inner : List TokenJoin)
-    (frames : List TokenFrame) (tokens : Tokens) (input : List ℕ) (s : Spot) (fs : List (Frame Line)) (left : List Line)
+module _ (program : Lowering) (x y c first : ℕ) (arguments kept_at others : List ℕ) (rest : Tokened) (idle : ℕ)
+    (inner : List TokenJoin) (frames : List TokenFrame) (tokens : Tokens) (input : List ℕ) (s : Spot) (fs : List (Frame Line))
+    (left : List Line)
     (idle_is : idle ≡ suc (forms rest))
     (at : At program (Tokened.fill x y c first arguments kept_at others rest) inner frames tokens input s fs left)
-    (fit : IsFitFrom program (token_at program (Tokened.fill x y c first arguments kept_at others rest) s.environment inner frames s.heap tokens input))
+    (fit : IsFitFrom program (token_at program (Tokened.fill x y c first arguments kept_at others rest) s.environment inner frames
+    s.heap tokens input))
     (empty : tokens.slots (length at.lists.older) y ≡ null) where
   abbrev code : Tokened
   code = Tokened.fill x y c first arguments kept_at others rest
@@ -161,7 +160,8 @@ module _ (program : Lowering) (x y c first : ℕ) (arguments kept_at others : Li
   Steps_on = Fill_steps program x y c first arguments kept_at others rest idle inner frames tokens input s fs left idle_is at fit
 
   abbrev Serves : Room → Type 0
-  Serves room = request program.pool.cells others (length at.lists.older) s.heap (blanked (length at.lists.older) y spent tokens) ≡ room
+  Serves room =
+      request program.pool.cells others (length at.lists.older) s.heap (blanked (length at.lists.older) y spent tokens) ≡ room
 
   asked : (room : Room) → Serves room → token_code_step (setting program) code s.environment inner from
       ≡ make_step room c vs (λ w. bound_to x w rest s.environment inner from) from
@@ -220,11 +220,11 @@ module _ (program : Lowering) (x y c first : ℕ) (arguments kept_at others : Li
       ≡ builds (busy s.heap) (machine_at program rest to.environment inner frames to.heap after) = asked (has_room after) served in
       let kept = subst (AllLead (AreKeptBy program.pool.cells (ListsAfter code inner at.lists))) step
       (kept_after program code inner frames tokens input s fs left at refl) in
-      let judged : IsJudged program.pool.cells at.lists.left (without (y ∷ []) at.lists.unspent) at.lists.held at.lists.older rest inner
-      frames to.heap after
+      let judged : IsJudged program.pool.cells at.lists.left (without (y ∷ []) at.lists.unspent) at.lists.held at.lists.older rest
+      inner frames to.heap after
       = subst (λ (l : Lists). IsJudged program.pool.cells l.left l.unspent l.held l.older rest inner frames to.heap after) kept.1.0
       kept.1.1 in
-      let old = λ (g z r : ℕ) (is : after.slots g z ≡ token r). 
+      let old = λ (g z r : ℕ) (is : after.slots g z ≡ token r).
       named_before program.pool.cells (record { count = 1; cell = record { made_by = c; fields = vs } }) s.heap after (omega arith)
       judged.are.pooled g z r is in
       let few = p.short in
@@ -248,7 +248,9 @@ module _ (program : Lowering) (x y c first : ℕ) (arguments kept_at others : Li
         judged = judged;
         cells = cells;
         slots_are = slots_moved {later = later one} {others = f.cells} slots_there (λ z r is. stays one r (old n z r is))
-            (λ z low unspent. put_other base (v + z) 1 (put base (Some (header_of program.layout c)) (named_values values one)) (λ e. omega (arith, e, low))
+            (λ z low unspent.
+            put_other base (v + z) 1 (put base (Some (header_of program.layout c)) (named_values values one))
+            (λ e. omega (arith, e, low))
             ∙ put_other base (v + z) (header_of program.layout c) (named_values values one) (λ e. omega (arith, e, low))
             ∙ named_spare values one z low);
         held_is = holds_none ∙ sym (ap (held_values (after.slots n) v) none_holds);
@@ -293,12 +295,13 @@ module _ (program : Lowering) (x y c first : ℕ) (arguments kept_at others : Li
   all_apart = frames_apart tokens.slots at.lists.older frames at.judged.waiting
 
   -- tokens beside the one that is taken keep their cells
-  stays_cell : (values : ℕ → Option ℕ) (one : ℕ) → AllKept one asked_values (named_values values one) zs → (place : ℕ) (linked : Bool)
-      → place ≢ one → IsTokenCell linked (s.owners place) → IsTokenCell linked (owners_made values one place)
+  stays_cell : (values : ℕ → Option ℕ) (one : ℕ) → AllKept one asked_values (named_values values one) zs
+      → (place : ℕ) (linked : Bool) → place ≢ one → IsTokenCell linked (s.owners place)
+      → IsTokenCell linked (owners_made values one place)
   stays_cell values one kept place linked differ is =
       subst (IsTokenCell linked) (sym (chosen_other place one (cell_of size) (owners_back values one) differ))
-      (restored s.owners asked_values (named_values values one) zs one (in_hand nothing) place differ linked (some place linked is) kept
-      tokens_asked is)
+      (restored s.owners asked_values (named_values values one) zs one (in_hand nothing) place differ linked (some place linked is)
+      kept tokens_asked is)
 
   stays_aside : (values : ℕ → Option ℕ) (one place : ℕ) → place ≢ one
       → is_aside (owners_made values one place) ≡ is_aside (s.owners place)
@@ -335,7 +338,8 @@ module _ (program : Lowering) (x y c first : ℕ) (arguments kept_at others : Li
       other : (one : ℕ) → is_aside (s.owners one) ≡ false → (place : ℕ) (linked : Bool) → IsTokenCell linked (s.owners place)
           → place ≢ one
       other one nobodys place linked is =
-          λ e. let both : true ≡ false = sym (token_aside linked (s.owners place) is) ∙ ap (λ z. is_aside (s.owners z)) e ∙ nobodys in cc
+          λ e. let both : true ≡ false = sym (token_aside linked (s.owners place) is) ∙ ap (λ z. is_aside (s.owners z)) e
+          ∙ nobodys in cc
 
       same_there : (one : ℕ) → is_aside (s.owners one) ≡ false → (place : ℕ)
           → is_aside (owners_made s.frame.cells one place) ≡ is_aside (s.owners place)
@@ -361,12 +365,12 @@ module _ (program : Lowering) (x y c first : ℕ) (arguments kept_at others : Li
       let values = put (v + z) (Some 0) s.frame.cells in
       let there : asked_values (v + z) ≡ Some place = subst (λ slot. SlotIs s.address slot (asked_values (v + z))) has
       (slots_asked.are z) in
-      let done = fills_newest known rest_lines fs s x (v + y) c zs at.does.placed.low (first ∷ arguments) at.does.placed.lines.0 here
-      making_it at.does.placed.lines.2 value tokens_are out apart program.some (v + z) more (live_is ∙ front)
+      let done = fills_newest known rest_lines fs s x (v + y) c zs at.does.placed.low (first ∷ arguments) at.does.placed.lines.0
+      here making_it at.does.placed.lines.2 value tokens_are out apart program.some (v + z) more (live_is ∙ front)
       (slots_unbound v s.bound others at.has.below) (omega (arith, full, number)) in
       let same : done.0 ≡ place = some-is (sym done.1 ∙ there) in
-      let made : MadeBy fs (owners_back values place) values place = subst (λ one. MadeBy fs (owners_back values one) values one) same
-      done.2 in
+      let made : MadeBy fs (owners_back values place) values place =
+      subst (λ one. MadeBy fs (owners_back values one) values one) same done.2 in
       let kept = null_kept (v + z) place s.frame.cells asked_values (named_values values place) zs there same_asked
       (puts_same base x 0 place values zs apart) in
       goes_there fs (owners_back values place) values place after made served
@@ -431,8 +435,8 @@ module _ (program : Lowering) (x y c first : ℕ) (arguments kept_at others : Li
       (sym now.are.chain ∙ chain) in
       let ran = fills_none known rest_lines fs s x (v + y) c zs p.low (first ∷ arguments) p.lines.0 here making_it p.lines.2 value
       tokens_are out apart program.some (live_is ∙ dead) holds_none no_token (omega (arith, full, number)) in
-      let held = row known rest_lines fs s x (v + y) c zs p.low (first ∷ arguments) p.lines.0 here making_it p.lines.2 value tokens_are out
-      apart program.some in
+      let held = row known rest_lines fs s x (v + y) c zs p.low (first ∷ arguments) p.lines.0 here making_it p.lines.2 value
+      tokens_are out apart program.some in
       let world : World = with_cells s.world held.0 in
       let cost = (12 + row_cost zs (most_moves + 9)) + (most_moves + 10) in
       let steps = (((1 + 1) + 1) + length zs) + 1 in
@@ -456,7 +460,8 @@ module _ (program : Lowering) (x y c first : ℕ) (arguments kept_at others : Li
       }))
 
   pub fills_null : Steps_on
-  fills_null = by (requested program.pool.cells v n others at.lists.older s.heap asking at.judged.spends.1.1.0 all_apart now.are.chain)
+  fills_null =
+      by (requested program.pool.cells v n others at.lists.older s.heap asking at.judged.spends.1.1.0 all_apart now.are.chain)
     where
       by : Requested program.pool.cells v n others s.heap asking (request program.pool.cells others n s.heap asking) → Steps_on
       by (by_free room is) = steps_free room is

@@ -1,32 +1,29 @@
 -- The lines of a construction in the cell of a token do the step of the machine with tokens.
-use Rattle.std.proofs.Common.{◌≡◌, ◌≢◌, ℕ, zero, suc, ◌+◌, ◌*◌, ◌<◌, ◌≤◌, ◌==◌, inl, inr, Bool, true, false, List, [], ◌∷◌, ◌++◌, length, map, Option, Some, None, refl, sym, ◌∙◌, ap, subst, arith, ne_eqb, append_assoc}
-use Rattle.std.specs.Prelude.{if◌then◌else◌, ◌&&◌}
+use Rattle.std.proofs.Common.{◌≡◌, ℕ, suc, ◌+◌, ◌<◌, ◌≤◌, inl, inr, false, List, [], ◌∷◌, ◌++◌, length, Some, refl, sym, ◌∙◌, ap, subst, arith, ne_eqb, append_assoc}
 use Rattle.std.proofs.lemmas.List.{length-map}
 use Rattle.kk_syntax.specs.Shapes.{is_among, without}
-use Rattle.kk_source.specs.State.{Value, place, Environment}
-use Rattle.kk_source.specs.Live.{value_of}
-use Rattle.kk_source.specs.Actions.{Action, goes, builds}
-use Rattle.kk_counted.specs.Heaps.{Heap, busy, fields_held}
+use Rattle.kk_source.specs.State.{Value}
+use Rattle.kk_source.specs.Actions.{goes, builds}
+use Rattle.kk_counted.specs.Heaps.{Heap, busy}
 use Rattle.kk_counted.specs.Keeping.{values_of}
 use Rattle.kk_counted.specs.Marks.{field_marks}
 use Rattle.kk_counted.specs.TokenKeeping.{ArePooled, Lists, IsJudged, ListsAfter, AreKeptBy}
-use Rattle.kk_counted.specs.TokenMachine.{token_code_step, fill_step, make_step, filled, bound_to, token_at_stuck}
+use Rattle.kk_counted.specs.TokenMachine.{token_code_step, make_step, bound_to, token_at_stuck}
 use Rattle.kk_counted.specs.TokenRuns.{AllLead}
-use Rattle.kk_counted.specs.TokenStates.{TokenJoin, TokenFrame, TokenConfiguration, TokenState}
+use Rattle.kk_counted.specs.TokenStates.{TokenJoin, TokenFrame, TokenConfiguration}
 use Rattle.kk_counted.specs.TokenedCodes.{Tokened}
-use Rattle.kk_counted.specs.Tokens.{Slot, spent, null, token, is_unspent, Mark, plain, token_of, one_if_token, Tokens, is_linked, by_token, marked, marks_with, slots_with, blanked, released, has_room, request}
-use Rattle.kk_counted.proofs.Chaining.{EqualBelow, equal_one, frames_many, not_linked}
+use Rattle.kk_counted.specs.Tokens.{spent, token, Mark, plain, token_of, one_if_token, Tokens, is_linked, by_token, marked, blanked, released, has_room, request}
+use Rattle.kk_counted.proofs.Chaining.{equal_one, frames_many, not_linked}
 use Rattle.kk_counted.proofs.Pooling.{slot_here, slot_there, mark_there, by_cell}
-use Rattle.rv_isa.specs.declared.asm.Action.TheVariants.{Label, Branch, Routine as Calls}
+use Rattle.rv_isa.specs.declared.asm.Action.TheVariants.{Branch, Routine as Calls}
 use Rattle.rv_isa.specs.declared.asm.Condition.TheVariants.{NotEqual}
 use Rattle.rv_isa.specs.declared.routine.Routine.TheVariants.{Take}
 use Rattle.rv_isa.specs.AsmCode.{Line}
 use Rattle.rv_isa.specs.Frames.{Frame, put}
-use Rattle.cell_heap.specs.Blocks.{Cells}
 use Rattle.rv_lower.specs.Lines.{copies_to, acts}
 use Rattle.rv_lower.proofs.Performing.{put_other}
 use Rattle.rv_cells.specs.Layout.{FitFields, header_of}
-use Rattle.rv_cells.specs.Follows.{Owner, cell_of, in_hand, is_aside, with_owner, assign}
+use Rattle.rv_cells.specs.Follows.{cell_of, is_aside, with_owner, assign}
 use Rattle.rv_cells.specs.CellLines.{hold_lines, unhold_lines}
 use Rattle.rv_cells.proofs.Celled.{all_among, apart_above}
 use Rattle.rv_cells.proofs.Blocks.{within_itself, within_one}
@@ -35,7 +32,7 @@ use Rattle.rv_cells.proofs.Filling.{fill_cost, from_label, whole_lines, fills_ow
 use Rattle.rv_cells.proofs.LineCosts.{most_moves}
 use Rattle.rv_cells.proofs.Owners.{chosen_same, chosen_other}
 use Rattle.rv_cells.proofs.Runs.{turn_of}
-use Rattle.rv_cells.proofs.Spots.{Spot, Known, Here}
+use Rattle.rv_cells.proofs.Spots.{Spot, Here}
 use Rattle.rv_cells.proofs.Values.{has_cell, among_by}
 use Rattle.rv_cells.proofs.Words.{hand_owned}
 use Rattle.rv_cells.specs.TokenedLines.{values_of_slots}
@@ -44,7 +41,7 @@ use Rattle.rv_cells.proofs.TokenEntering.{arguments_fit}
 use Rattle.rv_cells.proofs.TokenFrames.{slots_moved, all_carried, all_wait_at}
 use Rattle.rv_cells.proofs.TokenLineCosts.{forms}
 use Rattle.rv_cells.proofs.TokenLanding.{lands_leads, token_at, machine_at, seen_action, silent_builds, goes_on, kept_after}
-use Rattle.rv_cells.proofs.TokenStanding.{SlotIs, IsTokenCell, HaveSlotValues, HaveTokenCells, finds, held_values, Lowering, setting, upper, known_of, AllWait, At, IsFitFrom, Follows_step}
+use Rattle.rv_cells.proofs.TokenStanding.{SlotIs, IsTokenCell, finds, held_values, Lowering, setting, upper, known_of, At, IsFitFrom, Follows_step}
 use Rattle.rv_cells.proofs.TokenUniques.{slots_set, another, row_times}
 
 abbrev takes_into : ℕ → Line
@@ -68,11 +65,13 @@ beyond_plain cells heap tokens pooled = by (tokens.marks (length heap)) refl
 pub none_more : (m : ℕ) → 0 + m ≡ m
 none_more m = omega arith
 
-module _ (program : Lowering) (x y c first : ℕ) (arguments kept_at others : List ℕ) (rest : Tokened) (idle : ℕ) (inner : List TokenJoin)
-    (frames : List TokenFrame) (tokens : Tokens) (input : List ℕ) (s : Spot) (fs : List (Frame Line)) (left : List Line)
+module _ (program : Lowering) (x y c first : ℕ) (arguments kept_at others : List ℕ) (rest : Tokened) (idle : ℕ)
+    (inner : List TokenJoin) (frames : List TokenFrame) (tokens : Tokens) (input : List ℕ) (s : Spot) (fs : List (Frame Line))
+    (left : List Line)
     (idle_is : idle ≡ suc (forms rest))
     (at : At program (Tokened.fill x y c first arguments kept_at others rest) inner frames tokens input s fs left)
-    (fit : IsFitFrom program (token_at program (Tokened.fill x y c first arguments kept_at others rest) s.environment inner frames s.heap tokens input)) where
+    (fit : IsFitFrom program (token_at program (Tokened.fill x y c first arguments kept_at others rest) s.environment inner frames
+    s.heap tokens input)) where
   abbrev pub Fill_steps : Type 0
   Fill_steps =
       Follows_step program idle
@@ -96,7 +95,8 @@ module _ (program : Lowering) (x y c first : ℕ) (arguments kept_at others : Li
 
   -- the lines weigh no more than the table of costs says
   pub fill_cheap : fill_cost (known_of program at.shape) (values_of_slots at.shape.variables others) (first ∷ arguments)
-      ≤ (upper program).weight (token_at program (Tokened.fill x y c first arguments kept_at others rest) s.environment inner frames s.heap tokens input)
+      ≤ (upper program).weight
+      (token_at program (Tokened.fill x y c first arguments kept_at others rest) s.environment inner frames s.heap tokens input)
   fill_cheap =
       let zs = values_of_slots at.shape.variables others in
       let row = row_times arguments (most_moves + 2) in
@@ -122,7 +122,8 @@ module _ (program : Lowering) (x y c first : ℕ) (arguments kept_at others : Li
       let here : Here known s = record { follows = at.follows; values = at.has.values } in
       let values_are = values_of_slots v others in
       let rest_lines = p.lines.1 ++ p.after in
-      let whole_is = whole_lines known rest_lines fs s x (v + y) c values_are p.low (first ∷ arguments) p.lines.0 here making p.lines.2 in
+      let whole_is = whole_lines known rest_lines fs s x (v + y) c values_are p.low (first ∷ arguments) p.lines.0 here making
+      p.lines.2 in
       let mark = pooled.marks n y q has in
       let nothing = at.judged.spends.0 in
       let free : is_linked n y tokens.chain ≡ false = ap (is_linked n y) at.judged.are.chain
@@ -145,7 +146,8 @@ module _ (program : Lowering) (x y c first : ℕ) (arguments kept_at others : Li
       address hand.0 value hand.1 program.some found_at in
       let later = assign size address s.address in
       let f : Frame Line = record s.frame {
-        cells = put base (Some 1) (put base (Some (header_of program.layout c)) (put base (Some address) (put x (Some address) s.frame.cells)));
+        cells = put base (Some 1) (put base (Some (header_of program.layout c))
+            (put base (Some address) (put x (Some address) s.frame.cells)));
       } in
       let to : Spot = made_spot s x c vs address f done.0 in
       let from = machine_at program code s.environment inner frames s.heap tokens in
@@ -160,14 +162,19 @@ module _ (program : Lowering) (x y c first : ℕ) (arguments kept_at others : Li
       (λ r. make_step (has_room (released n y r spent tokens)) c vs puts from) n y q s.heap tokens pooled has in
       let kept = subst (AllLead (AreKeptBy program.pool.cells (ListsAfter code inner at.lists))) step
       (kept_after program code inner frames tokens input s fs left at refl) in
-      let stays : (r : ℕ) → r < size → later r ≡ s.address r = λ r less. chosen_other r size address s.address (λ e. omega (arith, e, less)) in
+      let stays : (r : ℕ) → r < size → later r ≡ s.address r
+      = λ r less. chosen_other r size address s.address (λ e. omega (arith, e, less)) in
       let below = pooled.there n y q mark in
       let fresh : one_if_token (after.marks size) ≡ 0 = ap one_if_token
       (mark_there q size plain tokens.marks (ne_eqb size q (λ e. omega (arith, e, below)))
       ∙ beyond_plain program.pool.cells s.heap tokens pooled) in
-      let moved = slots_moved {later = later} {others = f.cells} at.has.tokens (λ z r is. stays r (pooled.there n z r (pooled.marks n z r is)))
-      (λ z few unspent. put_other base (v + z) 1 (put base (Some (header_of program.layout c)) (put base (Some address) (put x (Some address) s.frame.cells))) (λ e. omega (arith, e, few))
-      ∙ put_other base (v + z) (header_of program.layout c) (put base (Some address) (put x (Some address) s.frame.cells)) (λ e. omega (arith, e, few))
+      let moved = slots_moved {later = later} {others = f.cells} at.has.tokens
+      (λ z r is. stays r (pooled.there n z r (pooled.marks n z r is)))
+      (λ z few unspent. put_other base (v + z) 1
+      (put base (Some (header_of program.layout c)) (put base (Some address) (put x (Some address) s.frame.cells)))
+      (λ e. omega (arith, e, few))
+      ∙ put_other base (v + z) (header_of program.layout c) (put base (Some address) (put x (Some address) s.frame.cells))
+      (λ e. omega (arith, e, few))
       ∙ put_other base (v + z) address (put x (Some address) s.frame.cells) (λ e. omega (arith, e, few))
       ∙ put_other x (v + z) address s.frame.cells (λ e. let low = p.numbered.0 in omega (arith, e, low))) in
       let few = p.short in
