@@ -27,7 +27,8 @@ routine_instructions m (Routine routine) (Some words) held shared = m.lasts rout
 routine_instructions m _ _ held shared = 0
 
 -- A far jump is two instructions, and a branch to a far label one over a jump. A call has its callee's entry: it compares the
--- stack with its bottom, takes a frame and saves the return address. A return loads it and gives the frame back. A token is held or
+-- stack with its bottom, takes a frame and saves the return address. A return loads it and gives the frame back, by two additions where
+-- frames are wide. A token is held or
 -- taken back by a call with the address of its slot.
 abbrev pub action_instructions : Action → ℕ
 action_instructions (Compute operation) = operation_instructions operation
@@ -36,7 +37,7 @@ action_instructions (Jump l) = 2
 action_instructions (Branch condition l) = 3
 action_instructions (Call f) = 7
 action_instructions (TailCall f) = 2
-action_instructions Return = 3
+action_instructions Return = 4
 action_instructions (Routine routine) = 2
 action_instructions Hold = 9
 action_instructions Unhold = 7
