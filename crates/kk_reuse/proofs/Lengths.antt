@@ -10,9 +10,9 @@ use Rattle.kk_counted.specs.Lengths.{form_length, code_length, arms_length, func
 use Rattle.kk_counted.specs.TokenCosts.{openings, openings_of, OpenAtMost}
 use Rattle.kk_counted.specs.TokenLengths.{hold_length, free_length, null_length, move_length, other_length, tokened_length, tokened_arms_length, tokened_functions_length, tokened_computes, tokened_arms_computes, all_tokened_computes, AreTokensShort}
 use Rattle.kk_counted.specs.TokenLowerable.{most_slots}
-use Rattle.kk_counted.specs.TokenedCodes.{Tokened, TokenedFunction}
-use Rattle.kk_reuse.specs.Following.{may_make, kept, taken, leaves}
-use Rattle.kk_reuse.specs.Pairing.{slots_below, frees, holds, unholds, nulls, moves_up, filled_up, settled, left_by, paired_form, paired, paired_arms, paired_function, paired_program}
+use Rattle.kk_counted.specs.TokenedCodes.{Tokened}
+use Rattle.kk_reuse.specs.Following.{may_make, kept, taken}
+use Rattle.kk_reuse.specs.Pairing.{frees, holds, unholds, nulls, moves_up, filled_up, settled, left_by, paired_form, paired, paired_arms, paired_function, paired_program}
 use Rattle.kk_reuse.proofs.Rooms.{kept_few, taken_few, leaves_few, slots_many}
 
 -- ---- forms that only tokens have, in front of a code
@@ -245,7 +245,7 @@ pub program_short : (most : ℕ) (program : CountedProgram) → OpenAtMost most 
     → AreShort program.functions → AreTokensShort (paired_program program).functions
 program_short most program few fits short =
     let each : (f : ℕ) (function : CountedFunction) → slice_get program.functions f ≡ Some function
-        → openings function.body ≤ most_slots
+    → openings function.body ≤ most_slots
     = λ f function is. omega (arith, few f function is, fits) in
     record {
       length = omega (arith, functions_long program.functions each, short.length, short.forms);

@@ -8,8 +8,8 @@ use Rattle.kk_counted.specs.CountedCodes.{Counted, give, tail_call, branch, case
 use Rattle.kk_counted.specs.Lowerable.{OpensByCount, OpenByCount, AllOpenByCount}
 use Rattle.kk_counted.specs.TokenCosts.{openings, openings_of, OpenAtMost}
 use Rattle.kk_counted.specs.TokenLowerable.{slots_of, slots_in, slots_in_arms, most_slots, HasPlainForms, HavePlainForms, HoldsAtCalls, HoldAtCalls, IsTokenLowerable, AreTokensLowerable}
-use Rattle.kk_counted.specs.TokenedCodes.{Tokened, TokenedArms, TokenedFunction}
-use Rattle.kk_reuse.specs.Following.{may_make, kept, taken, leaves}
+use Rattle.kk_counted.specs.TokenedCodes.{Tokened, TokenedArms}
+use Rattle.kk_reuse.specs.Following.{may_make, kept, taken}
 use Rattle.kk_reuse.specs.Pairing.{slots_below, frees, holds, unholds, nulls, moves_up, filled_up, settled, left_by, paired_form, paired, paired_arms, paired_function, paired_program}
 use Rattle.kk_reuse.proofs.Rooms.{kept_few, taken_few, leaves_few}
 use Rattle.kk_reuse.proofs.Spends.{slots_are, next_free}
