@@ -71,9 +71,10 @@ rest_short : (code : Counted) (behind : Bool) (l n : ℕ) → FitsLength code be
     → IsShort (settled behind code n (paired behind l (kept behind code n) code)) n (code_length code) (forms_in code)
 rest_short code behind l n short few = by (may_make behind code)
   where
-    by : (b : Bool)
-        → IsShort (if b then paired behind l (if b then n else 0) code else frees n (paired behind l (if b then n else 0) code)) n
-        (code_length code) (forms_in code)
+    start : Bool → Tokened
+    start b = paired behind l (if b then n else 0) code
+
+    by : (b : Bool) → IsShort (if b then start b else frees n (start b)) n (code_length code) (forms_in code)
     by true = short n few
     by false = omega (arith, frees_length n (paired behind l 0 code), short 0 (omega (arith, few)))
 
@@ -111,7 +112,8 @@ mutual
       omega (
         arith,
         inner,
-        rest_short block (may_make behind rest) outer n (paired_short block (may_make behind rest) outer inner) (omega (arith, few)),
+        rest_short block (may_make behind rest) outer n (paired_short block (may_make behind rest) outer inner)
+            (omega (arith, few)),
         rest_short rest behind l outer (paired_short rest behind l fits) (omega (arith, few, left)),
       )
   paired_short (read x c fields rest) behind l fits n few =
@@ -180,9 +182,10 @@ rest_computes : (code : Counted) (behind : Bool) (l n : ℕ)
     → tokened_computes (settled behind code n (paired behind l (kept behind code n) code)) ≤ computes code
 rest_computes code behind l n each = by (may_make behind code)
   where
-    by : (b : Bool)
-        → tokened_computes (if b then paired behind l (if b then n else 0) code else frees n (paired behind l (if b then n else 0) code))
-        ≤ computes code
+    start : Bool → Tokened
+    start b = paired behind l (if b then n else 0) code
+
+    by : (b : Bool) → tokened_computes (if b then start b else frees n (start b)) ≤ computes code
     by true = each n
     by false = omega (arith, frees_compute n (paired behind l 0 code), each 0)
 
@@ -227,7 +230,8 @@ mutual
 
 functions_long : (functions : List CountedFunction)
     → ((f : ℕ) (function : CountedFunction) → slice_get functions f ≡ Some function → openings function.body ≤ most_slots)
-    → tokened_functions_length (map paired_function functions) ≤ functions_length functions + 8 * most_slots * all_forms_in functions
+    → tokened_functions_length (map paired_function functions)
+    ≤ functions_length functions + 8 * most_slots * all_forms_in functions
 functions_long [] few = omega arith
 functions_long (function ∷ functions) few =
     omega (
@@ -236,7 +240,8 @@ functions_long (function ∷ functions) few =
       functions_long functions (λ f other there. few (suc f) other there),
     )
 
-functions_compute : (functions : List CountedFunction) → all_tokened_computes (map paired_function functions) ≤ all_computes functions
+functions_compute : (functions : List CountedFunction)
+    → all_tokened_computes (map paired_function functions) ≤ all_computes functions
 functions_compute [] = omega arith
 functions_compute (function ∷ functions) =
     omega (arith, few_computes function.body false 0 0, functions_compute functions)

@@ -1,5 +1,5 @@
--- Paired code can be lowered where that can which it is made of: its slots are below the number of its tokens, it opens cells as that
--- does, and it holds tokens around calls alone.
+-- Paired code can be lowered where the code can that it is made of: its slots are few, it opens cells as that does, and it holds
+-- tokens around calls alone.
 use Rattle.std.proofs.Common.{◌≡◌, ◌≤◌, ℕ, zero, suc, ◌+◌, ◌-◌, Bool, true, false, if◌then◌else◌, List, [], ◌∷◌, map, Some, refl, subst, arith}
 use Rattle.std.specs.Prelude.{slice_get}
 use Rattle.kk_syntax.specs.declared.program.Form.{Form}
@@ -102,8 +102,10 @@ rest_low : (code : Counted) (behind : Bool) (l n : ℕ) → FitsSlots code behin
     → IsLow [] (settled behind code n (paired behind l (kept behind code n) code))
 rest_low code behind l n low few = by (may_make behind code)
   where
-    by : (b : Bool)
-        → IsLow [] (if b then paired behind l (if b then n else 0) code else frees n (paired behind l (if b then n else 0) code))
+    start : Bool → Tokened
+    start b = paired behind l (if b then n else 0) code
+
+    by : (b : Bool) → IsLow [] (if b then start b else frees n (start b))
     by true = low n few
     by false = frees_low n (paired behind l 0 code) (omega (arith, few)) (low 0 (omega (arith, few)))
 
