@@ -72,3 +72,7 @@ pub mod TokenSlots
 pub mod TokenCelled
 pub mod TokenInside
 pub mod TokenMoves
+pub mod TokenBlocks
+pub mod TokenDeciding
+pub mod TokenComputing
+pub mod FormWords
