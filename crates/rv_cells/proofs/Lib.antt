@@ -39,6 +39,7 @@ pub mod Entering
 pub mod Telling
 pub mod Testing
 pub mod Deciding
+pub mod Programs
 pub mod Simulating
 pub mod KindsFit
 pub mod Fits
@@ -72,3 +73,5 @@ pub mod TokenSlots
 pub mod TokenCelled
 pub mod TokenInside
 pub mod TokenMoves
+pub mod TokenSimulating
+pub mod TokenMeaning
