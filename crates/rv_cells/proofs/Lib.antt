@@ -73,5 +73,9 @@ pub mod TokenSlots
 pub mod TokenCelled
 pub mod TokenInside
 pub mod TokenMoves
+pub mod TokenBlocks
+pub mod TokenDeciding
+pub mod TokenComputing
+pub mod FormWords
 pub mod TokenSimulating
 pub mod TokenMeaning
