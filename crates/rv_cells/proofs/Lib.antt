@@ -69,6 +69,9 @@ pub mod TokenHolds
 pub mod TokenRequests
 pub mod TokenUniques
 pub mod TokenFills
+pub mod TokenFillingCells
+pub mod TokenFilling
+pub mod TokenConstructing
 pub mod TokenSlots
 pub mod TokenCelled
 pub mod TokenInside
