@@ -37,7 +37,7 @@ use Rattle.rv_cells.specs.TokenedMeaning.{roomy_outside, IsTokenedLowered, Token
 use Rattle.rv_cells.proofs.Programs.{all_free, lines_formed}
 use Rattle.rv_cells.proofs.TokenLineCosts.{forms}
 use Rattle.rv_cells.proofs.TokenStanding.{Lowering, setting, upper, lower, pace, Passing, HasEnded, StandsFor, IsFitFrom, Related}
-use Rattle.rv_cells.proofs.TokenSimulating.{HasSteps, simulates, starts}
+use Rattle.rv_cells.proofs.TokenSimulating.{simulates, starts}
 
 -- ---- machines
 
@@ -93,8 +93,7 @@ module _ (layout : Layout) (marks : CellMarks) (code : TokenedProgram) (constant
     (lowered : IsTokenedLowered layout marks code constants functions) (room : ℕ) (fits_room : HasRoom room code) (pool : Pool)
     (depth first : ℕ) (input : List ℕ) (aligned : pool.first % 32 ≡ 0) (some : 0 < pool.first)
     (bytes : All (λ byte. byte < 256) input)
-    (fits : (n : ℕ) → IsFit layout (counted_after (roomy_cost room) (setting_on (bare_program code) pool depth) input n))
-    (steps : (program : Lowering) → HasSteps program) where
+    (fits : (n : ℕ) → IsFit layout (counted_after (roomy_cost room) (setting_on (bare_program code) pool depth) input n)) where
   abbrev lowering : Lowering
   lowering = record {
     code = code;
@@ -163,7 +162,7 @@ module _ (layout : Layout) (marks : CellMarks) (code : TokenedProgram) (constant
 
   simulated : Agree (upper lowering) (lower lowering) 0 (λ m. m * pace lowering + idle + 1) start turn
   simulated = simulates_agree (upper lowering) (lower lowering) (Related lowering) (Passing lowering) (pace lowering)
-      (simulates lowering (steps lowering)) 0 idle start turn related
+      (simulates lowering) 0 idle start turn related
 
   agreed : Agree (roomy_outside room (setting_on (bare_program code) pool depth)) (lower lowering) room
       (λ m. m * pace lowering + idle + 1 + 1) bare_start turn
@@ -226,7 +225,7 @@ module _ (layout : Layout) (marks : CellMarks) (code : TokenedProgram) (constant
         ends = λ n by stops.
             let so : Stops n by = stops_so n by stops in
             let reaches = simulates_many (upper lowering) (lower lowering) (Related lowering) (Passing lowering) (pace lowering)
-            (simulates lowering (steps lowering)) so.steps 0 idle start turn related in
+            (simulates lowering) so.steps 0 idle start turn related in
             let s : TokenState = state (upper lowering) so.steps start in
             let same : s ≡ state tokened so.steps start = seen_states so.steps in
             let end = last_free by s (state (lower lowering) reaches.steps turn)
@@ -237,5 +236,5 @@ module _ (layout : Layout) (marks : CellMarks) (code : TokenedProgram) (constant
               λ ends none. end.2 ends (ap (λ (u : TokenState). busy u.machine.heap) same ∙ (ap busy so.heap_is ∙ none)),
             );
         never_stuck = λ n. simulates_passing (upper lowering) (lower lowering) (Related lowering) (Passing lowering) (pace lowering)
-            (simulates lowering (steps lowering)) 0 idle start turn related n;
+            (simulates lowering) 0 idle start turn related n;
       }

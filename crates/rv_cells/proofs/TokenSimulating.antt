@@ -8,7 +8,6 @@ use Rattle.kk_base.proofs.Simulations.{simulates_until_ended}
 use Rattle.kk_syntax.specs.declared.program.Form.{Form}
 use Rattle.kk_syntax.specs.declared.program.Form.TheVariants.{Number, Unit as Nothing, ReadByte, PrintText, Unary, Binary, Print, Construct, Call}
 use Rattle.kk_syntax.specs.Shapes.{is_among}
-use Rattle.kk_core.specs.Decisions.{NodeTree}
 use Rattle.kk_source.specs.State.{Environment, End}
 use Rattle.kk_source.specs.Ends.{exit_of}
 use Rattle.kk_counted.specs.Heaps.{Heap}
@@ -16,7 +15,7 @@ use Rattle.kk_counted.specs.Marks.{result_mark}
 use Rattle.kk_counted.specs.Spending.{numbers_from}
 use Rattle.kk_counted.specs.TokenKeeping.{IsJudged, AreTokens}
 use Rattle.kk_counted.specs.TokenStates.{TokenJoin, TokenFrame, TokenControl, TokenConfiguration, TokenState, no_tokened, token_first_state}
-use Rattle.kk_counted.specs.TokenedCodes.{Tokened, TokenedArms, TokenedFunction}
+use Rattle.kk_counted.specs.TokenedCodes.{Tokened, TokenedFunction}
 use Rattle.kk_counted.specs.Tokens.{Slot, spent, token, is_unspent, Tokens, no_tokens}
 use Rattle.kk_counted.proofs.Pooling.{plain_is_none}
 use Rattle.rv_isa.specs.Processor.{Ending, exited}
@@ -33,7 +32,6 @@ use Rattle.rv_cells.proofs.Starts.{starts as begins}
 use Rattle.rv_cells.proofs.Values.{HasValues}
 use Rattle.rv_cells.proofs.Runs.{turn_of}
 use Rattle.rv_cells.proofs.Spots.{Spot, saved}
-use Rattle.rv_cells.proofs.Computing.{IsPlainForm}
 use Rattle.rv_cells.proofs.TokenLineCosts.{forms}
 use Rattle.rv_cells.proofs.TokenStanding.{Lowering, texts, setting, upper, lower, pace, Passing, At, IsAt, HasEnded, StandsFor, IsFitFrom, Related, Follows_step, HaveTokenCells}
 use Rattle.rv_cells.proofs.TokenLanding.{machine_at, token_at, CodeSteps}
@@ -45,33 +43,26 @@ use Rattle.rv_cells.proofs.TokenCelled.{at_dup, at_drop}
 use Rattle.rv_cells.proofs.TokenSlots.{at_null, at_free}
 use Rattle.rv_cells.proofs.TokenMoves.{at_move}
 use Rattle.rv_cells.proofs.TokenHolds.{at_hold, at_unhold}
+use Rattle.rv_cells.proofs.TokenBlocks.{at_branch, at_if_token}
+use Rattle.rv_cells.proofs.TokenDeciding.{at_case}
+use Rattle.rv_cells.proofs.TokenComputing.{at_plain}
+use Rattle.rv_cells.proofs.TokenConstructing.{at_construct}
+use Rattle.rv_cells.proofs.TokenFilling.{at_fill}
 
--- The steps of forms whose lines are proved elsewhere.
-pub record HasSteps (program : Lowering) : Type 0 where
-  pub fill : (x y c first : ℕ) (arguments kept others : List ℕ) (rest : Tokened)
-      → CodeSteps program (Tokened.fill x y c first arguments kept others rest)
-  pub construct : (x c a : ℕ) (more : List ℕ) (rest : Tokened)
-      → CodeSteps program (Tokened.compute x (Construct c) (a ∷ more) [] rest)
-  pub branch : (x : ℕ) (positive negative : Tokened) → CodeSteps program (Tokened.branch x positive negative)
-  pub case : (x : ℕ) (decisions : List NodeTree) (arms : TokenedArms) → CodeSteps program (Tokened.case x decisions arms)
-  pub if_token : (y : ℕ) (there absent : Tokened) → CodeSteps program (Tokened.if_token y there absent)
-  pub plain : (x : ℕ) (form : Form) (arguments : List ℕ) (rest : Tokened) → IsPlainForm program form arguments
-      → CodeSteps program (Tokened.compute x form arguments [] rest)
-
-module _ (program : Lowering) (steps : HasSteps program) where
+module _ (program : Lowering) where
   -- ---- one step
 
   at_compute : (x : ℕ) (form : Form) (arguments : List ℕ) (rest : Tokened)
       → CodeSteps program (Tokened.compute x form arguments [] rest)
-  at_compute x (Number n) arguments rest = steps.plain x (Number n) arguments rest tt
-  at_compute x Nothing arguments rest = steps.plain x Nothing arguments rest tt
-  at_compute x ReadByte arguments rest = steps.plain x ReadByte arguments rest tt
-  at_compute x (PrintText how text) arguments rest = steps.plain x (PrintText how text) arguments rest tt
-  at_compute x (Unary operator) arguments rest = steps.plain x (Unary operator) arguments rest tt
-  at_compute x (Binary operator) arguments rest = steps.plain x (Binary operator) arguments rest tt
-  at_compute x (Print how) arguments rest = steps.plain x (Print how) arguments rest tt
-  at_compute x (Construct c) [] rest = steps.plain x (Construct c) [] rest tt
-  at_compute x (Construct c) (a ∷ more) rest = steps.construct x c a more rest
+  at_compute x (Number n) arguments rest = at_plain program x (Number n) arguments [] rest tt
+  at_compute x Nothing arguments rest = at_plain program x Nothing arguments [] rest tt
+  at_compute x ReadByte arguments rest = at_plain program x ReadByte arguments [] rest tt
+  at_compute x (PrintText how text) arguments rest = at_plain program x (PrintText how text) arguments [] rest tt
+  at_compute x (Unary operator) arguments rest = at_plain program x (Unary operator) arguments [] rest tt
+  at_compute x (Binary operator) arguments rest = at_plain program x (Binary operator) arguments [] rest tt
+  at_compute x (Print how) arguments rest = at_plain program x (Print how) arguments [] rest tt
+  at_compute x (Construct c) [] rest = at_plain program x (Construct c) [] [] rest tt
+  at_compute x (Construct c) (a ∷ more) rest = at_construct program x c a more rest
   at_compute x (Call f) arguments rest = at_call program x f arguments [] rest
 
   some_others : (other : ℕ) (others : List ℕ) → other ∷ others ≡ [] → ⊥
@@ -81,8 +72,8 @@ module _ (program : Lowering) (steps : HasSteps program) where
   at_code : (code : Tokened) → CodeSteps program code
   at_code (Tokened.give x) = at_give program x
   at_code (Tokened.tail_call f arguments) = at_tail program f arguments
-  at_code (Tokened.branch x positive negative) = steps.branch x positive negative
-  at_code (Tokened.case x decisions arms) = steps.case x decisions arms
+  at_code (Tokened.branch x positive negative) = at_branch program x positive negative
+  at_code (Tokened.case x decisions arms) = at_case program x decisions arms
   at_code (Tokened.compute x form arguments [] rest) = at_compute x form arguments rest
   at_code (Tokened.compute x form arguments (other ∷ others) rest) =
       λ idle inner frames tokens input s fs left idle_is at fit. absurd (some_others other others at.does.placed.plain.0)
@@ -93,13 +84,13 @@ module _ (program : Lowering) (steps : HasSteps program) where
   at_code (Tokened.if_unique x c fields used y rest) = at_unique program x c fields used y rest
   at_code (Tokened.dup x rest) = at_dup program x rest
   at_code (Tokened.drop x rest) = at_drop program x rest
-  at_code (Tokened.fill x y c first arguments kept others rest) = steps.fill x y c first arguments kept others rest
+  at_code (Tokened.fill x y c first arguments kept others rest) = at_fill program x y c first arguments kept others rest
   at_code (Tokened.free y rest) = at_free program y rest
   at_code (Tokened.null y rest) = at_null program y rest
   at_code (Tokened.move to of rest) = at_move program to of rest
   at_code (Tokened.hold y rest) = at_hold program y rest
   at_code (Tokened.unhold y rest) = at_unhold program y rest
-  at_code (Tokened.if_token y there absent) = steps.if_token y there absent
+  at_code (Tokened.if_token y there absent) = at_if_token program y there absent
 
   -- a step from any state that stands
   abbrev Follows_from : ℕ → ℕ → TokenState → AsmTurn World Ending → Type 0
