@@ -307,7 +307,7 @@ module _ (program : Lowering) (x c a : ℕ) (more : List ℕ) (rest : Tokened) (
       (λ one differ. ap is_aside (chosen_other one place (cell_of size) s.owners differ))
       (marked_more program.pool.cells s.heap (released link.frame link.slot p null tokens)
       (pooled_released program.pool.cells link.frame link.slot p null s.heap tokens has refl pooled)))
-      (slots_below at.has.tokens link.frame link.slot null older) taken.waits
+      (slots_below tokens.slots n at.has.tokens link.frame link.slot null older) taken.waits
 
   -- no cell is there
   steps_none : program.pool.cells ≤ busy s.heap + marked tokens.marks size → tokens.chain ≡ [] → Serves no_room → Steps_on

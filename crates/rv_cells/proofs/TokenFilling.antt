@@ -416,7 +416,7 @@ module _ (program : Lowering) (x y c first : ℕ) (arguments kept_at others : Li
       (λ one differ. stays_aside values place one differ)
       (marked_more program.pool.cells s.heap (released link.frame link.slot p null asking)
       (pooled_released program.pool.cells link.frame link.slot p null s.heap asking has refl pooled)))
-      (slots_below slots_are link.frame link.slot null older)
+      (slots_below asking.slots n slots_are link.frame link.slot null older)
       taken.waits
 
   -- no cell is there

@@ -321,10 +321,10 @@ named_before cells made heap tokens counted pooled f y p is =
     ]
 
 -- slots of a frame keep their values where one of an older frame changes
-pub slots_below : {address : ℕ → ℕ} {slots : ℕ → ℕ → Slot} {n variables count : ℕ} {values : ℕ → Option ℕ}
+pub slots_below : {address : ℕ → ℕ} {variables count : ℕ} {values : ℕ → Option ℕ} (slots : ℕ → ℕ → Slot) (n : ℕ)
     → HaveSlotValues address (slots n) variables count values → (f y : ℕ) (slot : Slot) → f < n
     → HaveSlotValues address (slots_with f y slot slots n) variables count values
-slots_below {address} {slots} {n} {variables} {count} {values} have f y slot less =
+slots_below {address} {variables} {count} {values} slots n have f y slot less =
     subst (λ (sl : ℕ → Slot). HaveSlotValues address sl variables count values)
     (fun_ext (λ z. sym (slot_there f y n z slot slots (apart z)))) have
   where
