@@ -23,7 +23,7 @@ use Rattle.rv_world.specs.World.{World, computed_in, with_cells, takes_cell, giv
 use Rattle.rv_lower.proofs.Performing.{reads_one, reads_two}
 use Rattle.rv_lower.specs.Lines.{computes, sets, copies_to, acts}
 use Rattle.rv_cells.specs.CellLines.{Loads, Stores}
-use Rattle.rv_cells.proofs.Runs.{Target, left_at, turn_of, Runs, line_runs, silent}
+use Rattle.rv_cells.proofs.Runs.{Target, left_at, turn_of, Runs, runs_within, line_runs, silent}
 use Rattle.rv_cells.proofs.LineCosts.{most_moves}
 
 -- a frame whose value x has a word
@@ -161,12 +161,18 @@ module _ (target : Target) (rest : List Line) (f : Frame Line) (fs : List (Frame
 
   -- ---- labels and jumps
 
+  -- a label weighs nothing
+  pub label_exact : (l : ℕ) → Runs target 0 1 (turn_of (acts (Label l) [] ∷ rest) f fs world) (turn_of rest f fs world)
+  label_exact l =
+      line_runs target 0 (acts (Label l) []) rest f fs world []
+      (turn_of rest f fs world) refl refl (λ held. omega arith)
+      (silent target world)
+
   pub label_runs : (l : ℕ) → Runs target (most_moves + 0) 1 (turn_of (acts (Label l) [] ∷ rest) f fs world)
       (turn_of rest f fs world)
   label_runs l =
-      line_runs target (most_moves + 0) (acts (Label l) []) rest f fs world []
-      (turn_of rest f fs world) refl refl (λ held. omega arith)
-      (silent target world)
+      runs_within target 0 (most_moves + 0) 1 (turn_of (acts (Label l) [] ∷ rest) f fs world) (turn_of rest f fs world)
+      (omega arith) (label_exact l)
 
   -- the lines from a label on
   abbrev pub Finds : ℕ → List Line → Type 0
@@ -210,24 +216,39 @@ module _ (target : Target) (rest : List Line) (f : Frame Line) (fs : List (Frame
       (λ held. omega arith) (silent target world)
 
   -- the same of one value, which is compared with zero
-  pub falls_one_runs : (condition : Condition) (l x word : ℕ) → f.cells x ≡ Some word → compares condition word 0 ≡ false
-      → Runs target (most_moves + 3) 1 (turn_of (acts (Branch condition l) (x ∷ []) ∷ rest) f fs world)
+  pub falls_one_exact : (condition : Condition) (l x word : ℕ) → f.cells x ≡ Some word → compares condition word 0 ≡ false
+      → Runs target (most_moves + 2) 1 (turn_of (acts (Branch condition l) (x ∷ []) ∷ rest) f fs world)
       (turn_of rest f fs world)
-  falls_one_runs condition l x word is not =
-      line_runs target (most_moves + 3) (acts (Branch condition l) (x ∷ [])) rest f fs world (word ∷ []) (turn_of rest f fs world)
+  falls_one_exact condition l x word is not =
+      line_runs target (most_moves + 2) (acts (Branch condition l) (x ∷ [])) rest f fs world (word ∷ []) (turn_of rest f fs world)
       (reads_one f.cells x word is)
       (ap (λ b. or_stuck (Some b)
       (λ taken. cond taken (asm_jumps {W = Ending} l (left_at rest f) fs world) (asm_goes (left_at rest f) fs world))) not)
       (λ held. omega arith) (silent target world)
+
+  pub branch_one_exact : (condition : Condition) (l x word : ℕ) (there : List Line) → f.cells x ≡ Some word
+      → compares condition word 0 ≡ true → Finds l there
+      → Runs target (most_moves + 2) 1 (turn_of (acts (Branch condition l) (x ∷ []) ∷ rest) f fs world)
+      (turn_of there f fs world)
+  branch_one_exact condition l x word there is holds finds =
+      line_runs target (most_moves + 2) (acts (Branch condition l) (x ∷ [])) rest f fs world (word ∷ []) (turn_of there f fs world)
+      (reads_one f.cells x word is)
+      (ap (λ b. or_stuck (Some b)
+      (λ taken. cond taken (asm_jumps {W = Ending} l (left_at rest f) fs world) (asm_goes (left_at rest f) fs world))) holds
+      ∙ jumps_to l there finds)
+      (λ held. omega arith) (silent target world)
+
+  pub falls_one_runs : (condition : Condition) (l x word : ℕ) → f.cells x ≡ Some word → compares condition word 0 ≡ false
+      → Runs target (most_moves + 3) 1 (turn_of (acts (Branch condition l) (x ∷ []) ∷ rest) f fs world)
+      (turn_of rest f fs world)
+  falls_one_runs condition l x word is not =
+      runs_within target (most_moves + 2) (most_moves + 3) 1 (turn_of (acts (Branch condition l) (x ∷ []) ∷ rest) f fs world)
+      (turn_of rest f fs world) (omega arith) (falls_one_exact condition l x word is not)
 
   pub branch_one_runs : (condition : Condition) (l x word : ℕ) (there : List Line) → f.cells x ≡ Some word
       → compares condition word 0 ≡ true → Finds l there
       → Runs target (most_moves + 3) 1 (turn_of (acts (Branch condition l) (x ∷ []) ∷ rest) f fs world)
       (turn_of there f fs world)
   branch_one_runs condition l x word there is holds finds =
-      line_runs target (most_moves + 3) (acts (Branch condition l) (x ∷ [])) rest f fs world (word ∷ []) (turn_of there f fs world)
-      (reads_one f.cells x word is)
-      (ap (λ b. or_stuck (Some b)
-      (λ taken. cond taken (asm_jumps {W = Ending} l (left_at rest f) fs world) (asm_goes (left_at rest f) fs world))) holds
-      ∙ jumps_to l there finds)
-      (λ held. omega arith) (silent target world)
+      runs_within target (most_moves + 2) (most_moves + 3) 1 (turn_of (acts (Branch condition l) (x ∷ []) ∷ rest) f fs world)
+      (turn_of there f fs world) (omega arith) (branch_one_exact condition l x word there is holds finds)

@@ -22,7 +22,7 @@ use Rattle.rv_cells.specs.Follows.{Owner, in_hand, Follows}
 use Rattle.rv_cells.specs.CellLines.{FillLines, hold_lines, unhold_lines}
 use Rattle.rv_cells.proofs.Words.{hand_owned, same_owner}
 use Rattle.rv_cells.proofs.Runs.{turn_of, Runs, runs_then}
-use Rattle.rv_cells.proofs.Acting.{put_in, copy_runs, label_runs, falls_one_runs, branch_one_runs}
+use Rattle.rv_cells.proofs.Acting.{put_in, copy_runs, label_exact, falls_one_exact, branch_one_exact}
 use Rattle.rv_cells.proofs.Spots.{Spot, Known, Here}
 use Rattle.rv_cells.proofs.LineCosts.{most_moves, row_cost, row_more}
 use Rattle.rv_cells.proofs.Values.{HasValues, among_none, has_temporary}
@@ -51,7 +51,7 @@ takes_into x = record { action = Calls Take; args = []; into = Some x }
 -- a construction in a token's cell costs its lines, and what is saved for the drop of its cell
 abbrev pub fill_cost : Known → List ℕ → List ℕ → ℕ
 fill_cost known others arguments =
-    4 * most_moves + 7 + row_cost others (most_moves + 9) + row_cost others (most_moves + 7) + construct_cost known arguments
+    3 * most_moves + 6 + row_cost others (most_moves + 9) + row_cost others (most_moves + 7) + construct_cost known arguments
 
 module _ (known : Known) (rest : List Line) (fs : List (Frame Line)) (s : Spot) (x token c : ℕ) (others : List ℕ) (filled : ℕ)
     (arguments : List ℕ) (lines : List Line) (here : Here known s) (making : IsMaking known s x c arguments)
@@ -96,7 +96,7 @@ module _ (known : Known) (rest : List Line) (fs : List (Frame Line)) (s : Spot) 
 
   pub stores_all : (f : Frame Line) (gs : List (Frame Line)) (at : ℕ) (words : ℕ → Option ℕ) (world : World)
       → f.cells x ≡ Some at → HaveWords f.cells arguments ws → HandsOf at words world.cells
-      → (cells : Cells) × Runs known.target ((most_moves + 0) + (4 * most_moves + 10 + row_cost arguments (most_moves + 3)))
+      → (cells : Cells) × Runs known.target (0 + (4 * most_moves + 10 + row_cost arguments (most_moves + 3)))
       store_steps (turn_of from_label f gs world)
       (turn_of rest (Construct.ended_frame known rest fs s x c arguments (takes ∷ stores) here making are.1 f) gs
       (with_cells world cells))
@@ -106,13 +106,13 @@ module _ (known : Known) (rest : List Line) (fs : List (Frame Line)) (s : Spot) 
       holds in
       let behind = Construct.ended_frame known rest fs s x c arguments (takes ∷ stores) here making are.1 f in
       let row = row_cost arguments (most_moves + 3) in
-      let enters = label_runs known.target (stores ++ rest) f gs world filled in
+      let enters = label_exact known.target (stores ++ rest) f gs world filled in
       let storing : Runs known.target (4 * most_moves + 10 + row) (1 + (1 + (length arguments + (1 + 1))))
       (turn_of (stores ++ rest) f gs world) (turn_of rest behind gs (with_cells world done.0)) =
       subst (λ ls. Runs known.target (4 * most_moves + 10 + row) (1 + (1 + (length arguments + (1 + 1))))
       (turn_of ls f gs world) (turn_of rest behind gs (with_cells world done.0))) (sym stores_are) done.1 in (
         done.0,
-        runs_then known.target (most_moves + 0) (4 * most_moves + 10 + row) 1 (1 + (1 + (length arguments + (1 + 1))))
+        runs_then known.target 0 (4 * most_moves + 10 + row) 1 (1 + (1 + (length arguments + (1 + 1))))
             (turn_of from_label f gs world) (turn_of (stores ++ rest) f gs world)
             (turn_of rest behind gs (with_cells world done.0)) enters storing,
         done.2,
@@ -134,7 +134,7 @@ module _ (known : Known) (rest : List Line) (fs : List (Frame Line)) (s : Spot) 
       (copy_runs known.target there (put_in x word s.frame) fs s.world x known.base word (put_same x word s.frame.cells))
 
   abbrev pub test_cost : ℕ
-  test_cost = ((most_moves + 2) + (most_moves + 2)) + (most_moves + 3)
+  test_cost = ((most_moves + 2) + (most_moves + 2)) + (most_moves + 2)
 
   abbrev branches : Line
   branches = acts (Branch NotEqual filled) (known.base ∷ [])
@@ -145,11 +145,11 @@ module _ (known : Known) (rest : List Line) (fs : List (Frame Line)) (s : Spot) 
   tests_null is =
       subst (λ ls. Runs known.target test_cost ((1 + 1) + 1) (turn_of ls s.frame fs s.world)
       (turn_of from_holds (tested 0) fs s.world)) (sym whole_lines)
-      (runs_then known.target ((most_moves + 2) + (most_moves + 2)) (most_moves + 3) (1 + 1) 1
+      (runs_then known.target ((most_moves + 2) + (most_moves + 2)) (most_moves + 2) (1 + 1) 1
       (turn_of (copies_to token x ∷ copies_to x known.base ∷ branches ∷ from_holds) s.frame fs s.world)
       (turn_of (branches ∷ from_holds) (tested 0) fs s.world) (turn_of from_holds (tested 0) fs s.world)
       (copies 0 is (branches ∷ from_holds))
-      (falls_one_runs known.target from_holds (tested 0) fs s.world NotEqual filled known.base 0
+      (falls_one_exact known.target from_holds (tested 0) fs s.world NotEqual filled known.base 0
       (put_same known.base 0 (put_in x 0 s.frame).cells) refl))
 
   -- it is a cell's
@@ -161,11 +161,11 @@ module _ (known : Known) (rest : List Line) (fs : List (Frame Line)) (s : Spot) 
       let test : nat_eq at 0 ≡ false = grind (arith, nat_tests) in
       subst (λ ls. Runs known.target test_cost ((1 + 1) + 1) (turn_of ls s.frame fs s.world)
       (turn_of from_label (tested at) fs s.world)) (sym whole_lines)
-      (runs_then known.target ((most_moves + 2) + (most_moves + 2)) (most_moves + 3) (1 + 1) 1
+      (runs_then known.target ((most_moves + 2) + (most_moves + 2)) (most_moves + 2) (1 + 1) 1
       (turn_of (copies_to token x ∷ copies_to x known.base ∷ branches ∷ from_holds) s.frame fs s.world)
       (turn_of (branches ∷ from_holds) (tested at) fs s.world) (turn_of from_label (tested at) fs s.world)
       (copies at is (branches ∷ from_holds))
-      (branch_one_runs known.target from_holds (tested at) fs s.world NotEqual filled known.base at from_label
+      (branch_one_exact known.target from_holds (tested at) fs s.world NotEqual filled known.base at from_label
       (put_same known.base at (put_in x at s.frame).cells) (ap not test) finds))
 
 -- ---- the whole of it
@@ -196,7 +196,7 @@ module _ (known : Known) (rest : List Line) (fs : List (Frame Line)) (s : Spot) 
   AreSpared values = (z : ℕ) → z < known.base → is_among (token ∷ others) z ≡ false → values z ≡ s.frame.cells z
 
   abbrev pub most_before : ℕ
-  most_before = (3 * most_moves + 7) + (most_moves + 10) + row_cost others (most_moves + 9) + row_cost others (most_moves + 7)
+  most_before = (3 * most_moves + 6) + (most_moves + 10) + row_cost others (most_moves + 9) + row_cost others (most_moves + 7)
 
   -- from the label on
   pub ends : (gs : List (Frame Line)) (owners : ℕ → Owner) (values : ℕ → Option ℕ) (word at cost steps : ℕ)
@@ -232,7 +232,7 @@ module _ (known : Known) (rest : List Line) (fs : List (Frame Line)) (s : Spot) 
       let row = row_cost arguments (most_moves + 3) in
       let many = Construct.few known rest fs there x c arguments (takes_into x ∷ are.0) here_there making_there are.1 in
       let long : length (values_of s.environment arguments) ≡ length arguments = length-map arguments (value_of s.environment) in
-      let storing = (most_moves + 0) + (4 * most_moves + 10 + row) in
+      let storing = 0 + (4 * most_moves + 10 + row) in
       let storing_steps = 1 + (1 + (1 + (length arguments + (1 + 1)))) in (
         done.0,
         record {

@@ -36,7 +36,7 @@ abbrev pub AllSame : (ℕ → Option ℕ) → (ℕ → Option ℕ) → List ℕ 
 AllSame values later [] = Unit {0}
 AllSame values later (z ∷ zs) = (later z ≡ values z) × AllSame values later zs
 
-both_same : (values one two : ℕ → Option ℕ) (zs : List ℕ) → AllSame values one zs → AllSame values two zs → AllSame one two zs
+pub both_same : (values one two : ℕ → Option ℕ) (zs : List ℕ) → AllSame values one zs → AllSame values two zs → AllSame one two zs
 both_same values one two [] first second = tt
 both_same values one two (z ∷ zs) first second = (
   second.0 ∙ sym first.0,
@@ -106,26 +106,28 @@ aside_kept (cell_of name) = refl
 aside_kept (in_hand words) = refl
 aside_kept (kept_aside words) = refl
 
-aside_turned : (value : Option ℕ) (owners : ℕ → Owner) (x : ℕ) → is_aside (one_turned as_held value owners x) ≡ is_aside (owners x)
-aside_turned None owners x = refl
-aside_turned (Some zero) owners x = refl
-aside_turned (Some (suc n)) owners x =
-    chosen_by (λ o. is_aside o ≡ is_aside (owners x)) x (suc n) (as_held (owners (suc n))) owners
-    (λ e. aside_kept (owners (suc n)) ∙ ap (λ y. is_aside (owners y)) (sym e)) (λ differ. refl)
+pub aside_turned : (turn : Owner → Owner) → ((owner : Owner) → is_aside (turn owner) ≡ is_aside owner) → (value : Option ℕ)
+    (owners : ℕ → Owner) (x : ℕ) → is_aside (one_turned turn value owners x) ≡ is_aside (owners x)
+aside_turned turn keeps None owners x = refl
+aside_turned turn keeps (Some zero) owners x = refl
+aside_turned turn keeps (Some (suc n)) owners x =
+    chosen_by (λ o. is_aside o ≡ is_aside (owners x)) x (suc n) (turn (owners (suc n))) owners
+    (λ e. keeps (owners (suc n)) ∙ ap (λ y. is_aside (owners y)) (sym e)) (λ differ. refl)
 
 -- the same cells are set aside
 pub aside_held : (values : ℕ → Option ℕ) (zs : List ℕ) (owners : ℕ → Owner) (x : ℕ)
     → is_aside (all_held values zs owners x) ≡ is_aside (owners x)
 aside_held values [] owners x = refl
-aside_held values (z ∷ zs) owners x = aside_turned (values z) (all_held values zs owners) x ∙ aside_held values zs owners x
+aside_held values (z ∷ zs) owners x =
+    aside_turned as_held aside_kept (values z) (all_held values zs owners) x ∙ aside_held values zs owners x
 
 -- none of them has the cell of another owner
-none_other : (owners : ℕ → Owner) (values : ℕ → Option ℕ) (zs : List ℕ) (at : ℕ) → at ≢ 0
-    → ((words : ℕ → Option ℕ) → owners at ≢ kept_aside words) → AreTokensIn kept_aside owners values zs → NoneHas values at zs
-none_other owners values [] at some other are = tt
-none_other owners values (z ∷ zs) at some other are = (by are.0, none_other owners values zs at some other are.3)
+pub none_other : (stands : (ℕ → Option ℕ) → Owner) (owners : ℕ → Owner) (values : ℕ → Option ℕ) (zs : List ℕ) (at : ℕ) → at ≢ 0
+    → ((words : ℕ → Option ℕ) → owners at ≢ stands words) → AreTokensIn stands owners values zs → NoneHas values at zs
+none_other stands owners values [] at some other are = tt
+none_other stands owners values (z ∷ zs) at some other are = (by are.0, none_other stands owners values zs at some other are.3)
   where
-    by : IsToken kept_aside owners (values z) → values z ≢ Some at
+    by : IsToken stands owners (values z) → values z ≢ Some at
     by (inl null) = λ e. some (sym (some-is (sym null ∙ e)))
     by (inr cell) = λ e. other cell.1 (ap owners (some-is (sym e ∙ cell.2)) ∙ cell.4)
 
@@ -267,7 +269,7 @@ put_round x y t at values one two = fun_ext (λ z. by z (z == x) refl (z == y) r
 abbrev pub AreApartFrom : ℕ → ℕ → List ℕ → Type 0
 AreApartFrom base x zs = AllAre (λ z. (z < base) × (z ≢ x)) zs
 
-puts_same : (base x word other : ℕ) (values : ℕ → Option ℕ) (zs : List ℕ) → AreApartFrom base x zs
+pub puts_same : (base x word other : ℕ) (values : ℕ → Option ℕ) (zs : List ℕ) → AreApartFrom base x zs
     → AllSame values (put base (Some word) (put x (Some other) values)) zs
 puts_same base x word other values [] apart = tt
 puts_same base x word other values (z ∷ zs) apart = (
@@ -290,10 +292,10 @@ module _ (known : Known) (rest : List Line) (fs : List (Frame Line)) (s : Spot) 
   abbrev take : Line
   take = takes known rest fs s x token c others filled arguments lines here making are
 
-  abbrev values1 : ℕ → Option ℕ
+  abbrev pub values1 : ℕ → Option ℕ
   values1 = named known rest fs s x token c others filled arguments lines here making are s.frame.cells 0 0
 
-  abbrev owners1 : ℕ → Owner
+  abbrev pub owners1 : ℕ → Owner
   owners1 = all_held values1 others s.owners
 
   abbrev with_all : (ℕ → Option ℕ) → List ℕ → Frame Line
@@ -302,16 +304,16 @@ module _ (known : Known) (rest : List Line) (fs : List (Frame Line)) (s : Spot) 
   abbrev held1 : List ℕ
   held1 = live values1 others ++ s.frame.held
 
-  same1 : AllSame s.frame.cells values1 others
+  pub same1 : AllSame s.frame.cells values1 others
   same1 = puts_same known.base x 0 0 s.frame.cells others apart
 
-  tokens1 : AreTokensIn in_hand s.owners values1 others
+  pub tokens1 : AreTokensIn in_hand s.owners values1 others
   tokens1 = tokens_moved in_hand s.owners s.frame.cells values1 others same1 tokens
 
-  abbrev names : (ℕ → Option ℕ) → ℕ → ℕ → Option ℕ
+  abbrev pub names : (ℕ → Option ℕ) → ℕ → ℕ → Option ℕ
   names values at = named known rest fs s x token c others filled arguments lines here making are values 0 at
 
-  abbrev Makes : List (Frame Line) → (ℕ → Owner) → (ℕ → Option ℕ) → ℕ → Type 0
+  abbrev pub Makes : List (Frame Line) → (ℕ → Owner) → (ℕ → Option ℕ) → ℕ → Type 0
   Makes gs owners values at =
       Fills known rest fs s x token c others filled arguments lines here making are gs owners values 0 at
 
@@ -399,13 +401,15 @@ module _ (known : Known) (rest : List Line) (fs : List (Frame Line)) (s : Spot) 
 
   -- a free cell is taken
   pub fills_free : busy s.heap + set_aside known.target.pool s.owners < known.target.pool.cells
-      → (at : ℕ) × Makes fs (all_back (names s.frame.cells at) others (with_owner at (in_hand nothing) owners1)) s.frame.cells at
+      → (at : ℕ) × (is_aside (s.owners at) ≡ false)
+      × Makes fs (all_back (names s.frame.cells at) others (with_owner at (in_hand nothing) owners1)) s.frame.cells at
   fills_free room =
       let same = same_room in
       let took = served row.2 known.aligned (top (left_at back_lines (with_all values1 held1) ∷ fs)) (omega arith) in (
         took.at,
+        sym (aside_held values1 others s.owners took.at) ∙ ap is_aside took.free,
         same_values fs took.next took.at
-            (λ some. none_other owners1 values1 others took.at some
+            (λ some. none_other kept_aside owners1 values1 others took.at some
             (λ words kept. let both : nobody ≡ kept_aside words = sym took.free ∙ kept in cc)
             (tokens_held s.owners values1 others tokens1))
             (take_runs known.target back_lines (with_all values1 held1) fs (with_cells s.world row.0) x took.at took.next took.is)

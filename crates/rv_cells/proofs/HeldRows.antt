@@ -129,7 +129,7 @@ pub either_false : (a b : Bool) → (a || b) ≡ false → (a ≡ false) × (b �
 either_false true b is = cc
 either_false false b is = (refl, is)
 
-neither : (a b : Bool) → a ≡ false → b ≡ false → (a || b) ≡ false
+pub neither : (a b : Bool) → a ≡ false → b ≡ false → (a || b) ≡ false
 neither a b first second = ap (λ c. c || b) first ∙ second
 
 among_both : (z : ℕ) (xs ys : List ℕ) → is_among z xs ≡ false → is_among z ys ≡ false → is_among z (xs ++ ys) ≡ false

@@ -39,6 +39,7 @@ pub mod Entering
 pub mod Telling
 pub mod Testing
 pub mod Deciding
+pub mod Programs
 pub mod Simulating
 pub mod KindsFit
 pub mod Fits
@@ -68,6 +69,9 @@ pub mod TokenHolds
 pub mod TokenRequests
 pub mod TokenUniques
 pub mod TokenFills
+pub mod TokenFillingCells
+pub mod TokenFilling
+pub mod TokenConstructing
 pub mod TokenSlots
 pub mod TokenCelled
 pub mod TokenInside
@@ -76,3 +80,5 @@ pub mod TokenBlocks
 pub mod TokenDeciding
 pub mod TokenComputing
 pub mod FormWords
+pub mod TokenSimulating
+pub mod TokenMeaning

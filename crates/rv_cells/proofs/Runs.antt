@@ -47,6 +47,15 @@ module _ (target : Target) where
   pub runs_none : (t : AsmTurn World Ending) → Runs 0 0 t t
   runs_none t = record { within = omega arith; silent = refl; passes = λ k less. absurd (omega arith); arrives = refl }
 
+  -- and no more than a greater weight
+  pub runs_within : (cost most n : ℕ) (t u : AsmTurn World Ending) → cost ≤ most → Runs cost n t u → Runs most n t u
+  runs_within cost most n t u cheap runs = record {
+    within = omega (arith, cheap, runs.within);
+    silent = runs.silent;
+    passes = runs.passes;
+    arrives = runs.arrives;
+  }
+
   passes_both : (n m : ℕ) (t : AsmTurn World Ending) → ((k : ℕ) → k < n → state machine k t ≢ stuck)
       → ((k : ℕ) → k < m → state machine k (state machine n t) ≢ stuck) → (k : ℕ) → k < n + m → state machine k t ≢ stuck
   passes_both n m t before behind k less =

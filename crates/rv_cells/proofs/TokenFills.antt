@@ -1,6 +1,7 @@
 -- The lines of a construction in the cell of a token do the step of the machine with tokens.
 use Rattle.std.proofs.Common.{◌≡◌, ◌≢◌, ℕ, zero, suc, ◌+◌, ◌*◌, ◌<◌, ◌≤◌, ◌==◌, inl, inr, Bool, true, false, List, [], ◌∷◌, ◌++◌, length, map, Option, Some, None, refl, sym, ◌∙◌, ap, subst, arith, ne_eqb, append_assoc}
 use Rattle.std.specs.Prelude.{if◌then◌else◌, ◌&&◌}
+use Rattle.std.proofs.lemmas.List.{length-map}
 use Rattle.kk_syntax.specs.Shapes.{is_among, without}
 use Rattle.kk_source.specs.State.{Value, place, Environment}
 use Rattle.kk_source.specs.Live.{value_of}
@@ -31,6 +32,7 @@ use Rattle.rv_cells.proofs.Celled.{all_among, apart_above}
 use Rattle.rv_cells.proofs.Blocks.{within_itself, within_one}
 use Rattle.rv_cells.proofs.Constructing.{IsMaking, made_spot}
 use Rattle.rv_cells.proofs.Filling.{fill_cost, from_label, whole_lines, fills_own}
+use Rattle.rv_cells.proofs.LineCosts.{most_moves}
 use Rattle.rv_cells.proofs.Owners.{chosen_same, chosen_other}
 use Rattle.rv_cells.proofs.Runs.{turn_of}
 use Rattle.rv_cells.proofs.Spots.{Spot, Known, Here}
@@ -43,7 +45,7 @@ use Rattle.rv_cells.proofs.TokenFrames.{slots_moved, all_carried, all_wait_at}
 use Rattle.rv_cells.proofs.TokenLineCosts.{forms}
 use Rattle.rv_cells.proofs.TokenLanding.{lands_leads, token_at, machine_at, seen_action, silent_builds, goes_on, kept_after}
 use Rattle.rv_cells.proofs.TokenStanding.{SlotIs, IsTokenCell, HaveSlotValues, HaveTokenCells, finds, held_values, Lowering, setting, upper, known_of, AllWait, At, IsFitFrom, Follows_step}
-use Rattle.rv_cells.proofs.TokenUniques.{slots_set}
+use Rattle.rv_cells.proofs.TokenUniques.{slots_set, another, row_times}
 
 abbrev takes_into : ℕ → Line
 takes_into x = record { action = Calls Take; args = []; into = Some x }
@@ -56,21 +58,15 @@ label_split before hs us label a b c t =
     ∙ sym (append_assoc before (a ∷ b ∷ c ∷ (hs ++ (t ∷ us))) label)
 
 -- the next name is no token's
-beyond_plain : (cells : ℕ) (heap : Heap) (tokens : Tokens) → ArePooled cells heap tokens → tokens.marks (length heap) ≡ plain
+pub beyond_plain : (cells : ℕ) (heap : Heap) (tokens : Tokens) → ArePooled cells heap tokens → tokens.marks (length heap) ≡ plain
 beyond_plain cells heap tokens pooled = by (tokens.marks (length heap)) refl
   where
     by : (mark : Mark) → tokens.marks (length heap) ≡ mark → tokens.marks (length heap) ≡ plain
     by plain is = is
     by (token_of f z) is = (let less = pooled.there f z (length heap) is in absurd (omega arith))
 
-none_more : (m : ℕ) → 0 + m ≡ m
+pub none_more : (m : ℕ) → 0 + m ≡ m
 none_more m = omega arith
-
-another : (n y z : ℕ) → z ≢ y → ((n == n) && (z == y)) ≡ false
-another n y z differ =
-    let itself : (n == n) ≡ true = grind arith in
-    let other : (z == y) ≡ false = ne_eqb z y differ in
-    rw itself other
 
 module _ (program : Lowering) (x y c first : ℕ) (arguments kept_at others : List ℕ) (rest : Tokened) (idle : ℕ) (inner : List TokenJoin)
     (frames : List TokenFrame) (tokens : Tokens) (input : List ℕ) (s : Spot) (fs : List (Frame Line)) (left : List Line)
@@ -83,7 +79,7 @@ module _ (program : Lowering) (x y c first : ℕ) (arguments kept_at others : Li
       (token_at program (Tokened.fill x y c first arguments kept_at others rest) s.environment inner frames s.heap tokens input)
       (turn_of left s.frame fs s.world)
 
-  making : IsMaking (known_of program at.shape) s x c (first ∷ arguments)
+  pub making : IsMaking (known_of program at.shape) s x c (first ∷ arguments)
   making =
       let p = at.does.placed in
       let all = all_among (first ∷ arguments) s.bound p.marked.0 in
@@ -98,12 +94,21 @@ module _ (program : Lowering) (x y c first : ℕ) (arguments kept_at others : Li
         older = (fit 0).sound.older;
       }
 
+  -- the lines weigh no more than the table of costs says
+  pub fill_cheap : fill_cost (known_of program at.shape) (values_of_slots at.shape.variables others) (first ∷ arguments)
+      ≤ (upper program).weight (token_at program (Tokened.fill x y c first arguments kept_at others rest) s.environment inner frames s.heap tokens input)
+  fill_cheap =
+      let zs = values_of_slots at.shape.variables others in
+      let row = row_times arguments (most_moves + 2) in
+      let held = row_times zs (most_moves + 9) in
+      let back = row_times zs (most_moves + 7) in
+      let long = length-map others (λ z. at.shape.variables + z) in
+      omega (arith, row, held, back, long)
+
   -- its own token is there
   pub fills_token : (q : ℕ) → tokens.slots (length at.lists.older) y ≡ token q
-      → fill_cost (known_of program at.shape) (values_of_slots at.shape.variables others) (first ∷ arguments)
-      ≤ (upper program).weight (token_at program (Tokened.fill x y c first arguments kept_at others rest) s.environment inner frames s.heap tokens input)
       → Fill_steps
-  fills_token q has cheap =
+  fills_token q has =
       let p = at.does.placed in
       let code = Tokened.fill x y c first arguments kept_at others rest in
       let known = known_of program at.shape in
@@ -203,5 +208,5 @@ module _ (program : Lowering) (x y c first : ℕ) (arguments kept_at others : Li
             (λ holds most bound environment values has_values. has_cell has_values address)
             (λ g z r is. stays r (pooled.there g z r (pooled.marks g z r is))) at.waits);
       })
-      (silent_builds program (busy s.heap)) cheap
+      (silent_builds program (busy s.heap)) fill_cheap
       (ap (λ action. seen_action program action input) step) (omega (arith, idle_is)) (omega arith)
