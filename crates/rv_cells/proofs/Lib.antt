@@ -72,3 +72,6 @@ pub mod TokenSlots
 pub mod TokenCelled
 pub mod TokenInside
 pub mod TokenMoves
+pub mod TokenMarks
+pub mod TokenGrown
+pub mod TokenLowered
