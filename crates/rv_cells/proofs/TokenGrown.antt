@@ -1,8 +1,10 @@
 -- Code with tokens that grows: the lines and the texts of parts make those of the whole.
-use Rattle.std.proofs.Common.{◌≡◌, ◌⊎◌, inl, inr, ℕ, suc, ◌+◌, ◌<◌, List, [], ◌∷◌, ◌++◌, length, map, take, get_or, refl, sym, ap, subst, ◌∙◌, arith, append_assoc, append-nil}
+use Rattle.std.proofs.Common.{◌≡◌, ◌⊎◌, inl, inr, ℕ, suc, ◌+◌, ◌<◌, List, [], ◌∷◌, ◌++◌, length, map, take, get_or, refl, sym, ap}
+use Rattle.std.proofs.Common.{subst, ◌∙◌, arith, append_assoc, append-nil}
 use Rattle.std.proofs.lemmas.List.{length-map, map-append, take_more}
 use Rattle.kk_syntax.specs.declared.program.Form.{Form}
-use Rattle.kk_syntax.specs.declared.program.Form.TheVariants.{Number, Unit as Nothing, ReadByte, PrintText, Unary, Binary, Print, Construct, Call}
+use Rattle.kk_syntax.specs.declared.program.Form.TheVariants.{Number, Unit as Nothing, ReadByte, PrintText, Unary, Binary, Print}
+use Rattle.kk_syntax.specs.declared.program.Form.TheVariants.{Construct, Call}
 use Rattle.kk_core.specs.Decisions.{NodeTree, node_tree}
 use Rattle.kk_core.specs.declared.decisions.Decisions.{Decisions}
 use Rattle.kk_core.specs.declared.decisions.Node.{Node}
@@ -12,7 +14,8 @@ use Rattle.kk_counted.specs.BareForms.{bare_arms}
 use Rattle.kk_counted.specs.CountedForms.{decisions_of}
 use Rattle.kk_counted.specs.TokenLengths.{tokened_computes, tokened_arms_computes}
 use Rattle.kk_counted.specs.TokenedCodes.{Tokened, TokenedArms}
-use Rattle.kk_counted.specs.TokenedForms.{TokenedMove, put_tokened, plug_tokened, tokened_arms, tokened_code, tokened_last_code, tokened_move}
+use Rattle.kk_counted.specs.TokenedForms.{TokenedMove, put_tokened, plug_tokened, tokened_arms, tokened_code, tokened_last_code}
+use Rattle.kk_counted.specs.TokenedForms.{tokened_move}
 use Rattle.kk_counted.specs.declared.tokened.TokenedBlock.{TokenedBlock}
 use Rattle.kk_counted.specs.declared.tokened.TokenedLast.{TokenedLast}
 use Rattle.kk_counted.specs.declared.tokened.TokenedLast.TheVariants as OfLast
@@ -345,7 +348,8 @@ code_tail_calls {facts} {variables} {goal} {f} {arguments} {a} {b} wrote = recor
 
 -- Two ways: a label is taken first, a test goes there, and it stands between the code of both.
 module _ {facts : Facts} {variables : ℕ} {goal : Goal} {label : ℕ} {positive negative : Tokened} {a b c d e f : Lowering}
-    {test : List Line} (took : TookLabel label a b) (tested : Wrote test b c) (first : WroteTokened facts variables goal positive c d)
+    {test : List Line} (took : TookLabel label a b) (tested : Wrote test b c)
+    (first : WroteTokened facts variables goal positive c d)
     (labelled : Wrote (acts (Label label) [] ∷ []) d e) (second : WroteTokened facts variables goal negative e f) where
   abbrev ways_lines : List Line
   ways_lines = test ++ (first.lines ++ (acts (Label label) [] ∷ second.lines))

@@ -42,7 +42,8 @@ use Rattle.rv_lower.specs.Written.{Wrote, WroteLines, TookLabel}
 use Rattle.rv_lower.proofs.Written.{wrote_then}
 use Rattle.rv_lower.proofs.Grown.{grows_of, grows_took, grows_then, grows_more}
 use Rattle.rv_cells.specs.Layout.{Layout}
-use Rattle.rv_cells.specs.CellLines.{Loads, Stores, AllLoads, AllStores, Walks, dups_lines, drops_lines, CountLines, ConstructLines, FillLines, hold_lines, unhold_lines}
+use Rattle.rv_cells.specs.CellLines.{Loads, Stores, AllLoads, AllStores, Walks, dups_lines, drops_lines, CountLines, ConstructLines}
+use Rattle.rv_cells.specs.CellLines.{FillLines, hold_lines, unhold_lines}
 use Rattle.rv_cells.specs.CountedLines.{
   is_plain,
   answer_word,
@@ -224,7 +225,8 @@ pub fill_written : {x token header filled : ℕ} {others arguments : List ℕ} {
     → Wrote (copies_to token x ∷ copies_to x b.base ∷ acts (Branch NotEqual filled) (b.base ∷ []) ∷ []) b c
     → Wrote (request_lines x others) c d → Wrote (acts (Label filled) [] ∷ []) d e
     → WroteLines (StoreLines e.base x header arguments) e f → WroteFill x token others header arguments a f
-fill_written {x} {token} {header} {filled} {others} {arguments} {a} {b} {c} {d} {e} {f} took test requests labelled stores = record {
+fill_written {x} {token} {header} {filled} {others} {arguments} {a} {b} {c} {d} {e} {f} took test requests
+    labelled stores = record {
   lines = test_lines a.base ++ (request_lines x others ++ (acts (Label filled) [] ∷ stores.lines));
   grows = grows_more (omega arith) (grows_then (grows_took took) (grows_of
       (wrote_then (subst (λ n. Wrote (test_lines n) b c) took.base test)

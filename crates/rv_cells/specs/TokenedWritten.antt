@@ -3,6 +3,8 @@ use Rattle.std.specs.Prelude.{◌≡◌, ℕ, ◌+◌, Bool, List, ◌++◌, ◌
 use Rattle.kk_syntax.specs.declared.program.Form.{Form}
 use Rattle.kk_counted.specs.TokenedCodes.{Tokened}
 use Rattle.kk_counted.specs.TokenedForms.{TokenedMove, plug_tokened, tokened_arms}
+use Rattle.kk_counted.specs.declared.tokened.TokenedStep.{TokenedStep}
+use Rattle.kk_counted.specs.declared.tokened.TokenedStep.TheVariants as OfStep
 use Rattle.kk_counted.specs.TokenLengths.{tokened_computes, tokened_arms_computes}
 use Rattle.rv_isa.specs.AsmCode.{Line}
 use Rattle.rv_isa.specs.declared.asm.Action.TheVariants.{Routine as Calls, Branch}
@@ -79,3 +81,14 @@ pub record WroteTokenedSteps (facts : Facts) (variables : ℕ) (moves : List Tok
       → CodeLines (setting_in facts old.base (texts_written new ++ later)) variables goal new.next_label rest more high
       → CodeLines (setting_in facts old.base (texts_written new ++ later)) variables goal old.next_label (plug_tokened moves rest)
       (lines ++ more) high
+
+-- ---- steps by what they are
+
+-- what holds of a step if it opens a cell, and if it fills one
+abbrev pub IfOpens : TokenedStep → Type 0 → Type 0
+IfOpens step Holds =
+    ((x c : ℕ) (fields used : _) (y : ℕ) → step ≡ OfStep.Open x c fields used y → Holds)
+    × ((x c : ℕ) (fields used : _) (y : ℕ) → step ≡ OfStep.IfUnique x c fields used y → Holds)
+
+abbrev pub IfFills : TokenedStep → Type 0 → Type 0
+IfFills step Holds = (x y c first : ℕ) (arguments kept others : _) → step ≡ OfStep.Fill x y c first arguments kept others → Holds

@@ -3,7 +3,8 @@
 ghost use Rattle.std.specs.Prelude.{[], ◌∷◌, map, OnOk};
 ghost use Rattle.kk_counted.specs.TokenedForms.{TokenedMove, tokened_code, tokened_last_code, tokened_move};
 ghost use Rattle.rv_lower.specs.Written.{goal_of};
-ghost use Rattle.rv_cells.specs.TokenedWritten.{variables_known, WroteTokened, WroteTokenedArms, WroteTokenedSteps};
+ghost use Rattle.rv_cells.specs.TokenedWritten.{variables_known, IfOpens, IfFills};
+ghost use Rattle.rv_cells.specs.TokenedWritten.{WroteTokened, WroteTokenedArms, WroteTokenedSteps};
 ghost use Rattle.rv_cells.specs.Written.{facts_of};
 
 use crate::block::take_targets;
@@ -70,6 +71,29 @@ fn write_step(
             fields,
             ..
         } => write_reading(lowering, *variable, fields),
+        TokenedStep::Open { .. } => write_opened(lowering, known, step),
+        TokenedStep::IfUnique { .. } => write_opened(lowering, known, step),
+        TokenedStep::Dup { variable } => write_dup(lowering, known, *variable),
+        TokenedStep::Drop { variable } => write_drop(lowering, known, *variable),
+        TokenedStep::Fill { .. } => write_filled(lowering, known, step),
+        TokenedStep::Free { slot } => write_freed(lowering, known, *slot),
+        TokenedStep::Null { slot } => write_null(lowering, known, *slot),
+        TokenedStep::Move { to, from } => write_move(lowering, known, *to, *from),
+        TokenedStep::Hold { slot } => write_hold(lowering, known, *slot),
+        TokenedStep::Unhold { slot } => write_unhold(lowering, known, *slot),
+    }
+}
+
+/// The lines of a step that opens a cell, whose slot may take it.
+fn write_opened(
+    lowering: &mut Lowering,
+    known: &Known<'_>,
+    step: &TokenedStep,
+) -> Result<(), NoMemory>
+    ensures { OnOk result (IfOpens step.now (WroteTokenedSteps (facts_of known.now) (variables_known known.now)
+        (tokened_move step.now ∷ []) lowering.old lowering.new)) }
+{
+    match step {
         TokenedStep::Open {
             variable,
             fields,
@@ -84,35 +108,34 @@ fn write_step(
             slot,
             ..
         } => write_token_opening(lowering, known, *variable, fields, used, *slot),
-        TokenedStep::Dup { variable } => write_dup(lowering, known, *variable),
-        TokenedStep::Drop { variable } => write_drop(lowering, known, *variable),
-        TokenedStep::Fill {
-            variable,
-            slot,
-            constructor,
-            first,
-            arguments,
-            others,
-            ..
-        } => {
-            let fields = with_first(lowering.alloc, *first, arguments)?;
-            let token = known.slot(*slot)?;
-            write_fill(
-                lowering,
-                known,
-                *variable,
-                token,
-                *constructor,
-                &fields,
-                others,
-            )
-        }
-        TokenedStep::Free { slot } => write_freed(lowering, known, *slot),
-        TokenedStep::Null { slot } => write_null(lowering, known, *slot),
-        TokenedStep::Move { to, from } => write_move(lowering, known, *to, *from),
-        TokenedStep::Hold { slot } => write_hold(lowering, known, *slot),
-        TokenedStep::Unhold { slot } => write_unhold(lowering, known, *slot),
+        _ => Ok(()),
     }
+}
+
+/// The lines of a step that makes a construction in the cell of a token.
+fn write_filled(
+    lowering: &mut Lowering,
+    known: &Known<'_>,
+    step: &TokenedStep,
+) -> Result<(), NoMemory>
+    ensures { OnOk result (IfFills step.now (WroteTokenedSteps (facts_of known.now) (variables_known known.now)
+        (tokened_move step.now ∷ []) lowering.old lowering.new)) }
+{
+    let TokenedStep::Fill {
+        variable,
+        slot,
+        constructor,
+        first,
+        arguments,
+        others,
+        ..
+    } = step
+    else {
+        return Ok(());
+    };
+    let (token, made) = (known.slot(*slot)?, *constructor);
+    let fields = with_first(lowering.alloc, *first, arguments)?;
+    write_fill(lowering, known, *variable, token, made, &fields, others)
 }
 
 /// The code of a block whose value a variable takes.
