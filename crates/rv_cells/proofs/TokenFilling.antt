@@ -224,7 +224,7 @@ module _ (program : Lowering) (x y c first : ℕ) (arguments kept_at others : Li
       frames to.heap after
       = subst (λ (l : Lists). IsJudged program.pool.cells l.left l.unspent l.held l.older rest inner frames to.heap after) kept.1.0
       kept.1.1 in
-      let old = λ (g z r : ℕ) (is : after.slots g z ≡ token r). 
+      let old = λ (g z r : ℕ) (is : after.slots g z ≡ token r).
       named_before program.pool.cells (record { count = 1; cell = record { made_by = c; fields = vs } }) s.heap after (omega arith)
       judged.are.pooled g z r is in
       let few = p.short in

@@ -187,7 +187,7 @@ module _ (layout : Layout) (marks : CellMarks) (code : TokenedProgram) (constant
       → Stops n by
   stops_so n by stops =
       let does : Does tokened (weight_of counted n bare_start + room) (trace counted n bare_start) (ending_after counted n bare_start)
-          start
+      start
       = has_room.downwards n in
       let m = does.steps in
       let ends : ending_after counted n bare_start ≡ Some by = ap counted_end_at stops in

@@ -227,20 +227,20 @@ pub fill_written : {x token header filled : ℕ} {others arguments : List ℕ} {
     → WroteLines (StoreLines e.base x header arguments) e f → WroteFill x token others header arguments a f
 fill_written {x} {token} {header} {filled} {others} {arguments} {a} {b} {c} {d} {e} {f} took test requests
     labelled stores = record {
-  lines = test_lines a.base ++ (request_lines x others ++ (acts (Label filled) [] ∷ stores.lines));
-  grows = grows_more (omega arith) (grows_then (grows_took took) (grows_of
-      (wrote_then (subst (λ n. Wrote (test_lines n) b c) took.base test)
-      (wrote_then requests (wrote_then labelled stores.wrote)))));
-  label = stores.wrote.label ∙ labelled.label ∙ requests.label ∙ test.label ∙ took.next;
-  are = subst (λ n. FillLines a.base x token others n header arguments
-      (test_lines a.base ++ (request_lines x others ++ (acts (Label filled) [] ∷ stores.lines)))) took.is (
-        stores.lines,
-        subst (λ n. StoreLines n x header arguments stores.lines)
-            (labelled.base ∙ requests.base ∙ test.base ∙ took.base) stores.are,
-        ap (λ (ls : List Line). test_lines a.base ++ ls)
-            (append_assoc (hold_lines others) (take_line x ∷ unhold_lines others) (acts (Label filled) [] ∷ stores.lines)),
-      );
-}
+      lines = test_lines a.base ++ (request_lines x others ++ (acts (Label filled) [] ∷ stores.lines));
+      grows = grows_more (omega arith) (grows_then (grows_took took) (grows_of
+          (wrote_then (subst (λ n. Wrote (test_lines n) b c) took.base test)
+          (wrote_then requests (wrote_then labelled stores.wrote)))));
+      label = stores.wrote.label ∙ labelled.label ∙ requests.label ∙ test.label ∙ took.next;
+      are = subst (λ n. FillLines a.base x token others n header arguments
+          (test_lines a.base ++ (request_lines x others ++ (acts (Label filled) [] ∷ stores.lines)))) took.is (
+            stores.lines,
+            subst (λ n. StoreLines n x header arguments stores.lines)
+                (labelled.base ∙ requests.base ∙ test.base ∙ took.base) stores.are,
+            ap (λ (ls : List Line). test_lines a.base ++ ls)
+                (append_assoc (hold_lines others) (take_line x ∷ unhold_lines others) (acts (Label filled) [] ∷ stores.lines)),
+          );
+    }
   where
     test_lines : ℕ → List Line
     test_lines base = copies_to token x ∷ copies_to x base ∷ acts (Branch NotEqual filled) (base ∷ []) ∷ []
