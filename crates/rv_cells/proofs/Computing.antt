@@ -1,25 +1,20 @@
 -- The lines of forms that call no function do the steps of the counted machine: constructions, numbers, prints and reads.
-use Rattle.std.proofs.Common.{◌≡◌, ℕ, ◌+◌, ◌*◌, ◌^◌, ◌<◌, ◌≤◌, inl, inr, ℤ, pos, negsuc, w32, Bool, true, false, not, List, [], ◌∷◌, ◌++◌, length, Option, Some, nat_le, All, refl, sym, ◌∙◌, ap, subst, arith, append_assoc}
+use Rattle.std.proofs.Common.{◌≡◌, ℕ, ◌+◌, ◌*◌, ◌<◌, ◌≤◌, inl, inr, Bool, true, false, not, List, [], ◌∷◌, ◌++◌, length, Option, Some, nat_le, All, refl, sym, ◌∙◌, ap, subst, arith, append_assoc}
 use Rattle.std.specs.Prelude.{if◌then◌else◌}
 use Rattle.std.specs.Fmt.{signed_decimal}
-use Rattle.std.specs.Int.{int_wrap}
 use Rattle.std.proofs.lemmas.Bool.Decides.{nat_tests}
-use Rattle.std.proofs.lemmas.Int.{int_wrap_fits}
-use Rattle.std.proofs.lemmas.List.Elements.{All-tail}
 use Rattle.kk_base.specs.Trace.{Event, output}
 use Rattle.kk_syntax.specs.declared.operator.UnaryOperator.TheVariants.{Negate, Not}
 use Rattle.kk_syntax.specs.declared.program.Form.{Form}
 use Rattle.kk_syntax.specs.declared.program.Form.TheVariants.{Number, Unit as Nothing, ReadByte, PrintText, Unary, Binary, Print, Construct, Call}
 use Rattle.kk_syntax.specs.Programs.{text_at}
-use Rattle.kk_syntax.specs.Shapes.{is_among}
-use Rattle.kk_syntax.specs.Types.{TypeTree, int32, unit_type, type_variable, named}
+use Rattle.kk_syntax.specs.Types.{TypeTree, int32, unit_type}
 use Rattle.kk_syntax.specs.Typing.{bool, binary_type}
-use Rattle.kk_source.specs.Arithmetic.{wrapped}
 use Rattle.kk_source.specs.State.{Value, integer, unit, constant, place, Environment, heap_full}
 use Rattle.kk_source.specs.Live.{value_of}
 use Rattle.kk_source.specs.Sound.{Within}
 use Rattle.kk_source.specs.Actions.{builds, print_step}
-use Rattle.kk_source.specs.FormEffects.{truth, is_true, integer_of, unary_result, number_result, binary_result, byte_value, piece_of}
+use Rattle.kk_source.specs.FormEffects.{truth, integer_of, unary_result, number_result, binary_result, byte_value, piece_of}
 use Rattle.kk_counted.specs.CountedCodes.{Counted, compute}
 use Rattle.kk_counted.specs.CountedStates.{CountedJoin, CountedFrame, CountedConfiguration, CountedState}
 use Rattle.kk_counted.specs.CountedMachine.{bound_then, at_end}
@@ -27,74 +22,36 @@ use Rattle.kk_counted.specs.Heaps.{Heap, busy}
 use Rattle.kk_counted.specs.Keeping.{values_of}
 use Rattle.kk_counted.specs.Marks.{field_marks}
 use Rattle.rv_isa.specs.declared.asm.Operation.TheVariants as Op
-use Rattle.rv_isa.specs.Arithmetic.{signed, word_of}
+use Rattle.rv_isa.specs.Arithmetic.{signed}
 use Rattle.rv_isa.specs.Processor.{Ending, exited}
 use Rattle.rv_isa.specs.AsmCode.{Line}
 use Rattle.rv_isa.specs.AsmMachine.{AsmTurn}
 use Rattle.rv_isa.specs.Frames.{Frame, put, top, top_in}
-use Rattle.rv_isa.specs.Primitives.{go, ended}
+use Rattle.rv_isa.specs.Primitives.{ended}
 use Rattle.cell_runtime.specs.Prints.{put_of}
 use Rattle.cell_runtime.specs.Stops.{number_of}
 use Rattle.cell_runtime.specs.declared.stop.Ending.TheVariants as OfEnding
 use Rattle.rv_world.specs.World.{World, told_more}
 use Rattle.rv_lower.specs.Lines.{unit_word}
-use Rattle.rv_lower.proofs.Words.{same_word, signed_fits, truth_word}
+use Rattle.rv_lower.proofs.Words.{truth_word}
 use Rattle.rv_lower.proofs.Printing.{some_digits, some_piece}
-use Rattle.rv_lower.proofs.Following.{IsWordOf, turn_at}
+use Rattle.rv_lower.proofs.Following.{turn_at}
 use Rattle.rv_lower.proofs.Performing.{put_same, put_other}
 use Rattle.rv_lower.proofs.Performing as Performing
 use Rattle.rv_lower.proofs.Runs.{Target as NumberTarget, word_cost, most_cost}
 use Rattle.rv_lower.proofs.Runs as NumberRuns
-use Rattle.rv_cells.specs.Layout.{Layout, word_in, FitsField, FitFields}
+use Rattle.rv_cells.specs.Layout.{word_in, FitsField, FitFields}
 use Rattle.rv_cells.specs.Follows.{Follows, set_aside}
 use Rattle.rv_cells.proofs.LineCosts.{most_moves, row_cost, forms}
-use Rattle.rv_cells.specs.Fitting.{IsInt32}
-use Rattle.rv_cells.proofs.Values.{HasValues, among_by, has_bound}
+use Rattle.rv_cells.proofs.Values.{among_by, has_bound}
 use Rattle.rv_cells.proofs.Runs.{turn_of, Runs}
-use Rattle.rv_cells.proofs.Spots.{Spot, Here, saved}
+use Rattle.rv_cells.proofs.Spots.{Spot, saved}
+use Rattle.rv_cells.proofs.FormWords.{has_same, number_word, word_follows, IsPlainForm, put_some, is_true_of, fits_constant, bytes_behind, turns_are}
 use Rattle.rv_cells.proofs.Constructing.{IsMaking, full_did}
 use Rattle.rv_cells.proofs.Stepping.{construct_steps}
 use Rattle.rv_cells.proofs.Standing.{Lowering, target, texts, setting, upper, known_of, continues_more, At, IsFitFrom, arrives, by_lines}
 use Rattle.rv_cells.proofs.Blocks.{within_itself, within_one, counted_at, Does, does_by}
 use Rattle.rv_cells.proofs.Celled.{below_among, all_among, apart_above, arguments_fit, none_top, seen_action, goes_on, quiet_builds}
-
--- ---- words of numbers
-
-pub word_fits : (z : ℤ) → word_of z < 2 ^ 32
-word_fits (pos n) = omega arith
-word_fits (negsuc n) = omega arith
-
-pub word_wraps : (z : ℤ) → signed (word_of z) ≡ wrapped z
-unfolding int_wrap
-word_wraps z = refl
-
-pub word_signed : (a : ℕ) → a < 2 ^ 32 → word_of (signed a) ≡ a
-word_signed a fits =
-    same_word (word_of (signed a)) a (word_fits (signed a)) fits
-    (word_wraps (signed a) ∙ int_wrap_fits w32 (signed a) (signed_fits a fits))
-
--- values of other words of the same variables
-pub has_same : {layout : Layout} {address : ℕ → ℕ} {holds : ℕ → Bool} {base next : ℕ} {bound : List ℕ} {environment : Environment}
-    {values : ℕ → Option ℕ} → HasValues layout address holds base next bound environment values → (later : ℕ → Option ℕ)
-    → ((z : ℕ) → is_among bound z ≡ true → later z ≡ values z) → HasValues layout address holds base next bound environment later
-has_same has later same = record {
-  below = has.below;
-  words = λ z is. same z is ∙ has.words z is;
-  fits = has.fits;
-  older = has.older;
-}
-
-put_some : (piece : List ℕ) → 1 ≤ length piece → put_of piece ≡ output piece ∷ []
-put_some [] some = absurd (omega (arith, some))
-put_some (byte ∷ bytes) some = refl
-
-is_true_of : (b : Bool) → is_true (truth b) ≡ b
-is_true_of true = refl
-is_true_of false = refl
-
-fits_constant : (b : Bool) (c : ℕ) → FitsField b (constant c)
-fits_constant true c = tt
-fits_constant false c = tt
 
 module _ (program : Lowering) where
   -- ---- constructions with fields
@@ -181,46 +138,6 @@ module _ (program : Lowering) where
     depth = program.depth;
     functions = program.functions;
   }
-
-  turns_are : (lines : List Line) (f : Frame Line) (fs : List (Frame Line)) (world : World) → f.held ≡ []
-      → turn_at f.whole lines f.cells f.into fs world ≡ turn_of lines f fs world
-  turns_are lines f fs world none =
-      ap (λ (held : List ℕ). turn_held held) (sym none)
-    where
-      turn_held : List ℕ → AsmTurn World Ending
-      turn_held held = go (record {
-        frames = record { whole = f.whole; code = lines; cells = f.cells; held = held; into = f.into } ∷ fs;
-        shared = world;
-      })
-
-  -- the word of a value of a type, which holds no cell
-  word_follows : (address : ℕ → ℕ) (next : ℕ) (t : TypeTree) (v : Value) (word : ℕ) → IsWordOf t v word
-      → (word_in program.layout address v ≡ word) × FitsField false v × Within next v
-  word_follows address next int32 v word is = (
-    ap (word_in program.layout address) is.0 ∙ word_signed word is.1,
-    subst (FitsField false) (sym is.0) tt,
-    subst (Within next) (sym is.0) tt,
-  )
-  word_follows address next unit_type v word is = (
-    ap (word_in program.layout address) is.0 ∙ sym is.1,
-    subst (FitsField false) (sym is.0) tt,
-    subst (Within next) (sym is.0) tt,
-  )
-  word_follows address next (type_variable of) v word is = absurd is
-  word_follows address next (named by arguments) v word is = by_truth is.0 is.1 is.2
-    where
-      by_truth : (b : Bool) → v ≡ truth b → word ≡ truth_word b
-          → (word_in program.layout address v ≡ word) × FitsField false v × Within next v
-      by_truth true v_is word_is = (
-        ap (word_in program.layout address) v_is ∙ ap (λ t. 2 * t + 1) program.truth_is ∙ sym word_is,
-        subst (FitsField false) (sym v_is) tt,
-        subst (Within next) (sym v_is) tt,
-      )
-      by_truth false v_is word_is = (
-        ap (word_in program.layout address) v_is ∙ ap (λ t. 2 * t + 1) program.falsity ∙ sym word_is,
-        subst (FitsField false) (sym v_is) tt,
-        subst (Within next) (sym v_is) tt,
-      )
 
   module _ (x idle : ℕ) (form : Form) (arguments : List ℕ) (rest : Counted) (inner : List CountedJoin) (frames : List CountedFrame)
       (input : List ℕ) (s : Spot) (fs : List (Frame Line)) (left : List Line)
@@ -330,28 +247,25 @@ module _ (program : Lowering) where
 
     -- by what a form performs
     performed_value : (t : TypeTree) (v : Value) (events : List Event) (world : World) (input_left : List ℕ)
-        → Performing.Performs numbers_target form_own x t v s.frame.cells s.world world events
+        → Performing.Performs numbers_target form_own at.base x t v s.frame.cells s.world world events
         → at.holds x ≡ false
         → (upper program).step form_state
         ≡ (events, counted_at program rest (record { variable = x; value = v } ∷ s.environment) inner frames s.heap input_left)
         → world.left ≡ input_left → world.cells ≡ s.world.cells → All (λ byte. byte < 256) input_left
         → Does program idle form_state (turn_of left s.frame fs s.world)
     performed_value t v events world input_left performs plain is left_is cells_are bytes =
-        let shown = word_follows s.address (length s.heap) t v performs.word performs.is in
+        let shown = word_follows program.layout program.falsity program.truth_is s.address (length s.heap) t v performs.word
+        performs.is in
         at_value v performs.steps events performs.cells' world input_left performs.cost performs.cheap
-        (performs.runs s.frame.whole form_rest s.frame.into fs) performs.kept (performs.there ∙ ap (λ w. Some w) (sym shown.0))
+        (performs.runs s.frame.whole form_rest s.frame.into fs)
+        (λ z less. let low = at.placed.numbered.0 in performs.kept z (omega (arith, less, low)) (λ e. omega (arith, e, less)))
+        (performs.there ∙ ap (λ w. Some w) (sym shown.0))
         (subst (λ b. FitsField b v) (sym plain) shown.1) shown.2 is left_is cells_are bytes
 
   print_is : (piece : List ℕ) (to : CountedConfiguration) (input : List ℕ)
       → seen_action program (print_step piece to) input ≡ (put_of piece, record { machine = to; input = input })
   print_is [] to input = refl
   print_is (byte ∷ bytes) to input = refl
-
-  -- a form that is no call and no construction with fields
-  abbrev pub IsPlainForm : Form → List ℕ → Type 0
-  IsPlainForm (Call f) arguments = ⊥
-  IsPlainForm (Construct c) (a ∷ more) = ⊥
-  IsPlainForm form arguments = Unit {0}
 
   -- what a form is at
   abbrev pub FormDoes : ℕ → Form → List ℕ → Type 0
@@ -362,13 +276,6 @@ module _ (program : Lowering) where
       → IsFitFrom program (counted_at program (compute x form arguments rest) s.environment inner frames s.heap input)
       → Does program idle (counted_at program (compute x form arguments rest) s.environment inner frames s.heap input)
       (turn_of left s.frame fs s.world)
-
-  -- the word of a number
-  number_word : (s : Spot) (holds : ℕ → Bool) (base a : ℕ) → Here (known_of program holds base) s → is_among s.bound a ≡ true
-      → (number : IsInt32 (value_of s.environment a)) → s.frame.cells a ≡ Some number.0
-  number_word s holds base a here bound number =
-      here.values.words a bound
-      ∙ ap (λ v. Some (word_in program.layout s.address v)) number.1 ∙ ap (λ w. Some w) (word_signed number.0 number.2)
 
   reads : (x : ℕ) (arguments : List ℕ) (rest : Counted) (environment : Environment) (inner : List CountedJoin)
       (frames : List CountedFrame) (heap : Heap) (input : List ℕ)
@@ -382,32 +289,28 @@ module _ (program : Lowering) where
   reads x arguments rest environment inner frames heap [] = refl
   reads x arguments rest environment inner frames heap (byte ∷ bytes) = refl
 
-  bytes_behind : (input : List ℕ) → All (λ byte. byte < 256) input
-      → All (λ byte. byte < 256) (Performing.left_behind numbers_target input)
-  bytes_behind [] bytes = bytes
-  bytes_behind (byte ∷ rest) bytes = All-tail (λ b. b < 256) byte rest bytes
-
   pub at_plain : (x : ℕ) (form : Form) (arguments : List ℕ) → IsPlainForm form arguments → FormDoes x form arguments
   at_plain x (Number n) arguments plain idle rest inner frames input s fs left idle_is at fit =
       let own = at.placed.lines.0 in
       let lines = at.placed.lines.2 in
       performed_value x idle (Number n) arguments rest inner frames input s fs left idle_is at fit int32
       (integer n) [] s.world input
-      (Performing.sets_performs numbers_target x lines.0 int32 (integer n) own s.frame.cells s.world
+      (Performing.sets_performs numbers_target at.base x lines.0 int32 (integer n) own s.frame.cells s.world
       (ap integer (sym lines.1), lines.2)
       lines.3) at.placed.marked.1.0.1 refl at.input_is refl at.bytes
   at_plain x Nothing arguments plain idle rest inner frames input s fs left idle_is at fit =
       performed_value x idle Nothing arguments rest inner frames input s fs left idle_is at fit unit_type unit [] s.world input
-      (Performing.sets_performs numbers_target x unit_word unit_type unit at.placed.lines.0 s.frame.cells s.world (refl, refl)
+      (Performing.sets_performs numbers_target at.base x unit_word unit_type unit at.placed.lines.0 s.frame.cells s.world
+      (refl, refl)
       at.placed.lines.2) at.placed.marked.1.0.1 refl at.input_is refl at.bytes
   at_plain x ReadByte arguments plain idle rest inner frames input s fs left idle_is at fit =
       performed_value x idle ReadByte arguments rest inner frames input s fs left idle_is at fit int32
       (byte_value (Performing.got numbers_target input)) (Performing.read_events numbers_target input)
       (Performing.world_behind numbers_target input s.world) (Performing.left_behind numbers_target input)
-      (Performing.read_performs numbers_target x input at.placed.lines.0 s.frame.cells s.world at.input_is at.bytes
+      (Performing.read_performs numbers_target at.base x input at.placed.lines.0 s.frame.cells s.world at.input_is at.bytes
       at.placed.lines.2)
       at.placed.marked.1.0.1 (reads x arguments rest s.environment inner frames s.heap input) refl refl
-      (bytes_behind input at.bytes)
+      (bytes_behind numbers_target input at.bytes)
   at_plain x (PrintText how text) arguments plain idle rest inner frames input s fs left idle_is at fit =
       let piece : List ℕ = piece_of how (text_at program.code.texts text) in
       let lines = at.placed.lines.2 in
@@ -426,10 +329,11 @@ module _ (program : Lowering) where
       let bound = p.marked.0.0 in
       performed_value x idle (Unary Negate) (a ∷ []) rest inner frames input s fs left idle_is at fit int32
       (unary_result Negate (value_of s.environment a)) [] s.world input
-      (subst (λ v. Performing.Performs numbers_target p.lines.0 x int32 (unary_result Negate v) s.frame.cells s.world s.world [])
+      (subst (λ v. Performing.Performs numbers_target p.lines.0 at.base x int32 (unary_result Negate v) s.frame.cells s.world
+      s.world [])
       (sym number.1)
       (Performing.unary_performs_negate numbers_target at.base x a number.0 p.lines.0 s.frame.cells s.world p.numbered.0
-      (below_among x s.bound a p.numbered.1.0 bound) (number_word s at.holds at.base a at.here bound number) number.2 p.lines.2))
+      (below_among x s.bound a p.numbered.1.0 bound) (number_word at.here.values a bound number) number.2 p.lines.2))
       p.marked.1.0.1 refl at.input_is refl at.bytes
   at_plain x (Unary Not) [] plain idle rest inner frames input s fs left idle_is at fit = absurd (fit 0).fits
   at_plain x (Unary Not) (a ∷ b ∷ more) plain idle rest inner frames input s fs left idle_is at fit = absurd (fit 0).fits
@@ -438,13 +342,14 @@ module _ (program : Lowering) where
       let truth_at = (fit 0).fits in
       let b : Bool = truth_at.0 in
       let bound = p.marked.0.0 in
-      let shown = word_follows s.address (length s.heap) bool (truth b) (truth_word b) (b, refl, refl) in
+      let shown = word_follows program.layout program.falsity program.truth_is s.address (length s.heap) bool (truth b)
+      (truth_word b) (b, refl, refl) in
       let turned : truth (not b) ≡ unary_result Not (value_of s.environment a)
       = ap (λ c. truth (not c)) (sym (is_true_of b)) ∙ ap (λ v. unary_result Not v) (sym truth_at.1) in
       performed_value x idle (Unary Not) (a ∷ []) rest inner frames input s fs left idle_is at fit bool
       (unary_result Not (value_of s.environment a)) [] s.world input
-      (subst (λ v. Performing.Performs numbers_target p.lines.0 x bool v s.frame.cells s.world s.world []) turned
-      (Performing.unary_performs_not numbers_target x a b p.lines.2.0 p.lines.0 s.frame.cells s.world
+      (subst (λ v. Performing.Performs numbers_target p.lines.0 at.base x bool v s.frame.cells s.world s.world []) turned
+      (Performing.unary_performs_not numbers_target at.base x a b p.lines.2.0 p.lines.0 s.frame.cells s.world
       (at.here.values.words a bound ∙ ap (λ v. Some (word_in program.layout s.address v)) truth_at.1 ∙ ap (λ w. Some w) shown.0)
       p.lines.2.1 p.lines.2.2))
       p.marked.1.0.1 refl at.input_is refl at.bytes
@@ -464,12 +369,13 @@ module _ (program : Lowering) where
       ∙ ap (λ n. number_result operator (integer_of (value_of s.environment a)) n) (sym (ap integer_of second.1)) in
       performed_value x idle (Binary operator) (a ∷ b ∷ []) rest inner frames input s fs left idle_is at fit (binary_type operator)
       (binary_result operator (value_of s.environment a) (value_of s.environment b)) [] s.world input
-      (subst (λ v. Performing.Performs numbers_target p.lines.0 x (binary_type operator) v s.frame.cells s.world s.world []) same
+      (subst (λ v. Performing.Performs numbers_target p.lines.0 at.base x (binary_type operator) v s.frame.cells s.world s.world
+      []) same
       (Performing.binary_performs numbers_target at.base x operator a b first.0 second.0 p.lines.0 s.frame.cells s.world
       p.numbered.0
       (below_among x s.bound a p.numbered.1.0 bound_a) (below_among x s.bound b p.numbered.1.0 bound_b)
-      (number_word s at.holds at.base a at.here bound_a first)
-      (number_word s at.holds at.base b at.here bound_b second) first.2 second.2
+      (number_word at.here.values a bound_a first)
+      (number_word at.here.values b bound_b second) first.2 second.2
       p.lines.2))
       p.marked.1.0.1 refl at.input_is refl at.bytes
   at_plain x (Print how) [] plain idle rest inner frames input s fs left idle_is at fit = absurd (fit 0).fits
@@ -487,7 +393,7 @@ module _ (program : Lowering) where
       performed_value x idle (Print how) (a ∷ []) rest inner frames input s fs left idle_is at fit unit_type unit events
       (told_more events s.world) input
       (Performing.print_int_performs numbers_target at.base x a number.0 how p.lines.0 s.frame.cells s.world p.numbered.0
-      (below_among x s.bound a p.numbered.1.0 bound) (number_word s at.holds at.base a at.here bound number) number.2 p.lines.2)
+      (below_among x s.bound a p.numbered.1.0 bound) (number_word at.here.values a bound number) number.2 p.lines.2)
       p.marked.1.0.1
       (ap (λ v. seen_action program (print_step (piece_of how (signed_decimal (integer_of v))) to) input) number.1
       ∙ print_is piece to input ∙ ap (λ es. (es, record { machine = to; input = input })) some)

@@ -21,7 +21,7 @@ use Rattle.rv_isa.specs.Frames.{Frame}
 use Rattle.rv_lower.specs.Lines.{acts}
 use Rattle.rv_lower.specs.Lowered.{Goal}
 use Rattle.rv_lower.proofs.Labels.{found_label}
-use Rattle.rv_cells.specs.Layout.{Layout, word_in}
+use Rattle.rv_cells.specs.Layout.{word_in}
 use Rattle.rv_cells.specs.CountedLines.{Setting, CodeLines, ArmsLines, NodeLines, NodesLines}
 use Rattle.rv_cells.proofs.LineCosts.{most_moves, row_cost, forms, arms_forms, edges_cost, look_cost, test_within}
 use Rattle.rv_cells.specs.Fitting.{FitsNode, FitsFrom}
@@ -33,46 +33,11 @@ use Rattle.rv_cells.proofs.Spots.{Spot, Known, saved}
 use Rattle.rv_cells.proofs.Standing.{Lowering, target, texts, upper, known_of, At, IsFitFrom, by_lines, finds}
 use Rattle.rv_cells.proofs.Blocks.{counted_at, Does, does_by}
 use Rattle.rv_cells.proofs.Celled.{seen_action}
-use Rattle.rv_cells.proofs.Computing.{has_same}
+use Rattle.rv_cells.proofs.FormWords.{has_same}
+use Rattle.rv_cells.proofs.TokenDeciding.{NodeAt, node_at}
 use Rattle.rv_cells.proofs.Testing.{Leads, leads_then, leads_more, tests_lead}
 
--- ---- where nodes and arms stand
-
--- a node of a number stands behind its label
-record NodeAt (layout : Layout) (base nodes arms x l : ℕ) (node : NodeTree) (lines : List Line) : Type 0 where
-  before : List Line
-  first : List Line
-  rest : List Line
-  is : lines ≡ before ++ (acts (Label l) [] ∷ (first ++ rest))
-  node_lines : NodeLines layout base nodes arms x node first
-
-node_at : (layout : Layout) (base nodes arms x k j : ℕ) (decisions : List NodeTree) (lines : List Line) (node : NodeTree)
-    → NodesLines layout base nodes arms x k decisions lines → slice_get decisions j ≡ Some node
-    → NodeAt layout base nodes arms x (nodes + (k + j)) node lines
-node_at layout base nodes arms x k j [] lines node are is = cc
-node_at layout base nodes arms x k zero (one ∷ more) lines node are is =
-    let same : one ≡ node = cc is in
-    let here : nodes + k ≡ nodes + (k + 0) = omega arith in
-    record {
-      before = [];
-      first = are.0;
-      rest = are.1;
-      is = are.4 ∙ ap (λ l. acts (Label l) [] ∷ (are.0 ++ are.1)) here;
-      node_lines = subst (λ n. NodeLines layout base nodes arms x n are.0) same are.2;
-    }
-node_at layout base nodes arms x k (suc j) (one ∷ more) lines node are is =
-    let later = node_at layout base nodes arms x (suc k) j more are.1 node are.3 is in
-    let there : nodes + (suc k + j) ≡ nodes + (k + suc j) = omega arith in
-    let head = acts (Label (nodes + k)) [] ∷ are.0 in
-    record {
-      before = head ++ later.before;
-      first = later.first;
-      rest = later.rest;
-      is = are.4 ∙ ap (λ ls. head ++ ls) (later.is ∙ ap (λ l. later.before ++ (acts (Label l) [] ∷ (later.first ++ later.rest)))
-          there)
-          ∙ sym (append_assoc head later.before (acts (Label (nodes + (k + suc j))) [] ∷ (later.first ++ later.rest)));
-      node_lines = later.node_lines;
-    }
+-- ---- where arms stand
 
 -- an arm of a row stands behind its label
 record ArmAt (setting : Setting) (goal : Goal) (l : ℕ) (body : Counted) (lines : List Line) : Type 0 where

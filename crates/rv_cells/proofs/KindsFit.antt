@@ -26,7 +26,7 @@ use Rattle.rv_isa.specs.Arithmetic.{word_of}
 use Rattle.rv_cells.specs.CountedLines.{is_plain}
 use Rattle.rv_cells.specs.Fitting.{IsInt32, FitsForm, AreTagged, count_of_fields, AreAlike, AllAlike, ShowsIts, FitsNode, FitsFrom, FitsControl}
 use Rattle.rv_cells.specs.Layout.{Layout}
-use Rattle.rv_cells.proofs.Computing.{word_fits, word_wraps}
+use Rattle.rv_cells.proofs.FormWords.{word_fits, word_wraps}
 
 -- ---- numbers
 

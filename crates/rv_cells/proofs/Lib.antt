@@ -39,6 +39,7 @@ pub mod Entering
 pub mod Telling
 pub mod Testing
 pub mod Deciding
+pub mod Programs
 pub mod Simulating
 pub mod KindsFit
 pub mod Fits
@@ -75,3 +76,12 @@ pub mod TokenSlots
 pub mod TokenCelled
 pub mod TokenInside
 pub mod TokenMoves
+pub mod TokenBlocks
+pub mod TokenDeciding
+pub mod TokenComputing
+pub mod FormWords
+pub mod TokenSimulating
+pub mod TokenMeaning
+pub mod TokenMarks
+pub mod TokenGrown
+pub mod TokenLowered

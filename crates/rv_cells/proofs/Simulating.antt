@@ -37,6 +37,7 @@ use Rattle.rv_cells.proofs.LineCosts.{forms, lines_cost, lines_within}
 use Rattle.kk_counted.specs.CountedCosts.{counted_cost}
 use Rattle.rv_cells.specs.Fitting.{IsFit}
 use Rattle.rv_cells.specs.Meaning.{setting_on, counted_outside, IsProgramLowered, AreFree, RunsTheSame}
+use Rattle.rv_cells.proofs.Programs.{all_free, lines_formed}
 use Rattle.rv_cells.proofs.Starts.{starts as begins}
 use Rattle.rv_cells.proofs.Values.{HasValues}
 use Rattle.rv_cells.proofs.Runs.{turn_of}
@@ -246,42 +247,6 @@ module _ (program : Lowering) where
               });
         }
 
--- ---- the end
-
-counted_busy : (heap : Heap) (name : ℕ) (held : Held) → held_at heap name ≡ Some held → 1 ≤ held.count → 1 ≤ busy heap
-counted_busy [] name held is some = cc
-counted_busy (first ∷ heap) name held is some =
-    by (length heap == name) is (λ later. counted_busy heap name held later some)
-  where
-    one : (n : ℕ) → 1 ≤ n → 1 ≤ one_if_counted n
-    one zero less = absurd (omega (arith, less))
-    one (suc n) less = omega arith
-
-    by : (b : Bool) → (if b then Some first else held_at heap name) ≡ Some held → (held_at heap name ≡ Some held → 1 ≤ busy heap)
-        → 1 ≤ one_if_counted first.count + busy heap
-    by true is later =
-        let same : first.count ≡ held.count = ap (λ (h : Held). h.count) (held_is is) in
-        let counted = one first.count (omega (arith, same, some)) in
-        omega (arith, counted)
-      where
-        held_is : Some first ≡ Some held → first ≡ held
-        held_is e = cc
-    by false is later = let counted = later is in omega (arith, counted)
-
--- where no cell is counted all cells are free
-all_free : (pool : Pool) (layout : Layout) (address : ℕ → ℕ) (owners : ℕ → Owner) (heap : Heap) (cells : Cells)
-    → Follows pool layout address owners heap cells → NoneAside owners → busy heap ≡ 0 → AreFree pool cells
-all_free pool layout address owners heap cells follows none empty_heap = λ at cell.
-    by at cell (owners at) refl (follows.blocks at)
-  where
-    by : (at : ℕ) → IsCell pool at → (owner : Owner) → owners at ≡ owner
-        → BlockOf pool layout address heap at owner (cells.blocks at) → cells.blocks at ≡ unused
-    by at cell nobody is block = block.free cell
-    by at cell (cell_of name) is block =
-        let counted = counted_busy heap name block.held block.there block.counted in absurd (omega (arith, counted, empty_heap))
-    by at cell (in_hand words) is block = let both : true ≡ false = sym (ap is_aside is) ∙ none at in cc
-    by at cell (kept_aside words) is block = let both : true ≡ false = sym (ap is_aside is) ∙ none at in cc
-
 -- ---- programs
 
 -- what steps weigh, and how they are seen, makes no difference to the states of the counted machine
@@ -343,13 +308,6 @@ forms_within (one ∷ functions) zero function is =
     let few = ap (λ (g : CountedFunction). forms g.body) same in
     omega arith
 forms_within (one ∷ functions) (suc f) function is = let later = forms_within functions f function is in omega arith
-
-lines_formed : (functions : List Lines) → AreWellFormed functions → (f : ℕ) (lines : Lines) → slice_get functions f ≡ Some lines
-    → AreLinesFormed lines.code
-lines_formed [] formed f lines is = cc
-lines_formed (one ∷ functions) formed zero lines is =
-    let same : one ≡ lines = cc is in subst (λ (ls : Lines). AreLinesFormed ls.code) same formed.0.lines
-lines_formed (one ∷ functions) formed (suc f) lines is = lines_formed functions formed.1 f lines is
 
 module _ (layout : Layout) (marks : CellMarks) (code : CountedProgram) (constants : List (List ℕ)) (functions : List Lines)
     (lowered : IsProgramLowered layout marks code constants functions) (pool : Pool) (depth first : ℕ) (input : List ℕ)

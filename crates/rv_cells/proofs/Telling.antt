@@ -12,7 +12,7 @@ use Rattle.rv_cells.specs.Layout.{Layout, word_in}
 use Rattle.rv_cells.specs.CountedLines.{is_plain, answer_word, answer_tag}
 use Rattle.rv_cells.proofs.LineCosts.{most_moves, edges_cost}
 use Rattle.rv_cells.specs.Fitting.{IsInt32, AreAlike, AllAlike, ShowsIts}
-use Rattle.rv_cells.proofs.Computing.{word_signed}
+use Rattle.rv_cells.proofs.FormWords.{word_signed}
 
 -- two tests that hold alike
 alike : (a b : Bool) → (a ≡ true → b ≡ true) → (b ≡ true → a ≡ true) → a ≡ b

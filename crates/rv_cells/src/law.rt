@@ -24,9 +24,13 @@ ghost use Rattle.rv_cells.specs.Follows.{IsBlockOf, Owner, nobody, cell_of, in_h
 ghost use Rattle.rv_isa.specs.AsmCode.{Lines};
 ghost use Rattle.rv_isa.specs.Costs.{functions_length};
 ghost use Rattle.rv_world.specs.Operations.{all_bytes};
-ghost use Rattle.kk_counted.specs.CountedCosts.{counted_cost};
+ghost use Rattle.kk_counted.specs.BareForms.{bare_program};
+ghost use Rattle.kk_counted.specs.CountedCosts.{counted_cost, roomy_cost};
+ghost use Rattle.kk_counted.specs.TokenCosts.{HasRoom};
+ghost use Rattle.kk_counted.specs.TokenedCodes.{TokenedProgram};
 ghost use Rattle.rv_cells.specs.Fitting.{AreTagged, count_of_fields, IsFit};
 ghost use Rattle.rv_cells.specs.Meaning.{setting_on, IsProgramLowered, RunsTheSame};
+ghost use Rattle.rv_cells.specs.TokenedMeaning.{IsTokenedLowered, TokenedRunsTheSame};
 ghost use Rattle.rv_cells.specs.Steps.{Served, ServedByHeld, PutAside, TakenBack, Dupped, Dropped, IsPaid, Released};
 
 /// At the start the cells of a pool hold the empty heap. It is a law, and does nothing.
@@ -160,6 +164,19 @@ pub fn lowered_counted_programs_run_the_same()
         → All (λ byte. byte < 256) input
         → ((n : ℕ) → IsFit layout (counted_after counted_cost (setting_on code pool depth) input n))
         → RunsTheSame code constants functions lowered.main_lines pool depth first input }
+{}
+
+/// A program with tokens whose functions are all lowered runs the same as its assembler code, where its bare form has room for the
+/// work on tokens and each state of the bare run is fit: the same events, the same end, no more instructions than the steps of the
+/// bare form weigh with this room, which is there once more at the start, and all cells free where the program ends by itself with
+/// an empty heap. It is a law, and does nothing.
+pub fn lowered_tokened_programs_run_the_same()
+    ensures { (layout : Layout) (marks : CellMarks) (code : TokenedProgram) (constants : List (List ℕ)) (functions : List Lines)
+        → (lowered : IsTokenedLowered layout marks code constants functions) → (room : ℕ) → HasRoom room code
+        → (pool : Pool) (depth first : ℕ) (input : List ℕ) → pool.first % 32 ≡ 0 → 0 < pool.first
+        → All (λ byte. byte < 256) input
+        → ((n : ℕ) → IsFit layout (counted_after (roomy_cost room) (setting_on (bare_program code) pool depth) input n))
+        → TokenedRunsTheSame code room constants functions lowered.main_lines pool depth first input }
 {}
 
 /// Code that spends its references and is marked by types is fit in each state of its run, within the limits of cells, call frames

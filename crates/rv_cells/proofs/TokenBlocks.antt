@@ -1,0 +1,427 @@
+-- The lines of branches, and of tests of tokens, do the steps of the machine with tokens.
+use Rattle.std.proofs.Common.{◌≡◌, ◌≢◌, ℕ, suc, ◌+◌, ◌*◌, ◌<◌, ◌≤◌, Bool, true, false, not, nat_eq, List, [], ◌∷◌, ◌++◌, length, Option, Some, refl, sym, ◌∙◌, ap, subst, arith, append_assoc, ne_eqb}
+use Rattle.std.specs.Prelude.{if◌then◌else◌}
+use Rattle.kk_source.specs.State.{Value}
+use Rattle.kk_source.specs.Live.{value_of}
+use Rattle.kk_source.specs.FormEffects.{truth, is_true}
+use Rattle.kk_source.specs.Actions.{goes}
+use Rattle.kk_counted.specs.Heaps.{Heap}
+use Rattle.kk_counted.specs.Lowerable.{AreNumbered}
+use Rattle.kk_counted.specs.Marks.{HasMark}
+use Rattle.kk_counted.specs.TokenKeeping.{Lists, IsJudged, ListsAfter, AreKeptBy}
+use Rattle.kk_counted.specs.TokenMachine.{token_code_step}
+use Rattle.kk_counted.specs.TokenRuns.{AllLead}
+use Rattle.kk_counted.specs.TokenStates.{TokenJoin, TokenFrame, TokenState}
+use Rattle.kk_counted.specs.TokenedCodes.{Tokened}
+use Rattle.kk_counted.specs.Tokens.{Slot, is_token, Tokens, is_linked}
+use Rattle.kk_counted.proofs.Chaining.{frames_many}
+use Rattle.kk_counted.proofs.TokenForms.{Has, is_null, has_cell, unspent_has}
+use Rattle.rv_isa.specs.declared.asm.Action.TheVariants.{Label, Branch}
+use Rattle.rv_isa.specs.declared.asm.Condition.TheVariants.{Equal, NotEqual}
+use Rattle.rv_isa.specs.AsmCode.{Line}
+use Rattle.rv_isa.specs.Frames.{Frame}
+use Rattle.cell_heap.specs.Blocks.{Cells}
+use Rattle.cell_heap.specs.Pool.{Pool, IsCell}
+use Rattle.rv_lower.specs.Lines.{acts, copies_to, sets, constant_word}
+use Rattle.rv_lower.specs.Lowered.{test_lines}
+use Rattle.rv_lower.proofs.Orders.{split_at}
+use Rattle.rv_lower.proofs.Performing.{put_same, put_other}
+use Rattle.rv_cells.specs.Layout.{Layout, word_in}
+use Rattle.rv_cells.specs.Follows.{Owner, Follows}
+use Rattle.rv_cells.proofs.Acting.{put_in, copy_runs, sets_runs, label_runs, falls_runs, branch_runs, falls_one_runs, branch_one_runs}
+use Rattle.rv_cells.proofs.FormWords.{has_same}
+use Rattle.rv_cells.proofs.LineCosts.{most_moves}
+use Rattle.rv_cells.proofs.Runs.{turn_of, Runs, runs_then}
+use Rattle.rv_cells.proofs.Spots.{Spot, saved}
+use Rattle.rv_cells.proofs.Words.{hand_owned, aside_owned}
+use Rattle.rv_cells.proofs.TokenFrames.{slots_moved}
+use Rattle.rv_cells.proofs.TokenLineCosts.{forms}
+use Rattle.rv_cells.proofs.TokenStanding.{SlotIs, IsTokenCell, Lowering, target, setting, upper, Placed, At, IsFitFrom, by_lines, finds, Follows_step}
+use Rattle.rv_cells.proofs.TokenLanding.{token_at, machine_at, CodeSteps, seen_action, does_by, kept_after, kept_quiet}
+
+-- the cell of a token, whether it is held or in hand
+pub token_cell : {pool : Pool} {layout : Layout} {address : ℕ → ℕ} {owners : ℕ → Owner} {heap : Heap} {cells : Cells}
+    → Follows pool layout address owners heap cells → (linked : Bool) (at : ℕ) → IsTokenCell linked (owners at) → IsCell pool at
+token_cell follows true at is = (aside_owned follows at is.0 is.1).0
+token_cell follows false at is = (hand_owned follows at is.0 is.1).0
+
+module _ (program : Lowering) where
+  module _ (code : Tokened) (inner : List TokenJoin) (frames : List TokenFrame) (tokens : Tokens) (input : List ℕ) (s : Spot)
+      (fs : List (Frame Line)) (left : List Line) (at : At program code inner frames tokens input s fs left) where
+    -- Lines lead to another code of the function, at other lines of it, and change the temporaries of the frame alone.
+    pub turns_to : (idle : ℕ) (fit : IsFitFrom program (token_at program code s.environment inner frames s.heap tokens input))
+        (next : Tokened) (there : List Line) (values : ℕ → Option ℕ) (n cost : ℕ)
+        → ((z : ℕ) → z < at.shape.variables + at.shape.slots → values z ≡ s.frame.cells z)
+        → Placed program at.shape at.does.goal at.does.given s.bound s.frame.whole next there
+        → IsJudged program.pool.cells at.lists.left at.lists.unspent at.lists.held at.lists.older next inner frames s.heap tokens
+        → Runs (target program) cost n (turn_of left s.frame fs s.world)
+        (turn_of there (record s.frame { cells = values }) fs s.world)
+        → cost ≤ (upper program).weight (token_at program code s.environment inner frames s.heap tokens input)
+        → suc (forms next) ≤ idle
+        → (upper program).step (token_at program code s.environment inner frames s.heap tokens input)
+        ≡ ([], token_at program next s.environment inner frames s.heap tokens input)
+        → Follows_step program idle (token_at program code s.environment inner frames s.heap tokens input)
+        (turn_of left s.frame fs s.world)
+    turns_to idle fit next there values n cost same placed judged runs cheap few is =
+        let start : TokenState = token_at program code s.environment inner frames s.heap tokens input in
+        let end : TokenState = token_at program next s.environment inner frames s.heap tokens input in
+        let f : Frame Line = record s.frame { cells = values } in
+        let v = at.shape.variables in
+        let t0 = turn_of left s.frame fs s.world in
+        let t1 = turn_of there f fs s.world in
+        does_by program idle start end [] t0 is fit
+        (λ later. by_lines program n cost ((upper program).weight start) (saved s.heap) idle end t0 t1 runs
+        (omega (arith, cheap)) (omega (arith, few)) later
+        (record {
+          spot = record s { frame = f };
+          fs = fs;
+          left = there;
+          environment_is = refl;
+          heap_is = refl;
+          turn_is = refl;
+          at = record {
+            shape = at.shape;
+            lists = at.lists;
+            judged = judged;
+            does = record {
+              goal = at.does.goal;
+              given = at.does.given;
+              placed = placed;
+              continues = at.does.continues;
+            };
+            follows = at.follows;
+            cells = at.cells;
+            has = record {
+              values = has_same at.has.values values (λ z among. same z (at.has.values.below z among));
+              below = at.has.below;
+              tokens = slots_moved at.has.tokens (λ y p is. refl) (λ y low unspent. same (v + y) (omega (arith, low)));
+              held_is = at.has.held_is;
+              formed = at.has.formed;
+            };
+            waits = at.waits;
+            input_is = at.input_is;
+            bytes = at.bytes;
+          };
+        }))
+
+  -- ---- branches
+
+  module _ (x : ℕ) (positive negative : Tokened) (idle : ℕ) (inner : List TokenJoin) (frames : List TokenFrame) (tokens : Tokens)
+      (input : List ℕ) (s : Spot) (fs : List (Frame Line)) (left : List Line)
+      (idle_is : idle ≡ forms (Tokened.branch x positive negative))
+      (at : At program (Tokened.branch x positive negative) inner frames tokens input s fs left)
+      (fit : IsFitFrom program
+      (token_at program (Tokened.branch x positive negative) s.environment inner frames s.heap tokens input)) where
+    abbrev base : ℕ
+    base = at.shape.variables + at.shape.slots
+
+    abbrev low : ℕ
+    low = at.does.placed.low
+
+    abbrev test : List Line
+    test = test_lines (at.shape.variables + at.shape.slots) x at.does.placed.low
+
+    abbrev yes : List Line
+    yes = at.does.placed.lines.0
+
+    abbrev no : List Line
+    no = at.does.placed.lines.1
+
+    abbrev label : Line
+    label = acts (Label at.does.placed.low) []
+
+    abbrev behind : List Line
+    behind = (at.does.placed.lines.0 ++ (acts (Label at.does.placed.low) [] ∷ at.does.placed.lines.1)) ++ at.does.placed.after
+
+    left_parts : left ≡ (test ++ (yes ++ (label ∷ no))) ++ at.does.placed.after
+    left_parts = at.does.placed.left_is ∙ ap (λ own. own ++ at.does.placed.after) at.does.placed.lines.5
+
+    part_at : s.frame.whole ≡ (at.does.placed.before ++ test) ++ behind
+    part_at = split_at s.frame.whole at.does.placed.before left test (yes ++ (label ∷ no)) at.does.placed.after at.does.placed.place
+        left_parts
+
+    label_at : s.frame.whole ≡ ((at.does.placed.before ++ test) ++ yes) ++ (label ∷ (no ++ at.does.placed.after))
+    label_at = split_at s.frame.whole (at.does.placed.before ++ test) behind yes (label ∷ no) at.does.placed.after part_at refl
+
+    abbrev word : ℕ
+    word = word_in program.layout s.address (value_of s.environment x)
+
+    -- the frame behind the copies of the test
+    abbrev tested : Frame Line
+    tested = put_in (at.shape.variables + at.shape.slots + 1) (constant_word 1) (put_in (at.shape.variables + at.shape.slots)
+        (word_in program.layout s.address (value_of s.environment x)) s.frame)
+
+    abbrev branching : List Line
+    branching = acts (Branch NotEqual at.does.placed.low)
+        ((at.shape.variables + at.shape.slots) ∷ (at.shape.variables + at.shape.slots + 1) ∷ []) ∷ behind
+
+    copied : Runs (target program) ((most_moves + 2) + (most_moves + 2)) (1 + 1) (turn_of (test ++ behind) s.frame fs s.world)
+        (turn_of branching tested fs s.world)
+    copied =
+        let f = put_in base word s.frame in
+        let second = sets (constant_word 1) (base + 1) ∷ branching in
+        runs_then (target program) (most_moves + 2) (most_moves + 2) 1 1 (turn_of (test ++ behind) s.frame fs s.world)
+        (turn_of second f fs s.world) (turn_of branching tested fs s.world)
+        (copy_runs (target program) second s.frame fs s.world x base word (at.has.values.words x at.does.placed.marked.0))
+        (sets_runs (target program) branching f fs s.world (constant_word 1) (base + 1))
+
+    first_word : tested.cells base ≡ Some word
+    first_word = put_other (base + 1) base (constant_word 1) (put_in base word s.frame).cells (λ e. omega (arith, e))
+        ∙ put_same base word s.frame.cells
+
+    second_word : tested.cells (base + 1) ≡ Some (constant_word 1)
+    second_word = put_same (base + 1) (constant_word 1) (put_in base word s.frame).cells
+
+    same_below : (z : ℕ) → z < base → tested.cells z ≡ s.frame.cells z
+    same_below z less = put_other (base + 1) z (constant_word 1) (put_in base word s.frame).cells (λ e. omega (arith, e, less))
+        ∙ put_other base z word s.frame.cells (λ e. omega (arith, e, less))
+
+    -- the code of one side
+    side : (b : Bool) → value_of s.environment x ≡ truth b → (there : List Line) (n cost : ℕ)
+        → Placed program at.shape at.does.goal at.does.given s.bound s.frame.whole
+        (if is_true (truth b) then positive else negative) there
+        → Runs (target program) cost n (turn_of (test ++ behind) s.frame fs s.world) (turn_of there tested fs s.world)
+        → cost ≤ 4 * most_moves + 7 → suc (forms (if is_true (truth b) then positive else negative)) ≤ idle
+        → Follows_step program idle
+        (token_at program (Tokened.branch x positive negative) s.environment inner frames s.heap tokens input)
+        (turn_of left s.frame fs s.world)
+    side b is there n cost placed runs cheap few =
+        let code = Tokened.branch x positive negative in
+        let next = if is_true (truth b) then positive else negative in
+        let from = machine_at program code s.environment inner frames s.heap tokens in
+        let step : token_code_step (setting program) code s.environment inner from
+        ≡ goes (machine_at program next s.environment inner frames s.heap tokens)
+        = ap (λ (v : Value). goes (machine_at program (if is_true v then positive else negative) s.environment inner frames s.heap
+        tokens)) is in
+        let kept = subst (AllLead (AreKeptBy program.pool.cells (ListsAfter code inner at.lists))) step
+        (kept_after program code inner frames tokens input s fs left at refl) in
+        let lines_are : left ≡ test ++ behind = left_parts ∙ append_assoc test (yes ++ (label ∷ no)) at.does.placed.after in
+        turns_to code inner frames tokens input s fs left at idle fit next there tested.cells n cost same_below placed
+        (subst (λ (l : Lists). IsJudged program.pool.cells l.left l.unspent l.held l.older next inner frames s.heap tokens)
+        kept.1.0 kept.1.1)
+        (subst (λ ls. Runs (target program) cost n (turn_of ls s.frame fs s.world) (turn_of there tested fs s.world))
+        (sym lines_are) runs)
+        (omega (arith, cheap)) few (ap (λ action. seen_action program action input) step)
+
+    by_truth : (b : Bool) → value_of s.environment x ≡ truth b
+        → Follows_step program idle
+        (token_at program (Tokened.branch x positive negative) s.environment inner frames s.heap tokens input)
+        (turn_of left s.frame fs s.world)
+    by_truth true is =
+        let m = most_moves in
+        let p = at.does.placed in
+        let few = p.short in
+        let word_is : word ≡ 3
+        = ap (word_in program.layout s.address) is ∙ ap (λ t. 2 * t + 1) program.truth_is in
+        let falls = falls_runs (target program) behind tested fs s.world NotEqual low base (base + 1) word
+        (constant_word 1) first_word second_word (ap (λ w. not (nat_eq w 3)) word_is) in
+        side true is behind (1 + 1 + 1) ((m + 2) + (m + 2) + (m + 3))
+        (record {
+          before = p.before ++ test;
+          own = yes;
+          after = label ∷ (no ++ p.after);
+          low = low + 1;
+          high = p.lines.2;
+          lines = p.lines.3;
+          left_is = append_assoc yes (label ∷ no) p.after;
+          place = part_at;
+          marked = p.marked.1.1.0;
+          numbered = p.numbered.0;
+          has = p.has.0;
+          plain = p.plain.0;
+          short = omega arith;
+        })
+        (runs_then (target program) ((m + 2) + (m + 2)) (m + 3) (1 + 1) 1 (turn_of (test ++ behind) s.frame fs s.world)
+        (turn_of branching tested fs s.world) (turn_of behind tested fs s.world) copied falls)
+        (omega arith) (omega (arith, idle_is))
+    by_truth false is =
+        let m = most_moves in
+        let p = at.does.placed in
+        let few = p.short in
+        let word_is : word ≡ 1
+        = ap (word_in program.layout s.address) is ∙ ap (λ t. 2 * t + 1) program.falsity in
+        let there = no ++ p.after in
+        let jumps = branch_runs (target program) behind tested fs s.world NotEqual low base (base + 1) word (constant_word 1)
+        (label ∷ there) first_word second_word (ap (λ w. not (nat_eq w 3)) word_is)
+        (finds low s.frame.whole ((p.before ++ test) ++ yes) there at.has.formed label_at) in
+        let labelled = label_runs (target program) there tested fs s.world low in
+        side false is there (1 + 1 + (1 + 1)) ((m + 2) + (m + 2) + ((m + 3) + (m + 0)))
+        (record {
+          before = ((p.before ++ test) ++ yes) ++ (label ∷ []);
+          own = no;
+          after = p.after;
+          low = p.lines.2;
+          high = p.high;
+          lines = p.lines.4;
+          left_is = refl;
+          place = label_at ∙ sym (append_assoc ((p.before ++ test) ++ yes) (label ∷ []) there);
+          marked = p.marked.1.1.1;
+          numbered = p.numbered.1;
+          has = p.has.1;
+          plain = p.plain.1;
+          short = omega arith;
+        })
+        (runs_then (target program) ((m + 2) + (m + 2)) ((m + 3) + (m + 0)) (1 + 1) (1 + 1)
+        (turn_of (test ++ behind) s.frame fs s.world) (turn_of branching tested fs s.world) (turn_of there tested fs s.world) copied
+        (runs_then (target program) (m + 3) (m + 0) 1 1 (turn_of branching tested fs s.world)
+        (turn_of (label ∷ there) tested fs s.world) (turn_of there tested fs s.world) jumps labelled))
+        (omega arith) (omega (arith, idle_is))
+
+  pub at_branch : (x : ℕ) (positive negative : Tokened) → CodeSteps program (Tokened.branch x positive negative)
+  at_branch x positive negative idle inner frames tokens input s fs left idle_is at fit =
+      by_truth x positive negative idle inner frames tokens input s fs left idle_is at fit (fit 0).fits.0 (fit 0).fits.1
+
+  -- ---- tests of tokens
+
+  module _ (y : ℕ) (present absent : Tokened) (idle : ℕ) (inner : List TokenJoin) (frames : List TokenFrame) (tokens : Tokens)
+      (input : List ℕ) (s : Spot) (fs : List (Frame Line)) (left : List Line)
+      (idle_is : idle ≡ forms (Tokened.if_token y present absent))
+      (at : At program (Tokened.if_token y present absent) inner frames tokens input s fs left)
+      (fit : IsFitFrom program
+      (token_at program (Tokened.if_token y present absent) s.environment inner frames s.heap tokens input)) where
+    abbrev temporary : ℕ
+    temporary = at.shape.variables + at.shape.slots
+
+    abbrev first : List Line
+    first = at.does.placed.lines.0
+
+    abbrev second : List Line
+    second = at.does.placed.lines.1
+
+    abbrev mark : Line
+    mark = acts (Label at.does.placed.low) []
+
+    abbrev tests : List Line
+    tests = copies_to (at.shape.variables + y) (at.shape.variables + at.shape.slots)
+        ∷ acts (Branch Equal at.does.placed.low) ((at.shape.variables + at.shape.slots) ∷ []) ∷ []
+
+    abbrev ways : List Line
+    ways = (at.does.placed.lines.0 ++ (acts (Label at.does.placed.low) [] ∷ at.does.placed.lines.1)) ++ at.does.placed.after
+
+    abbrev copied_in : ℕ → Frame Line
+    copied_in at_word = put_in (at.shape.variables + at.shape.slots) at_word s.frame
+
+    parts : left ≡ (tests ++ (first ++ (mark ∷ second))) ++ at.does.placed.after
+    parts = at.does.placed.left_is ∙ ap (λ own. own ++ at.does.placed.after) at.does.placed.lines.5
+
+    ways_at : s.frame.whole ≡ (at.does.placed.before ++ tests) ++ ways
+    ways_at = split_at s.frame.whole at.does.placed.before left tests (first ++ (mark ∷ second)) at.does.placed.after
+        at.does.placed.place parts
+
+    mark_at : s.frame.whole ≡ ((at.does.placed.before ++ tests) ++ first) ++ (mark ∷ (second ++ at.does.placed.after))
+    mark_at = split_at s.frame.whole (at.does.placed.before ++ tests) ways first (mark ∷ second) at.does.placed.after ways_at refl
+
+    -- the code of one way, where the value of the slot is this word
+    way : (slot : Slot) → tokens.slots (length at.lists.older) y ≡ slot → (at_word : ℕ)
+        → s.frame.cells (at.shape.variables + y) ≡ Some at_word → (there : List Line) (n cost : ℕ)
+        → Placed program at.shape at.does.goal at.does.given s.bound s.frame.whole
+        (if is_token slot then present else absent) there
+        → Runs (target program) cost n
+        (turn_of (acts (Branch Equal at.does.placed.low) (temporary ∷ []) ∷ ways) (copied_in at_word) fs s.world)
+        (turn_of there (copied_in at_word) fs s.world)
+        → cost ≤ 8 → suc (forms (if is_token slot then present else absent)) ≤ idle
+        → Follows_step program idle
+        (token_at program (Tokened.if_token y present absent) s.environment inner frames s.heap tokens input)
+        (turn_of left s.frame fs s.world)
+    way slot slot_is at_word value there n cost placed runs cheap few =
+        let m = most_moves in
+        let code = Tokened.if_token y present absent in
+        let next = if is_token slot then present else absent in
+        let many = frames_many tokens.slots at.lists.older frames at.judged.waiting in
+        let from = machine_at program code s.environment inner frames s.heap tokens in
+        let step : token_code_step (setting program) code s.environment inner from
+        ≡ goes (machine_at program next s.environment inner frames s.heap tokens)
+        = ap (λ k. goes (machine_at program (if is_token (tokens.slots k y) then present else absent) s.environment inner frames
+        s.heap tokens)) many
+        ∙ ap (λ sl. goes (machine_at program (if is_token sl then present else absent) s.environment inner frames s.heap tokens))
+        slot_is in
+        let kept = kept_quiet program code inner frames tokens input s fs left at
+        (machine_at program next s.environment inner frames s.heap tokens) step refl in
+        let branching = acts (Branch Equal at.does.placed.low) (temporary ∷ []) ∷ ways in
+        let lines_are : left ≡ tests ++ ways = parts ∙ append_assoc tests (first ++ (mark ∷ second)) at.does.placed.after in
+        let t0 = turn_of (tests ++ ways) s.frame fs s.world in
+        let t1 = turn_of branching (copied_in at_word) fs s.world in
+        let t2 = turn_of there (copied_in at_word) fs s.world in
+        let all : Runs (target program) ((m + 2) + cost) (1 + n) t0 t2
+        = runs_then (target program) (m + 2) cost 1 n t0 t1 t2
+        (copy_runs (target program) branching s.frame fs s.world (at.shape.variables + y) temporary at_word value) runs in
+        turns_to code inner frames tokens input s fs left at idle fit next there (copied_in at_word).cells (1 + n) ((m + 2) + cost)
+        (λ z less. put_other temporary z at_word s.frame.cells (λ e. omega (arith, e, less))) placed
+        (subst (λ (l : Lists). IsJudged program.pool.cells l.left l.unspent l.held l.older next inner frames s.heap tokens)
+        kept.1.0 kept.1.1)
+        (subst (λ ls. Runs (target program) ((m + 2) + cost) (1 + n) (turn_of ls s.frame fs s.world) t2) (sym lines_are) all)
+        (omega (arith, cheap)) few (ap (λ action. seen_action program action input) step)
+
+    by_slot : Has (tokens.slots (length at.lists.older) y)
+        → Follows_step program idle
+        (token_at program (Tokened.if_token y present absent) s.environment inner frames s.heap tokens input)
+        (turn_of left s.frame fs s.world)
+    by_slot (has_cell q has) =
+        let p = at.does.placed in
+        let few = p.short in
+        let n = length at.lists.older in
+        let address = s.address q in
+        let value : s.frame.cells (at.shape.variables + y) ≡ Some address
+        = subst (λ slot. SlotIs s.address slot (s.frame.cells (at.shape.variables + y))) has (at.has.tokens.are y) in
+        let cell = token_cell at.follows (is_linked n y tokens.chain) address
+        (at.cells.are n y q (at.judged.are.pooled.marks n y q has)) in
+        let behind = cell.behind in
+        let some = program.some in
+        let differ : address ≢ 0 = λ e. omega (arith, e, behind, some) in
+        way (Slot.token q) has address value ways 1 (most_moves + 3)
+        (record {
+          before = p.before ++ tests;
+          own = first;
+          after = mark ∷ (second ++ p.after);
+          low = p.low + 1;
+          high = p.lines.2;
+          lines = p.lines.3;
+          left_is = append_assoc first (mark ∷ second) p.after;
+          place = ways_at;
+          marked = p.marked;
+          numbered = p.numbered;
+          has = p.has.1.0;
+          plain = p.plain.0;
+          short = omega arith;
+        })
+        (falls_one_runs (target program) ways (copied_in address) fs s.world Equal p.low temporary address
+        (put_same temporary address s.frame.cells) (ne_eqb address 0 differ))
+        (omega arith) (omega (arith, idle_is))
+    by_slot (is_null empty) =
+        let m = most_moves in
+        let p = at.does.placed in
+        let few = p.short in
+        let alike = sym at.judged.spends.1.0 in
+        let there = second ++ p.after in
+        let value : s.frame.cells (at.shape.variables + y) ≡ Some 0
+        = subst (λ slot. SlotIs s.address slot (s.frame.cells (at.shape.variables + y))) empty (at.has.tokens.are y) in
+        let branching = acts (Branch Equal p.low) (temporary ∷ []) ∷ ways in
+        let f = copied_in 0 in
+        let jumps = branch_one_runs (target program) ways f fs s.world Equal p.low temporary 0 (mark ∷ there)
+        (put_same temporary 0 s.frame.cells) refl
+        (finds p.low s.frame.whole ((p.before ++ tests) ++ first) there at.has.formed mark_at) in
+        way Slot.null empty 0 value there (1 + 1) ((m + 3) + (m + 0))
+        (record {
+          before = ((p.before ++ tests) ++ first) ++ (mark ∷ []);
+          own = second;
+          after = p.after;
+          low = p.lines.2;
+          high = p.high;
+          lines = p.lines.4;
+          left_is = refl;
+          place = mark_at ∙ sym (append_assoc ((p.before ++ tests) ++ first) (mark ∷ []) there);
+          marked = subst (HasMark program.marks at.shape.holds at.shape.result s.bound at.does.given) alike p.marked;
+          numbered = subst (AreNumbered at.shape.variables s.bound) alike p.numbered;
+          has = p.has.1.1;
+          plain = p.plain.1;
+          short = omega arith;
+        })
+        (runs_then (target program) (m + 3) (m + 0) 1 1 (turn_of branching f fs s.world) (turn_of (mark ∷ there) f fs s.world)
+        (turn_of there f fs s.world) jumps (label_runs (target program) there f fs s.world p.low))
+        (omega arith) (omega (arith, idle_is))
+
+  -- Where the token is there its slot has the address of a cell, which is not 0; else its slot is null.
+  pub at_if_token : (y : ℕ) (present absent : Tokened) → CodeSteps program (Tokened.if_token y present absent)
+  at_if_token y present absent idle inner frames tokens input s fs left idle_is at fit =
+      by_slot y present absent idle inner frames tokens input s fs left idle_is at fit
+      (unspent_has (tokens.slots (length at.lists.older) y) (at.judged.slots_are y ∙ at.judged.spends.0))
