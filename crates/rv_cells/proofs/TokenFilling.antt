@@ -1,21 +1,19 @@
 -- The lines of a construction that fills the cell of a slot do the step of the machine with tokens: where the slot is null too.
-use Rattle.std.proofs.Common.{◌≡◌, ◌≢◌, ℕ, zero, suc, ◌+◌, ◌*◌, ◌<◌, ◌≤◌, ◌==◌, inl, inr, Bool, true, false, List, [], ◌∷◌, ◌++◌, length, map, Option, Some, None, refl, sym, ◌∙◌, ap, subst, arith, ne_eqb, append_assoc}
-use Rattle.std.specs.Prelude.{◌&&◌}
+use Rattle.std.proofs.Common.{◌≡◌, ◌≢◌, ℕ, suc, ◌+◌, ◌<◌, ◌≤◌, inl, inr, Bool, true, false, List, [], ◌∷◌, ◌++◌, length, Option, Some, refl, sym, ◌∙◌, ap, subst, arith, append_assoc}
 use Rattle.std.proofs.lemmas.Bool.{cases_eq}
 use Rattle.std.proofs.lemmas.List.{length-map}
 use Rattle.kk_syntax.specs.Shapes.{is_among, without}
 use Rattle.kk_source.specs.State.{Value, heap_full}
-use Rattle.kk_source.specs.Live.{value_of}
-use Rattle.kk_source.specs.Actions.{Action, goes, builds}
+use Rattle.kk_source.specs.Actions.{goes, builds}
 use Rattle.kk_counted.specs.Heaps.{Heap, busy}
 use Rattle.kk_counted.specs.Keeping.{values_of}
-use Rattle.kk_counted.specs.TokenKeeping.{ArePooled, AreTokens, chain_of, Lists, IsJudged, ListsAfter, AreKeptBy}
+use Rattle.kk_counted.specs.TokenKeeping.{AreTokens, chain_of, Lists, IsJudged, ListsAfter, AreKeptBy}
 use Rattle.kk_counted.specs.TokenMachine.{token_code_step, make_step, bound_to, token_at_end, token_at_stuck}
 use Rattle.kk_counted.specs.TokenRuns.{AllLead}
 use Rattle.kk_counted.specs.TokenStates.{TokenJoin, TokenFrame, TokenConfiguration, TokenState}
 use Rattle.kk_counted.specs.TokenedCodes.{Tokened}
-use Rattle.kk_counted.specs.Tokens.{Slot, spent, null, token, is_unspent, token_of, Link, Tokens, is_linked, by_token, marked, slots_with, blanked, released, Room, has_room, no_room, request}
-use Rattle.kk_counted.proofs.Chaining.{EqualBelow, equal_one, frames_many, frames_apart, not_linked, AllApart, chain_top}
+use Rattle.kk_counted.specs.Tokens.{spent, null, token, is_unspent, Link, Tokens, is_linked, by_token, marked, blanked, released, Room, has_room, no_room, request}
+use Rattle.kk_counted.proofs.Chaining.{equal_one, frames_many, frames_apart, not_linked, AllApart, chain_top}
 use Rattle.kk_counted.proofs.Pooling.{slot_here, slot_there, by_null, pooled_released}
 use Rattle.kk_counted.proofs.TokenForms.{AreNow, Has, is_null, has_cell, unspent_has, spent_null_now}
 use Rattle.rv_isa.specs.Processor.{Ending, exited}
@@ -23,23 +21,22 @@ use Rattle.rv_isa.specs.AsmCode.{Line}
 use Rattle.rv_isa.specs.AsmMachine.{AsmTurn}
 use Rattle.rv_isa.specs.Frames.{Frame, put}
 use Rattle.rv_isa.specs.Primitives.{ended}
-use Rattle.cell_heap.specs.Pool.{IsCell}
 use Rattle.cell_heap.specs.Blocks.{nothing}
 use Rattle.cell_runtime.specs.Stops.{number_of}
 use Rattle.cell_runtime.specs.declared.stop.Ending.TheVariants as OfEnding
 use Rattle.rv_world.specs.World.{World, with_cells}
 use Rattle.rv_lower.proofs.Performing.{put_other}
 use Rattle.rv_cells.specs.Layout.{header_of}
-use Rattle.rv_cells.specs.Follows.{Owner, cell_of, in_hand, is_aside, set_aside, with_owner, assign}
+use Rattle.rv_cells.specs.Follows.{Owner, cell_of, in_hand, is_aside, with_owner, assign}
 use Rattle.rv_cells.specs.TokenedLines.{values_of_slots}
 use Rattle.rv_cells.proofs.Blocks.{within_itself, within_one}
 use Rattle.rv_cells.proofs.Constructing.{IsMaking, made_spot}
-use Rattle.rv_cells.proofs.Filling.{fill_cost, named, with_values, last_frame, Fills}
+use Rattle.rv_cells.proofs.Filling.{fill_cost, Fills}
 use Rattle.rv_cells.proofs.FillingHeld.{AllSame, AreApartFrom, both_same, puts_same, tokens1, row, fills_free, fills_newest, fills_held, fills_none}
 use Rattle.rv_cells.proofs.Held.{some-is}
 use Rattle.rv_cells.proofs.HeldRows.{AreTokensIn, AllOut, all_held, all_back, live}
 use Rattle.rv_cells.proofs.LineCosts.{most_moves, row_cost}
-use Rattle.rv_cells.proofs.Owners.{chosen_by, chosen_same, chosen_other}
+use Rattle.rv_cells.proofs.Owners.{chosen_same, chosen_other}
 use Rattle.rv_cells.proofs.Runs.{turn_of, Runs}
 use Rattle.rv_cells.proofs.Spots.{Spot, Known, Here, saved}
 use Rattle.rv_cells.proofs.Values.{has_cell as carries_cell, among_by}
@@ -47,7 +44,7 @@ use Rattle.rv_cells.proofs.Words.{hand_owned, aside_owned}
 use Rattle.rv_cells.proofs.TokenCells.{token_aside, cells_stay, cell_goes}
 use Rattle.rv_cells.proofs.TokenFills.{making, Fill_steps, fill_cheap, fills_token}
 use Rattle.rv_cells.proofs.TokenFillingCells.{none_out, slots_apart, slots_unbound, aside_some, slots_tokens, named_before, slots_below, AllKept, same_kept, null_kept, aside_restored, restored, linked_here, linked_behind, marked_more}
-use Rattle.rv_cells.proofs.TokenFrames.{none_behind, slots_moved, slots_put, all_carried, all_wait_at}
+use Rattle.rv_cells.proofs.TokenFrames.{slots_moved, slots_put, all_carried, all_wait_at}
 use Rattle.rv_cells.proofs.TokenLineCosts.{forms}
 use Rattle.rv_cells.proofs.TokenLanding.{lands_leads, token_at, machine_at, CodeSteps, seen_action, silent_builds, does_by, goes_on, kept_after}
 use Rattle.rv_cells.proofs.TokenRequests.{live_slots, Requested, by_free, by_own, by_older, by_none, requested}
@@ -224,7 +221,7 @@ module _ (program : Lowering) (x y c first : ℕ) (arguments kept_at others : Li
       frames to.heap after
       = subst (λ (l : Lists). IsJudged program.pool.cells l.left l.unspent l.held l.older rest inner frames to.heap after) kept.1.0
       kept.1.1 in
-      let old = λ (g z r : ℕ) (is : after.slots g z ≡ token r). 
+      let old = λ (g z r : ℕ) (is : after.slots g z ≡ token r).
       named_before program.pool.cells (record { count = 1; cell = record { made_by = c; fields = vs } }) s.heap after (omega arith)
       judged.are.pooled g z r is in
       let few = p.short in

@@ -9,7 +9,7 @@ use Rattle.kk_counted.specs.Heaps.{Held, Heap, count_at}
 use Rattle.kk_counted.specs.Lowerable.{AreBelow}
 use Rattle.kk_counted.specs.Spending.{AreApart}
 use Rattle.kk_counted.specs.TokenKeeping.{ArePooled}
-use Rattle.kk_counted.specs.Tokens.{Slot, spent, null, token, is_unspent, token_of, one_if_token, Link, Tokens, is_linked, marked, slots_with}
+use Rattle.kk_counted.specs.Tokens.{Slot, null, token, is_unspent, token_of, one_if_token, Link, Tokens, is_linked, marked, slots_with}
 use Rattle.kk_counted.proofs.Counting.{itself, count_top}
 use Rattle.kk_counted.proofs.Pooling.{Which, this, other, which, slot_there}
 use Rattle.kk_counted.proofs.TokenForms.{Has, is_null, has_cell, unspent_has}
@@ -22,9 +22,9 @@ use Rattle.rv_cells.specs.Follows.{Owner, nobody, cell_of, in_hand, kept_aside, 
 use Rattle.rv_cells.specs.TokenedLines.{values_of_slots}
 use Rattle.rv_cells.proofs.Held.{some-is}
 use Rattle.rv_cells.proofs.FillingHeld.{AllSame, AllAre, AreApartFrom, aside_turned, aside_held, none_other}
-use Rattle.rv_cells.proofs.HeldRows.{IsToken, NoneHas, AreTokensIn, either_false, neither, as_held, as_back, one_turned, turned_cell, all_held, all_back, held_others, back_others, AllOut}
+use Rattle.rv_cells.proofs.HeldRows.{IsToken, NoneHas, AreTokensIn, neither, as_back, one_turned, turned_cell, all_held, all_back, held_others, back_others, AllOut}
 use Rattle.rv_cells.proofs.Owners.{chosen_by, chosen_same, chosen_other}
-use Rattle.rv_cells.proofs.Values.{among_none, among_by}
+use Rattle.rv_cells.proofs.Values.{among_none}
 use Rattle.rv_cells.proofs.Words.{hand_owned, aside_owned}
 use Rattle.rv_cells.proofs.TokenFills.{beyond_plain, none_more}
 use Rattle.rv_cells.proofs.TokenFrames.{none_behind}

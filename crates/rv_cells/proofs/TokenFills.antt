@@ -1,32 +1,29 @@
 -- The lines of a construction in the cell of a token do the step of the machine with tokens.
-use Rattle.std.proofs.Common.{◌≡◌, ◌≢◌, ℕ, zero, suc, ◌+◌, ◌*◌, ◌<◌, ◌≤◌, ◌==◌, inl, inr, Bool, true, false, List, [], ◌∷◌, ◌++◌, length, map, Option, Some, None, refl, sym, ◌∙◌, ap, subst, arith, ne_eqb, append_assoc}
-use Rattle.std.specs.Prelude.{if◌then◌else◌, ◌&&◌}
+use Rattle.std.proofs.Common.{◌≡◌, ℕ, suc, ◌+◌, ◌<◌, ◌≤◌, inl, inr, false, List, [], ◌∷◌, ◌++◌, length, Some, refl, sym, ◌∙◌, ap, subst, arith, ne_eqb, append_assoc}
 use Rattle.std.proofs.lemmas.List.{length-map}
 use Rattle.kk_syntax.specs.Shapes.{is_among, without}
-use Rattle.kk_source.specs.State.{Value, place, Environment}
-use Rattle.kk_source.specs.Live.{value_of}
-use Rattle.kk_source.specs.Actions.{Action, goes, builds}
-use Rattle.kk_counted.specs.Heaps.{Heap, busy, fields_held}
+use Rattle.kk_source.specs.State.{Value}
+use Rattle.kk_source.specs.Actions.{goes, builds}
+use Rattle.kk_counted.specs.Heaps.{Heap, busy}
 use Rattle.kk_counted.specs.Keeping.{values_of}
 use Rattle.kk_counted.specs.Marks.{field_marks}
 use Rattle.kk_counted.specs.TokenKeeping.{ArePooled, Lists, IsJudged, ListsAfter, AreKeptBy}
-use Rattle.kk_counted.specs.TokenMachine.{token_code_step, fill_step, make_step, filled, bound_to, token_at_stuck}
+use Rattle.kk_counted.specs.TokenMachine.{token_code_step, make_step, bound_to, token_at_stuck}
 use Rattle.kk_counted.specs.TokenRuns.{AllLead}
-use Rattle.kk_counted.specs.TokenStates.{TokenJoin, TokenFrame, TokenConfiguration, TokenState}
+use Rattle.kk_counted.specs.TokenStates.{TokenJoin, TokenFrame, TokenConfiguration}
 use Rattle.kk_counted.specs.TokenedCodes.{Tokened}
-use Rattle.kk_counted.specs.Tokens.{Slot, spent, null, token, is_unspent, Mark, plain, token_of, one_if_token, Tokens, is_linked, by_token, marked, marks_with, slots_with, blanked, released, has_room, request}
-use Rattle.kk_counted.proofs.Chaining.{EqualBelow, equal_one, frames_many, not_linked}
+use Rattle.kk_counted.specs.Tokens.{spent, token, Mark, plain, token_of, one_if_token, Tokens, is_linked, by_token, marked, blanked, released, has_room, request}
+use Rattle.kk_counted.proofs.Chaining.{equal_one, frames_many, not_linked}
 use Rattle.kk_counted.proofs.Pooling.{slot_here, slot_there, mark_there, by_cell}
-use Rattle.rv_isa.specs.declared.asm.Action.TheVariants.{Label, Branch, Routine as Calls}
+use Rattle.rv_isa.specs.declared.asm.Action.TheVariants.{Branch, Routine as Calls}
 use Rattle.rv_isa.specs.declared.asm.Condition.TheVariants.{NotEqual}
 use Rattle.rv_isa.specs.declared.routine.Routine.TheVariants.{Take}
 use Rattle.rv_isa.specs.AsmCode.{Line}
 use Rattle.rv_isa.specs.Frames.{Frame, put}
-use Rattle.cell_heap.specs.Blocks.{Cells}
 use Rattle.rv_lower.specs.Lines.{copies_to, acts}
 use Rattle.rv_lower.proofs.Performing.{put_other}
 use Rattle.rv_cells.specs.Layout.{FitFields, header_of}
-use Rattle.rv_cells.specs.Follows.{Owner, cell_of, in_hand, is_aside, with_owner, assign}
+use Rattle.rv_cells.specs.Follows.{cell_of, is_aside, with_owner, assign}
 use Rattle.rv_cells.specs.CellLines.{hold_lines, unhold_lines}
 use Rattle.rv_cells.proofs.Celled.{all_among, apart_above}
 use Rattle.rv_cells.proofs.Blocks.{within_itself, within_one}
@@ -35,7 +32,7 @@ use Rattle.rv_cells.proofs.Filling.{fill_cost, from_label, whole_lines, fills_ow
 use Rattle.rv_cells.proofs.LineCosts.{most_moves}
 use Rattle.rv_cells.proofs.Owners.{chosen_same, chosen_other}
 use Rattle.rv_cells.proofs.Runs.{turn_of}
-use Rattle.rv_cells.proofs.Spots.{Spot, Known, Here}
+use Rattle.rv_cells.proofs.Spots.{Spot, Here}
 use Rattle.rv_cells.proofs.Values.{has_cell, among_by}
 use Rattle.rv_cells.proofs.Words.{hand_owned}
 use Rattle.rv_cells.specs.TokenedLines.{values_of_slots}
@@ -44,7 +41,7 @@ use Rattle.rv_cells.proofs.TokenEntering.{arguments_fit}
 use Rattle.rv_cells.proofs.TokenFrames.{slots_moved, all_carried, all_wait_at}
 use Rattle.rv_cells.proofs.TokenLineCosts.{forms}
 use Rattle.rv_cells.proofs.TokenLanding.{lands_leads, token_at, machine_at, seen_action, silent_builds, goes_on, kept_after}
-use Rattle.rv_cells.proofs.TokenStanding.{SlotIs, IsTokenCell, HaveSlotValues, HaveTokenCells, finds, held_values, Lowering, setting, upper, known_of, AllWait, At, IsFitFrom, Follows_step}
+use Rattle.rv_cells.proofs.TokenStanding.{SlotIs, IsTokenCell, finds, held_values, Lowering, setting, upper, known_of, At, IsFitFrom, Follows_step}
 use Rattle.rv_cells.proofs.TokenUniques.{slots_set, another, row_times}
 
 abbrev takes_into : ℕ → Line
