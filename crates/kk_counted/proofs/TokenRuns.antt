@@ -14,11 +14,11 @@ use Rattle.kk_counted.specs.CountedCodes.{Counted, CountedFunction}
 use Rattle.kk_counted.specs.Heaps.{Heap}
 use Rattle.kk_counted.specs.TokenedCodes.{Tokened, TokenedFunction}
 use Rattle.kk_counted.specs.BareForms.{bare, bare_function}
-use Rattle.kk_counted.specs.Tokens.{spent, token, is_token, Tokens}
+use Rattle.kk_counted.specs.Tokens.{spent, token, is_token, Tokens, no_tokens}
 use Rattle.kk_counted.specs.TokenStates.{TokenSetting, TokenJoin, TokenFrame, TokenControl, TokenConfiguration, TokenState, no_tokened, token_first_state, token_end_at, bare_join, bare_frame, bare_control, bare_configuration, bare_state, bare_setting}
 use Rattle.kk_counted.specs.TokenMachine.{at_code, token_code_step, token_machine, TokenNotStuck}
 use Rattle.kk_counted.specs.TokenSpending.{SpendsTokens, AreTokensSpent}
-use Rattle.kk_counted.specs.TokenKeeping.{AreKeptAt, AreKept, Lists, ListsAfter, AreKeptByAt, AreKeptBy, FillsAt, FillsAlways, token_after}
+use Rattle.kk_counted.specs.TokenKeeping.{AreKeptAt, AreKept, Lists, IsJudged, ListsAfter, AreKeptByAt, AreKeptBy, FillsAt, FillsAlways, token_after}
 use Rattle.kk_counted.specs.TokenRuns.{bare_action, AllLead, IsFollowed, is_quiet, bare_weight, IsSameRun}
 use Rattle.kk_counted.proofs.Pooling.{plain_is_none}
 use Rattle.kk_counted.proofs.TokenSteps.{follows}
@@ -69,6 +69,29 @@ end_alike TokenControl.stuck = refl
 
 spent_is_none : (p : ℕ) → spent ≡ token p → ⊥
 spent_is_none p is = absurd (cc)
+
+-- code that spends its tokens is judged where there are none
+pub judged_at_start : (cells : ℕ) (body : Tokened) → SpendsTokens [] [] [] body
+    → IsJudged cells [] [] [] [] body [] [] [] no_tokens
+judged_at_start cells body spends =
+    record {
+      spends = spends;
+      waits = refl;
+      slots_are = λ y. refl;
+      apart = tt;
+      waiting = tt;
+      are = record {
+        pooled = record {
+          marks = λ f y p is. absurd (spent_is_none p is);
+          slots = λ f y p is. absurd (plain_is_none f y is);
+          uncounted = λ f y p is. absurd (plain_is_none f y is);
+          there = λ f y p is. absurd (plain_is_none f y is);
+          room = omega arith;
+        };
+        chain = refl;
+        beyond = λ f y far. refl;
+      };
+    }
 
 pub function_at : (functions : List TokenedFunction) (n : ℕ)
     → slice_index_or (map bare_function functions) n no_function ≡ bare_function (slice_index_or functions n no_tokened)
@@ -366,27 +389,8 @@ module _ (weight : CountedState → ℕ) (setting : TokenSetting) (program_spend
             (sym (function_at setting.program.functions setting.program.main));
         kept = (
           record { left = []; unspent = []; held = []; older = [] },
-          record {
-            spends = main_spends setting.program.functions setting.program.main program_spends;
-            waits = refl;
-            slots_are = λ y. refl;
-            apart = tt;
-            waiting = tt;
-            are = record {
-              pooled =
-                  record {
-                    marks = λ f y p is. absurd (spent_is_none p is);
-                    slots = λ f y p is. absurd (plain_is_none f y is);
-                    uncounted =
-                        λ f y p is. absurd (plain_is_none f y is);
-                    there =
-                        λ f y p is. absurd (plain_is_none f y is);
-                    room = omega arith;
-                  };
-              chain = refl;
-              beyond = λ f y far. refl;
-            };
-          },
+          judged_at_start setting.cells (slice_index_or setting.program.functions setting.program.main no_tokened).body
+              (main_spends setting.program.functions setting.program.main program_spends),
         );
         fills = fills;
         never_stuck = never_stuck;

@@ -1,5 +1,5 @@
 -- What is so of the lines of all functions of a program, and of its cells once none is counted.
-use Rattle.std.proofs.Common.{◌≡◌, ℕ, zero, suc, ◌+◌, ◌≤◌, Bool, true, false, List, [], ◌∷◌, length, Option, Some, refl, sym, ◌∙◌, ap, subst, arith}
+use Rattle.std.proofs.Common.{◌≡◌, ℕ, zero, suc, ◌+◌, ◌≤◌, Bool, true, false, List, [], ◌∷◌, length, Some, refl, sym, ◌∙◌, ap, subst, arith}
 use Rattle.std.specs.Prelude.{◌==◌, slice_get, if◌then◌else◌}
 use Rattle.kk_counted.specs.Heaps.{Held, Heap, held_at, one_if_counted, busy}
 use Rattle.rv_isa.specs.AsmCode.{Lines}
@@ -12,6 +12,7 @@ use Rattle.rv_cells.specs.Meaning.{AreFree}
 
 -- ---- cells
 
+-- a heap with a counted cell is not empty
 counted_busy : (heap : Heap) (name : ℕ) (held : Held) → held_at heap name ≡ Some held → 1 ≤ held.count → 1 ≤ busy heap
 counted_busy [] name held is some = cc
 counted_busy (first ∷ heap) name held is some =

@@ -1,6 +1,6 @@
 -- The assembler's machine does each step of the counted machine, from the start of a run to its end.
-use Rattle.std.proofs.Common.{◌≡◌, ℕ, zero, suc, ◌+◌, ◌*◌, ◌%◌, ◌<◌, ◌≤◌, Bool, true, false, List, [], ◌∷◌, length, Option, Some, None, All, refl, sym, ◌∙◌, ap, subst, arith}
-use Rattle.std.specs.Prelude.{◌==◌, slice_get, slice_index_or, if◌then◌else◌}
+use Rattle.std.proofs.Common.{◌≡◌, ℕ, zero, suc, ◌+◌, ◌*◌, ◌%◌, ◌<◌, ◌≤◌, List, [], ◌∷◌, Option, Some, None, All, refl, sym, ◌∙◌, ap, subst, arith}
+use Rattle.std.specs.Prelude.{slice_get, slice_index_or}
 use Rattle.std.proofs.lemmas.List.{append-nil}
 use Rattle.std.proofs.lemmas.Option.{get_or_from_slice_get}
 use Rattle.kk_base.specs.Agreements.{Agree}
@@ -16,7 +16,7 @@ use Rattle.kk_source.specs.Notes.{events_of}
 use Rattle.kk_counted.specs.CountedCodes.{Counted, give, tail_call, branch, case, compute, inside, read, open_cell, if_unique, dup, drop, CountedFunction, CountedProgram}
 use Rattle.kk_counted.specs.CountedStates.{CountedSetting, CountedJoin, CountedFrame, CountedControl, running, stopped, stuck, CountedState, no_function, counted_first_state}
 use Rattle.kk_counted.specs.CountedMachine.{counted_ending_of, counted_machine}
-use Rattle.kk_counted.specs.Heaps.{Held, Heap, held_at, one_if_counted, busy}
+use Rattle.kk_counted.specs.Heaps.{Heap, busy}
 use Rattle.kk_counted.specs.Keeping.{counted_after}
 use Rattle.kk_counted.specs.Marks.{CellMarks, result_mark}
 use Rattle.kk_counted.specs.Spending.{numbers_from}
@@ -25,13 +25,11 @@ use Rattle.rv_isa.specs.AsmCode.{Line, Lines}
 use Rattle.rv_isa.specs.AsmMachine.{AsmTurn, asm_entered, asm_start}
 use Rattle.rv_isa.specs.Frames.{Frame, empty}
 use Rattle.rv_isa.specs.Primitives.{ended, stuck as stuck_turn, end_of}
-use Rattle.rv_isa.specs.WellFormed.{AreLinesFormed, AreWellFormed}
-use Rattle.cell_heap.specs.Pool.{Pool, IsCell}
-use Rattle.cell_heap.specs.Blocks.{Cells, unused}
+use Rattle.cell_heap.specs.Pool.{Pool}
 use Rattle.rv_world.specs.World.{World, first_world}
 use Rattle.rv_lower.specs.Lowered.{returns}
 use Rattle.rv_cells.specs.Layout.{Layout}
-use Rattle.rv_cells.specs.Follows.{Owner, nobody, cell_of, in_hand, kept_aside, BlockOf, Follows, is_aside, NoneAside}
+use Rattle.rv_cells.specs.Follows.{nobody}
 use Rattle.rv_cells.specs.Marked.{IsFunctionOf}
 use Rattle.rv_cells.proofs.LineCosts.{forms, lines_cost, lines_within}
 use Rattle.kk_counted.specs.CountedCosts.{counted_cost}

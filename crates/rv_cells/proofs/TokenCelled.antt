@@ -1,11 +1,11 @@
 -- The lines of forms that leave the tokens as they are, and do the steps of the machine with tokens.
-use Rattle.std.proofs.Common.{◌≡◌, ℕ, suc, ◌+◌, ◌*◌, ◌<◌, ◌≤◌, ◌^◌, Bool, true, false, List, [], ◌∷◌, ◌++◌, length, map, Option, Some, None, refl, sym, ◌∙◌, ap, subst, arith}
+use Rattle.std.proofs.Common.{◌≡◌, ℕ, suc, ◌+◌, ◌*◌, ◌<◌, ◌≤◌, true, List, ◌++◌, length, map, Option, Some, None, refl, sym, ◌∙◌, ap, subst, arith}
 use Rattle.kk_syntax.specs.Shapes.{is_among}
 use Rattle.kk_source.specs.Live.{value_of}
 use Rattle.kk_source.specs.Actions.{Action, goes}
 use Rattle.kk_counted.specs.BareForms.{bare}
 use Rattle.kk_counted.specs.CountedMachine.{NotStuck}
-use Rattle.kk_counted.specs.Heaps.{Heap, count_at, dup_value, drop_value}
+use Rattle.kk_counted.specs.Heaps.{Heap, dup_value, drop_value}
 use Rattle.kk_counted.specs.Lowerable.{AreNumbered}
 use Rattle.kk_counted.specs.Marks.{HasMark}
 use Rattle.kk_counted.specs.TokenLowerable.{HasPlainForms}
@@ -14,7 +14,7 @@ use Rattle.kk_counted.specs.TokenMachine.{token_code_step, at_code, to_heap}
 use Rattle.kk_counted.specs.TokenRuns.{AllLead}
 use Rattle.kk_counted.specs.TokenStates.{TokenJoin, TokenFrame, TokenConfiguration, bare_join, bare_configuration}
 use Rattle.kk_counted.specs.TokenedCodes.{Tokened}
-use Rattle.kk_counted.specs.Tokens.{Slot, token, is_unspent, Tokens, marked}
+use Rattle.kk_counted.specs.Tokens.{Tokens, marked}
 use Rattle.rv_isa.specs.AsmCode.{Line}
 use Rattle.rv_isa.specs.Frames.{Frame}
 use Rattle.rv_world.specs.World.{with_cells}
@@ -23,7 +23,7 @@ use Rattle.rv_cells.specs.TokenedLines.{CodeLines, HasSlots}
 use Rattle.rv_cells.proofs.Blocks.{within_itself}
 use Rattle.rv_cells.proofs.LineCosts.{most_moves}
 use Rattle.rv_cells.proofs.Runs.{turn_of}
-use Rattle.rv_cells.proofs.Spots.{Spot, Known, Here, Did, dup_length, drop_length, dup_did, drop_did, did_aside}
+use Rattle.rv_cells.proofs.Spots.{Spot, Here, Did, dup_length, drop_length, dup_did, drop_did, did_aside}
 use Rattle.rv_cells.proofs.Standing.{AreWithin}
 use Rattle.rv_cells.proofs.Values.{Carries, carries_same}
 use Rattle.rv_cells.proofs.TokenCells.{token_aside, cells_stay}

@@ -1,11 +1,11 @@
 -- The cells of tokens, once owners change: a token is held or taken back, it goes, or one comes.
-use Rattle.std.proofs.Common.{◌≡◌, ◌≢◌, ℕ, suc, ◌+◌, ◌%◌, ◌<◌, ◌==◌, Bool, true, false, List, length, Some, refl, sym, ◌∙◌, ap, subst, arith, eqb-true}
+use Rattle.std.proofs.Common.{◌≡◌, ◌≢◌, ℕ, ◌%◌, ◌<◌, ◌==◌, Bool, true, false, List, length, refl, sym, ◌∙◌, ap, subst, arith, eqb-true}
 use Rattle.rv_isa.specs.Arithmetic.{bit_of}
 use Rattle.cell_heap.specs.Pool.{Pool, IsCell}
 use Rattle.cell_heap.specs.Blocks.{Cells}
 use Rattle.kk_counted.specs.Heaps.{Heap}
-use Rattle.kk_counted.specs.Tokens.{Slot, Mark, plain, token_of, one_if_token, Link, Tokens, is_linked, marked, marks_with, released, gained}
-use Rattle.kk_counted.proofs.Pooling.{mark_here, mark_there, marked_with, marked_beyond, plain_is_none}
+use Rattle.kk_counted.specs.Tokens.{Mark, plain, token_of, one_if_token, Link, Tokens, is_linked, marked, marks_with}
+use Rattle.kk_counted.proofs.Pooling.{mark_here, mark_there, marked_with, plain_is_none}
 use Rattle.rv_cells.specs.Layout.{Layout}
 use Rattle.rv_cells.specs.Follows.{Owner, nobody, cell_of, in_hand, kept_aside, Follows, with_owner, is_aside, set_aside, NoneAside}
 use Rattle.rv_cells.proofs.Owners.{chosen_same, chosen_other}

@@ -11,12 +11,11 @@ use Rattle.kk_source.specs.Sound.{Within, AllWithin}
 use Rattle.kk_source.specs.Step.{bind_parameters}
 use Rattle.kk_source.specs.Actions.{Action, goes, calls, performed}
 use Rattle.kk_counted.specs.TokenedCodes.{Tokened, TokenedFunction}
-use Rattle.kk_counted.specs.BareForms.{bare, bare_function}
 use Rattle.kk_counted.specs.CountedMachine.{NotStuck}
 use Rattle.kk_counted.specs.TokenKeeping.{Lists, IsJudged, ListsAfter, AreKeptBy}
 use Rattle.kk_counted.specs.TokenMachine.{token_at_end, in_body, token_tail_step, token_call_step, token_code_step}
 use Rattle.kk_counted.specs.TokenRuns.{AllLead}
-use Rattle.kk_counted.specs.TokenStates.{TokenJoin, TokenFrame, TokenControl, TokenConfiguration, TokenState, bare_configuration}
+use Rattle.kk_counted.specs.TokenStates.{TokenFrame, TokenConfiguration, TokenState, bare_configuration}
 use Rattle.kk_counted.specs.Tokens.{Slot, spent, is_unspent, Tokens}
 use Rattle.kk_counted.proofs.TokenForms.{not_unspent}
 use Rattle.kk_counted.specs.Keeping.{values_of}
@@ -42,13 +41,12 @@ use Rattle.rv_cells.specs.TokenedLines.{IsFunctionOf}
 use Rattle.rv_cells.proofs.Values.{HasValues, among_by}
 use Rattle.rv_cells.proofs.Runs.{left_at, turn_of, Runs, runs_then}
 use Rattle.rv_cells.proofs.Calling.{temporaries_many, put_row, row_below, row_has, copies_run, has_parameters, call_runs, full_call_runs, tail_call_runs}
-use Rattle.rv_cells.proofs.Spots.{Spot, Here, saved}
-use Rattle.rv_cells.proofs.TokenLineCosts.{forms}
-use Rattle.rv_cells.proofs.TokenStanding.{SlotIs, HaveSlotValues, HaveTokenCells, held_values, Shape, Lowering, target, texts, setting, upper, pace, known_of, Placed, continues_more, HasFrame, Waits, AllWait, At, IsFitFrom, by_lines, Follows_step}
+use Rattle.rv_cells.proofs.Spots.{Spot, saved}
+use Rattle.rv_cells.proofs.TokenStanding.{SlotIs, HaveSlotValues, HaveTokenCells, held_values, Shape, Lowering, target, texts, setting, upper, pace, continues_more, HasFrame, AllWait, At, by_lines, Follows_step}
 use Rattle.rv_cells.proofs.TokenFrames.{slots_moved, as_many_wait}
 use Rattle.rv_cells.proofs.Blocks.{within_one}
 use Rattle.rv_cells.proofs.Celled.{all_among}
-use Rattle.rv_cells.proofs.TokenLanding.{token_at, machine_at, CodeSteps, seen_action, does_by, kept_after}
+use Rattle.rv_cells.proofs.TokenLanding.{token_at, CodeSteps, seen_action, does_by, kept_after}
 
 -- ---- arguments and parameters
 

@@ -1,19 +1,18 @@
 -- Frames with slots: what they keep when cells get other addresses, and what becomes of them when the newest held token is taken.
-use Rattle.std.proofs.Common.{◌≡◌, ◌≢◌, ◌⊎◌, inl, inr, ℕ, suc, ◌+◌, ◌<◌, ◌≤◌, ◌==◌, Bool, true, false, List, [], ◌∷◌, length, Option, Some, None, option_map, refl, sym, ◌∙◌, ap, subst, arith, eqb-true}
-use Rattle.std.specs.Prelude.{if◌then◌else◌, ◌&&◌}
+use Rattle.std.proofs.Common.{◌≡◌, ◌≢◌, ℕ, suc, ◌+◌, ◌<◌, ◌==◌, Bool, true, false, List, [], ◌∷◌, length, Option, Some, None, refl, sym, ◌∙◌, ap, subst, arith, eqb-true}
+use Rattle.std.specs.Prelude.{if◌then◌else◌}
 use mathlib.Core.Path.{fun_ext}
 use Rattle.kk_syntax.specs.Shapes.{is_among}
 use Rattle.kk_counted.specs.Spending.{AreApart}
-use Rattle.kk_counted.specs.TokenKeeping.{links_of, chain_of, AreHeldFrames}
+use Rattle.kk_counted.specs.TokenKeeping.{links_of}
 use Rattle.kk_counted.specs.TokenStates.{TokenFrame}
-use Rattle.kk_counted.specs.Tokens.{Slot, spent, null, token, is_unspent, is_token, Link, slots_with, first_token}
-use Rattle.kk_counted.proofs.Chaining.{EqualBelow, equal_one, AllApart, token_is}
-use Rattle.kk_counted.proofs.Pooling.{Which, this, other, which, slot_here, slot_there, slot_at}
+use Rattle.kk_counted.specs.Tokens.{Slot, spent, null, token, is_unspent, is_token, Link, first_token}
+use Rattle.kk_counted.proofs.Chaining.{EqualBelow, token_is}
 use Rattle.rv_isa.specs.AsmCode.{Line}
-use Rattle.rv_isa.specs.Frames.{Frame, put, top, top_in, top_taken, taken_in}
+use Rattle.rv_isa.specs.Frames.{Frame, put}
 use Rattle.rv_lower.proofs.Performing.{put_same, put_other}
-use Rattle.rv_cells.proofs.Values.{Carries, HasValues, has_other}
-use Rattle.rv_cells.proofs.TokenStanding.{SlotIs, HaveSlotValues, held_values, Shape, Lowering, HasFrame, Waits, AllWait}
+use Rattle.rv_cells.proofs.Values.{Carries}
+use Rattle.rv_cells.proofs.TokenStanding.{SlotIs, HaveSlotValues, held_values, Lowering, HasFrame, Waits, AllWait}
 
 -- ---- one frame
 

@@ -1,15 +1,14 @@
 -- The value of a code with tokens: it goes to the variable of a block, to the function that waits, whose tokens are held, or the run
 -- ends without a token.
-use Rattle.std.proofs.Common.{◌≡◌, ◌≢◌, ℕ, zero, suc, ◌+◌, ◌*◌, ◌<◌, ◌≤◌, inl, inr, Bool, true, false, List, [], ◌∷◌, ◌++◌, length, Option, Some, All, refl, sym, ◌∙◌, ap, subst, arith, append_assoc}
+use Rattle.std.proofs.Common.{◌≡◌, ℕ, zero, suc, ◌+◌, ◌<◌, ◌≤◌, inl, inr, Bool, true, false, List, [], ◌∷◌, ◌++◌, length, Some, All, refl, sym, ◌∙◌, ap, subst, arith}
 use Rattle.kk_syntax.specs.Shapes.{is_among}
-use Rattle.kk_source.specs.State.{Value, Environment, ended as well}
+use Rattle.kk_source.specs.State.{Value, Environment}
 use Rattle.kk_source.specs.Live.{value_of}
 use Rattle.kk_source.specs.Sound.{Within}
-use Rattle.kk_source.specs.Actions.{Action, goes}
-use Rattle.kk_counted.specs.TokenKeeping.{Lists, IsJudged, ListsAfter, AreKeptBy}
-use Rattle.kk_counted.specs.TokenMachine.{token_code_step, bound_to}
+use Rattle.kk_counted.specs.TokenKeeping.{IsJudged, ListsAfter, AreKeptBy}
+use Rattle.kk_counted.specs.TokenMachine.{token_code_step}
 use Rattle.kk_counted.specs.TokenRuns.{AllLead}
-use Rattle.kk_counted.specs.TokenStates.{TokenJoin, TokenFrame, TokenControl, TokenConfiguration, TokenState}
+use Rattle.kk_counted.specs.TokenStates.{TokenJoin, TokenFrame}
 use Rattle.kk_counted.specs.TokenedCodes.{Tokened}
 use Rattle.kk_counted.specs.Tokens.{Slot, spent, token, is_unspent, Mark, plain, token_of, one_if_token, Tokens, marked}
 use Rattle.kk_counted.proofs.Pooling.{none_marked}
@@ -19,22 +18,21 @@ use Rattle.rv_isa.specs.AsmCode.{Line}
 use Rattle.rv_isa.specs.Frames.{Frame, put, received}
 use Rattle.rv_isa.specs.Processor.{exited}
 use Rattle.rv_isa.specs.Primitives.{ended}
-use Rattle.rv_isa.specs.WellFormed.{AreLinesFormed}
 use Rattle.rv_lower.specs.Lines.{acts, copies_to}
 use Rattle.rv_lower.specs.Lowered.{Goal, returns, joins}
-use Rattle.rv_lower.proofs.Performing.{put_same, put_other}
+use Rattle.rv_lower.proofs.Performing.{put_other}
 use Rattle.rv_cells.specs.Layout.{word_in, FitsField}
 use Rattle.rv_cells.specs.Follows.{Follows, NoneAside}
 use Rattle.rv_cells.proofs.LineCosts.{most_moves}
-use Rattle.rv_cells.proofs.Values.{HasValues, among_by, has_bound}
+use Rattle.rv_cells.proofs.Values.{among_by, has_bound}
 use Rattle.rv_cells.proofs.Runs.{turn_of, Runs, runs_then}
 use Rattle.rv_cells.proofs.Acting.{put_in, copy_runs, label_runs, jump_runs}
 use Rattle.rv_cells.proofs.Calling.{return_runs, last_return_runs}
-use Rattle.rv_cells.proofs.Spots.{Spot, Known, Here, saved}
+use Rattle.rv_cells.proofs.Spots.{Spot, saved}
 use Rattle.rv_cells.proofs.Standing.{AreWithin, has_fewer}
 use Rattle.rv_cells.proofs.TokenCells.{none_by_number}
 use Rattle.rv_cells.proofs.TokenFrames.{slots_moved}
-use Rattle.rv_cells.proofs.TokenStanding.{HaveSlotValues, HaveTokenCells, held_values, Shape, Lowering, target, setting, upper, known_of, Placed, Joined, Continues, HasFrame, Waits, AllWait, At, IsFitFrom, by_lines, finds, Follows_step}
+use Rattle.rv_cells.proofs.TokenStanding.{HaveTokenCells, held_values, Shape, Lowering, target, setting, upper, Placed, Continues, HasFrame, Waits, AllWait, IsFitFrom, by_lines, finds, Follows_step}
 use Rattle.rv_cells.proofs.TokenLanding.{token_at, machine_at, CodeSteps}
 
 module _ (program : Lowering) where

@@ -1,35 +1,31 @@
 -- The lines that hold a token and that take it back do the steps of the machine with tokens.
-use Rattle.std.proofs.Common.{◌≡◌, ◌≢◌, ℕ, suc, ◌+◌, ◌*◌, ◌<◌, ◌≤◌, ◌==◌, Bool, true, false, List, [], ◌∷◌, ◌++◌, length, Option, Some, None, refl, sym, ◌∙◌, ap, subst, arith, eqb-true}
-use Rattle.std.specs.Prelude.{if◌then◌else◌, ◌&&◌, ◌||◌}
+use Rattle.std.proofs.Common.{◌≡◌, ℕ, ◌+◌, ◌==◌, Bool, true, false, List, [], ◌∷◌, ◌++◌, length, Some, None, refl, sym, ◌∙◌, ap, subst, arith, eqb-true}
+use Rattle.std.specs.Prelude.{if◌then◌else◌, ◌||◌}
 use Rattle.kk_syntax.specs.Shapes.{is_among}
 use Rattle.kk_source.specs.Actions.{goes}
-use Rattle.kk_counted.specs.TokenKeeping.{chain_of, Lists, IsJudged, ListsAfter, AreKeptBy}
+use Rattle.kk_counted.specs.TokenKeeping.{chain_of, Lists, IsJudged}
 use Rattle.kk_counted.specs.TokenMachine.{token_code_step, at_code, to_tokens}
-use Rattle.kk_counted.specs.TokenStates.{TokenJoin, TokenFrame, TokenConfiguration, TokenState}
 use Rattle.kk_counted.specs.TokenedCodes.{Tokened}
-use Rattle.kk_counted.specs.Tokens.{Slot, null, token, is_unspent, is_token, token_of, Link, Tokens, is_linked, by_token, hold_link, unlinked, with_chain, unheld, held as holds_slot}
+use Rattle.kk_counted.specs.Tokens.{Slot, token, is_token, Link, Tokens, is_linked, hold_link, unlinked, with_chain, unheld, held as holds_slot}
 use Rattle.kk_counted.proofs.Chaining.{frames_many, not_linked}
 use Rattle.kk_counted.proofs.Pooling.{by_null, by_cell}
 use Rattle.kk_counted.proofs.TokenForms.{Has, is_null, has_cell, unspent_has}
 use Rattle.rv_isa.specs.declared.asm.Action.TheVariants.{Hold, Unhold}
-use Rattle.rv_isa.specs.AsmCode.{Line}
-use Rattle.rv_isa.specs.Frames.{Frame, is_among as is_out}
+use Rattle.rv_isa.specs.Frames.{is_among as is_out}
 use Rattle.cell_heap.specs.Blocks.{past_links}
 use Rattle.kk_counted.specs.Spending.{AreApart}
 use Rattle.rv_world.specs.World.{with_cells}
 use Rattle.rv_lower.specs.Lines.{acts}
 use Rattle.rv_cells.specs.Follows.{in_hand, kept_aside, with_owner}
-use Rattle.rv_cells.specs.Steps.{PutAside, TakenBack}
 use Rattle.rv_cells.proofs.Counts.{put_aside, taken_back}
 use Rattle.rv_cells.proofs.Words.{hand_owned, aside_owned}
 use Rattle.rv_cells.proofs.HeldTokens.{holding_now, hold_runs, hold_null_runs, unhold_runs, unhold_null_runs}
 use Rattle.rv_cells.proofs.Runs.{turn_of}
-use Rattle.rv_cells.proofs.Spots.{Spot, Here}
+use Rattle.rv_cells.proofs.Spots.{Spot}
 use Rattle.rv_cells.proofs.Blocks.{within_itself}
 use Rattle.rv_cells.proofs.TokenCells.{cell_turns}
-use Rattle.rv_cells.proofs.TokenLineCosts.{forms}
-use Rattle.rv_cells.proofs.TokenStanding.{SlotIs, IsTokenCell, HaveTokenCells, HaveSlotValues, held_values, Lowering, AllWait, target, setting, upper, known_of, At, IsFitFrom, Follows_step}
-use Rattle.rv_cells.proofs.TokenLanding.{Lands, token_at, machine_at, CodeSteps, silent_goes, seen_action, GoesOn, goes_on, kept_quiet}
+use Rattle.rv_cells.proofs.TokenStanding.{SlotIs, IsTokenCell, HaveSlotValues, held_values, Lowering, AllWait, target, setting, Follows_step}
+use Rattle.rv_cells.proofs.TokenLanding.{token_at, machine_at, CodeSteps, silent_goes, seen_action, goes_on, kept_quiet}
 
 -- a slot that is not among the held ones has a value that is not held
 held_out : (slots : ℕ → Slot) (variables y : ℕ) (ys : List ℕ) → is_among ys y ≡ false

@@ -1,21 +1,17 @@
 -- The lines of blocks inside and of readings do the steps of the machine with tokens.
-use Rattle.std.proofs.Common.{◌≡◌, ℕ, suc, ◌+◌, ◌*◌, ◌<◌, ◌≤◌, Bool, true, false, List, [], ◌∷◌, ◌++◌, length, map, Option, Some, None, refl, sym, ◌∙◌, ap, subst, arith, append_assoc}
-use Rattle.kk_syntax.specs.Shapes.{is_among}
+use Rattle.std.proofs.Common.{◌≡◌, ℕ, suc, ◌+◌, List, [], ◌∷◌, ◌++◌, length, Option, Some, None, refl, sym, ◌∙◌, ap, subst, arith, append_assoc}
 use Rattle.kk_source.specs.State.{Environment}
 use Rattle.kk_source.specs.Live.{value_of}
-use Rattle.kk_source.specs.Actions.{Action, goes, performed}
-use Rattle.kk_core.specs.CoreMachine.{bind_fields}
+use Rattle.kk_source.specs.Actions.{goes, performed}
 use Rattle.kk_counted.specs.CountedMachine.{Named, cell_named, NotStuck}
-use Rattle.kk_counted.specs.Lowerable.{bound_list}
 use Rattle.kk_counted.specs.Marks.{field_marks}
 use Rattle.kk_counted.specs.TokenKeeping.{Lists, IsJudged, ListsAfter, AreKeptBy}
-use Rattle.kk_counted.specs.TokenMachine.{token_code_step, token_read_step, at_code}
+use Rattle.kk_counted.specs.TokenMachine.{token_code_step, token_read_step}
 use Rattle.kk_counted.specs.TokenRuns.{AllLead}
-use Rattle.kk_counted.specs.TokenStates.{TokenJoin, TokenFrame, TokenConfiguration, bare_configuration}
+use Rattle.kk_counted.specs.TokenStates.{TokenJoin, TokenConfiguration, bare_configuration}
 use Rattle.kk_counted.specs.TokenedCodes.{Tokened}
 use Rattle.rv_isa.specs.declared.asm.Action.TheVariants.{Label}
 use Rattle.rv_isa.specs.AsmCode.{Line}
-use Rattle.rv_isa.specs.Frames.{Frame}
 use Rattle.rv_lower.specs.Lines.{acts}
 use Rattle.rv_lower.specs.Lowered.{joins}
 use Rattle.rv_lower.proofs.Orders.{split_at}
@@ -24,9 +20,8 @@ use Rattle.rv_cells.proofs.Celled.{marks_are}
 use Rattle.rv_cells.proofs.LineCosts.{most_moves, row_cost}
 use Rattle.rv_cells.proofs.Rows.{IsReading, with_fields, read_did}
 use Rattle.rv_cells.proofs.Runs.{turn_of, runs_none}
-use Rattle.rv_cells.proofs.Spots.{Spot, Known, Here, saved}
+use Rattle.rv_cells.proofs.Spots.{Here, saved}
 use Rattle.rv_cells.proofs.TokenCelled.{goes_did}
-use Rattle.rv_cells.proofs.TokenLineCosts.{forms}
 use Rattle.rv_cells.proofs.TokenLanding.{token_at, machine_at, CodeSteps, silent_goes, seen_action, kept_after}
 use Rattle.rv_cells.proofs.TokenStanding.{Lowering, target, setting, upper, known_of, continues_more, by_lines}
 use Rattle.rv_cells.proofs.TokenUniques.{within_fields, within_front, below_list, below_more, row_times}

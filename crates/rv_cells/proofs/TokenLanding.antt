@@ -1,5 +1,5 @@
 -- Lines of one form lead to those of the code behind it, in the same function: what is to be shown of the place where it goes on.
-use Rattle.std.proofs.Common.{◌≡◌, ℕ, suc, ◌+◌, ◌*◌, ◌<◌, ◌≤◌, Bool, true, false, List, [], ◌∷◌, ◌++◌, length, Option, Some, All, flat_map, refl, sym, ◌∙◌, ap, subst, arith, append_assoc}
+use Rattle.std.proofs.Common.{◌≡◌, ℕ, suc, ◌+◌, ◌<◌, ◌≤◌, true, false, List, [], ◌++◌, length, flat_map, refl, sym, ◌∙◌, ap, subst, arith, append_assoc}
 use Rattle.kk_base.specs.Trace.{Event}
 use Rattle.kk_syntax.specs.Shapes.{is_among}
 use Rattle.kk_source.specs.State.{Environment}
@@ -15,7 +15,7 @@ use Rattle.kk_counted.specs.TokenMachine.{token_code_step}
 use Rattle.kk_counted.specs.TokenRuns.{is_quiet, AllLead}
 use Rattle.kk_counted.specs.TokenStates.{TokenJoin, TokenFrame, TokenControl, TokenConfiguration, TokenState}
 use Rattle.kk_counted.specs.TokenedCodes.{Tokened}
-use Rattle.kk_counted.specs.Tokens.{Slot, Tokens}
+use Rattle.kk_counted.specs.Tokens.{Tokens}
 use Rattle.kk_counted.proofs.TokenSteps.{follows}
 use Rattle.kk_counted.proofs.Unseen.{unseen}
 use Rattle.rv_isa.specs.AsmCode.{Line}
@@ -31,7 +31,7 @@ use Rattle.rv_cells.proofs.Spots.{Spot, Known, Here, Did, saved}
 use Rattle.rv_cells.proofs.TokenOpenings.{Leads}
 use Rattle.rv_cells.proofs.Standing.{AreWithin, has_fewer}
 use Rattle.rv_cells.proofs.TokenLineCosts.{forms}
-use Rattle.rv_cells.proofs.TokenStanding.{HaveSlotValues, HaveTokenCells, held_values, Shape, Lowering, target, texts, setting, upper, known_of, Placed, Continues, continues_more, AllWait, At, IsFitFrom, Follow, by_lines, Follows_step}
+use Rattle.rv_cells.proofs.TokenStanding.{HaveSlotValues, HaveTokenCells, held_values, Lowering, target, texts, setting, upper, known_of, Placed, Continues, continues_more, AllWait, At, IsFitFrom, Follow, by_lines, Follows_step}
 
 -- ---- lines
 

@@ -1,13 +1,6 @@
 -- What the steps of code with tokens weigh in assembler code, and how many forms such code has.
-use Rattle.std.proofs.Common.{◌≡◌, ◌≤◌, ℕ, suc, ◌+◌, ◌*◌, List, length, arith}
-use Rattle.std.specs.Prelude.{if◌then◌else◌}
-use Rattle.kk_source.specs.State.{Environment}
-use Rattle.kk_counted.specs.BareForms.{bare}
-use Rattle.kk_counted.specs.CountedCosts.{code_cost}
-use Rattle.kk_counted.specs.Heaps.{Heap}
+use Rattle.std.proofs.Common.{ℕ, suc, ◌+◌}
 use Rattle.kk_counted.specs.TokenedCodes.{Tokened, TokenedArms}
-use Rattle.kk_counted.specs.TokenCosts.{token_cost}
-use Rattle.kk_counted.specs.TokenStates.{TokenState}
 
 -- how many forms a code has, both copies behind a test of a token
 abbrev mutual

@@ -1,10 +1,9 @@
--- A program with tokens whose functions are lowered runs the same as its assembler code: its bare form has room for the work on tokens,
--- and the assembler's machine does the steps of the machine with tokens.
-use Rattle.std.proofs.Common.{◌≡◌, ℕ, zero, suc, ◌+◌, ◌*◌, ◌%◌, ◌<◌, ◌≤◌, Bool, false, List, [], ◌∷◌, Option, Some, None, All, refl, sym, ◌∙◌, ap, subst, arith}
+-- A program with tokens whose functions are lowered runs the same as its assembler code: its bare form has room for the work on
+-- tokens, and the assembler's machine does the steps of the machine with tokens.
+use Rattle.std.proofs.Common.{◌≡◌, ℕ, zero, suc, ◌+◌, ◌*◌, ◌%◌, ◌<◌, ◌≤◌, false, List, [], ◌∷◌, Some, All, refl, sym, ◌∙◌, ap, subst, arith}
 use Rattle.std.specs.Prelude.{slice_get}
-use Rattle.kk_base.specs.Agreements.{Agree, Does}
-use Rattle.kk_base.specs.Machines.{Machine, mapped, state, weight_of, trace, ending_after}
-use Rattle.kk_base.specs.Trace.{Event}
+use Rattle.kk_base.specs.Agreements.{Agree}
+use Rattle.kk_base.specs.Machines.{Machine, mapped, state, ending_after}
 use Rattle.kk_base.proofs.Agreements.{agree_through, agree_mapped}
 use Rattle.kk_base.proofs.Machines.{state-add, state_ended}
 use Rattle.kk_base.proofs.Simulations.{simulates_many, simulates_agree, simulates_passing}
@@ -14,14 +13,14 @@ use Rattle.kk_source.specs.Notes.{Note, events_of}
 use Rattle.kk_counted.specs.BareForms.{bare_program}
 use Rattle.kk_counted.specs.CountedCosts.{roomy_cost}
 use Rattle.kk_counted.specs.CountedStates.{CountedControl, CountedConfiguration, CountedState, counted_end_at, counted_first_state}
-use Rattle.kk_counted.specs.CountedMachine.{NotStuck, counted_machine}
-use Rattle.kk_counted.specs.Heaps.{Heap, busy}
+use Rattle.kk_counted.specs.CountedMachine.{counted_machine}
+use Rattle.kk_counted.specs.Heaps.{busy}
 use Rattle.kk_counted.specs.Keeping.{counted_after}
 use Rattle.kk_counted.specs.Marks.{CellMarks}
 use Rattle.kk_counted.specs.TokenCosts.{token_cost, HasRoom, AreStatesKept}
 use Rattle.kk_counted.specs.TokenKeeping.{FillsAt, FillsAlways, token_after}
 use Rattle.kk_counted.specs.TokenMachine.{token_machine}
-use Rattle.kk_counted.specs.TokenStates.{TokenJoin, TokenControl, TokenConfiguration, TokenState, token_first_state, token_end_at, bare_control, bare_configuration, bare_setting}
+use Rattle.kk_counted.specs.TokenStates.{TokenControl, TokenConfiguration, TokenState, token_first_state, token_end_at, bare_control, bare_configuration, bare_setting}
 use Rattle.kk_counted.specs.TokenedCodes.{Tokened, TokenedFunction, TokenedProgram}
 use Rattle.kk_counted.proofs.TokenRoom.{costs_within, states_kept}
 use Rattle.rv_isa.specs.Processor.{Ending, exited}
@@ -63,6 +62,7 @@ abbrev all_forms : List TokenedFunction → ℕ
 all_forms [] = 0
 all_forms (function ∷ functions) = forms function.body + all_forms functions
 
+-- no function has more
 forms_within : (functions : List TokenedFunction) (f : ℕ) (function : TokenedFunction) → slice_get functions f ≡ Some function
     → forms function.body ≤ all_forms functions
 forms_within [] f function is = cc
@@ -82,6 +82,7 @@ writes_all c (TokenControl.running code environment joins) = at code
 writes_all c (TokenControl.stopped by) = tt
 writes_all c TokenControl.stuck = tt
 
+-- a machine that has ended so has stopped so
 stopped_at : (control : TokenControl) (by : End) → token_end_at control ≡ Some by → control ≡ TokenControl.stopped by
 stopped_at (TokenControl.running code environment joins) by is = cc
 stopped_at (TokenControl.stopped how) by is = cc
@@ -94,6 +95,7 @@ module _ (layout : Layout) (marks : CellMarks) (code : TokenedProgram) (constant
     (depth first : ℕ) (input : List ℕ) (aligned : pool.first % 32 ≡ 0) (some : 0 < pool.first)
     (bytes : All (λ byte. byte < 256) input)
     (fits : (n : ℕ) → IsFit layout (counted_after (roomy_cost room) (setting_on (bare_program code) pool depth) input n)) where
+  -- the program and its lines
   abbrev lowering : Lowering
   lowering = record {
     code = code;
@@ -125,6 +127,7 @@ module _ (layout : Layout) (marks : CellMarks) (code : TokenedProgram) (constant
   abbrev tokened : Machine TokenState Note End
   tokened = token_machine token_cost (setting lowering)
 
+  -- the first states of the three machines
   abbrev bare_start : CountedState
   bare_start = counted_first_state (bare_setting (setting lowering)) input
 
@@ -137,6 +140,7 @@ module _ (layout : Layout) (marks : CellMarks) (code : TokenedProgram) (constant
   abbrev idle : ℕ
   idle = forms lowered.main.body
 
+  -- all fields are written
   fills : FillsAlways token_cost (setting lowering) input
   fills n =
       let c = token_after token_cost (setting lowering) input n in writes_all c c.control
@@ -145,25 +149,32 @@ module _ (layout : Layout) (marks : CellMarks) (code : TokenedProgram) (constant
   states : AreStatesKept token_cost (roomy_cost room) (setting lowering) input
   states = states_kept token_cost (roomy_cost room) (setting lowering) input lowered.spends fills (λ n. (fits n).going)
 
+  -- the machine with tokens does what the bare form does, within its room
   has_room : Agree counted tokened room (λ m. m + 1) bare_start start
   has_room = costs_within room (setting lowering) fits_room input lowered.spends fills (λ n. (fits n).going)
 
+  -- the image tells the same states
   seen_states : (n : ℕ) → state (upper lowering) n start ≡ state tokened n start
   seen_states n = state_mapped events_of (λ end. exited (exit_of end)) tokened n start
 
+  -- each state with tokens is fit, since it is so without them
   fit_from : IsFitFrom lowering start
   fit_from n =
       let bare_is = states.states n in
       subst (λ (s : TokenState). IsFit layout (bare_configuration s.machine)) (sym (seen_states n))
       (subst (λ c. IsFit layout c) (sym bare_is.1) (fits bare_is.0))
 
+  -- the assembler's machine begins where the machine with tokens does
   related : Related lowering 0 idle start turn
-  related = starts lowering lowered.main lowered.main_is lowered.main_alone lowered.main_lines lowered.lines_are input bytes fit_from
+  related =
+      starts lowering lowered.main lowered.main_is lowered.main_alone lowered.main_lines lowered.lines_are input bytes fit_from
 
+  -- the assembler's machine does what the machine with tokens does
   simulated : Agree (upper lowering) (lower lowering) 0 (λ m. m * pace lowering + idle + 1) start turn
   simulated = simulates_agree (upper lowering) (lower lowering) (Related lowering) (Passing lowering) (pace lowering)
       (simulates lowering) 0 idle start turn related
 
+  -- and so what the bare form does
   agreed : Agree (roomy_outside room (setting_on (bare_program code) pool depth)) (lower lowering) room
       (λ m. m * pace lowering + idle + 1 + 1) bare_start turn
   agreed =
@@ -182,13 +193,12 @@ module _ (layout : Layout) (marks : CellMarks) (code : TokenedProgram) (constant
     heap_is : (token_after token_cost (setting lowering) input steps).heap
         ≡ (counted_after (roomy_cost room) (bare_setting (setting lowering)) input n).heap
 
+  -- so it stops
   stops_so : (n : ℕ) (by : End)
       → (counted_after (roomy_cost room) (bare_setting (setting lowering)) input n).control ≡ CountedControl.stopped by
       → Stops n by
   stops_so n by stops =
-      let does : Does tokened (weight_of counted n bare_start + room) (trace counted n bare_start) (ending_after counted n bare_start)
-      start
-      = has_room.downwards n in
+      let does = has_room.downwards n in
       let m = does.steps in
       let ends : ending_after counted n bare_start ≡ Some by = ap counted_end_at stops in
       let control_is : (token_after token_cost (setting lowering) input m).control ≡ TokenControl.stopped by
@@ -205,6 +215,7 @@ module _ (layout : Layout) (marks : CellMarks) (code : TokenedProgram) (constant
             ∙ ap (λ (s : CountedState). s.machine.heap) (ends_once counted k n bare_start by by ends_there ends);
       }
 
+  -- where the program ends by itself with an empty heap, all cells are free
   last_free : (by : End) (s : TokenState) (t : AsmTurn World Ending) → s.machine.control ≡ TokenControl.stopped by
       → StandsFor lowering s.machine.control s.machine s.input t
       → (world : World) × (t ≡ ended (exited (exit_of by)) world)

@@ -1,11 +1,11 @@
 -- The line that moves a token to another slot does the step of the machine with tokens.
-use Rattle.std.proofs.Common.{◌≡◌, ◌≢◌, ℕ, suc, ◌+◌, ◌*◌, ◌<◌, ◌≤◌, ◌==◌, Bool, true, false, List, [], ◌∷◌, ◌++◌, length, Option, Some, None, refl, sym, ◌∙◌, ap, subst, arith, eqb-true, ne_eqb}
+use Rattle.std.proofs.Common.{◌≡◌, ℕ, suc, ◌+◌, ◌<◌, ◌==◌, Bool, true, false, List, [], ◌∷◌, ◌++◌, length, Some, None, refl, sym, ◌∙◌, ap, subst, arith, eqb-true}
 use Rattle.kk_syntax.specs.Shapes.{is_among, without}
 use Rattle.kk_source.specs.Actions.{goes}
 use Rattle.kk_counted.specs.Heaps.{Heap}
-use Rattle.kk_counted.specs.TokenKeeping.{Lists, IsJudged, ListsAfter, AreKeptBy}
+use Rattle.kk_counted.specs.TokenKeeping.{Lists, IsJudged}
 use Rattle.kk_counted.specs.TokenMachine.{token_code_step, at_code, to_tokens}
-use Rattle.kk_counted.specs.TokenStates.{TokenJoin, TokenFrame, TokenConfiguration, TokenState}
+use Rattle.kk_counted.specs.TokenStates.{TokenJoin, TokenFrame}
 use Rattle.kk_counted.specs.TokenedCodes.{Tokened}
 use Rattle.kk_counted.specs.Tokens.{Slot, spent, null, token, Mark, plain, token_of, one_if_token, Tokens, is_linked, slots_with, marks_with, marked, blanked, released, gained, moved}
 use Rattle.kk_counted.proofs.Chaining.{equal_one, frames_many, not_linked}
@@ -23,8 +23,8 @@ use Rattle.rv_cells.proofs.Spots.{Spot, Here}
 use Rattle.rv_cells.proofs.TokenForms.{moves_token}
 use Rattle.rv_cells.proofs.TokenFrames.{none_behind, slots_put, all_wait_at}
 use Rattle.rv_cells.proofs.TokenLineCosts.{forms}
-use Rattle.rv_cells.proofs.TokenStanding.{SlotIs, IsTokenCell, HaveTokenCells, HaveSlotValues, held_values, Lowering, AllWait, target, setting, upper, known_of, At, IsFitFrom, Follows_step}
-use Rattle.rv_cells.proofs.TokenLanding.{Lands, lands_leads, token_at, machine_at, CodeSteps, silent_goes, seen_action, goes_on, kept_quiet}
+use Rattle.rv_cells.proofs.TokenStanding.{SlotIs, IsTokenCell, HaveTokenCells, HaveSlotValues, held_values, Lowering, AllWait, setting, known_of, At, IsFitFrom, Follows_step}
+use Rattle.rv_cells.proofs.TokenLanding.{lands_leads, token_at, machine_at, CodeSteps, silent_goes, seen_action, goes_on, kept_quiet}
 use Rattle.rv_cells.proofs.TokenUniques.{slots_set, another}
 
 -- the cell of a token becomes that of another slot, which is linked where the first one is

@@ -1,5 +1,5 @@
 -- The assembler's machine does each step of the machine with tokens, from the start of a run to its end.
-use Rattle.std.proofs.Common.{◌≡◌, ℕ, ◌+◌, ◌<◌, Bool, true, false, List, [], ◌∷◌, Option, Some, None, All, refl, sym, ◌∙◌, ap, subst, arith}
+use Rattle.std.proofs.Common.{◌≡◌, ℕ, ◌+◌, ◌<◌, true, List, [], ◌∷◌, Some, None, All, refl, sym, ◌∙◌, ap, subst, arith}
 use Rattle.std.specs.Prelude.{slice_get, slice_index_or}
 use Rattle.std.proofs.lemmas.List.{append-nil}
 use Rattle.std.proofs.lemmas.Option.{get_or_from_slice_get}
@@ -8,16 +8,16 @@ use Rattle.kk_base.proofs.Simulations.{simulates_until_ended}
 use Rattle.kk_syntax.specs.declared.program.Form.{Form}
 use Rattle.kk_syntax.specs.declared.program.Form.TheVariants.{Number, Unit as Nothing, ReadByte, PrintText, Unary, Binary, Print, Construct, Call}
 use Rattle.kk_syntax.specs.Shapes.{is_among}
-use Rattle.kk_source.specs.State.{Environment, End}
+use Rattle.kk_source.specs.State.{Environment}
 use Rattle.kk_source.specs.Ends.{exit_of}
 use Rattle.kk_counted.specs.Heaps.{Heap}
 use Rattle.kk_counted.specs.Marks.{result_mark}
 use Rattle.kk_counted.specs.Spending.{numbers_from}
-use Rattle.kk_counted.specs.TokenKeeping.{IsJudged, AreTokens}
 use Rattle.kk_counted.specs.TokenStates.{TokenJoin, TokenFrame, TokenControl, TokenConfiguration, TokenState, no_tokened, token_first_state}
 use Rattle.kk_counted.specs.TokenedCodes.{Tokened, TokenedFunction}
-use Rattle.kk_counted.specs.Tokens.{Slot, spent, token, is_unspent, Tokens, no_tokens}
+use Rattle.kk_counted.specs.Tokens.{Tokens, no_tokens}
 use Rattle.kk_counted.proofs.Pooling.{plain_is_none}
+use Rattle.kk_counted.proofs.TokenRuns.{judged_at_start}
 use Rattle.rv_isa.specs.Processor.{Ending, exited}
 use Rattle.rv_isa.specs.AsmCode.{Line, Lines}
 use Rattle.rv_isa.specs.AsmMachine.{AsmTurn, asm_entered, asm_start}
@@ -33,7 +33,7 @@ use Rattle.rv_cells.proofs.Values.{HasValues}
 use Rattle.rv_cells.proofs.Runs.{turn_of}
 use Rattle.rv_cells.proofs.Spots.{Spot, saved}
 use Rattle.rv_cells.proofs.TokenLineCosts.{forms}
-use Rattle.rv_cells.proofs.TokenStanding.{Lowering, texts, setting, upper, lower, pace, Passing, At, IsAt, HasEnded, StandsFor, IsFitFrom, Related, Follows_step, HaveTokenCells}
+use Rattle.rv_cells.proofs.TokenStanding.{Lowering, texts, setting, upper, lower, pace, Passing, At, IsAt, StandsFor, IsFitFrom, Related, Follows_step, HaveTokenCells}
 use Rattle.rv_cells.proofs.TokenLanding.{machine_at, token_at, CodeSteps}
 use Rattle.rv_cells.proofs.TokenGiving.{at_give}
 use Rattle.rv_cells.proofs.TokenEntering.{at_call, at_tail}
@@ -52,6 +52,7 @@ use Rattle.rv_cells.proofs.TokenFilling.{at_fill}
 module _ (program : Lowering) where
   -- ---- one step
 
+  -- the step of a form on values, which names no tokens
   at_compute : (x : ℕ) (form : Form) (arguments : List ℕ) (rest : Tokened)
       → CodeSteps program (Tokened.compute x form arguments [] rest)
   at_compute x (Number n) arguments rest = at_plain program x (Number n) arguments [] rest tt
@@ -65,6 +66,7 @@ module _ (program : Lowering) where
   at_compute x (Construct c) (a ∷ more) rest = at_construct program x c a more rest
   at_compute x (Call f) arguments rest = at_call program x f arguments [] rest
 
+  -- a list with a number is not empty
   some_others : (other : ℕ) (others : List ℕ) → other ∷ others ≡ [] → ⊥
   some_others other others is = absurd (cc)
 
@@ -98,6 +100,7 @@ module _ (program : Lowering) where
       Reaches (lower program) (Related program) (Passing program) (pace program) ((upper program).weight s + credit) 1 idle
       ((upper program).step s).0 ((upper program).step s).1 t
 
+  -- a code that stands is stepped
   stands_step : (code : Tokened) (environment : Environment) (inner : List TokenJoin) (frames : List TokenFrame) (heap : Heap)
       (tokens : Tokens) (input : List ℕ) (credit idle : ℕ) (t : AsmTurn World Ending) → credit ≡ saved heap → idle ≡ forms code
       → IsFitFrom program (token_at program code environment inner frames heap tokens input)
@@ -124,6 +127,7 @@ module _ (program : Lowering) where
       at_spot : At program code inner frames tokens input is.spot is.fs is.left
       at_spot = is.at
 
+  -- each state that has not ended is stepped
   steps_by : (control : TokenControl) (frames : List TokenFrame) (heap : Heap) (tokens : Tokens) (input : List ℕ) (credit idle : ℕ)
       (t : AsmTurn World Ending)
       → Related program credit idle (record {
@@ -144,6 +148,7 @@ module _ (program : Lowering) where
   steps_by (TokenControl.stopped by) frames heap tokens input credit idle t related goes = cc goes
   steps_by TokenControl.stuck frames heap tokens input credit idle t related goes = absurd related.stands
 
+  -- states that stand end alike
   ends_alike : (control : TokenControl) (frames : List TokenFrame) (heap : Heap) (tokens : Tokens) (input : List ℕ)
       (t : AsmTurn World Ending)
       → StandsFor program control (record { control = control; frames = frames; heap = heap; tokens = tokens }) input t
@@ -156,6 +161,7 @@ module _ (program : Lowering) where
   ends_alike (TokenControl.stopped by) frames heap tokens input t stands = ap end_of stands.turn_is
   ends_alike TokenControl.stuck frames heap tokens input t stands = absurd stands
 
+  -- a turn that goes on or has ended is not stuck
   goes_not : (t : AsmTurn World Ending) (left : List Line) (f : Frame Line) (fs : List (Frame Line)) (world : World)
       → t ≡ stuck_turn → t ≡ turn_of left f fs world → ⊥
   goes_not t left f fs world is_stuck is = cc (is_stuck, is)
@@ -163,6 +169,7 @@ module _ (program : Lowering) where
   ends_not : (t : AsmTurn World Ending) (how : Ending) (world : World) → t ≡ stuck_turn → t ≡ ended how world → ⊥
   ends_not t how world is_stuck is = cc (is_stuck, is)
 
+  -- no state that stands is stuck
   passes : (control : TokenControl) (c : TokenConfiguration) (input : List ℕ) (t : AsmTurn World Ending)
       → StandsFor program control c input t → Passing program t
   passes (TokenControl.running code environment inner) c input t stands = λ is.
@@ -182,27 +189,11 @@ module _ (program : Lowering) where
 
 -- ---- the start
 
-spent_is_none : (p : ℕ) → spent ≡ token p → ⊥
-spent_is_none p is = absurd (cc)
-
--- where there are no tokens none is on a chain
-none_there : (cells : ℕ) → AreTokens cells [] no_tokens ([] ∷ [])
-none_there cells = record {
-  pooled = record {
-    marks = λ f y p is. absurd (spent_is_none p is);
-    slots = λ f y p is. absurd (plain_is_none f y is);
-    uncounted = λ f y p is. absurd (plain_is_none f y is);
-    there = λ f y p is. absurd (plain_is_none f y is);
-    room = omega arith;
-  };
-  chain = refl;
-  beyond = λ f y far. refl;
-}
-
 module _ (program : Lowering) (main : TokenedFunction) (main_is : slice_get program.code.functions program.code.main ≡ Some main)
     (alone : main.parameters ≡ 0) (lines : Lines) (lines_are : slice_get program.functions program.code.main ≡ Some lines)
     (input : List ℕ) (bytes : All (λ byte. byte < 256) input)
     (fit : IsFitFrom program (token_first_state (setting program) input)) where
+  -- no cell is used, and no variable is bound
   abbrev start_spot : Spot
   start_spot = record {
     address = λ name. 0;
@@ -214,16 +205,7 @@ module _ (program : Lowering) (main : TokenedFunction) (main_is : slice_get prog
     world = first_world program.pool input;
   }
 
-  judged_at_start : IsJudged program.pool.cells [] [] [] [] main.body [] [] [] no_tokens
-  judged_at_start = record {
-    spends = program.spends program.code.main main main_is;
-    waits = refl;
-    slots_are = λ y. refl;
-    apart = tt;
-    waiting = tt;
-    are = none_there program.pool.cells;
-  }
-
+  -- no cell is a token's
   no_token_cells : HaveTokenCells program.pool (λ name. 0) (λ at. nobody) [] no_tokens
   no_token_cells = record {
     are = λ f y p is. absurd (plain_is_none f y is);
@@ -231,6 +213,7 @@ module _ (program : Lowering) (main : TokenedFunction) (main_is : slice_get prog
     number = none_aside program.pool (λ at. nobody) (λ at. refl);
   }
 
+  -- the body of `main` is at its lines
   starts_at : At program main.body [] [] no_tokens input start_spot [] lines.code
   starts_at =
       let low = program.lowered program.code.main main main_is in
@@ -244,7 +227,7 @@ module _ (program : Lowering) (main : TokenedFunction) (main_is : slice_get prog
           result = result_mark program.marks program.code.main;
         };
         lists = record { left = []; unspent = []; held = []; older = [] };
-        judged = judged_at_start;
+        judged = judged_at_start program.pool.cells main.body (program.spends program.code.main main main_is);
         does = record {
           goal = returns;
           given = result_mark program.marks program.code.main;
@@ -291,6 +274,7 @@ module _ (program : Lowering) (main : TokenedFunction) (main_is : slice_get prog
           = subst (λ m. is_among (numbers_from 0 m) x ≡ true) none is in
           cc both
 
+  -- the start of both runs
   pub starts : Related program 0 (forms main.body) (token_first_state (setting program) input)
       (asm_start lines (first_world program.pool input))
   starts =

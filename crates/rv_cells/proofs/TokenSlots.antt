@@ -1,20 +1,16 @@
 -- The lines of the forms on tokens alone: a token is null, freed, or moved.
-use Rattle.std.proofs.Common.{◌≡◌, ◌≢◌, ℕ, suc, ◌+◌, ◌*◌, ◌<◌, ◌≤◌, ◌==◌, Bool, true, false, List, [], ◌∷◌, ◌++◌, length, Option, Some, None, refl, sym, ◌∙◌, ap, subst, arith, ne_eqb}
-use Rattle.std.specs.Prelude.{◌&&◌}
+use Rattle.std.proofs.Common.{◌≡◌, ℕ, ◌+◌, false, List, [], ◌∷◌, ◌++◌, length, Some, None, refl, sym, ◌∙◌, ap, subst, arith}
 use Rattle.kk_syntax.specs.Shapes.{is_among, without}
 use Rattle.kk_source.specs.Actions.{goes}
-use Rattle.kk_counted.specs.TokenKeeping.{Lists, IsJudged, ListsAfter, AreKeptBy}
+use Rattle.kk_counted.specs.TokenKeeping.{Lists, IsJudged}
 use Rattle.kk_counted.specs.TokenMachine.{token_code_step, at_code, to_tokens}
-use Rattle.kk_counted.specs.TokenStates.{TokenJoin, TokenFrame, TokenConfiguration, TokenState}
 use Rattle.kk_counted.specs.TokenedCodes.{Tokened}
-use Rattle.kk_counted.specs.Tokens.{Slot, spent, null, token, is_unspent, plain, token_of, Tokens, is_linked, slots_with, blanked, released, freed}
+use Rattle.kk_counted.specs.Tokens.{spent, null, Tokens, is_linked, blanked, released, freed}
 use Rattle.kk_counted.proofs.Chaining.{equal_one, frames_many, not_linked}
 use Rattle.kk_counted.proofs.Pooling.{slot_here, slot_there, by_null, by_cell}
 use Rattle.kk_counted.proofs.TokenForms.{Has, is_null, has_cell, unspent_has}
 use Rattle.rv_isa.specs.declared.asm.Action.TheVariants.{Compute}
 use Rattle.rv_isa.specs.declared.asm.Operation.TheVariants as Op
-use Rattle.rv_isa.specs.AsmCode.{Line}
-use Rattle.rv_isa.specs.Frames.{Frame}
 use Rattle.rv_lower.specs.Lines.{sets, acts}
 use Rattle.rv_world.specs.World.{with_cells}
 use Rattle.rv_cells.specs.Follows.{nobody, is_aside, with_owner}
@@ -26,9 +22,8 @@ use Rattle.rv_cells.proofs.Spots.{Spot, Here}
 use Rattle.rv_cells.proofs.TokenForms.{nulls_token, frees_token, frees_null}
 use Rattle.rv_cells.proofs.Words.{hand_owned}
 use Rattle.rv_cells.proofs.TokenCells.{cell_goes}
-use Rattle.rv_cells.proofs.TokenFrames.{none_behind, slots_put, slots_moved, all_wait_at}
-use Rattle.rv_cells.proofs.TokenLineCosts.{forms}
-use Rattle.rv_cells.proofs.TokenStanding.{SlotIs, IsTokenCell, HaveTokenCells, HaveSlotValues, held_values, Lowering, AllWait, target, setting, upper, known_of, At, IsFitFrom, Follows_step}
+use Rattle.rv_cells.proofs.TokenFrames.{none_behind, slots_put, all_wait_at}
+use Rattle.rv_cells.proofs.TokenStanding.{SlotIs, IsTokenCell, held_values, Lowering, setting, known_of, Follows_step}
 use Rattle.rv_cells.proofs.TokenLanding.{lands_leads, token_at, machine_at, CodeSteps, silent_goes, seen_action, goes_on, kept_quiet}
 use Rattle.rv_cells.proofs.TokenUniques.{slots_set, another}
 

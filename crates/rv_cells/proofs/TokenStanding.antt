@@ -19,7 +19,7 @@ use Rattle.kk_counted.specs.TokenMachine.{token_machine}
 use Rattle.kk_counted.specs.TokenSpending.{AreTokensSpent}
 use Rattle.kk_counted.specs.TokenStates.{TokenSetting, TokenJoin, TokenFrame, TokenControl, TokenConfiguration, TokenState, bare_configuration}
 use Rattle.kk_counted.specs.TokenedCodes.{Tokened, TokenedFunction, TokenedProgram}
-use Rattle.kk_counted.specs.Tokens.{Slot, spent, null, token, is_unspent, is_token, Mark, token_of, Tokens, is_linked, marked}
+use Rattle.kk_counted.specs.Tokens.{Slot, spent, null, token, is_unspent, is_token, token_of, Tokens, is_linked, marked}
 use Rattle.rv_isa.specs.declared.asm.Action.TheVariants.{Label}
 use Rattle.rv_isa.specs.Processor.{Ending, exited}
 use Rattle.rv_isa.specs.AsmCode.{Line, Lines}
@@ -41,7 +41,7 @@ use Rattle.rv_cells.proofs.Standing.{AreWithin}
 use Rattle.rv_cells.proofs.TokenLineCosts.{forms}
 use Rattle.rv_cells.proofs.Values.{HasValues}
 use Rattle.rv_cells.proofs.Runs.{Target, turn_of, Runs, machine}
-use Rattle.rv_cells.proofs.Spots.{Spot, Known, Here, saved}
+use Rattle.rv_cells.proofs.Spots.{Spot, Known, saved}
 
 -- A program with tokens and its assembler code, with how its values look; the cells that it has; and the depth. `most` is the most
 -- forms of a function.

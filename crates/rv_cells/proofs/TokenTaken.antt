@@ -1,7 +1,7 @@
 -- The newest held token of the frames that wait is taken: its cell has the address that the frames show, and its slot is null then.
-use Rattle.std.proofs.Common.{◌≡◌, ◌≢◌, ℕ, ◌+◌, ◌<◌, ◌==◌, Bool, true, false, List, [], ◌∷◌, length, Option, Some, None, option_map, refl, sym, ◌∙◌, ap, subst, arith}
+use Rattle.std.proofs.Common.{◌≡◌, ◌≢◌, ℕ, ◌+◌, ◌<◌, ◌==◌, Bool, true, false, List, [], ◌∷◌, length, Some, None, option_map, refl, sym, ◌∙◌, ap, subst, arith}
 use Rattle.std.specs.Prelude.{◌&&◌}
-use Rattle.kk_counted.specs.TokenKeeping.{links_of, chain_of}
+use Rattle.kk_counted.specs.TokenKeeping.{chain_of}
 use Rattle.kk_counted.specs.TokenStates.{TokenFrame}
 use Rattle.kk_counted.specs.Tokens.{Slot, null, token, is_unspent, Link, slots_with}
 use Rattle.kk_counted.proofs.Chaining.{equal_one, AllApart, chain_top}

@@ -18,7 +18,7 @@ use Rattle.rv_isa.specs.AsmCode.{Line, Lines}
 use Rattle.rv_lower.specs.Lines.{sets, copies_to, acts, copies, temporaries, Texts}
 use Rattle.rv_lower.specs.Lowered.{Goal, returns, joins, goal_lines, test_lines, from_to}
 use Rattle.rv_cells.specs.Layout.{Layout, header_of}
-use Rattle.rv_cells.specs.CellLines.{FillLines, ReadLines, OpenLines, TokenUniqueLines, dup_lines, drop_lines}
+use Rattle.rv_cells.specs.CellLines.{FillLines, ReadLines, TokenUniqueLines, dup_lines, drop_lines}
 use Rattle.rv_cells.specs.CountedLines.{Setting, ComputeLines, NodesLines}
 
 -- ---- slots
