@@ -33,7 +33,7 @@ use Rattle.rv_cells.specs.declared.decide.Targets.{Targets}
 use Rattle.rv_cells.specs.Layout.{header_of}
 use Rattle.rv_cells.specs.CellLines.{FillLines, ReadLines, dup_lines, drop_lines}
 use Rattle.rv_cells.specs.CountedLines.{Setting, NodesLines}
-use Rattle.rv_cells.specs.TokenedLines.{AskLines, CodeLines, ArmsLines, values_of_slots}
+use Rattle.rv_cells.specs.TokenedLines.{CodeLines, ArmsLines, values_of_slots}
 use Rattle.rv_cells.specs.TokenedWritten.{token_test_lines, WroteFill, WroteAsk, WroteTokened, WroteTokenedArms, WroteTokenedSteps}
 use Rattle.rv_cells.specs.Written.{Facts, setting_in, TookTargets, WroteCountOpening, WroteValue}
 

@@ -4,13 +4,12 @@ use Rattle.std.proofs.Common.{get_or, refl, sym, ap, subst, ◌∙◌, arith, ap
 use Rattle.std.specs.Prelude.{slice_get}
 use Rattle.std.proofs.lemmas.List.{map-append, take_more, take_all}
 use Rattle.kk_core.specs.declared.shape.ConstructorShape.{ConstructorShape}
-use Rattle.kk_core.specs.Sizes.{most_variables}
 use Rattle.kk_counted.specs.BareForms.{bare_function}
 use Rattle.kk_counted.specs.Lowerable.{AreLowerable}
 use Rattle.kk_counted.specs.TokenLengths.{tokened_computes, all_tokened_computes}
-use Rattle.kk_counted.specs.TokenLowerable.{slots_in, most_slots, AreTokensLowerable}
+use Rattle.kk_counted.specs.TokenLowerable.{slots_in, AreTokensLowerable}
 use Rattle.kk_counted.specs.TokenedCodes.{Tokened, TokenedFunction}
-use Rattle.kk_counted.specs.TokenedForms.{tokened_code, tokened_function}
+use Rattle.kk_counted.specs.TokenedForms.{tokened_function}
 use Rattle.kk_counted.specs.declared.shape.Shape.{Shape}
 use Rattle.kk_counted.specs.declared.tokened.TokenedFun.{TokenedFun}
 use Rattle.rv_isa.specs.AsmCode.{Line, Lines}

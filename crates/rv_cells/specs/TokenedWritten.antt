@@ -1,5 +1,5 @@
 -- What was written of a function's assembler code, from its code with tokens.
-use Rattle.std.specs.Prelude.{◌≡◌, ℕ, ◌+◌, Bool, List, ◌++◌, ◌∷◌, [], Some, length}
+use Rattle.std.specs.Prelude.{◌≡◌, ℕ, ◌+◌, List, ◌++◌, ◌∷◌, [], Some, length}
 use Rattle.kk_syntax.specs.declared.program.Form.{Form}
 use Rattle.kk_counted.specs.TokenedCodes.{Tokened}
 use Rattle.kk_counted.specs.TokenedForms.{TokenedMove, plug_tokened, tokened_arms}

@@ -4,7 +4,7 @@ use Rattle.kk_syntax.specs.declared.program.Form.{Form}
 use Rattle.kk_counted.specs.CountedCodes.{Counted}
 use Rattle.kk_counted.specs.CountedForms.{Move, plug, arms_of}
 use Rattle.kk_counted.specs.Lengths as Lengths
-use Rattle.rv_isa.specs.declared.asm.Action.TheVariants.{Compute, Jump, Branch}
+use Rattle.rv_isa.specs.declared.asm.Action.TheVariants.{Jump, Branch}
 use Rattle.rv_isa.specs.declared.asm.Condition.TheVariants.{NotEqual}
 use Rattle.rv_isa.specs.declared.asm.Operation.TheVariants as Op
 use Rattle.rv_isa.specs.declared.asm.ImmediateOperation.TheVariants.{Addi, Andi}

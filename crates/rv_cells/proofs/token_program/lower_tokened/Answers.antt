@@ -2,9 +2,8 @@ use Rattle.std.proofs.Common.{ℕ, ◌<◌, List, ◌∷◌, [], ◌++◌, ◌+�
 use Rattle.std.proofs.lemmas.List.{map-append}
 use Rattle.kk_counted.specs.TokenedCodes.{TokenedFunction}
 use Rattle.kk_counted.specs.TokenedForms.{tokened_function}
-use Rattle.kk_counted.specs.declared.shape.Shape.{Shape}
 use Rattle.rv_isa.specs.AsmCode.{Lines, lines_of}
-use Rattle.rv_cells.specs.TokenedFunctions.{LoweredTokened, LoweredTokenedFunctions}
+use Rattle.rv_cells.specs.TokenedFunctions.{LoweredTokenedFunctions}
 use Rattle.rv_cells.proofs.Grown.{length_mapped}
 use Rattle.rv_cells.proofs.TokenLowered.{tokened_then, tokened_more, tokened_all, tokened_form}
 use Rattle.rv_cells.proofs.token_program.lower_tokened.Goals as goal

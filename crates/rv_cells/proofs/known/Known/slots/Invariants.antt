@@ -1,4 +1,4 @@
-use Rattle.std.proofs.Common.{◌≡◌, map, take}
+use Rattle.std.proofs.Common.{◌≡◌, take}
 use Rattle.rv_cells.specs.TokenedLines.{values_of_slots}
 use Rattle.rv_cells.specs.TokenedWritten.{variables_known}
 use Rattle.rv_cells.proofs.known.Known.slots.Given as goal
