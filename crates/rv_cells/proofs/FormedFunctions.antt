@@ -14,6 +14,7 @@ use Rattle.rv_isa.specs.WellFormed.{most_values, AreDistinct, IsWellFormed, AreW
 use Rattle.rv_lower.specs.Lines.{Texts}
 use Rattle.rv_lower.specs.Lowered.{returns, from_to}
 use Rattle.rv_lower.proofs.Formed.{Readable, Good, HasRoom, all_each}
+use Rattle.rv_lower.proofs.Codes.{Fits}
 use Rattle.rv_lower.proofs.Functions.{among_from_to, from_to_distinct, from_to_length, from_to_each}
 use Rattle.rv_lower.proofs.Operations.{only_bound}
 use Rattle.rv_cells.specs.Layout.{Layout, IsNarrow}
@@ -24,7 +25,6 @@ use Rattle.rv_cells.specs.Meaning.{IsProgramLowered}
 use Rattle.rv_cells.specs.Tables.{table_of, layout_in}
 use Rattle.rv_cells.proofs.Calling.{among_numbers}
 use Rattle.rv_cells.proofs.FormedCodes.{code_fits}
-use Rattle.rv_cells.proofs.FormedSteps.{FitsWhole}
 
 -- a function that can be lowered, and is so
 module _ (layout : Layout) (texts : Texts) (table : CellMarks) (f : ℕ) (function : CountedFunction) (lines : Lines)
@@ -44,9 +44,9 @@ module _ (layout : Layout) (texts : Texts) (table : CellMarks) (f : ℕ) (functi
     low = λ v among. let less = among_parameters v among in let few = is.few in omega (arith, less, few);
   }
 
-  fits : FitsWhole setting.base parameters returns 0 is.lowered.labels lines.code
-  fits = code_fits setting table (result_mark table f) function.body parameters (result_mark table f) returns 0 is.lowered.labels
-      lines.code room is.marked.body_marked is.numbered may.arms may.some_arm may.arities is.lowered.code
+  fits : Fits setting.base parameters parameters returns 0 is.lowered.labels lines.code
+  fits = code_fits setting table (result_mark table f) function.body parameters parameters (result_mark table f) returns 0
+      is.lowered.labels lines.code room (λ v there. there) is.marked.body_marked is.numbered may.arms may.some_arm may.arities is.lowered.code
 
   good : Good (Readable setting.base setting.base parameters) lines.code
   good = subst (Good (Readable setting.base setting.base parameters)) (append-nil lines.code)

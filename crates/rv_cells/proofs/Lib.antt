@@ -47,6 +47,7 @@ pub mod Marks
 pub mod Marking
 pub mod Lowered
 pub mod CellForms
+pub mod FormedOrders
 pub mod FormedSteps
 pub mod FormedUniques
 pub mod FormedTests
