@@ -27,7 +27,7 @@ listed (x ∷ fields) bound v = sym (bound_behind fields bound x v) ∙ listed f
 
 -- what is bound behind fields is so with them
 pub behind : (fields bound outer : List ℕ) → IsWithin outer bound → IsWithin outer (fields ++ bound)
-behind [] bound outer within = within
+behind [] bound outer within v is = within v is
 behind (x ∷ fields) bound outer within v is = or_right (x == v) (is_bound (fields ++ bound) v) (behind fields bound outer within v is)
 
 pub listed_within : (fields bound : List ℕ) → IsWithin (fields ++ bound) (bound_list fields bound)

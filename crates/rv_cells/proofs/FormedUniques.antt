@@ -90,7 +90,7 @@ module _ (base : ℕ) (bound : List ℕ) (has : HasRoom base bound) (holds : ℕ
 
   -- By what is bound behind it: the line for a cell that nothing else refers to, and the lines of the way of a shared cell, lead
   -- there.
-  module _ (behind outer : List ℕ) (room_behind : HasRoom base behind) (goal : Goal) (low high : ℕ) (more : List Line)
+  module _ (behind outer : List ℕ) (goal : Goal) (low high : ℕ) (more : List Line)
       (fits : Fits base behind outer goal (low + 2) high more) (loads : List Line) (all_loads : AllLoads x 2 fields loads)
       (ends : Line) (ends_lead : Leads Taken (Readable base base behind) 1 (ends ∷ [])) (lowered : List Line) (size : ℕ)
       (lowered_lead : Leads Before (Readable base base behind) size lowered) where

@@ -56,6 +56,9 @@ pub mod FormedForms
 pub mod FormedCases
 pub mod FormedCodes
 pub mod FormedFunctions
+pub mod TokenFormedSlots
+pub mod TokenFormedHeld
+pub mod TokenFormedFills
 pub mod FormLengths
 pub mod TestLengths
 pub mod CodeLengths

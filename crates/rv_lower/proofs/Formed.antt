@@ -187,7 +187,7 @@ good_copies base limit last bound (x ∷ xs) rest has is le all good =
     to_temporary base limit bound Mv (x ∷ []) (copies (limit + 1) xs ++ rest) has (omega (arith, is, le)) refl (omega arith) (inl all.0, tt)
     (good_copies base (limit + 1) last bound xs rest has (omega (arith, is)) le all.1 good)
 
-temporaries_above : (at v : ℕ) (xs : List ℕ) → v < at → is_among v (temporaries at xs) ≡ false
+pub temporaries_above : (at v : ℕ) (xs : List ℕ) → v < at → is_among v (temporaries at xs) ≡ false
 temporaries_above at v [] less = refl
 temporaries_above at v (x ∷ xs) less =
     ap (λ b. b || is_among v (temporaries (at + 1) xs)) (ne_eqb at v (λ same. absurd (omega (arith, same, less)))) ∙ temporaries_above (at + 1) v xs (omega (arith, less))
