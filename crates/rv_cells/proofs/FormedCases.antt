@@ -2,6 +2,9 @@
 use Rattle.std.proofs.Common.{◌≡◌, ℕ, zero, suc, ◌+◌, ◌<◌, ◌≤◌, ◌⊎◌, inl, inr, true, List, [], ◌∷◌, ◌++◌, length, IsSome, refl}
 use Rattle.std.proofs.Common.{sym, ap, subst, ◌∙◌, arith, append_assoc}
 use Rattle.kk_syntax.specs.Shapes.{is_among as is_bound}
+use Rattle.kk_counted.specs.Arms.{arm_count}
+use Rattle.kk_counted.specs.CountBounds.{HasAnArm}
+use Rattle.kk_counted.specs.CountedCodes.{CountedArms, no_arm, arm}
 use Rattle.kk_core.specs.Decisions.{NodeTree, AreOrderly}
 use Rattle.rv_isa.specs.declared.asm.Action.TheVariants.{Label}
 use Rattle.rv_isa.specs.AsmCode.{Line}
@@ -15,6 +18,11 @@ use Rattle.rv_cells.specs.Layout.{Layout}
 use Rattle.rv_cells.specs.CountedLines.{NodesLines}
 use Rattle.rv_cells.proofs.FormedTests.{StandsAhead, stands_past}
 use Rattle.rv_cells.proofs.FormedNodes.{NameLater, nodes_none, nodes_good}
+
+-- a case that has an arm has some
+pub some_arm : (arms : CountedArms) → HasAnArm arms → 0 < arm_count arms
+some_arm no_arm some = absurd some
+some_arm (arm body rest) some = omega arith
 
 -- the arms before well-formed code: their labels stand there, and where there is an arm only what is bound is alive before them
 pub record ArmsGood (base : ℕ) (bound : List ℕ) (label rows : ℕ) (code : List Line) : Type 0 where

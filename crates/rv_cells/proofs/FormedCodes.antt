@@ -1,9 +1,9 @@
 -- The lines of a code that can be lowered are well formed, and have only its own labels.
-use Rattle.std.proofs.Common.{◌≡◌, ℕ, suc, ◌+◌, ◌<◌, ◌≤◌, ◌==◌, Bool, true, List, [], ◌∷◌, ◌++◌, length, sym, subst, arith}
+use Rattle.std.proofs.Common.{◌≡◌, ℕ, suc, ◌+◌, ◌≤◌, ◌==◌, Bool, true, List, [], ◌∷◌, ◌++◌, length, sym, subst, arith}
 use Rattle.std.proofs.lemmas.Bool.{or_right}
 use Rattle.kk_syntax.specs.Shapes.{is_among as is_bound}
 use Rattle.kk_counted.specs.Arms.{HasArms, HaveArms, arm_count}
-use Rattle.kk_counted.specs.CountBounds.{HasAnArm, EachHasAnArm, AllHaveAnArm}
+use Rattle.kk_counted.specs.CountBounds.{EachHasAnArm, AllHaveAnArm}
 use Rattle.kk_counted.specs.CountedCodes.{Counted, give, tail_call, branch, case, compute, inside, read, open_cell, if_unique}
 use Rattle.kk_counted.specs.CountedCodes.{dup, drop, CountedArms, no_arm, arm}
 use Rattle.kk_counted.specs.Lowerable.{AreNumbered, AreArmsNumbered, HasArities, HaveArities}
@@ -13,15 +13,11 @@ use Rattle.rv_lower.specs.Lowered.{Goal, joins, goal_lines, tail_lines}
 use Rattle.rv_lower.proofs.Formed.{HasRoom, IsWithin, room_more}
 use Rattle.rv_lower.proofs.Codes.{Fits, fits_give, fits_tail_call, fits_branch, fits_inside}
 use Rattle.rv_cells.specs.CountedLines.{Setting, CodeLines, ArmsLines}
-use Rattle.rv_cells.proofs.FormedCases.{ArmsFit, arms_none, arms_more, fits_case}
+use Rattle.rv_cells.proofs.FormedCases.{some_arm, ArmsFit, arms_none, arms_more, fits_case}
 use Rattle.rv_cells.proofs.FormedForms.{fits_form}
 use Rattle.rv_cells.proofs.FormedOrders.{behind, room_front, fits_front}
 use Rattle.rv_cells.proofs.FormedSteps.{all_bound, fits_dup, fits_drop, fits_read, fits_open}
 use Rattle.rv_cells.proofs.FormedUniques.{fits_unique}
-
-pub some_arm : (arms : CountedArms) → HasAnArm arms → 0 < arm_count arms
-some_arm no_arm some = absurd some
-some_arm (arm body rest) some = omega arith
 
 -- ---- codes
 

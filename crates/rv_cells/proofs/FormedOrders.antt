@@ -5,7 +5,7 @@ use Rattle.kk_counted.specs.Lowerable.{AreBelow, bound_list}
 use Rattle.kk_syntax.specs.Shapes.{is_among as is_bound}
 use Rattle.rv_isa.specs.AsmCode.{Line}
 use Rattle.rv_lower.specs.Lowered.{Goal}
-use Rattle.rv_lower.proofs.Formed.{HasRoom, IsWithin}
+use Rattle.rv_lower.proofs.Formed.{HasRoom, IsWithin, within_more}
 use Rattle.rv_lower.proofs.Codes.{Fits, fits_weaker}
 use Rattle.rv_cells.proofs.CellForms.{room_list}
 
@@ -29,6 +29,12 @@ listed (x ∷ fields) bound v = sym (bound_behind fields bound x v) ∙ listed f
 pub behind : (fields bound outer : List ℕ) → IsWithin outer bound → IsWithin outer (fields ++ bound)
 behind [] bound outer within v is = within v is
 behind (x ∷ fields) bound outer within v is = or_right (x == v) (is_bound (fields ++ bound) v) (behind fields bound outer within v is)
+
+-- so is what is bound before fields and with them
+pub front_within : (fields bound more : List ℕ) → IsWithin bound more → IsWithin (fields ++ bound) (fields ++ more)
+front_within [] bound more within v is = within v is
+front_within (x ∷ fields) bound more within v is =
+    within_more (fields ++ bound) (fields ++ more) x (front_within fields bound more within) v is
 
 pub listed_within : (fields bound : List ℕ) → IsWithin (fields ++ bound) (bound_list fields bound)
 listed_within fields bound v is = sym (listed fields bound v) ∙ is

@@ -59,6 +59,8 @@ pub mod FormedFunctions
 pub mod TokenFormedSlots
 pub mod TokenFormedHeld
 pub mod TokenFormedFills
+pub mod TokenFormedCodes
+pub mod TokenFormedFunctions
 pub mod FormLengths
 pub mod TestLengths
 pub mod CodeLengths

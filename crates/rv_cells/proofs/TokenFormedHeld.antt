@@ -17,7 +17,7 @@ use Rattle.rv_isa.specs.WellFormed.{IsSpent, IsLineFormed, AreLinesFormed, AreTo
 use Rattle.rv_isa.proofs.TokensHeld.{held_from, held_to, held_over}
 use Rattle.rv_lower.specs.Lines.{acts, copies_to, copies, temporaries}
 use Rattle.rv_lower.specs.Lowered.{Goal}
-use Rattle.rv_lower.proofs.Formed.{AllBound, Each, Readable, Good, HasRoom, alive_line, none_some, some_same, computes_formed}
+use Rattle.rv_lower.proofs.Formed.{AllBound, Each, Readable, IsWithin, readable_within, Good, HasRoom, alive_line, none_some, some_same, computes_formed}
 use Rattle.rv_lower.proofs.Formed.{readable_small, temporary_left, variable_left, hands_formed, hands_alive, temporaries_above}
 use Rattle.rv_lower.proofs.AbsentLabels.{HasNo, has_no_append}
 use Rattle.rv_lower.proofs.Operations.{only_bound, copied}
@@ -200,6 +200,16 @@ module _ (base : ℕ) (bound outer : List ℕ) (goal : Goal) (low high : ℕ) (l
     none = fits.none;
     good = λ tail ahead. good_none (Readable base base bound) (lines ++ tail) (fits.good tail ahead);
   }
+
+-- more may be bound before the lines
+pub held_weaker : (base : ℕ) (held bound more outer : List ℕ) (goal : Goal) (low high : ℕ) (lines : List Line) → IsWithin bound more
+    → FitsHeld base held bound outer goal low high lines → FitsHeld base held more outer goal low high lines
+held_weaker base held bound more outer goal low high lines within fits = record {
+  up = fits.up;
+  none = fits.none;
+  good = λ tail ahead. holding_weaker held (Readable base base bound) (Readable base base more) (lines ++ tail)
+      (readable_within base base bound more within) (fits.good tail ahead);
+}
 
 module _ (base : ℕ) (held bound outer : List ℕ) (has : HasRoom base bound) (goal : Goal) (low high : ℕ) (more : List Line) where
   pub fits_hold : (y : ℕ) → is_bound bound y ≡ true → is_bound held y ≡ false
