@@ -38,7 +38,7 @@ use Rattle.rv_isa.specs.declared.asm.Operation.{Operation}
 use Rattle.rv_isa.specs.declared.asm.Operation.TheVariants as Op
 use Rattle.rv_isa.specs.declared.routine.Routine.TheVariants.{Take, Drop}
 use Rattle.rv_isa.specs.AsmCode.{Line}
-use Rattle.rv_isa.specs.WellFormed.{most_values, IsSpent}
+use Rattle.rv_isa.specs.WellFormed.{most_values, IsSpent, IsLineFormed}
 use Rattle.rv_lower.specs.Lines.{sets, copies_to, acts}
 use Rattle.rv_lower.proofs.Formed.{
   Each,
@@ -51,6 +51,7 @@ use Rattle.rv_lower.proofs.Formed.{
   alive_line,
   to_variable,
   to_temporary,
+  variable_left,
   good_hands,
   readable_small,
   readable_more,
@@ -207,37 +208,58 @@ module _ (base : ℕ) where
       (drop_leads bound holds x has are.0) (drops_lead bound holds xs has are.1))
 
   -- a cell is taken
+  pub take_formed : (bound : List ℕ) (x : ℕ) (rest : List Line) → HasRoom base bound → x < base
+      → IsLineFormed (record { action = Routine Take; args = []; into = Some x }) rest
+  take_formed bound x rest has less = record {
+    labels = tt;
+    few = omega arith;
+    gives = λ _. refl;
+    distinct = λ _. tt;
+    spent = λ _. All-nil (IsSpent (record { action = Routine Take; args = []; into = Some x }) rest);
+    args_small = All-nil (λ v. v < most_values);
+    into_small = λ v is. subst (λ (y : ℕ). y < most_values) (some_same is) (omega (arith, less, has.room));
+  }
+
   pub take_leads : (bound : List ℕ) (x : ℕ) → HasRoom base bound → x < base
       → Leads (Bound bound) (Bound (x ∷ bound)) 1 (record { action = Routine Take; args = []; into = Some x } ∷ [])
   take_leads bound x has less = record {
     no_label = λ l. (refl, tt);
     few = omega arith;
     good = λ rest good. record {
-      formed = formed_more (record { action = Routine Take; args = []; into = Some x }) rest
-          (record {
-            labels = tt;
-            few = omega arith;
-            gives = λ _. refl;
-            distinct = λ _. tt;
-            spent = λ _. All-nil (IsSpent (record { action = Routine Take; args = []; into = Some x }) rest);
-            args_small = All-nil (λ v. v < most_values);
-            into_small = λ v is. subst (λ (y : ℕ). y < most_values) (some_same is) (omega (arith, less, has.room));
-          })
-          tt good.formed;
+      formed = formed_more (record { action = Routine Take; args = []; into = Some x }) rest (take_formed bound x rest has less) tt
+          good.formed;
       alive = alive_line (Bound bound) (record { action = Routine Take; args = []; into = Some x }) rest tt
-          (λ v other is. other_bound v other (good.alive v is));
+          (λ v other is. variable_left base base bound x v (good.alive v is) other);
     };
   }
+
+  -- its words are stored
+  pub build_leads : (bound : List ℕ) (x header : ℕ) (arguments : List ℕ) (head count : Line) (stores : List Line)
+      → HasRoom base bound → is_bound bound x ≡ true → AreBound bound arguments → Stores x 1 base head
+      → AllStores x 2 arguments stores → Stores x 0 base count
+      → Leads (Bound bound) (Bound bound) (4 + length arguments) (sets header base ∷ head ∷ (stores ++ sets 1 base ∷ count ∷ []))
+  build_leads bound x header arguments head count stores room here are heads all_stores counts =
+      leads_weaker (Bound bound) (Bound bound) (Bound bound) (Bound bound) (1 + (1 + (length arguments + (1 + 1))))
+      (4 + length arguments) (sets header base ∷ head ∷ (stores ++ sets 1 base ∷ count ∷ [])) (λ v is. is) (λ v is. is) (omega arith)
+      (leads_then (Bound bound) Word (Bound bound) 1 (1 + (length arguments + (1 + 1))) (sets header base ∷ [])
+      (head ∷ (stores ++ sets 1 base ∷ count ∷ []))
+      (next_temporary base bound room base (Op.Li header) [] (omega arith) refl (omega arith) tt)
+      (leads_then Word Word (Bound bound) 1 (length arguments + (1 + 1)) (head ∷ []) (stores ++ sets 1 base ∷ count ∷ [])
+      (one_store bound (base + 1) x 1 base head room (omega arith) (inl here) (inr (omega arith, omega arith)) heads)
+      (leads_then Word Word (Bound bound) (length arguments) (1 + 1) stores (sets 1 base ∷ count ∷ [])
+      (stores_lead bound (base + 1) x 2 arguments stores room (omega arith) here are all_stores)
+      (leads_then Word Word (Bound bound) 1 1 (sets 1 base ∷ []) (count ∷ [])
+      (leads_weaker (Bound bound) Word Word Word 1 1 (sets 1 base ∷ [])
+      (λ v is. readable_more base base (base + 1) bound (omega arith) v is) (λ v is. is) (omega arith)
+      (next_temporary base bound room base (Op.Li 1) [] (omega arith) refl (omega arith) tt))
+      (leads_weaker Word Word Word (Bound bound) 1 1 (count ∷ []) (λ v is. is)
+      (λ v is. readable_more base base (base + 1) bound (omega arith) v is) (omega arith)
+      (one_store bound (base + 1) x 0 base count room (omega arith) (inl here) (inr (omega arith, omega arith)) counts))))))
     where
-      left : (v : ℕ) → (x == v) ≡ false → ((x == v) ≡ true) ⊎ (is_bound bound v ≡ true) → is_bound bound v ≡ true
-      left v other (inl same) = absurd (false≢true (sym other ∙ same))
-      left v other (inr is) = is
+      Word : ℕ → Type 0
+      Word = Readable base (base + 1) bound
 
-      other_bound : (v : ℕ) → (x == v) ≡ false → Bound (x ∷ bound) v → Bound bound v
-      other_bound v other (inl is) = inl (left v other (or_cases (x == v) (is_bound bound v) is))
-      other_bound v other (inr is) = inr is
-
-  bound_later : (bound : List ℕ) (x : ℕ) (xs : List ℕ) → AreBound bound xs → AreBound (x ∷ bound) xs
+  pub bound_later : (bound : List ℕ) (x : ℕ) (xs : List ℕ) → AreBound bound xs → AreBound (x ∷ bound) xs
   bound_later bound x [] are = tt
   bound_later bound x (y ∷ xs) are = (or_right (x == y) (is_bound bound y) are.0, bound_later bound x xs are.1)
 
@@ -247,40 +269,15 @@ module _ (base : ℕ) where
       → Leads (Bound bound) (Bound (x ∷ bound)) (5 + length arguments) lines
   construct_leads bound x header arguments lines has less are own =
       subst (Leads (Bound bound) (Bound (x ∷ bound)) (5 + length arguments)) (sym own.6)
-      (leads_weaker (Bound bound) (Bound bound) (Bound (x ∷ bound)) (Bound (x ∷ bound))
-      (1 + (1 + (1 + (length arguments + (1 + 1))))) (5 + length arguments)
-      (taken ∷ sets header base ∷ own.0 ∷ (own.1 ++ sets 1 base ∷ own.2 ∷ [])) (λ v is. is) (λ v is. is) (omega arith)
-      (leads_then (Bound bound) (Bound (x ∷ bound)) (Bound (x ∷ bound)) 1 (1 + (1 + (length arguments + (1 + 1)))) (taken ∷ [])
-      (sets header base ∷ own.0 ∷ (own.1 ++ sets 1 base ∷ own.2 ∷ [])) (take_leads bound x has less)
-      (leads_then (Bound (x ∷ bound)) (Readable base (base + 1) (x ∷ bound)) (Bound (x ∷ bound)) 1
-      (1 + (length arguments + (1 + 1))) (sets header base ∷ []) (own.0 ∷ (own.1 ++ sets 1 base ∷ own.2 ∷ []))
-      (next_temporary base (x ∷ bound) room base (Op.Li header) [] (omega arith) refl (omega arith) tt)
-      (leads_then (Readable base (base + 1) (x ∷ bound)) (Readable base (base + 1) (x ∷ bound)) (Bound (x ∷ bound)) 1
-      (length arguments + (1 + 1)) (own.0 ∷ []) (own.1 ++ sets 1 base ∷ own.2 ∷ [])
-      (one_store (x ∷ bound) (base + 1) x 1 base own.0 room (omega arith) (inl here) (inr (omega arith, omega arith)) own.3)
-      (leads_then (Readable base (base + 1) (x ∷ bound)) (Readable base (base + 1) (x ∷ bound)) (Bound (x ∷ bound))
-      (length arguments) (1 + 1) own.1 (sets 1 base ∷ own.2 ∷ [])
-      (stores_lead (x ∷ bound) (base + 1) x 2 arguments own.1 room (omega arith) here (bound_later bound x arguments are) own.4)
-      (leads_then (Readable base (base + 1) (x ∷ bound)) (Readable base (base + 1) (x ∷ bound)) (Bound (x ∷ bound)) 1 1
-      (sets 1 base ∷ []) (own.2 ∷ [])
-      (leads_weaker (Bound (x ∷ bound)) (Readable base (base + 1) (x ∷ bound)) (Readable base (base + 1) (x ∷ bound))
-      (Readable base (base + 1) (x ∷ bound)) 1 1 (sets 1 base ∷ [])
-      (λ v is. readable_more base base (base + 1) (x ∷ bound) (omega arith) v is)
-      (λ v is. is) (omega arith)
-      (next_temporary base (x ∷ bound) room base (Op.Li 1) [] (omega arith) refl (omega arith) tt))
-      (leads_weaker (Readable base (base + 1) (x ∷ bound)) (Readable base (base + 1) (x ∷ bound))
-      (Readable base (base + 1) (x ∷ bound)) (Bound (x ∷ bound)) 1 1 (own.2 ∷ []) (λ v is. is)
-      (λ v is. readable_more base base (base + 1) (x ∷ bound) (omega arith) v is) (omega arith)
-      (one_store (x ∷ bound) (base + 1) x 0 base own.2 room (omega arith) (inl here) (inr (omega arith, omega arith)) own.5))))))))
-    where
-      taken : Line
-      taken = record { action = Routine Take; args = []; into = Some x }
-
-      room : HasRoom base (x ∷ bound)
-      room = room_more base bound x has less
-
-      here : is_bound (x ∷ bound) x ≡ true
-      here = or_left (x == x) (is_bound bound x) (eq-eqb x x refl)
+      (leads_weaker (Bound bound) (Bound bound) (Bound (x ∷ bound)) (Bound (x ∷ bound)) (1 + (4 + length arguments))
+      (5 + length arguments)
+      (record { action = Routine Take; args = []; into = Some x } ∷ sets header base ∷ own.0 ∷ (own.1 ++ sets 1 base ∷ own.2 ∷ []))
+      (λ v is. is) (λ v is. is) (omega arith)
+      (leads_then (Bound bound) (Bound (x ∷ bound)) (Bound (x ∷ bound)) 1 (4 + length arguments)
+      (record { action = Routine Take; args = []; into = Some x } ∷ []) (sets header base ∷ own.0 ∷ (own.1 ++ sets 1 base ∷ own.2 ∷ []))
+      (take_leads bound x has less)
+      (build_leads (x ∷ bound) x header arguments own.0 own.2 own.1 (room_more base bound x has less)
+      (or_left (x == x) (is_bound bound x) (eq-eqb x x refl)) (bound_later bound x arguments are) own.3 own.4 own.5)))
 
   -- what is bound behind fields
   pub room_list : (bound xs : List ℕ) → HasRoom base bound → AreBelow base xs → HasRoom base (bound_list xs bound)

@@ -2,6 +2,9 @@
 use Rattle.std.proofs.Common.{◌≡◌, ℕ, zero, suc, ◌+◌, ◌<◌, ◌≤◌, ◌⊎◌, inl, inr, true, List, [], ◌∷◌, ◌++◌, length, IsSome, refl}
 use Rattle.std.proofs.Common.{sym, ap, subst, ◌∙◌, arith, append_assoc}
 use Rattle.kk_syntax.specs.Shapes.{is_among as is_bound}
+use Rattle.kk_counted.specs.Arms.{arm_count}
+use Rattle.kk_counted.specs.CountBounds.{HasAnArm}
+use Rattle.kk_counted.specs.CountedCodes.{CountedArms, no_arm, arm}
 use Rattle.kk_core.specs.Decisions.{NodeTree, AreOrderly}
 use Rattle.rv_isa.specs.declared.asm.Action.TheVariants.{Label}
 use Rattle.rv_isa.specs.AsmCode.{Line}
@@ -13,9 +16,13 @@ use Rattle.rv_lower.proofs.AbsentLabels.{HasNo, has_no_append, found_here, alive
 use Rattle.rv_lower.proofs.Codes.{Ahead, Fits, good_label, goal_up, goal_later}
 use Rattle.rv_cells.specs.Layout.{Layout}
 use Rattle.rv_cells.specs.CountedLines.{NodesLines}
-use Rattle.rv_cells.proofs.FormedSteps.{FitsWhole}
 use Rattle.rv_cells.proofs.FormedTests.{StandsAhead, stands_past}
 use Rattle.rv_cells.proofs.FormedNodes.{NameLater, nodes_none, nodes_good}
+
+-- a case that has an arm has some
+pub some_arm : (arms : CountedArms) → HasAnArm arms → 0 < arm_count arms
+some_arm no_arm some = absurd some
+some_arm (arm body rest) some = omega arith
 
 -- the arms before well-formed code: their labels stand there, and where there is an arm only what is bound is alive before them
 pub record ArmsGood (base : ℕ) (bound : List ℕ) (label rows : ℕ) (code : List Line) : Type 0 where
@@ -24,14 +31,14 @@ pub record ArmsGood (base : ℕ) (bound : List ℕ) (label rows : ℕ) (code : L
   pub alive : 0 < rows → (v : ℕ) → is_alive v code ≡ true → Readable base base bound v
 
 -- The lines of so many arms, whose labels are those from `label` on, and those in their code from `low` on, below `high`.
-pub record ArmsFit (base : ℕ) (bound : List ℕ) (goal : Goal) (label rows low high : ℕ) (lines : List Line) : Type 0 where
+pub record ArmsFit (base : ℕ) (bound outer : List ℕ) (goal : Goal) (label rows low high : ℕ) (lines : List Line) : Type 0 where
   pub up : low ≤ high
   pub outside : (l : ℕ) → (l < label) ⊎ (high ≤ l) → HasNo l lines
   pub between : (l : ℕ) → label + rows ≤ l → l < low → HasNo l lines
-  pub good : (tail : List Line) → Ahead base bound goal label high tail → ArmsGood base bound label rows (lines ++ tail)
+  pub good : (tail : List Line) → Ahead base outer goal label high tail → ArmsGood base bound label rows (lines ++ tail)
 
-pub arms_none : (base : ℕ) (bound : List ℕ) (goal : Goal) (label low : ℕ) → ArmsFit base bound goal label 0 low low []
-arms_none base bound goal label low = record {
+pub arms_none : (base : ℕ) (bound outer : List ℕ) (goal : Goal) (label low : ℕ) → ArmsFit base bound outer goal label 0 low low []
+arms_none base bound outer goal label low = record {
   up = omega arith;
   outside = λ l apart. tt;
   between = λ l le less. tt;
@@ -43,8 +50,8 @@ arms_none base bound goal label low = record {
 }
 
 -- an arm before others
-module _ (base : ℕ) (bound : List ℕ) (goal : Goal) (label rows low middle high n : ℕ) (first more : List Line)
-    (one : Fits base bound goal low middle n first) (rest : ArmsFit base bound goal (label + 1) rows middle high more)
+module _ (base : ℕ) (bound outer : List ℕ) (goal : Goal) (label rows low middle high : ℕ) (first more : List Line)
+    (one : Fits base bound outer goal low middle first) (rest : ArmsFit base bound outer goal (label + 1) rows middle high more)
     (under : label + suc rows ≤ low) where
   abbrev Bound : ℕ → Type 0
   Bound = Readable base base bound
@@ -70,7 +77,7 @@ module _ (base : ℕ) (bound : List ℕ) (goal : Goal) (label rows low middle hi
       arm_none l (λ same. absurd (omega (arith, same, le))) (one.none l (inl less))
       (rest.between l (omega (arith, le)) (omega (arith, less, up)))
 
-  module _ (tail : List Line) (ahead : Ahead base bound goal label high tail) where
+  module _ (tail : List Line) (ahead : Ahead base outer goal label high tail) where
     abbrev behind : List Line
     behind = more ++ tail
 
@@ -81,7 +88,7 @@ module _ (base : ℕ) (bound : List ℕ) (goal : Goal) (label rows low middle hi
     later = rest.good tail (record {
       formed = ahead.formed;
       fresh = λ l le less. ahead.fresh l (omega (arith, le)) less;
-      goal_ahead = goal_up base bound goal label (label + 1) tail (omega arith) ahead.goal_ahead;
+      goal_ahead = goal_up base outer goal label (label + 1) tail (omega arith) ahead.goal_ahead;
     })
 
     fresh : (l : ℕ) → low ≤ l → l < middle → HasNo l behind
@@ -94,7 +101,7 @@ module _ (base : ℕ) (bound : List ℕ) (goal : Goal) (label rows low middle hi
     body = one.good behind (record {
       formed = later.formed;
       fresh = fresh;
-      goal_ahead = goal_later base bound goal label low more tail (omega (arith, under))
+      goal_ahead = goal_later base outer goal label low more tail (omega (arith, under))
           (λ l less. rest.outside l (inl (omega (arith, less)))) ahead.goal_ahead;
     })
 
@@ -125,7 +132,7 @@ module _ (base : ℕ) (bound : List ℕ) (goal : Goal) (label rows low middle hi
     arm_good : ArmsGood base bound label (suc rows) labelled_lines
     arm_good = record { formed = labelled.formed; stands = stands; alive = λ some. labelled.alive }
 
-  pub arms_more : ArmsFit base bound goal label (suc rows) low high arm_lines
+  pub arms_more : ArmsFit base bound outer goal label (suc rows) low high arm_lines
   arms_more = record {
     up = let up = one.up in let far = rest.up in omega (arith, up, far);
     outside = outside;
@@ -135,11 +142,11 @@ module _ (base : ℕ) (bound : List ℕ) (goal : Goal) (label rows low middle hi
   }
 
 -- decisions before their arms, of which there is one at least
-module _ (base : ℕ) (bound : List ℕ) (has : HasRoom base bound) (layout : Layout) (x : ℕ) (is_x : is_bound bound x ≡ true)
+module _ (base : ℕ) (bound outer : List ℕ) (has : HasRoom base bound) (layout : Layout) (x : ℕ) (is_x : is_bound bound x ≡ true)
     (goal : Goal) (low rows nodes high : ℕ) (decisions : List NodeTree) (orderly : AreOrderly decisions rows) (some : 0 < rows)
     (nodes_are : nodes ≡ low + rows) (choice bodies : List Line)
     (choice_is : NodesLines layout base nodes low x 0 decisions choice)
-    (arms : ArmsFit base bound goal low rows (nodes + length decisions) high bodies) where
+    (arms : ArmsFit base bound outer goal low rows (nodes + length decisions) high bodies) where
   abbrev Before : ℕ → Type 0
   Before = Readable base base bound
 
@@ -162,7 +169,7 @@ module _ (base : ℕ) (bound : List ℕ) (has : HasRoom base bound) (layout : La
     λ i row node at among. orderly.below i row node at among,
   )
 
-  module _ (tail : List Line) (ahead : Ahead base bound goal low high tail) where
+  module _ (tail : List Line) (ahead : Ahead base outer goal low high tail) where
     bodies_good : ArmsGood base bound low rows (bodies ++ tail)
     bodies_good = arms.good tail ahead
 
@@ -177,10 +184,9 @@ module _ (base : ℕ) (bound : List ℕ) (has : HasRoom base bound) (layout : La
         bodies_good.stands (record { formed = bodies_good.formed; alive = bodies_good.alive some }) 0 decisions choice
         (omega arith) choice_is names fresh_nodes).0
 
-  pub fits_case : FitsWhole base bound goal low high (choice ++ bodies)
+  pub fits_case : Fits base bound outer goal low high (choice ++ bodies)
   fits_case = record {
     up = let up = arms.up in omega (arith, up, nodes_are);
     none = case_none;
-    few = omega arith;
     good = λ tail ahead. subst (Good Before) (sym (append_assoc choice bodies tail)) (case_good tail ahead);
   }

@@ -13,10 +13,10 @@ use Rattle.rv_lower.proofs.Operations.{Leads, HasArguments, form_serves, call_li
 use Rattle.rv_lower.proofs.Codes.{Fits}
 use Rattle.rv_cells.specs.Layout.{header_of}
 use Rattle.rv_cells.specs.CountedLines.{Setting, ComputeLines}
-use Rattle.rv_cells.proofs.FormedSteps.{all_bound, FitsWhole, fits_step, fits_construct}
+use Rattle.rv_cells.proofs.FormedSteps.{all_bound, fits_step, fits_construct}
 
-module _ (setting : Setting) (bound : List ℕ) (has : HasRoom setting.base bound) (x : ℕ) (less : x < setting.base) (goal : Goal)
-    (low high n : ℕ) (more : List Line) (fits : Fits setting.base (x ∷ bound) goal low high n more) where
+module _ (setting : Setting) (bound outer : List ℕ) (has : HasRoom setting.base bound) (x : ℕ) (less : x < setting.base)
+    (goal : Goal) (low high : ℕ) (more : List Line) (fits : Fits setting.base (x ∷ bound) outer goal low high more) where
   abbrev Before : ℕ → Type 0
   Before = Readable setting.base setting.base bound
 
@@ -24,13 +24,13 @@ module _ (setting : Setting) (bound : List ℕ) (has : HasRoom setting.base boun
   Behind = Readable setting.base setting.base (x ∷ bound)
 
   leads_fit : (m : ℕ) (lines : List Line) → Leads Before Behind m lines
-      → FitsWhole setting.base bound goal low high (lines ++ more)
-  leads_fit m lines leads = fits_step setting.base bound (x ∷ []) goal low high n m lines more leads fits
+      → Fits setting.base bound outer goal low high (lines ++ more)
+  leads_fit m lines leads = fits_step setting.base bound (x ∷ bound) outer goal low high m lines more leads fits
 
   -- a form that calls and constructs nothing
   typed_fits : (of : Form) (arguments : List ℕ) (lines : List Line)
       → HasArguments of arguments → AreBound bound arguments
-      → FormLines setting.base setting.texts x of arguments lines → FitsWhole setting.base bound goal low high (lines ++ more)
+      → FormLines setting.base setting.texts x of arguments lines → Fits setting.base bound outer goal low high (lines ++ more)
   typed_fits of arguments lines as_many are is =
       leads_fit 9 lines
       (form_serves setting.base bound has x less setting.texts of arguments lines as_many (all_bound bound arguments are) is)
@@ -45,7 +45,7 @@ module _ (setting : Setting) (bound : List ℕ) (has : HasRoom setting.base boun
   }
 
   pub fits_form : (of : Form) (arguments : List ℕ) (lines : List Line) → HasArity of arguments → AreBound bound arguments
-      → ComputeLines setting x of arguments lines → FitsWhole setting.base bound goal low high (lines ++ more)
+      → ComputeLines setting x of arguments lines → Fits setting.base bound outer goal low high (lines ++ more)
   fits_form (Number value) arguments lines arity are is = typed_fits (Number value) [] lines tt tt is
   fits_form Nothing arguments lines arity are is = typed_fits Nothing [] lines tt tt is
   fits_form ReadByte arguments lines arity are is = typed_fits ReadByte [] lines tt tt is
@@ -58,11 +58,11 @@ module _ (setting : Setting) (bound : List ℕ) (has : HasRoom setting.base boun
   fits_form (Print how) arguments lines arity are is =
       typed_fits (Print how) arguments lines arity are is
   fits_form (Construct c) [] lines arity are is =
-      subst (λ (own : List Line). FitsWhole setting.base bound goal low high (own ++ more)) (sym is)
+      subst (λ (own : List Line). Fits setting.base bound outer goal low high (own ++ more)) (sym is)
       (leads_fit 1 (sets (2 * setting.layout.tag c + 1) x ∷ []) (word_leads (2 * setting.layout.tag c + 1)))
   fits_form (Construct c) (a ∷ arguments) lines arity are is =
-      fits_construct setting.base bound has goal low high n more x (header_of setting.layout c) (a ∷ arguments) lines less are is
+      fits_construct setting.base bound outer has goal low high more x (header_of setting.layout c) (a ∷ arguments) lines less are is
       fits
   fits_form (Call f) arguments lines arity are is =
-      subst (λ (own : List Line). FitsWhole setting.base bound goal low high (own ++ more)) (sym is)
+      subst (λ (own : List Line). Fits setting.base bound outer goal low high (own ++ more)) (sym is)
       (leads_fit 9 _ (call_lines setting.base bound has x less f arguments arity (all_bound bound arguments are)))

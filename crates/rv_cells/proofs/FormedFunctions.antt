@@ -1,5 +1,5 @@
 -- The functions of a program that can be lowered, and is so, are well formed: and the program is one that the simulation takes.
-use Rattle.std.proofs.Common.{◌≡◌, ℕ, suc, ◌<◌, ◌≤◌, true, List, [], ◌∷◌, length, Some, All, refl, sym, subst, arith}
+use Rattle.std.proofs.Common.{◌≡◌, ℕ, ◌<◌, ◌≤◌, true, List, [], length, Some, All, refl, sym, subst, arith}
 use Rattle.std.proofs.Common.{append-nil}
 use Rattle.std.specs.Prelude.{slice_get}
 use Rattle.kk_syntax.specs.Shapes.{is_among as is_bound}
@@ -10,10 +10,11 @@ use Rattle.kk_counted.specs.Spending.{numbers_from}
 use Rattle.kk_counted.specs.declared.shape.Shape.{Shape}
 use Rattle.rv_isa.specs.AsmCode.{Lines}
 use Rattle.rv_isa.specs.Frames.{is_among}
-use Rattle.rv_isa.specs.WellFormed.{most_values, AreDistinct, IsWellFormed, AreWellFormed}
+use Rattle.rv_isa.specs.WellFormed.{most_values, AreDistinct, IsWellFormed}
 use Rattle.rv_lower.specs.Lines.{Texts}
 use Rattle.rv_lower.specs.Lowered.{returns, from_to}
 use Rattle.rv_lower.proofs.Formed.{Readable, Good, HasRoom, all_each}
+use Rattle.rv_lower.proofs.Codes.{Fits}
 use Rattle.rv_lower.proofs.Functions.{among_from_to, from_to_distinct, from_to_length, from_to_each}
 use Rattle.rv_lower.proofs.Operations.{only_bound}
 use Rattle.rv_cells.specs.Layout.{Layout, IsNarrow}
@@ -24,7 +25,7 @@ use Rattle.rv_cells.specs.Meaning.{IsProgramLowered}
 use Rattle.rv_cells.specs.Tables.{table_of, layout_in}
 use Rattle.rv_cells.proofs.Calling.{among_numbers}
 use Rattle.rv_cells.proofs.FormedCodes.{code_fits}
-use Rattle.rv_cells.proofs.FormedSteps.{FitsWhole}
+use Rattle.rv_cells.proofs.TokenFormedFunctions.{all_formed}
 
 -- a function that can be lowered, and is so
 module _ (layout : Layout) (texts : Texts) (table : CellMarks) (f : ℕ) (function : CountedFunction) (lines : Lines)
@@ -44,9 +45,9 @@ module _ (layout : Layout) (texts : Texts) (table : CellMarks) (f : ℕ) (functi
     low = λ v among. let less = among_parameters v among in let few = is.few in omega (arith, less, few);
   }
 
-  fits : FitsWhole setting.base parameters returns 0 is.lowered.labels lines.code
-  fits = code_fits setting table (result_mark table f) function.body parameters (result_mark table f) returns 0 is.lowered.labels
-      lines.code room is.marked.body_marked is.numbered may.arms may.some_arm may.arities is.lowered.code
+  fits : Fits setting.base parameters parameters returns 0 is.lowered.labels lines.code
+  fits = code_fits setting table (result_mark table f) function.body parameters parameters (result_mark table f) returns 0
+      is.lowered.labels lines.code room (λ v there. there) is.marked.body_marked is.numbered may.arms may.some_arm may.arities is.lowered.code
 
   good : Good (Readable setting.base setting.base parameters) lines.code
   good = subst (Good (Readable setting.base setting.base parameters)) (append-nil lines.code)
@@ -71,22 +72,6 @@ module _ (layout : Layout) (texts : Texts) (table : CellMarks) (f : ℕ) (functi
     params_small = subst (All (λ v. v < most_values)) (sym is.lowered.params) small;
     start = λ v alive. subst (λ (params : List ℕ). is_among v params ≡ true) (sym is.lowered.params) (starts v (good.alive v alive));
   }
-
--- as many functions, of which each by its number is well formed
-all_formed : (functions : List CountedFunction) (each : List Lines) → length each ≡ length functions
-    → ((f : ℕ) (function : CountedFunction) → slice_get functions f ≡ Some function
-    → (lines : Lines) × ((slice_get each f ≡ Some lines) × IsWellFormed lines)) → AreWellFormed each
-all_formed [] [] same are = tt
-all_formed [] (lines ∷ each) same are = absurd (omega (arith, same))
-all_formed (function ∷ functions) [] same are = absurd (omega (arith, same))
-all_formed (function ∷ functions) (lines ∷ each) same are =
-    let own = are 0 function refl in (
-      subst IsWellFormed (found own.0 own.1.0) own.1.1,
-      all_formed functions each (omega (arith, same)) (λ f other is. are (suc f) other is),
-    )
-  where
-    found : (other : Lines) → Some lines ≡ Some other → other ≡ lines
-    found other is = grind (arith, is)
 
 pub lowered_program : (shape : Shape) (code : CountedProgram) (texts : List (List ℕ)) (each : List Lines)
     → AreLowerable (table_of shape) code.functions → IsLoweredForm shape code.texts code.functions each texts

@@ -1,9 +1,9 @@
 -- The lines of an opening by the count of a cell, before those of the code that follows it.
-use Rattle.std.proofs.Common.{◌≡◌, ℕ, ◌+◌, ◌*◌, ◌<◌, ◌≤◌, ◌⊎◌, inl, inr, Bool, true, not, List}
+use Rattle.std.proofs.Common.{◌≡◌, ℕ, ◌+◌, ◌*◌, ◌<◌, ◌≤◌, ◌==◌, ◌⊎◌, inl, inr, Bool, true, not, List}
 use Rattle.kk_counted.specs.Lowerable.{AreBelow, bound_list}
 use Rattle.std.proofs.Common.{[], ◌∷◌, ◌++◌, length, None, IsSome, refl, sym, ap, subst, ◌∙◌, arith, append_assoc}
 use Rattle.std.specs.Prelude.{filter}
-use Rattle.std.proofs.lemmas.Bool.{false≢true, or_cases}
+use Rattle.std.proofs.lemmas.Bool.{false≢true, or_cases, or_right}
 use Rattle.kk_syntax.specs.Shapes.{is_among as is_bound}
 use Rattle.rv_isa.specs.declared.asm.Action.TheVariants.{Compute, Label, Jump, Branch}
 use Rattle.rv_isa.specs.declared.asm.Condition.TheVariants.{NotEqual}
@@ -12,17 +12,17 @@ use Rattle.rv_isa.specs.declared.asm.ImmediateOperation.TheVariants.{Addi}
 use Rattle.rv_isa.specs.declared.immediate.Immediate.{Immediate}
 use Rattle.rv_isa.specs.AsmCode.{Line}
 use Rattle.rv_isa.specs.WellFormed.{is_alive, is_alive_at}
-use Rattle.rv_lower.specs.Lines.{computes, sets, acts}
+use Rattle.rv_lower.specs.Lines.{computes, sets, copies_to, acts}
 use Rattle.rv_lower.specs.Lowered.{Goal}
-use Rattle.rv_lower.proofs.Formed.{Readable, Good, HasRoom, weaker, good_computes}
+use Rattle.rv_lower.proofs.Formed.{Readable, readable_within, Good, HasRoom, room_more, weaker, good_computes, to_variable}
 use Rattle.rv_lower.proofs.Formed.{good_hands, readable_small, readable_more, none_some}
 use Rattle.rv_lower.proofs.AbsentLabels.{HasNo, has_no_append, found_past, found_here, alive_at_past, alive_at_here, other_label}
 use Rattle.rv_lower.proofs.Operations.{Leads, leads_then, leads_weaker, next_temporary, only_bound}
 use Rattle.rv_lower.proofs.Codes.{Ahead, Fits, good_alone, good_label, goal_up}
-use Rattle.rv_cells.specs.CellLines.{Loads, Stores, AllLoads, dups_lines, drops_lines, UniqueLines}
+use Rattle.rv_cells.specs.CellLines.{Loads, Stores, AllLoads, dups_lines, drops_lines, UniqueLines, TokenUniqueLines}
 use Rattle.rv_cells.proofs.CellForms.{effect, one_store, loads_lead, dups_lead, drops_lead}
 use Rattle.rv_cells.proofs.CellForms.{room_list, kept_list, bound_fields, bound_filter}
-use Rattle.rv_cells.proofs.FormedSteps.{ahead_list, FitsWhole}
+use Rattle.rv_cells.proofs.FormedOrders.{listed_behind}
 
 assoc_inner : (a b c z : List Line) → (a ++ (b ++ c)) ++ z ≡ a ++ (b ++ (c ++ z))
 assoc_inner a b c z = append_assoc a (b ++ c) z ∙ ap (λ (t : List Line). a ++ t) (append_assoc b c z)
@@ -80,24 +80,32 @@ module _ (base : ℕ) (bound : List ℕ) (has : HasRoom base bound) (holds : ℕ
             (let room = has.room in omega (arith, room)) (λ v is _. is) good;
       }
 
-  module _ (goal : Goal) (low high n : ℕ) (more : List Line) (fits : Fits base taken goal (low + 2) high n more)
-      (loads : List Line) (all_loads : AllLoads x 2 fields loads)
-      (count store : Line) (less : Immediate) (loads_count : Loads x 0 base count) (stores : Stores x 0 base store) where
-    abbrev finish : List Line
-    finish = acts (Compute Op.Free) (x ∷ []) ∷ acts (Jump (low + 1)) [] ∷ []
+  -- the way of a shared cell, where nothing else is done
+  pub lowered_leads : (loads : List Line) → AllLoads x 2 fields loads → (count store : Line) (less : Immediate) → Loads x 0 base count
+      → Stores x 0 base store → Leads Before Taken (length fields + (1 + (1 + (1 + length kept))))
+      (loads ++ (count ∷ computes (Op.Immediate Addi less) (base ∷ []) base ∷ store ∷ dups_lines holds kept))
+  lowered_leads loads all_loads count store less loads_count stores =
+      leads_then Before Taken Taken (length fields) (1 + (1 + (1 + length kept))) loads _
+      (loads_lead base bound x 2 fields loads has is below all_loads) (lowers count store less loads_count stores)
+
+  -- By what is bound behind it: the line for a cell that nothing else refers to, and the lines of the way of a shared cell, lead
+  -- there.
+  module _ (behind outer : List ℕ) (goal : Goal) (low high : ℕ) (more : List Line)
+      (fits : Fits base behind outer goal (low + 2) high more) (loads : List Line) (all_loads : AllLoads x 2 fields loads)
+      (ends : Line) (ends_lead : Leads Taken (Readable base base behind) 1 (ends ∷ [])) (lowered : List Line) (size : ℕ)
+      (lowered_lead : Leads Before (Readable base base behind) size lowered) where
+    abbrev Behind : ℕ → Type 0
+    Behind = Readable base base behind
 
     -- the way of a cell that nothing else refers to, and the way of a shared one
     abbrev alone : List Line
-    alone = loads ++ (drops_lines base holds dropped ++ finish)
-
-    abbrev lowered : List Line
-    lowered = loads ++ (count ∷ computes (Op.Immediate Addi less) (base ∷ []) base ∷ store ∷ dups_lines holds kept)
+    alone = loads ++ (drops_lines base holds dropped ++ (ends ∷ acts (Jump (low + 1)) [] ∷ []))
 
     abbrev shared : List Line
     shared = acts (Label low) [] ∷ lowered
 
-    abbrev behind : List Line
-    behind = acts (Label (low + 1)) [] ∷ []
+    abbrev at_end : List Line
+    at_end = acts (Label (low + 1)) [] ∷ []
 
     loads_fit : Leads Before Taken (length fields) loads
     loads_fit = loads_lead base bound x 2 fields loads has is below all_loads
@@ -106,62 +114,53 @@ module _ (base : ℕ) (bound : List ℕ) (has : HasRoom base bound) (holds : ℕ
     drops_fit = drops_lead base taken holds dropped room_taken
         (bound_filter taken (λ y. not (is_bound used y)) fields (bound_fields bound fields)).0
 
-    lowered_fit : Leads Before Taken (length fields + (1 + (1 + (1 + length kept)))) lowered
-    lowered_fit = leads_then Before Taken Taken (length fields) (1 + (1 + (1 + length kept))) loads _ loads_fit
-        (lowers count store less loads_count stores)
-
     alone_none : (l : ℕ) → HasNo l alone
-    alone_none l = has_no_append l loads (drops_lines base holds dropped ++ finish) (loads_fit.no_label l)
-        (has_no_append l (drops_lines base holds dropped) finish (drops_fit.no_label l) (refl, (refl, tt)))
+    alone_none l = has_no_append l loads _ (loads_fit.no_label l)
+        (has_no_append l (drops_lines base holds dropped) _ (drops_fit.no_label l) ((ends_lead.no_label l).0, (refl, tt)))
 
-    module _ (tail : List Line) (ahead : Ahead base bound goal low high tail) where
+    module _ (tail : List Line) (ahead : Ahead base outer goal low high tail) where
       abbrev rest : List Line
       rest = acts (Label (low + 1)) [] ∷ (more ++ tail)
 
-      more_good : Good Taken (more ++ tail)
-      more_good = fits.good tail (ahead_list base bound fields goal (low + 2) high tail (record {
+      more_good : Good Behind (more ++ tail)
+      more_good = fits.good tail (record {
         formed = ahead.formed;
         fresh = λ l le under. ahead.fresh l (omega (arith, le)) under;
-        goal_ahead = goal_up base bound goal low (low + 2) tail (omega arith) ahead.goal_ahead;
-      }))
+        goal_ahead = goal_up base outer goal low (low + 2) tail (omega arith) ahead.goal_ahead;
+      })
 
       more_none : (l : ℕ) → low ≤ l → l < low + 2 → HasNo l (more ++ tail)
       more_none l le under = has_no_append l more tail (fits.none l (inl under))
           (ahead.fresh l le (let up = fits.up in omega (arith, under, up)))
 
-      rest_good : Good Taken rest
-      rest_good = good_label Taken (low + 1) (more ++ tail) (more_none (low + 1) (omega arith) (omega arith)) more_good
+      rest_good : Good Behind rest
+      rest_good = good_label Behind (low + 1) (more ++ tail) (more_none (low + 1) (omega arith) (omega arith)) more_good
 
       lowered_good : Good Before (lowered ++ rest)
-      lowered_good = lowered_fit.good rest rest_good
+      lowered_good = lowered_lead.good rest rest_good
 
       shared_good : Good Before (shared ++ rest)
       shared_good = good_label Before low (lowered ++ rest)
-          (has_no_append low lowered rest (lowered_fit.no_label low) (
+          (has_no_append low lowered rest (lowered_lead.no_label low) (
             other_label low (low + 1) (λ same. absurd (omega (arith, same))),
             more_none low (omega arith)
                 (omega arith),
           )) lowered_good
 
       shared_none : HasNo (low + 1) shared
-      shared_none = (other_label (low + 1) low (λ same. absurd (omega (arith, same))), lowered_fit.no_label (low + 1))
+      shared_none = (other_label (low + 1) low (λ same. absurd (omega (arith, same))), lowered_lead.no_label (low + 1))
 
-      jump_good : Good Taken (acts (Jump (low + 1)) [] ∷ (shared ++ rest))
-      jump_good = good_alone Taken (Jump (low + 1)) (shared ++ rest)
+      jump_good : Good Behind (acts (Jump (low + 1)) [] ∷ (shared ++ rest))
+      jump_good = good_alone Behind (Jump (low + 1)) (shared ++ rest)
           (subst IsSome (sym (found_past (low + 1) shared rest shared_none ∙ found_here (low + 1) (more ++ tail))) refl) tt
           (λ v alive. more_good.alive v
           (sym (alive_at_past (low + 1) v shared rest shared_none ∙ alive_at_here (low + 1) v (more ++ tail)) ∙ alive))
           shared_good.formed
 
-      finish_good : Good Taken (finish ++ (shared ++ rest))
-      finish_good =
-          let frees : Leads Taken Taken 1 (acts (Compute Op.Free) (x ∷ []) ∷ []) =
-          effect base taken base Op.Free (x ∷ []) room_taken (omega arith) (omega arith) (inl x_taken, tt) in
-          frees.good (acts (Jump (low + 1)) [] ∷ (shared ++ rest)) jump_good
-
       alone_good : Good Before (alone ++ (shared ++ rest))
-      alone_good = subst (Good Before) (sym (assoc_inner loads (drops_lines base holds dropped) finish (shared ++ rest)))
-          (loads_fit.good _ (drops_fit.good _ finish_good))
+      alone_good = subst (Good Before) (sym (assoc_inner loads (drops_lines base holds dropped)
+          (ends ∷ acts (Jump (low + 1)) [] ∷ []) (shared ++ rest)))
+          (loads_fit.good _ (drops_fit.good _ (ends_lead.good _ jump_good)))
 
       alive_either : (v : ℕ)
           → (is_alive v (alone ++ (shared ++ rest)) ≡ true) ⊎ (is_alive_at low v (alone ++ (shared ++ rest)) ≡ true)
@@ -189,16 +188,16 @@ module _ (base : ℕ) (bound : List ℕ) (has : HasRoom base bound) (holds : ℕ
           one_set : Leads (Readable base (base + 1) bound) (Readable base (base + 1 + 1) bound) 1 (sets 1 (base + 1) ∷ [])
           one_set = next_temporary base bound has (base + 1) (Op.Li 1) [] (omega arith) refl (omega arith) tt
 
-    unique_none : (l : ℕ) → (l < low) ⊎ (high ≤ l) → HasNo l ((alone ++ (shared ++ behind)) ++ more)
-    unique_none l apart = has_no_append l (alone ++ (shared ++ behind)) more
-        (has_no_append l alone (shared ++ behind) (alone_none l)
-        (has_no_append l shared behind (other_label l low (λ same. differs 0 same apart), lowered_fit.no_label l)
+    counted_none : (l : ℕ) → (l < low) ⊎ (high ≤ l) → HasNo l ((alone ++ (shared ++ at_end)) ++ more)
+    counted_none l apart = has_no_append l (alone ++ (shared ++ at_end)) more
+        (has_no_append l alone (shared ++ at_end) (alone_none l)
+        (has_no_append l shared at_end (other_label l low (λ same. differs same apart), lowered_lead.no_label l)
         (other_label l (low + 1) (λ same. differs_more same apart), tt)))
         (fits.none l (later apart))
       where
-        differs : (k : ℕ) → low ≡ l → (l < low) ⊎ (high ≤ l) → ⊥
-        differs k same (inl under) = absurd (omega (arith, same, under))
-        differs k same (inr above) = let up = fits.up in absurd (omega (arith, same, above, up))
+        differs : low ≡ l → (l < low) ⊎ (high ≤ l) → ⊥
+        differs same (inl under) = absurd (omega (arith, same, under))
+        differs same (inr above) = let up = fits.up in absurd (omega (arith, same, above, up))
 
         differs_more : low + 1 ≡ l → (l < low) ⊎ (high ≤ l) → ⊥
         differs_more same (inl under) = absurd (omega (arith, same, under))
@@ -208,25 +207,76 @@ module _ (base : ℕ) (bound : List ℕ) (has : HasRoom base bound) (holds : ℕ
         later (inl under) = inl (omega (arith, under))
         later (inr above) = inr above
 
-    pub unique_fits : (test : Line) → Loads x 0 base test → FitsWhole base bound goal low high
-        ((test ∷ sets 1 (base + 1) ∷ acts (Branch NotEqual low) (base ∷ (base + 1) ∷ []) ∷ (alone ++ (shared ++ behind))) ++ more)
-    unique_fits test loads_test = record {
+    counted_fits : (test : Line) → Loads x 0 base test → Fits base bound outer goal low high
+        ((test ∷ sets 1 (base + 1) ∷ acts (Branch NotEqual low) (base ∷ (base + 1) ∷ []) ∷ (alone ++ (shared ++ at_end))) ++ more)
+    counted_fits test loads_test = record {
       up = let up = fits.up in omega (arith, up);
       none = λ l apart. (
         (subst (λ (line : Line). HasNo l (line ∷ [])) (sym loads_test.2) (refl, tt)).0,
-        (refl, (refl, unique_none l apart)),
+        (refl, (refl, counted_none l apart)),
       );
-      few = omega arith;
       good = λ tail ahead. subst
           (λ (code : List Line). Good Before
           (test ∷ sets 1 (base + 1) ∷ acts (Branch NotEqual low) (base ∷ (base + 1) ∷ []) ∷ code))
-          (sym (append_assoc (alone ++ (shared ++ behind)) more tail ∙ assoc_inner alone shared behind (more ++ tail)))
+          (sym (append_assoc (alone ++ (shared ++ at_end)) more tail ∙ assoc_inner alone shared at_end (more ++ tail)))
           (test_good tail ahead test loads_test);
     }
 
   -- an opening by the count, before the code that follows: its labels are the two from `low` on
-  pub fits_unique : (goal : Goal) (low high n : ℕ) (own more : List Line) → UniqueLines base holds low (low + 1) x fields used own
-      → Fits base taken goal (low + 2) high n more → FitsWhole base bound goal low high (own ++ more)
-  fits_unique goal low high n own more unique fits =
-      subst (λ (lines : List Line). FitsWhole base bound goal low high (lines ++ more)) (sym unique.10)
-      (unique_fits goal low high n more fits unique.1 unique.6 unique.2 unique.4 unique.3 unique.7 unique.9 unique.0 unique.5)
+  pub fits_unique : (outer : List ℕ) (goal : Goal) (low high : ℕ) (own more : List Line)
+      → UniqueLines base holds low (low + 1) x fields used own
+      → Fits base taken outer goal (low + 2) high more → Fits base bound outer goal low high (own ++ more)
+  fits_unique outer goal low high own more unique fits =
+      subst (λ (lines : List Line). Fits base bound outer goal low high (lines ++ more)) (sym unique.10)
+      (counted_fits taken outer goal low high more fits unique.1 unique.6 (acts (Compute Op.Free) (x ∷ []))
+      (effect base taken base Op.Free (x ∷ []) room_taken (omega arith) (omega arith) (inl x_taken, tt)) _ _
+      (lowered_leads unique.1 unique.6 unique.2 unique.4 unique.3 unique.7 unique.9) unique.0 unique.5)
+
+-- The same where the cell is a value's token: the value is written on both ways.
+pub fits_token_unique : (base : ℕ) (bound outer : List ℕ) → HasRoom base bound → (holds : ℕ → Bool) (x : ℕ) → is_bound bound x ≡ true
+    → (fields used : List ℕ) → AreBelow base fields → (token : ℕ) → token < base → (goal : Goal) (low high : ℕ)
+    (own more : List Line) → TokenUniqueLines base holds low (low + 1) x fields used token own
+    → Fits base (token ∷ bound_list fields bound) outer goal (low + 2) high more → Fits base bound outer goal low high (own ++ more)
+fits_token_unique base bound outer has holds x is fields used below token less goal low high own more unique fits =
+    subst (λ (lines : List Line). Fits base bound outer goal low high (lines ++ more)) (sym unique.10)
+    (counted_fits base bound has holds x is fields used below (token ∷ after) outer goal low high more fits unique.1 unique.6
+    (copies_to x token) ends (sets 0 token ∷ lowered) _ begins unique.0 unique.5)
+  where
+    after : List ℕ
+    after = bound_list fields bound
+
+    size : ℕ
+    size = length fields + (1 + (1 + (1 + length (filter (is_bound used) fields))))
+
+    lowered : List Line
+    lowered = unique.1 ++ (unique.2 ∷ computes (Op.Immediate Addi unique.3) (base ∷ []) base ∷ unique.4 ∷ dups_lines holds
+        (filter (is_bound used) fields))
+
+    ends : Leads (Readable base base after) (Readable base base (token ∷ after)) 1 (copies_to x token ∷ [])
+    ends = record {
+      no_label = λ l. (refl, tt);
+      few = omega arith;
+      good = λ rest good. to_variable base base after Op.Mv (x ∷ []) token rest (room_list base bound fields has below) (omega arith)
+          refl (omega arith) (inl (kept_list bound fields x is), tt) less good;
+    }
+
+    nulls : Leads (Readable base base bound) (Readable base base (token ∷ bound)) 1 (sets 0 token ∷ [])
+    nulls = record {
+      no_label = λ l. (refl, tt);
+      few = omega arith;
+      good = λ rest good. to_variable base base bound (Op.Li 0) [] token rest has (omega arith) refl (omega arith) tt less good;
+    }
+
+    shared : Leads (Readable base base (token ∷ bound)) (Readable base base (token ∷ after)) size lowered
+    shared = leads_weaker (Readable base base (token ∷ bound)) (Readable base base (token ∷ bound))
+        (Readable base base (bound_list fields (token ∷ bound))) (Readable base base (token ∷ after)) size size lowered
+        (λ v readable. readable)
+        (readable_within base base (token ∷ after) (bound_list fields (token ∷ bound)) (listed_behind fields bound token))
+        (omega arith)
+        (lowered_leads base (token ∷ bound) (room_more base bound token has less) holds x
+        (or_right (token == x) (is_bound bound x) is) fields used below unique.1 unique.6 unique.2 unique.4 unique.3 unique.7
+        unique.9)
+
+    begins : Leads (Readable base base bound) (Readable base base (token ∷ after)) (1 + size) (sets 0 token ∷ lowered)
+    begins = leads_then (Readable base base bound) (Readable base base (token ∷ bound)) (Readable base base (token ∷ after)) 1 size
+        (sets 0 token ∷ []) lowered nulls shared

@@ -48,6 +48,7 @@ pub mod Marks
 pub mod Marking
 pub mod Lowered
 pub mod CellForms
+pub mod FormedOrders
 pub mod FormedSteps
 pub mod FormedUniques
 pub mod FormedTests
@@ -56,6 +57,11 @@ pub mod FormedForms
 pub mod FormedCases
 pub mod FormedCodes
 pub mod FormedFunctions
+pub mod TokenFormedSlots
+pub mod TokenFormedHeld
+pub mod TokenFormedFills
+pub mod TokenFormedCodes
+pub mod TokenFormedFunctions
 pub mod FormLengths
 pub mod TestLengths
 pub mod CodeLengths

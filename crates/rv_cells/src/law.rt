@@ -4,11 +4,15 @@ ghost use Rattle.cell_heap.specs.Pool.{Pool};
 ghost use Rattle.cell_heap.specs.Blocks.{Cells, own, with_block, with_word, request, unused_cells};
 ghost use Rattle.kk_source.specs.State.{Value, Cell};
 ghost use Rattle.kk_source.specs.Sound.{AllWithin};
+ghost use Rattle.kk_counted.specs.BareForms.{bare_program};
 ghost use Rattle.kk_counted.specs.CountedCodes.{CountedFunction, CountedProgram};
 ghost use Rattle.kk_counted.specs.declared.shape.Shape.{Shape};
 ghost use Rattle.kk_counted.specs.Lengths.{all_computes, functions_length as counted_length};
 ghost use Rattle.kk_counted.specs.Lowerable.{AreLowerable};
 ghost use Rattle.kk_counted.specs.CountBounds.{AllSpendAtMost};
+ghost use Rattle.kk_counted.specs.TokenedCodes.{TokenedFunction, TokenedProgram};
+ghost use Rattle.kk_counted.specs.TokenLowerable.{AreTokensLowerable};
+ghost use Rattle.kk_counted.specs.TokenSpending.{AreTokensSpent};
 ghost use Rattle.kk_counted.specs.CountedStates.{CountedSetting, CountedState};
 ghost use Rattle.kk_counted.specs.Int32.{AllHaveInt32};
 ghost use Rattle.kk_counted.specs.Kinds.{HasKindsAlways};
@@ -29,6 +33,8 @@ ghost use Rattle.kk_counted.specs.CountedCosts.{counted_cost, roomy_cost};
 ghost use Rattle.kk_counted.specs.TokenCosts.{HasRoom};
 ghost use Rattle.kk_counted.specs.TokenedCodes.{TokenedProgram};
 ghost use Rattle.rv_cells.specs.Fitting.{AreTagged, count_of_fields, IsFit};
+ghost use Rattle.rv_cells.specs.TokenedLowered.{IsTokenedForm};
+ghost use Rattle.rv_cells.specs.TokenedMeaning.{IsTokenedLowered};
 ghost use Rattle.rv_cells.specs.Meaning.{setting_on, IsProgramLowered, RunsTheSame};
 ghost use Rattle.rv_cells.specs.TokenedMeaning.{IsTokenedLowered, TokenedRunsTheSame};
 ghost use Rattle.rv_cells.specs.Steps.{Served, ServedByHeld, PutAside, TakenBack, Dupped, Dropped, IsPaid, Released};
@@ -151,6 +157,18 @@ pub fn lowered_programs_are_well_formed()
         → IsNarrow (layout_in shape) → (layout_in shape).tag 0 ≡ 0 → (layout_in shape).tag 1 ≡ 1
         → (main : CountedFunction) → slice_get code.functions code.main ≡ Some main → main.parameters ≡ 0
         → IsProgramLowered (layout_in shape) (table_of shape) code texts each }
+{}
+
+/// A program with tokens whose bare form can be lowered, which spends its tokens and holds them around calls alone, and is lowered, is
+/// one whose assembler code is well formed: where its shape has tags of a byte, six fields a constructor at most, and `False` and
+/// `True` first, and `main`, which has no parameters, is there. It is a law, and does nothing.
+pub fn lowered_tokened_programs_are_well_formed()
+    ensures { (shape : Shape) (code : TokenedProgram) (texts : List (List ℕ)) (each : List Lines)
+        → AreLowerable (table_of shape) (bare_program code).functions → AreTokensLowerable code.functions → AreTokensSpent code
+        → IsTokenedForm shape code.texts code.functions each texts
+        → IsNarrow (layout_in shape) → (layout_in shape).tag 0 ≡ 0 → (layout_in shape).tag 1 ≡ 1
+        → (main : TokenedFunction) → slice_get code.functions code.main ≡ Some main → main.parameters ≡ 0
+        → IsTokenedLowered (layout_in shape) (table_of shape) code texts each }
 {}
 
 /// A program in counted form whose functions are all lowered runs the same as its assembler code, where each state of its run is

@@ -1,10 +1,11 @@
--- The lines of a code are well formed, few, and have only its own labels.
-use Rattle.std.proofs.Common.{◌≡◌, ℕ, suc, ◌+◌, ◌*◌, ◌<◌, ◌≤◌, ◌==◌, ◌⊎◌, inl, inr, true, List, [], ◌∷◌, ◌++◌, length, None, IsSome, refl, sym, subst, ◌∙◌, arith, append_assoc, length-append}
-use Rattle.std.proofs.lemmas.Bool.{or_cases, or_left, or_right, false≢true}
+-- The lines of a code are well formed, and have only its own labels.
+use Rattle.std.proofs.Common.{◌≡◌, ℕ, ◌+◌, ◌<◌, ◌≤◌, ◌⊎◌, inl, inr, true, List, [], ◌∷◌, ◌++◌, length, None, IsSome, refl, sym, ap, subst, ◌∙◌, arith, append_assoc}
+use Rattle.std.proofs.lemmas.Bool.{or_cases, false≢true}
 use Rattle.std.proofs.lemmas.List.Elements.{All-nil, All-cons}
 use Rattle.kk_syntax.specs.Shapes.{is_among as is_bound}
 use Rattle.rv_isa.specs.declared.asm.Action.{Action}
 use Rattle.rv_isa.specs.declared.asm.Action.TheVariants.{Label, Jump, Branch, TailCall, Return}
+use Rattle.rv_isa.specs.declared.asm.Condition.{Condition}
 use Rattle.rv_isa.specs.declared.asm.Condition.TheVariants.{NotEqual}
 use Rattle.rv_isa.specs.declared.asm.Operation.TheVariants as Op
 use Rattle.rv_isa.specs.AsmCode.{Line}
@@ -12,52 +13,55 @@ use Rattle.rv_isa.specs.WellFormed.{is_alive, is_alive_at, most_values, IsSpent,
 use Rattle.rv_isa.proofs.TokensHeld.{HoldsNone}
 use Rattle.rv_lower.specs.Lines.{sets, copies_to, acts, copies, temporaries, constant_word}
 use Rattle.rv_lower.specs.Lowered.{Goal, returns, joins, goal_lines, test_lines}
-use Rattle.rv_lower.proofs.Formed.{AllBound, none_some, Readable, AreFormed, formed_more, Good, HasRoom, weaker, alive_line, to_variable, good_hands, readable_more}
+use Rattle.rv_lower.proofs.Formed.{AllBound, none_some, Readable, IsWithin, within_more, readable_within, AreFormed, formed_more, Good, HasRoom, weaker, alive_line, to_variable, good_hands, readable_more}
 use Rattle.rv_lower.proofs.AbsentLabels.{HasNo, has_no_append, found_none, found_past, found_here, alive_at_past, alive_at_here, other_label}
 use Rattle.rv_lower.proofs.Labels.{found_label}
-use Rattle.rv_lower.proofs.Operations.{Leads, copied, next_temporary, only_bound}
+use Rattle.rv_lower.proofs.Operations.{Leads, leads_then, leads_weaker, copied, next_temporary, only_bound}
 
--- the goal of a code stands ahead, in what follows: its label is none of the code's own, and there only variables that are bound, or the goal's, are alive
+-- The goal of a code stands ahead, in what follows: its label is none of the code's own, and there only variables that are bound at
+-- the goal, or the goal's, are alive.
 abbrev pub IsGoalAhead : ℕ → List ℕ → Goal → ℕ → List Line → Type 0
-IsGoalAhead base bound returns low tail = Unit {0}
-IsGoalAhead base bound (joins y label) low tail =
-    (label < low) × (y < base) × IsSome (found_label label tail) × ((v : ℕ) → is_alive_at label v tail ≡ true → Readable base base (y ∷ bound) v)
+IsGoalAhead base outer returns low tail = Unit {0}
+IsGoalAhead base outer (joins y label) low tail =
+    (label < low) × (y < base) × IsSome (found_label label tail)
+    × ((v : ℕ) → is_alive_at label v tail ≡ true → Readable base base (y ∷ outer) v)
 
 -- well-formed code that follows, without the labels from `low` on, below `high`
-pub record Ahead (base : ℕ) (bound : List ℕ) (goal : Goal) (low high : ℕ) (tail : List Line) : Type 0 where
+pub record Ahead (base : ℕ) (outer : List ℕ) (goal : Goal) (low high : ℕ) (tail : List Line) : Type 0 where
   pub formed : AreFormed tail
   pub fresh : (l : ℕ) → low ≤ l → l < high → HasNo l tail
-  pub goal_ahead : IsGoalAhead base bound goal low tail
+  pub goal_ahead : IsGoalAhead base outer goal low tail
 
--- the lines of a code of so many forms
-pub record Fits (base : ℕ) (bound : List ℕ) (goal : Goal) (low high n : ℕ) (lines : List Line) : Type 0 where
+-- the lines of a code, by what is bound before it and what is bound at its goal
+pub record Fits (base : ℕ) (bound outer : List ℕ) (goal : Goal) (low high : ℕ) (lines : List Line) : Type 0 where
   pub up : low ≤ high
   pub none : (l : ℕ) → (l < low) ⊎ (high ≤ l) → HasNo l lines
-  pub few : length lines ≤ 12 * n
-  pub good : (tail : List Line) → Ahead base bound goal low high tail → Good (Readable base base bound) (lines ++ tail)
+  pub good : (tail : List Line) → Ahead base outer goal low high tail → Good (Readable base base bound) (lines ++ tail)
 
--- the goal is as well ahead of what comes later, with more labels between, and where more is bound
-pub goal_later : (base : ℕ) (bound : List ℕ) (goal : Goal) (low later : ℕ) (between tail : List Line) → low ≤ later → ((l : ℕ) → l < low → HasNo l between)
-    → IsGoalAhead base bound goal low tail → IsGoalAhead base bound goal later (between ++ tail)
-goal_later base bound returns low later between tail le none ahead = tt
-goal_later base bound (joins y label) low later between tail le none ahead =
-    (omega (arith, le, ahead.0), ahead.1, subst IsSome (sym (found_past label between tail (none label ahead.0))) ahead.2, λ v is. ahead.3 v (sym (alive_at_past label v between tail (none label ahead.0)) ∙ is))
+-- more may be bound before the lines
+pub fits_weaker : (base : ℕ) (bound more outer : List ℕ) (goal : Goal) (low high : ℕ) (lines : List Line) → IsWithin bound more
+    → Fits base bound outer goal low high lines → Fits base more outer goal low high lines
+fits_weaker base bound more outer goal low high lines within fits = record {
+  up = fits.up;
+  none = fits.none;
+  good = λ tail ahead. weaker (readable_within base base bound more within) (fits.good tail ahead);
+}
 
-readable_under : (base limit : ℕ) (bound : List ℕ) (x y v : ℕ) → Readable base limit (y ∷ bound) v → Readable base limit (y ∷ x ∷ bound) v
-readable_under base limit bound x y v (inr is) = inr is
-readable_under base limit bound x y v (inl is) = split (or_cases (y == v) (is_bound bound v) is)
-  where
-    split : ((y == v) ≡ true) ⊎ (is_bound bound v ≡ true) → Readable base limit (y ∷ x ∷ bound) v
-    split (inl same) = inl (or_left (y == v) (is_bound (x ∷ bound) v) same)
-    split (inr bound_v) = inl (or_right (y == v) (is_bound (x ∷ bound) v) (or_right (x == v) (is_bound bound v) bound_v))
+-- the goal is as well ahead of what comes later, with more labels between
+pub goal_later : (base : ℕ) (outer : List ℕ) (goal : Goal) (low later : ℕ) (between tail : List Line) → low ≤ later
+    → ((l : ℕ) → l < low → HasNo l between) → IsGoalAhead base outer goal low tail
+    → IsGoalAhead base outer goal later (between ++ tail)
+goal_later base outer returns low later between tail le none ahead = tt
+goal_later base outer (joins y label) low later between tail le none ahead = (
+  omega (arith, le, ahead.0),
+  ahead.1,
+  subst IsSome (sym (found_past label between tail (none label ahead.0))) ahead.2,
+  λ v is. ahead.3 v (sym (alive_at_past label v between tail (none label ahead.0)) ∙ is),
+)
 
-pub goal_more : (base : ℕ) (bound : List ℕ) (x : ℕ) (goal : Goal) (low : ℕ) (tail : List Line) → IsGoalAhead base bound goal low tail → IsGoalAhead base (x ∷ bound) goal low tail
-goal_more base bound x returns low tail ahead = tt
-goal_more base bound x (joins y label) low tail ahead = (ahead.0, ahead.1, ahead.2, λ v is. readable_under base base bound x y v (ahead.3 v is))
-
-pub goal_up : (base : ℕ) (bound : List ℕ) (goal : Goal) (low later : ℕ) (tail : List Line) → low ≤ later → IsGoalAhead base bound goal low tail → IsGoalAhead base bound goal later tail
-goal_up base bound returns low later tail le ahead = tt
-goal_up base bound (joins y label) low later tail le ahead = (omega (arith, le, ahead.0), ahead.1, ahead.2, ahead.3)
+pub goal_up : (base : ℕ) (outer : List ℕ) (goal : Goal) (low later : ℕ) (tail : List Line) → low ≤ later → IsGoalAhead base outer goal low tail → IsGoalAhead base outer goal later tail
+goal_up base outer returns low later tail le ahead = tt
+goal_up base outer (joins y label) low later tail le ahead = (omega (arith, le, ahead.0), ahead.1, ahead.2, ahead.3)
 
 -- an action that reads and writes nothing
 pub good_alone : (B : ℕ → Type 0) (action : Action) (rest : List Line) → AreLabelsAhead action rest → HoldsNone action → ((v : ℕ) → is_alive_behind v action rest ≡ true → B v) → AreFormed rest
@@ -82,19 +86,20 @@ pub good_label : (B : ℕ → Type 0) (l : ℕ) (rest : List Line) → HasNo l r
 good_label B l rest none good = good_alone B (Label l) rest (found_none l rest none) tt good.alive good.formed
 
 -- a label, and the lines of the code behind it
-module _ (base : ℕ) (bound : List ℕ) (goal : Goal) (low middle high m : ℕ) (lines : List Line) (less : low < middle) (fits : Fits base bound goal middle high m lines) where
+module _ (base : ℕ) (bound outer : List ℕ) (goal : Goal) (low middle high : ℕ) (lines : List Line) (less : low < middle)
+    (fits : Fits base bound outer goal middle high lines) where
   labelled_none : (l : ℕ) → (l < low) ⊎ (high ≤ l) → HasNo l (acts (Label low) [] ∷ lines)
   labelled_none l (inl below) = (other_label l low (λ same. absurd (omega (arith, same, below))), fits.none l (inl (omega (arith, less, below))))
   labelled_none l (inr above) = (other_label l low (λ same. let up = fits.up in absurd (omega (arith, same, less, above, up))), fits.none l (inr above))
 
-  module _ (tail : List Line) (ahead : Ahead base bound goal low high tail) where
+  module _ (tail : List Line) (ahead : Ahead base outer goal low high tail) where
     labelled_good : Good (Readable base base bound) (acts (Label low) [] ∷ (lines ++ tail))
     labelled_good = good_label (Readable base base bound) low (lines ++ tail)
         (has_no_append low lines tail (fits.none low (inl less)) (ahead.fresh low (omega arith) (let up = fits.up in omega (arith, less, up))))
         (fits.good tail (record {
           formed = ahead.formed;
           fresh = λ l le under. ahead.fresh l (omega (arith, le, less)) under;
-          goal_ahead = goal_up base bound goal low middle tail (omega (arith, less)) ahead.goal_ahead;
+          goal_ahead = goal_up base outer goal low middle tail (omega (arith, less)) ahead.goal_ahead;
         }))
 
     labelled_fresh : (l : ℕ) → low + 1 ≤ l → l < middle → HasNo l (acts (Label low) [] ∷ (lines ++ tail))
@@ -121,35 +126,48 @@ module _ (base : ℕ) (bound : List ℕ) (has : HasRoom base bound) where
     alive = alive_line (Readable base base bound) (acts Return (x ∷ [])) tail (inl is, tt) (λ v other is. absurd (false≢true is));
   }
 
-  pub fits_give : (x : ℕ) (goal : Goal) (low : ℕ) → is_bound bound x ≡ true → Fits base bound goal low low 1 (goal_lines goal x)
-  fits_give x returns low is = record { up = omega arith; none = λ l _. (refl, tt); few = omega arith; good = λ tail ahead. good_return x tail is ahead.formed }
-  fits_give x (joins y label) low is = record {
+  pub fits_give : (outer : List ℕ) (x : ℕ) (goal : Goal) (low : ℕ) → is_bound bound x ≡ true → IsWithin outer bound
+      → Fits base bound outer goal low low (goal_lines goal x)
+  fits_give outer x returns low is within = record {
+    up = omega arith;
+    none = λ l _. (refl, tt);
+    good = λ tail ahead. good_return x tail is ahead.formed;
+  }
+  fits_give outer x (joins y label) low is within = record {
     up = omega arith;
     none = λ l _. (refl, (refl, tt));
-    few = omega arith;
-    good = λ tail ahead. to_variable base base bound Op.Mv (x ∷ []) y (acts (Jump label) [] ∷ tail) has (omega arith) refl (omega arith) (inl is, tt) ahead.goal_ahead.1
-        (good_alone (Readable base base (y ∷ bound)) (Jump label) tail ahead.goal_ahead.2 tt ahead.goal_ahead.3 ahead.formed);
+    good = λ tail ahead. to_variable base base bound Op.Mv (x ∷ []) y (acts (Jump label) [] ∷ tail) has (omega arith) refl
+        (omega arith) (inl is, tt) ahead.goal_ahead.1
+        (good_alone (Readable base base (y ∷ bound)) (Jump label) tail ahead.goal_ahead.2 tt
+        (λ v alive. readable_within base base (y ∷ outer) (y ∷ bound) (within_more outer bound y within) v
+        (ahead.goal_ahead.3 v alive)) ahead.formed);
   }
 
-  pub fits_tail_call : (f : ℕ) (arguments : List ℕ) (goal : Goal) (low : ℕ) → length arguments ≤ 8 → AllBound bound arguments
-      → Fits base bound goal low low 1 (copies base arguments ++ acts (TailCall f) (temporaries base arguments) ∷ [])
-  fits_tail_call f arguments goal low few each = record {
+  pub fits_tail_call : (outer : List ℕ) (f : ℕ) (arguments : List ℕ) (goal : Goal) (low : ℕ) → length arguments ≤ 8
+      → AllBound bound arguments
+      → Fits base bound outer goal low low (copies base arguments ++ acts (TailCall f) (temporaries base arguments) ∷ [])
+  fits_tail_call outer f arguments goal low few each = record {
     up = omega arith;
     none = λ l _. has_no_append l (copies base arguments) (last ∷ []) (lines.no_label l) (refl, tt);
-    few = let size : length (copies base arguments ++ last ∷ []) ≡ length (copies base arguments) + 1 = length-append (copies base arguments) (last ∷ []) in let own = lines.few in omega (arith, size, own, few);
     good = λ tail ahead. subst (Good (Readable base base bound)) (sym (append_assoc (copies base arguments) (last ∷ []) tail))
-        (lines.good (last ∷ tail) (good_hands base bound arguments (TailCall f) None tail has tt tt few few (λ is. absurd (false≢true is)) (λ v is. absurd (none_some is)) (λ v other is. absurd (false≢true is)) ahead.formed));
+        (lines.good (last ∷ tail)
+        (good_hands base bound arguments (TailCall f) None tail has tt tt few few (λ is. absurd (false≢true is))
+        (λ v is. absurd (none_some is)) (λ v other is. absurd (false≢true is)) ahead.formed));
   }
     where
       last : Line
       last = acts (TailCall f) (temporaries base arguments)
 
-      lines : Leads (Readable base base bound) (Readable base (base + length arguments) bound) (length arguments) (copies base arguments)
+      lines : Leads (Readable base base bound) (Readable base (base + length arguments) bound) (length arguments)
+          (copies base arguments)
       lines = copied base bound has arguments few each
 
--- a branch on a variable, before the code of both ways
-module _ (base : ℕ) (bound : List ℕ) (has : HasRoom base bound) (x : ℕ) (is : is_bound bound x ≡ true) (goal : Goal) (low middle high n m : ℕ) (positive negative : List Line)
-    (first : Fits base bound goal (low + 1) middle n positive) (second : Fits base bound goal middle high m negative) where
+-- a branch on temporaries, which the lines before it set, before the code of both ways
+module _ (base : ℕ) (bound outer : List ℕ) (has : HasRoom base bound) (condition : Condition) (xs : List ℕ) (few : length xs ≤ 2)
+    (count : ℕ) (before : List Line)
+    (leads : Leads (Readable base base bound) (Readable base (base + length xs) bound) count before) (goal : Goal)
+    (low middle high : ℕ) (positive negative : List Line) (first : Fits base bound outer goal (low + 1) middle positive)
+    (second : Fits base bound outer goal middle high negative) where
   abbrev Bound : ℕ → Type 0
   Bound = Readable base base bound
 
@@ -157,25 +175,27 @@ module _ (base : ℕ) (bound : List ℕ) (has : HasRoom base bound) (x : ℕ) (i
   less = let up = first.up in omega (arith, up)
 
   branch_none : (l : ℕ) → (l < low) ⊎ (high ≤ l) → HasNo l (positive ++ (acts (Label low) [] ∷ negative))
-  branch_none l apart = has_no_append l positive (acts (Label low) [] ∷ negative) (first.none l (apart_first apart)) (labelled_none base bound goal low middle high m negative less second l apart)
+  branch_none l apart =
+      has_no_append l positive (acts (Label low) [] ∷ negative) (first.none l (apart_first apart))
+      (labelled_none base bound outer goal low middle high negative less second l apart)
     where
       apart_first : (l < low) ⊎ (high ≤ l) → (l < low + 1) ⊎ (middle ≤ l)
       apart_first (inl below) = inl (omega (arith, below))
       apart_first (inr above) = let up = second.up in inr (omega (arith, above, up))
 
-  module _ (tail : List Line) (ahead : Ahead base bound goal low high tail) where
+  module _ (tail : List Line) (ahead : Ahead base outer goal low high tail) where
     abbrev behind : List Line
     behind = acts (Label low) [] ∷ (negative ++ tail)
 
     behind_good : Good Bound behind
-    behind_good = labelled_good base bound goal low middle high m negative less second tail ahead
+    behind_good = labelled_good base bound outer goal low middle high negative less second tail ahead
 
     positive_good : Good Bound (positive ++ behind)
     positive_good = first.good behind (record {
       formed = behind_good.formed;
-      fresh = labelled_fresh base bound goal low middle high m negative less second tail ahead;
-      goal_ahead = goal_later base bound goal low (low + 1) (acts (Label low) [] ∷ negative) tail (omega arith)
-          (λ l below. labelled_none base bound goal low middle high m negative less second l (inl below)) ahead.goal_ahead;
+      fresh = labelled_fresh base bound outer goal low middle high negative less second tail ahead;
+      goal_ahead = goal_later base outer goal low (low + 1) (acts (Label low) [] ∷ negative) tail (omega arith)
+          (λ l below. labelled_none base bound outer goal low middle high negative less second l (inl below)) ahead.goal_ahead;
     })
 
     no_label : HasNo low positive
@@ -188,62 +208,90 @@ module _ (base : ℕ) (bound : List ℕ) (has : HasRoom base bound) (x : ℕ) (i
         is_alive_label : is_alive_at low v behind ≡ true → is_alive v behind ≡ true
         is_alive_label alive = sym (alive_at_here low v (negative ++ tail)) ∙ alive
 
-    test_good : Good Bound (copies_to x base ∷ sets (constant_word 1) (base + 1) ∷ acts (Branch NotEqual low) (base ∷ (base + 1) ∷ []) ∷ (positive ++ behind))
-    test_good = copied_one.good _ (second_set.good _ (weaker (readable_more base (base + 2) (base + 1 + 1) bound (omega arith))
-        (good_hands base bound (x ∷ x ∷ []) (Branch NotEqual low) None (positive ++ behind) has
-        (subst IsSome (sym (found_past low positive behind no_label ∙ found_here low (negative ++ tail))) refl) tt (omega arith) (omega arith) (λ is. absurd (false≢true is))
-        (λ v is. absurd (none_some is))
-        (λ v other is. only_bound base bound has v (alive_either v (or_cases (is_alive v (positive ++ behind)) (is_alive_at low v (positive ++ behind)) is)))
-        positive_good.formed)))
-      where
-        copied_one : Leads Bound (Readable base (base + 1) bound) 1 (copies_to x base ∷ [])
-        copied_one = next_temporary base bound has base Op.Mv (x ∷ []) (omega arith) refl (omega arith) (inl is, tt)
+    branch_good : Good (Readable base (base + length xs) bound) (acts (Branch condition low) (temporaries base xs) ∷ (positive ++
+        behind))
+    branch_good = good_hands base bound xs (Branch condition low) None (positive ++ behind) has
+        (subst IsSome (sym (found_past low positive behind no_label ∙ found_here low (negative ++ tail))) refl) tt few
+        (omega (arith, few)) (λ is. absurd (false≢true is)) (λ v is. absurd (none_some is))
+        (λ v other is. only_bound base bound has v (alive_either v
+        (or_cases (is_alive v (positive ++ behind)) (is_alive_at low v (positive ++ behind)) is)))
+        positive_good.formed
 
-        second_set : Leads (Readable base (base + 1) bound) (Readable base (base + 1 + 1) bound) 1 (sets (constant_word 1) (base + 1) ∷ [])
-        second_set = next_temporary base bound has (base + 1) (Op.Li (constant_word 1)) [] (omega arith) refl (omega arith) tt
-
-  pub fits_branch : Fits base bound goal low high (n + m + 1) (test_lines base x low ++ (positive ++ (acts (Label low) [] ∷ negative)))
-  fits_branch = record {
+  pub fits_split : Fits base bound outer goal low high (before ++ (acts (Branch condition low) (temporaries base xs) ∷ (positive ++
+      (acts (Label low) [] ∷ negative))))
+  fits_split = record {
     up = let up = second.up in omega (arith, less, up);
-    none = λ l apart. (refl, (refl, (refl, branch_none l apart)));
-    few = let size : length (positive ++ (acts (Label low) [] ∷ negative)) ≡ length positive + suc (length negative) = length-append positive (acts (Label low) [] ∷ negative) in
-        let few_first = first.few in let few_second = second.few in omega (arith, size, few_first, few_second);
-    good = λ tail ahead. subst (λ (code : List Line). Good Bound (copies_to x base ∷ sets (constant_word 1) (base + 1) ∷ acts (Branch NotEqual low) (base ∷ (base + 1) ∷ []) ∷ code))
-        (sym (append_assoc positive (acts (Label low) [] ∷ negative) tail)) (test_good tail ahead);
+    none = λ l apart. has_no_append l before _ (leads.no_label l) (refl, branch_none l apart);
+    good = λ tail ahead. subst (Good Bound) (sym (whole tail)) (leads.good _ (branch_good tail ahead));
   }
+    where
+      whole : (tail : List Line)
+          → (before ++ (acts (Branch condition low) (temporaries base xs) ∷ (positive ++ (acts (Label low) [] ∷ negative)))) ++ tail
+          ≡ before ++ (acts (Branch condition low) (temporaries base xs) ∷ (positive ++ (acts (Label low) [] ∷ (negative ++ tail))))
+      whole tail =
+          append_assoc before (acts (Branch condition low) (temporaries base xs) ∷ (positive ++ (acts (Label low) [] ∷ negative))) tail
+          ∙ ap (λ (code : List Line). before ++ (acts (Branch condition low) (temporaries base xs) ∷ code))
+          (append_assoc positive (acts (Label low) [] ∷ negative) tail)
 
--- a block whose value a variable takes, before the code that follows
-module _ (base : ℕ) (bound : List ℕ) (x : ℕ) (less_x : x < base) (goal : Goal) (low middle high n m : ℕ) (part more : List Line)
-    (first : Fits base bound (joins x low) (low + 1) middle n part) (second : Fits base (x ∷ bound) goal middle high m more) where
+-- a branch on a variable, before the code of both ways
+pub fits_branch : (base : ℕ) (bound outer : List ℕ) → HasRoom base bound → (x : ℕ) → is_bound bound x ≡ true → (goal : Goal)
+    (low middle high : ℕ) (positive negative : List Line) → Fits base bound outer goal (low + 1) middle positive
+    → Fits base bound outer goal middle high negative
+    → Fits base bound outer goal low high (test_lines base x low ++ (positive ++ (acts (Label low) [] ∷ negative)))
+fits_branch base bound outer has x is goal low middle high positive negative first second =
+    fits_split base bound outer has NotEqual (x ∷ x ∷ []) (omega arith) 2
+    (copies_to x base ∷ sets (constant_word 1) (base + 1) ∷ []) both goal low middle high positive negative first second
+  where
+    copied_one : Leads (Readable base base bound) (Readable base (base + 1) bound) 1 (copies_to x base ∷ [])
+    copied_one = next_temporary base bound has base Op.Mv (x ∷ []) (omega arith) refl (omega arith) (inl is, tt)
+
+    second_set : Leads (Readable base (base + 1) bound) (Readable base (base + 2) bound) 1 (sets (constant_word 1) (base + 1) ∷ [])
+    second_set = leads_weaker (Readable base (base + 1) bound) (Readable base (base + 1) bound)
+        (Readable base (base + 1 + 1) bound) (Readable base (base + 2) bound) 1 1 (sets (constant_word 1) (base + 1) ∷ [])
+        (λ v readable. readable) (readable_more base (base + 2) (base + 1 + 1) bound (omega arith)) (omega arith)
+        (next_temporary base bound has (base + 1) (Op.Li (constant_word 1)) [] (omega arith) refl (omega arith) tt)
+
+    both : Leads (Readable base base bound) (Readable base (base + 2) bound) 2
+        (copies_to x base ∷ sets (constant_word 1) (base + 1) ∷ [])
+    both = leads_then (Readable base base bound) (Readable base (base + 1) bound) (Readable base (base + 2) bound) 1 1
+        (copies_to x base ∷ []) (sets (constant_word 1) (base + 1) ∷ []) copied_one second_set
+
+-- a block whose value a variable takes, before the code that follows: what is bound at the end of the block is so behind it
+module _ (base : ℕ) (bound between outer : List ℕ) (x : ℕ) (less_x : x < base) (goal : Goal) (low middle high : ℕ)
+    (part more : List Line) (first : Fits base bound between (joins x low) (low + 1) middle part)
+    (second : Fits base (x ∷ between) outer goal middle high more) where
   less_inside : low < middle
   less_inside = let up = first.up in omega (arith, up)
 
   inside_none : (l : ℕ) → (l < low) ⊎ (high ≤ l) → HasNo l (part ++ (acts (Label low) [] ∷ more))
-  inside_none l apart = has_no_append l part (acts (Label low) [] ∷ more) (first.none l (apart_first apart)) (labelled_none base (x ∷ bound) goal low middle high m more less_inside second l apart)
+  inside_none l apart =
+      has_no_append l part (acts (Label low) [] ∷ more) (first.none l (apart_first apart))
+      (labelled_none base (x ∷ between) outer goal low middle high more less_inside second l apart)
     where
       apart_first : (l < low) ⊎ (high ≤ l) → (l < low + 1) ⊎ (middle ≤ l)
       apart_first (inl below) = inl (omega (arith, below))
       apart_first (inr above) = let up = second.up in inr (omega (arith, above, up))
 
-  module _ (tail : List Line) (ahead : Ahead base bound goal low high tail) where
-    ahead_more : Ahead base (x ∷ bound) goal low high tail
-    ahead_more = record { formed = ahead.formed; fresh = ahead.fresh; goal_ahead = goal_more base bound x goal low tail ahead.goal_ahead }
-
-    label_good : Good (Readable base base (x ∷ bound)) (acts (Label low) [] ∷ (more ++ tail))
-    label_good = labelled_good base (x ∷ bound) goal low middle high m more less_inside second tail ahead_more
+  module _ (tail : List Line) (ahead : Ahead base outer goal low high tail) where
+    label_good : Good (Readable base base (x ∷ between)) (acts (Label low) [] ∷ (more ++ tail))
+    label_good = labelled_good base (x ∷ between) outer goal low middle high more less_inside second tail ahead
 
     inside_good : Good (Readable base base bound) (part ++ (acts (Label low) [] ∷ (more ++ tail)))
     inside_good = first.good (acts (Label low) [] ∷ (more ++ tail)) (record {
       formed = label_good.formed;
-      fresh = labelled_fresh base (x ∷ bound) goal low middle high m more less_inside second tail ahead_more;
-      goal_ahead = (omega arith, less_x, subst IsSome (sym (found_here low (more ++ tail))) refl, λ v is. label_good.alive v (sym (alive_at_here low v (more ++ tail)) ∙ is));
+      fresh = labelled_fresh base (x ∷ between) outer goal low middle high more less_inside second tail ahead;
+      goal_ahead = (
+        omega arith,
+        less_x,
+        subst IsSome (sym (found_here low (more ++ tail))) refl,
+        λ v is. label_good.alive v (sym (alive_at_here low v (more ++ tail)) ∙ is),
+      );
     })
 
-  pub fits_inside : Fits base bound goal low high (n + m + 1) (part ++ (acts (Label low) [] ∷ more))
+  pub fits_inside : Fits base bound outer goal low high (part ++ (acts (Label low) [] ∷ more))
   fits_inside = record {
     up = let up = second.up in omega (arith, less_inside, up);
     none = inside_none;
-    few = let size : length (part ++ (acts (Label low) [] ∷ more)) ≡ length part + suc (length more) = length-append part (acts (Label low) [] ∷ more) in
-        let few_first = first.few in let few_second = second.few in omega (arith, size, few_first, few_second);
-    good = λ tail ahead. subst (Good (Readable base base bound)) (sym (append_assoc part (acts (Label low) [] ∷ more) tail)) (inside_good tail ahead);
+    good = λ tail ahead. subst (Good (Readable base base bound)) (sym (append_assoc part (acts (Label low) [] ∷ more) tail))
+        (inside_good tail ahead);
   }

@@ -17,6 +17,22 @@ use Rattle.rv_lower.specs.Lines.{computes, copies, temporaries}
 abbrev pub Readable : ℕ → ℕ → List ℕ → ℕ → Type 0
 Readable base limit bound v = (is_bound bound v ≡ true) ⊎ ((base ≤ v) × (v < limit))
 
+-- what is bound by one list is so by another
+abbrev pub IsWithin : List ℕ → List ℕ → Type 0
+IsWithin bound more = (v : ℕ) → is_bound bound v ≡ true → is_bound more v ≡ true
+
+pub within_more : (bound more : List ℕ) (y : ℕ) → IsWithin bound more → IsWithin (y ∷ bound) (y ∷ more)
+within_more bound more y within v is = split (or_cases (y == v) (is_bound bound v) is)
+  where
+    split : ((y == v) ≡ true) ⊎ (is_bound bound v ≡ true) → is_bound (y ∷ more) v ≡ true
+    split (inl same) = or_left (y == v) (is_bound more v) same
+    split (inr older) = or_right (y == v) (is_bound more v) (within v older)
+
+pub readable_within : (base limit : ℕ) (bound more : List ℕ) → IsWithin bound more → (v : ℕ) → Readable base limit bound v
+    → Readable base limit more v
+readable_within base limit bound more within v (inl is) = inl (within v is)
+readable_within base limit bound more within v (inr is) = inr is
+
 -- each of a list
 abbrev pub Each : (ℕ → Type 0) → List ℕ → Type 0
 Each B [] = Unit {0}
@@ -93,59 +109,63 @@ pub some_same : {x v : ℕ} → Some x ≡ Some v → x ≡ v
 some_same e = grind (arith, e)
 
 -- an operation on words
+pub computes_formed : (B : ℕ → Type 0) (operation : Operation) (args : List ℕ) (x : ℕ) (rest : List Line)
+    → may_give (Compute operation) ≡ true → length args ≤ 2 → Each B args → ((v : ℕ) → B v → v < most_values) → x < most_values
+    → IsLineFormed (computes operation args x) rest
+computes_formed B operation args x rest gives few all small into_small = record {
+  labels = tt;
+  few = few;
+  gives = λ _. gives;
+  distinct = λ is. absurd (false≢true is);
+  spent = λ is. absurd (false≢true is);
+  args_small = all_each B (λ v. v < most_values) args small all;
+  into_small = λ v is. subst (λ (y : ℕ). y < most_values) (some_same is) into_small;
+}
+
 pub good_computes : (B C : ℕ → Type 0) (operation : Operation) (args : List ℕ) (x : ℕ) (rest : List Line)
     → may_give (Compute operation) ≡ true → length args ≤ 2 → Each B args → ((v : ℕ) → B v → v < most_values) → x < most_values
     → ((v : ℕ) → C v → (x == v) ≡ false → B v) → Good C rest → Good B (computes operation args x ∷ rest)
 good_computes B C operation args x rest gives few all small into_small more good = record {
-  formed = formed_more (computes operation args x) rest
-      (record {
-        labels = tt;
-        few = few;
-        gives = λ _. gives;
-        distinct = λ is. absurd (false≢true is);
-        spent = λ is. absurd (false≢true is);
-        args_small = all_each B (λ v. v < most_values) args small all;
-        into_small = λ v is. subst (λ (y : ℕ). y < most_values) (some_same is) into_small;
-      })
-      tt good.formed;
+  formed = formed_more (computes operation args x) rest (computes_formed B operation args x rest gives few all small into_small) tt
+      good.formed;
   alive = alive_line B (computes operation args x) rest all (λ v other is. more v (good.alive v is) other);
 }
+
+-- what may be read behind a line that writes a variable, and is not that one, may be read before it
+pub variable_left : (base limit : ℕ) (bound : List ℕ) (x v : ℕ) → Readable base limit (x ∷ bound) v → (x == v) ≡ false
+    → Readable base limit bound v
+variable_left base limit bound x v (inr is) other = inr is
+variable_left base limit bound x v (inl is) other = inl (left (or_cases (x == v) (is_bound bound v) is))
+  where
+    left : ((x == v) ≡ true) ⊎ (is_bound bound v ≡ true) → is_bound bound v ≡ true
+    left (inl same) = absurd (false≢true (sym other ∙ same))
+    left (inr is) = is
 
 -- a variable is written
 pub to_variable : (base limit : ℕ) (bound : List ℕ) (operation : Operation) (args : List ℕ) (x : ℕ) (rest : List Line) → HasRoom base bound → limit ≤ base + 8
     → may_give (Compute operation) ≡ true → length args ≤ 2 → Each (Readable base limit bound) args → x < base
     → Good (Readable base limit (x ∷ bound)) rest → Good (Readable base limit bound) (computes operation args x ∷ rest)
 to_variable base limit bound operation args x rest has le gives few all less good =
-    good_computes (Readable base limit bound) (Readable base limit (x ∷ bound)) operation args x rest gives few all (readable_small base limit bound has le) (omega (arith, less, has.room)) more good
-  where
-    left : (v : ℕ) → (x == v) ≡ false → ((x == v) ≡ true) ⊎ (is_bound bound v ≡ true) → is_bound bound v ≡ true
-    left v other (inl same) = absurd (false≢true (sym other ∙ same))
-    left v other (inr is) = is
+    good_computes (Readable base limit bound) (Readable base limit (x ∷ bound)) operation args x rest gives few all
+    (readable_small base limit bound has le) (omega (arith, less, has.room)) (variable_left base limit bound x) good
 
-    more : (v : ℕ) → Readable base limit (x ∷ bound) v → (x == v) ≡ false → Readable base limit bound v
-    more v (inl is) other = inl (left v other (or_cases (x == v) (is_bound bound v) is))
-    more v (inr is) other = inr is
+-- what may be read behind a line that writes the next temporary, and is not that one, may be read before it
+pub temporary_left : (base limit : ℕ) (bound : List ℕ) (v : ℕ) → Readable base (limit + 1) bound v → (limit == v) ≡ false
+    → Readable base limit bound v
+temporary_left base limit bound v (inl is) other = inl is
+temporary_left base limit bound v (inr is) other = inr (is.0, last (cases_eq limit v))
+  where
+    last : (limit ≡ v) ⊎ (limit ≡ v → ⊥) → v < limit
+    last (inl same) = absurd (false≢true (sym other ∙ eq-eqb limit v same))
+    last (inr differs) = let ne : limit ≢ v = differs in omega (arith, is, ne)
 
 -- the next temporary is written
 pub to_temporary : (base limit : ℕ) (bound : List ℕ) (operation : Operation) (args : List ℕ) (rest : List Line) → HasRoom base bound → limit < base + 8
     → may_give (Compute operation) ≡ true → length args ≤ 2 → Each (Readable base limit bound) args
     → Good (Readable base (limit + 1) bound) rest → Good (Readable base limit bound) (computes operation args limit ∷ rest)
 to_temporary base limit bound operation args rest has le gives few all good =
-    good_computes (Readable base limit bound) (Readable base (limit + 1) bound) operation args limit rest gives few all (readable_small base limit bound has (omega (arith, le))) (omega (arith, le, has.room)) more good
-  where
-    last : (v : ℕ) → (base ≤ v) × (v < limit + 1) → (limit == v) ≡ false → v < limit
-    last v is other = split (cases v)
-      where
-        cases : (v : ℕ) → (limit ≡ v) ⊎ (limit ≡ v → ⊥)
-        cases v = cases_eq limit v
-
-        split : (limit ≡ v) ⊎ (limit ≡ v → ⊥) → v < limit
-        split (inl same) = absurd (false≢true (sym other ∙ eq-eqb limit v same))
-        split (inr differs) = let ne : limit ≢ v = differs in omega (arith, is, ne)
-
-    more : (v : ℕ) → Readable base (limit + 1) bound v → (limit == v) ≡ false → Readable base limit bound v
-    more v (inl is) other = inl is
-    more v (inr is) other = inr (is.0, last v is other)
+    good_computes (Readable base limit bound) (Readable base (limit + 1) bound) operation args limit rest gives few all
+    (readable_small base limit bound has (omega (arith, le))) (omega (arith, le, has.room)) (temporary_left base limit bound) good
 
 -- what is readable is so with more
 pub readable_more : (base limit later : ℕ) (bound : List ℕ) → limit ≤ later → (v : ℕ) → Readable base limit bound v → Readable base later bound v
@@ -167,7 +187,7 @@ good_copies base limit last bound (x ∷ xs) rest has is le all good =
     to_temporary base limit bound Mv (x ∷ []) (copies (limit + 1) xs ++ rest) has (omega (arith, is, le)) refl (omega arith) (inl all.0, tt)
     (good_copies base (limit + 1) last bound xs rest has (omega (arith, is)) le all.1 good)
 
-temporaries_above : (at v : ℕ) (xs : List ℕ) → v < at → is_among v (temporaries at xs) ≡ false
+pub temporaries_above : (at v : ℕ) (xs : List ℕ) → v < at → is_among v (temporaries at xs) ≡ false
 temporaries_above at v [] less = refl
 temporaries_above at v (x ∷ xs) less =
     ap (λ b. b || is_among v (temporaries (at + 1) xs)) (ne_eqb at v (λ same. absurd (omega (arith, same, less)))) ∙ temporaries_above (at + 1) v xs (omega (arith, less))
@@ -189,6 +209,35 @@ temporaries_length at [] = refl
 temporaries_length at (x ∷ xs) = ap suc (temporaries_length (at + 1) xs)
 
 -- a line that temporaries are handed over to: only variables are alive behind it
+pub hands_formed : (base : ℕ) (bound : List ℕ) (xs : List ℕ) (action : Action) (into : Option ℕ) (rest : List Line)
+    → HasRoom base bound → AreLabelsAhead action rest → length xs ≤ most_args action → length xs ≤ 8
+    → (has_value into ≡ true → may_give action ≡ true) → ((v : ℕ) → into ≡ Some v → v < most_values)
+    → ((v : ℕ) → is_written into v ≡ false → is_alive_behind v action rest ≡ true → is_bound bound v ≡ true)
+    → IsLineFormed (record { action = action; args = temporaries base xs; into = into }) rest
+hands_formed base bound xs action into rest has labels few eight gives into_small behind = record {
+  labels = labels;
+  few = subst (λ (n : ℕ). n ≤ most_args action) (sym (temporaries_length base xs)) few;
+  gives = gives;
+  distinct = λ _. temporaries_distinct base xs;
+  spent = λ _. all_temporaries (IsSpent (record { action = action; args = temporaries base xs; into = into }) rest) base xs
+      (λ v le less. spent v (is_written into v) refl le);
+  args_small = all_temporaries (λ v. v < most_values) base xs (λ v le less. omega (arith, less, eight, has.room));
+  into_small = into_small;
+}
+  where
+    spent : (v : ℕ) (w : Bool) → is_written into v ≡ w → base ≤ v → (not w && is_alive_behind v action rest) ≡ false
+    spent v true is le = refl
+    spent v false is le = false_from_ne_true (is_alive_behind v action rest) (λ alive. let low = has.low v (behind v is alive) in absurd (omega (arith, low, le)))
+
+pub hands_alive : (base : ℕ) (bound : List ℕ) (xs : List ℕ) (action : Action) (into : Option ℕ) (rest : List Line)
+    → ((v : ℕ) → is_written into v ≡ false → is_alive_behind v action rest ≡ true → is_bound bound v ≡ true)
+    → (v : ℕ) → is_alive v (record { action = action; args = temporaries base xs; into = into } ∷ rest) ≡ true
+    → Readable base (base + length xs) bound v
+hands_alive base bound xs action into rest behind =
+    alive_line (Readable base (base + length xs) bound) (record { action = action; args = temporaries base xs; into = into }) rest
+    (temporaries_each (Readable base (base + length xs) bound) base xs (λ v le less. inr (le, less)))
+    (λ v other is. inl (behind v other is))
+
 pub good_hands : (base : ℕ) (bound : List ℕ) (xs : List ℕ) (action : Action) (into : Option ℕ) (rest : List Line) → HasRoom base bound
     → AreLabelsAhead action rest → HoldsNone action → length xs ≤ most_args action → length xs ≤ 8 → (has_value into ≡ true → may_give action ≡ true)
     → ((v : ℕ) → into ≡ Some v → v < most_values)
@@ -197,20 +246,6 @@ pub good_hands : (base : ℕ) (bound : List ℕ) (xs : List ℕ) (action : Actio
     → Good (Readable base (base + length xs) bound) (record { action = action; args = temporaries base xs; into = into } ∷ rest)
 good_hands base bound xs action into rest has labels none few eight gives into_small behind formed = record {
   formed = formed_more (record { action = action; args = temporaries base xs; into = into }) rest
-      (record {
-        labels = labels;
-        few = subst (λ (n : ℕ). n ≤ most_args action) (sym (temporaries_length base xs)) few;
-        gives = gives;
-        distinct = λ _. temporaries_distinct base xs;
-        spent = λ _. all_temporaries (IsSpent (record { action = action; args = temporaries base xs; into = into }) rest) base xs (λ v le less. spent v (is_written into v) refl le);
-        args_small = all_temporaries (λ v. v < most_values) base xs (λ v le less. omega (arith, less, eight, has.room));
-        into_small = into_small;
-      })
-      none formed;
-  alive = alive_line (Readable base (base + length xs) bound) (record { action = action; args = temporaries base xs; into = into }) rest
-      (temporaries_each (Readable base (base + length xs) bound) base xs (λ v le less. inr (le, less))) (λ v other is. inl (behind v other is));
+      (hands_formed base bound xs action into rest has labels few eight gives into_small behind) none formed;
+  alive = hands_alive base bound xs action into rest behind;
 }
-  where
-    spent : (v : ℕ) (w : Bool) → is_written into v ≡ w → base ≤ v → (not w && is_alive_behind v action rest) ≡ false
-    spent v true is le = refl
-    spent v false is le = false_from_ne_true (is_alive_behind v action rest) (λ alive. let low = has.low v (behind v is alive) in absurd (omega (arith, low, le)))
