@@ -59,9 +59,6 @@ plug_bare_marks table (TokenedMove.unholds y ∷ moves) last marks = plug_bare_m
 
 -- ---- slots
 
-max_assoc : (a b c : ℕ) → max a (max b c) ≡ max (max a b) c
-max_assoc a b c = omega arith
-
 zero_max : (a : ℕ) → a ≡ max 0 a
 zero_max a = omega arith
 
