@@ -7,7 +7,7 @@ use Rattle.rv_isa.specs.declared.asm.Action.{Action}
 use Rattle.rv_isa.specs.declared.asm.Action.TheVariants.{Compute, Label, Jump, Branch, Call, TailCall, Return, Routine, Hold, Unhold}
 use Rattle.rv_isa.specs.declared.asm.Operation.{Operation}
 use Rattle.rv_isa.specs.declared.placed.Placed.{Placed}
-use Rattle.rv_isa.specs.Costs.{operation_instructions, action_instructions, placed_line_length, placed_code_length, placed_functions_length}
+use Rattle.rv_isa.specs.Costs.{operation_instructions, action_length, placed_line_length, placed_code_length, placed_functions_length}
 use Rattle.rv_isa.specs.PlacedCode.{PlacedLine, does, moves, PlacedLines, placed_functions, placed_constants}
 use Rattle.cell_runtime.specs.Layouts.{next_page}
 use Rattle.rv_world.specs.Operations.{all_bytes}
@@ -34,7 +34,7 @@ operation_most (Operation.Sw offset) = omega arith
 operation_most Operation.Dup = omega arith
 operation_most Operation.Free = omega arith
 
-action_most : (forms : Forms) (action : Action) → words_of_action forms action ≤ action_instructions action
+action_most : (forms : Forms) (action : Action) → words_of_action forms action ≤ action_length action
 action_most forms (Compute operation) = operation_most operation
 action_most forms (Label l) = omega arith
 action_most forms (Jump l) = jump_most forms.jumps

@@ -20,7 +20,7 @@ use Rattle.rv_place.specs.declared.words.Words.{Words}
 
 -- the most instructions of the lines of all functions, each counted at its most and without the functions' entries
 abbrev pub most_text_length : ℕ
-most_text_length = 400000000
+most_text_length = 448000000
 
 -- the most functions of a program
 abbrev pub most_functions : ℕ
