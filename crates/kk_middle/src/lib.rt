@@ -1,4 +1,4 @@
-//! From an accepted program to its counted form. What the passes need of each other stands here, as laws.
+//! From an accepted program to its counted form with tokens. What the passes need of each other stands here, as laws.
 #![tactic(auto)]
 
 mod law;
