@@ -6,13 +6,15 @@ mod lowering;
 mod meaning;
 mod positions;
 mod program;
+mod tokens;
 
 pub use law::{
     core_constructors_are_consistent, owned_positions_of_instances_are_closed,
     tail_calls_of_core_forms_lend_on,
 };
 pub use lowering::{
-    compiled_programs_are_short, compiled_programs_can_be_lowered, compiled_programs_open_few_cells,
+    compiled_programs_are_short, compiled_programs_can_be_lowered, compiled_programs_open_by_count,
+    compiled_programs_open_few_cells,
 };
 pub use meaning::{
     compiled_programs_are_marked, compiled_programs_have_their_kinds,
@@ -20,3 +22,4 @@ pub use meaning::{
 };
 pub use positions::positions_of_instances;
 pub use program::compile;
+pub use tokens::compiled_tokens_can_be_lowered;
