@@ -35,10 +35,10 @@ use Rattle.kk_back.specs.FreeCells.{AreAllFree}
 abbrev pub counted_setting : CountedProgram → ℕ → ℕ → CountedSetting
 counted_setting code cells depth = record { program = code; cells = cells; depth = depth }
 
--- What is asked of a program with tokens and its shape. Its functions are few and short, can be lowered with their tokens, spend each
--- token once on each path, and the first one is `main`. Constructors 0 and 1 are `False` and `True`. With so many cells and such a
--- depth each state of each run of its bare form is fit: it is not stuck, its heap is sound, and values are of the types that the code
--- takes.
+-- What is asked of a program with tokens and its shape. Its functions are few and short, can be lowered with their tokens, spend
+-- each token once on each path, and the first one is `main`. Constructors 0 and 1 are `False` and `True`. With so many cells and
+-- such a depth each state of each run of its bare form is fit: it is not stuck, its heap is sound, and values are of the types that
+-- the code takes.
 pub record IsRunnable (shape : Shape) (code : TokenedProgram) (cells depth : ℕ) : Type 0 where
   pub lowerable : AreLowerable (table_of shape) (bare_program code).functions
   pub tokens : AreTokensLowerable code.functions
@@ -59,11 +59,11 @@ pub record IsRunnable (shape : Shape) (code : TokenedProgram) (cells depth : ℕ
 abbrev pub LeavesAll : ℕ → Ending → Progress → Type 0
 LeavesAll cells how last = (ended last.ending ≡ Some how) × AreAllFree cells last.processor
 
--- An image of a program in counted form, with so many cells and such a depth, and with so much room for tokens. On each input of bytes
--- the processor's machine agrees with the counted one: the image tells the same events and exits with the number of the end. It
--- executes no more instructions than the steps of the counted machine cost with that room, and the room once and `outside_lines`
--- more. Where the program ends by itself and no cell is counted then, all cells are free at its exit. Outside of the runtime's words,
--- which stand at the entry, it touches no free cell.
+-- An image of a program in counted form, with so many cells and such a depth, and with so much room for tokens. On each input of
+-- bytes the processor's machine agrees with the counted one: the image tells the same events and exits with the number of the end.
+-- It executes no more instructions than the steps of the counted machine cost with that room, and the room once and `outside_lines`
+-- more. Where the program ends by itself and no cell is counted then, all cells are free at its exit. Outside of the runtime's
+-- words, which stand at the entry, it touches no free cell.
 pub record IsImageOf (code : CountedProgram) (room cells depth entry : ℕ) (parts : List Part) : Type 0 where
   pub program : IsProgramImage entry parts
   pub does : (input : List ℕ) → All (λ byte. byte < 256) input

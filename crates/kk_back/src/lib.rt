@@ -19,12 +19,12 @@ use rv_cells::{
 };
 use std::alloc::Global;
 
-/// The image of a program in counted form with its tokens and with these string literals, with a heap of `cells` cells, of whose calls
-/// at most `depth` are open at a time.
+/// The image of a program in counted form with its tokens and with these string literals, with a heap of `cells` cells, of whose
+/// calls at most `depth` are open at a time.
 ///
-/// The loaded image does what the program does without its tokens: on every input it tells the same events, and exits with 0, 101 or
-/// 102 as the program ends by itself, with the heap full or with the stack full. Where it ends by itself and no cell is counted then,
-/// all its cells are free. Outside of the runtime's words no instruction loads or stores a byte of a free cell.
+/// The loaded image does what the program does without its tokens: on every input it tells the same events, and exits with 0, 101
+/// or 102 as the program ends by itself, with the heap full or with the stack full. Where it ends by itself and no cell is counted
+/// then, all its cells are free. Outside of the runtime's words no instruction loads or stores a byte of a free cell.
 pub fn image(
     alloc: Global,
     tokened: &Tokened,

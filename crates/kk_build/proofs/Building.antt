@@ -1,5 +1,5 @@
 -- The file of an image agrees with the program, leaves no cell, and is bounded.
-use Rattle.std.proofs.Common.{◌≡◌, ℕ, ◌+◌, ◌*◌, ◌-◌, ◌≤◌, ◌<◌, List, All, refl, subst, arith}
+use Rattle.std.proofs.Common.{◌≡◌, ℕ, ◌+◌, ◌*◌, ◌≤◌, ◌<◌, List, All, refl, subst, ◌∙◌, arith}
 use Rattle.kk_base.specs.Agreements.{Agree}
 use Rattle.kk_base.specs.Machines.{Machine, state}
 use Rattle.kk_base.proofs.Agreements.{agree_through, agree_mapped}
@@ -87,8 +87,11 @@ module _ (program : ProgramTree) (table positions : PositionTable) (code : Count
         let high = agree_mapped events_of (λ end. exited (exit_of end)) (heavy_store_machine (most nodes) setting) weighed 0 up
         source first agree in
         let low = image.does input bytes in
-        agree_through (outside (heavy_store_machine (most nodes) setting)) (roomy_outside room counted) (processor_machine rv32im)
-        0 (room + outside_lines) up low.0 source first (goes loaded) high low.1
+        let same : 0 + (room + outside_lines) ≡ room + outside_lines = omega arith in
+        subst (λ (credit : ℕ). Agree (outside (heavy_store_machine (most nodes) setting)) (processor_machine rv32im) credit up_whole
+        source (goes loaded)) same
+        (agree_through (outside (heavy_store_machine (most nodes) setting)) (roomy_outside room counted) (processor_machine rv32im)
+        0 (room + outside_lines) up low.0 source first (goes loaded) high low.1)
 
     image_does : RunAgrees setting parts entry input
     image_does =

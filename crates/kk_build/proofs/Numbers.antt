@@ -1,5 +1,5 @@
 -- How many instructions steps take in all, by the nodes of the greatest body.
-use Rattle.std.proofs.Common.{ℕ, ◌+◌, ◌*◌, ◌-◌, ◌≤◌, arith}
+use Rattle.std.proofs.Common.{ℕ, ◌+◌, ◌*◌, ◌≤◌, arith}
 use Rattle.std.proofs.lemmas.Nat.{mul-le}
 use Rattle.kk_core.specs.Costs.{most_room}
 use Rattle.rv_place.specs.Images.{outside_lines}

@@ -17,9 +17,9 @@ use kk_reuse::{
     paired_code_spends_its_tokens,
 };
 
-/// The tokens of a compiled program can be lowered: without them it is its counted form, of which the other laws speak; its slots are
-/// few, each token is spent once on each path, and held at calls alone; and its length and its costs with them are bounded. It is a
-/// law, and does nothing.
+/// The tokens of a compiled program can be lowered: without them it is its counted form, of which the other laws speak; its slots
+/// are few, each token is spent once on each path, and held at calls alone; and its length and its costs with them are bounded. It
+/// is a law, and does nothing.
 pub fn compiled_tokens_can_be_lowered()
     ensures { (typed : Typed) (given : Ground) (counted : Counted) (made : Tokened)
         → IsChecked (program_tree typed.program) (typings_of typed) → AreGiven typed given

@@ -73,8 +73,8 @@ returns c =
       is_run = record { positions = compiled.table; least = compiled.least; is = refl };
       agrees = file_agrees program compiled.table positions code greatest room up (omega arith) cells depth entry parts image keeps
           loaded;
-      leaves_no_cell = file_leaves program compiled.table positions code greatest room up (omega arith) cells depth entry parts image
-          keeps loaded;
+      leaves_no_cell = file_leaves program compiled.table positions code greatest room up (omega arith) cells depth entry parts
+          image keeps loaded;
       touches_no_free = touches_as_loaded loaded (setting_of program compiled.table cells depth) cells image.touches_no_free;
       bounded = λ nodes few.
           let most = instances_have_no_more c.requires.given.instances in
