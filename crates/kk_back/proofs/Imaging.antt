@@ -1,16 +1,22 @@
--- The image of a program in counted form does what the program does: its assembler code does, and the image does what that does.
-use Rattle.std.proofs.Common.{◌≡◌, ◌≢◌, ◌*◌, ◌%◌, ◌<◌, ◌≤◌, ℕ, List, [], All, Some, length, slice_get, sym, ap, subst, ◌∙◌, arith}
+-- The image of a program with tokens does what its bare form does: its assembler code does, and the image does what that does.
+use Rattle.std.proofs.Common.{◌≡◌, ◌≢◌, ◌+◌, ◌*◌, ◌%◌, ◌<◌, ◌≤◌, ℕ, List, [], All, Some, length, map, slice_get, refl, sym, ap, subst, ◌∙◌, arith}
 use Rattle.kk_base.specs.Agreements.{Agree}
 use Rattle.kk_base.specs.Machines.{state}
 use Rattle.kk_base.proofs.Agreements.{agree_through}
-use Rattle.kk_counted.specs.CountedCodes.{CountedFunction, CountedProgram}
-use Rattle.kk_counted.specs.CountedCosts.{counted_cost}
+use Rattle.kk_source.specs.State.{ended as well}
+use Rattle.kk_counted.specs.BareForms.{bare_function, bare_program}
+use Rattle.kk_counted.specs.CountedCodes.{CountedProgram}
+use Rattle.kk_counted.specs.CountedCosts.{roomy_cost}
 use Rattle.kk_counted.specs.CountedStates.{CountedSetting, stopped, counted_first_state}
 use Rattle.kk_counted.specs.Heaps.{busy}
 use Rattle.kk_counted.specs.Keeping.{counted_after}
-use Rattle.kk_counted.specs.Lengths.{functions_length, all_computes}
 use Rattle.kk_counted.specs.Lowerable.{AreLowerable}
 use Rattle.kk_counted.specs.Marks.{CellMarks}
+use Rattle.kk_counted.specs.TokenCosts.{HasRoom}
+use Rattle.kk_counted.specs.TokenLengths.{tokened_functions_length, all_tokened_computes}
+use Rattle.kk_counted.specs.TokenLowerable.{AreTokensLowerable}
+use Rattle.kk_counted.specs.TokenSpending.{AreTokensSpent}
+use Rattle.kk_counted.specs.TokenedCodes.{TokenedFunction, TokenedProgram}
 use Rattle.kk_counted.specs.declared.shape.Shape.{Shape}
 use Rattle.cell_heap.specs.Pool.{Pool}
 use Rattle.elf_image.specs.Parts.{memory_of}
@@ -25,9 +31,10 @@ use Rattle.rv_isa.specs.ProcessorMachine.{processor_machine}
 use Rattle.rv_lower.specs.Lowered.{from_to}
 use Rattle.rv_cells.specs.Fitting.{IsFit}
 use Rattle.rv_cells.specs.Layout.{Layout, IsNarrow}
-use Rattle.rv_cells.specs.Lowered.{IsLoweredForm}
-use Rattle.rv_cells.specs.Meaning.{counted_outside, setting_on, IsProgramLowered, RunsTheSame}
+use Rattle.rv_cells.specs.Meaning.{setting_on}
 use Rattle.rv_cells.specs.Tables.{table_of, layout_in}
+use Rattle.rv_cells.specs.TokenedLowered.{IsTokenedForm}
+use Rattle.rv_cells.specs.TokenedMeaning.{roomy_outside, IsTokenedLowered, TokenedRunsTheSame}
 use Rattle.rv_place.specs.Images.{outside_lines}
 use Rattle.rv_world.specs.Operations.{Constants, all_bytes}
 use Rattle.rv_world.specs.World.{first_world, primitives}
@@ -38,43 +45,46 @@ use Rattle.kk_back.specs.Sizes.{FitsText}
 use Rattle.kk_back.proofs.Assembling.{same_some}
 use Rattle.kk_back.proofs.FreeCells.{all_are_free}
 
--- the law that assembler code does what a program in counted form does
+-- the law that assembler code does what a program with tokens does, with room for these
 abbrev pub RunTheSame : Type 0
 RunTheSame =
-    (layout : Layout) (marks : CellMarks) (code : CountedProgram) (constants : List (List ℕ)) (functions : List Lines)
-    → (lowered : IsProgramLowered layout marks code constants functions)
+    (layout : Layout) (marks : CellMarks) (code : TokenedProgram) (constants : List (List ℕ)) (functions : List Lines)
+    → (lowered : IsTokenedLowered layout marks code constants functions) → (room : ℕ) → HasRoom room code
     → (pool : Pool) (depth first : ℕ) (input : List ℕ) → pool.first % 32 ≡ 0 → 0 < pool.first
     → All (λ byte. byte < 256) input
-    → ((n : ℕ) → IsFit layout (counted_after counted_cost (setting_on code pool depth) input n))
-    → RunsTheSame code constants functions lowered.main_lines pool depth first input
+    → ((n : ℕ) → IsFit layout (counted_after (roomy_cost room) (setting_on (bare_program code) pool depth) input n))
+    → TokenedRunsTheSame code room constants functions lowered.main_lines pool depth first input
 
--- the law that a program that can be lowered, and is so, is one whose assembler code is well formed
+-- the law that a program that can be lowered with its tokens, and is so, is one whose assembler code is well formed
 abbrev pub AreWellLowered : Type 0
 AreWellLowered =
-    (shape : Shape) (code : CountedProgram) (texts : List (List ℕ)) (each : List Lines)
-    → AreLowerable (table_of shape) code.functions → IsLoweredForm shape code.texts code.functions each texts
+    (shape : Shape) (code : TokenedProgram) (texts : List (List ℕ)) (each : List Lines)
+    → AreLowerable (table_of shape) (bare_program code).functions → AreTokensLowerable code.functions → AreTokensSpent code
+    → IsTokenedForm shape code.texts code.functions each texts
     → IsNarrow (layout_in shape) → (layout_in shape).tag 0 ≡ 0 → (layout_in shape).tag 1 ≡ 1
-    → (main : CountedFunction) → slice_get code.functions code.main ≡ Some main → main.parameters ≡ 0
-    → IsProgramLowered (layout_in shape) (table_of shape) code texts each
+    → (main : TokenedFunction) → slice_get code.functions code.main ≡ Some main → main.parameters ≡ 0
+    → IsTokenedLowered (layout_in shape) (table_of shape) code texts each
 
--- the law that the assembler code of a program in counted form is no longer than that form tells
+-- the law that the assembler code of a program with tokens is no longer than its form tells
 abbrev pub AreShortLowered : Type 0
 AreShortLowered =
-    (shape : Shape) (functions : List CountedFunction) (literals texts : List (List ℕ)) (each : List Lines)
-    → AreLowerable (table_of shape) functions → IsNarrow (layout_in shape) → IsLoweredForm shape literals functions each texts
-    → (Costs.functions_length each ≤ functions_length functions) × (length (all_bytes texts) ≤ 256 * all_computes functions)
+    (shape : Shape) (functions : List TokenedFunction) (literals texts : List (List ℕ)) (each : List Lines)
+    → AreLowerable (table_of shape) (map bare_function functions) → AreTokensLowerable functions
+    → IsNarrow (layout_in shape) → IsTokenedForm shape literals functions each texts
+    → (Costs.functions_length each ≤ tokened_functions_length functions)
+    × (length (all_bytes texts) ≤ 256 * all_tokened_computes functions)
 
 no_params : (names : List ℕ) (n : ℕ) → names ≡ from_to 0 n → n ≡ 0 → names ≡ []
 no_params names n are none = are ∙ ap (from_to 0) none
 
-module _ (shape : Shape) (code : CountedProgram) (functions : List Lines) (texts : List (List ℕ)) (cells depth : ℕ)
+module _ (shape : Shape) (code : TokenedProgram) (functions : List Lines) (texts : List (List ℕ)) (cells depth : ℕ)
     (runnable : IsRunnable shape code cells depth)
-    (form : IsLoweredForm shape code.texts code.functions functions texts) (are_well_lowered : AreWellLowered) where
+    (form : IsTokenedForm shape code.texts code.functions functions texts) (are_well_lowered : AreWellLowered) where
   -- its assembler code is well formed, and its first function is that of `main`
-  lowered : IsProgramLowered (layout_in shape) (table_of shape) code texts functions
+  lowered : IsTokenedLowered (layout_in shape) (table_of shape) code texts functions
   lowered =
-      are_well_lowered shape code texts functions runnable.lowerable form runnable.narrow runnable.falsity runnable.truth_is
-      runnable.main runnable.main_is runnable.main_alone
+      are_well_lowered shape code texts functions runnable.lowerable runnable.tokens runnable.spends form runnable.narrow
+      runnable.falsity runnable.truth_is runnable.main runnable.main_is runnable.main_alone
 
   main_there : slice_get functions 0 ≡ Some lowered.main_lines
   main_there = sym (ap (slice_get functions) runnable.main_first) ∙ lowered.lines_are
@@ -83,7 +93,7 @@ module _ (shape : Shape) (code : CountedProgram) (functions : List Lines) (texts
   fits : AreShortLowered → FitsText functions texts
   fits are_short_lowered =
       let short =
-      are_short_lowered shape code.functions code.texts texts functions runnable.lowerable runnable.narrow form in
+      are_short_lowered shape code.functions code.texts texts functions runnable.lowerable runnable.tokens runnable.narrow form in
       let code_length = short.0 in
       let bytes = short.1 in
       let most_length = runnable.short.length in
@@ -108,55 +118,59 @@ module _ (shape : Shape) (code : CountedProgram) (functions : List Lines) (texts
       }
 
   module _ (run_the_same : RunTheSame) (entry : ℕ) (parts : List Part)
-      (of_asm : IsImageOfAsm functions texts cells depth entry parts) where
+      (of_asm : IsImageOfAsm functions texts cells depth entry parts) (room : ℕ) (enough : HasRoom room code) where
     image : IsAsmImage functions texts lowered.main_lines cells depth entry parts
     image = of_asm lowered.main_lines main_there
 
     abbrev constants : Constants
     constants = record { first = image.first; texts = texts }
 
-    abbrev setting : CountedSetting
-    setting = counted_setting code cells depth
+    -- the program without its tokens
+    abbrev bare_code : CountedProgram
+    bare_code = bare_program code
 
-    same_setting : setting_on code image.pool depth ≡ setting
-    same_setting = ap (λ n. counted_setting code n depth) image.cells_are
+    abbrev setting : CountedSetting
+    setting = counted_setting bare_code cells depth
+
+    same_setting : setting_on bare_code image.pool depth ≡ setting
+    same_setting = ap (λ n. counted_setting bare_code n depth) image.cells_are
 
     runs : (input : List ℕ) → All (λ byte. byte < 256) input
-        → RunsTheSame code texts functions lowered.main_lines image.pool depth image.first input
+        → TokenedRunsTheSame code room texts functions lowered.main_lines image.pool depth image.first input
     runs input bytes =
-        run_the_same (layout_in shape) (table_of shape) code texts functions lowered image.pool depth image.first input
+        run_the_same (layout_in shape) (table_of shape) code texts functions lowered room enough image.pool depth image.first input
         image.aligned image.behind bytes
-        (λ n. subst (λ (s : CountedSetting). IsFit (layout_in shape) (counted_after counted_cost s input n))
-        (sym same_setting) (runnable.fit counted_cost input bytes n))
+        (λ n. subst (λ (s : CountedSetting). IsFit (layout_in shape) (counted_after (roomy_cost room) s input n))
+        (sym same_setting) (runnable.fit (roomy_cost room) input bytes n))
 
     never : (input : List ℕ) → All (λ byte. byte < 256) input → (n : ℕ)
         → state (asm_machine (primitives constants image.pool) depth functions) n (asm_start lowered.main_lines (first_world image.pool input))
         ≢ stuck
     never input bytes n = (runs input bytes).never_stuck n
 
-    -- the image does what the program does
-    pub image_is : IsImageOf code cells depth entry parts
+    -- the image does what the program does without its tokens
+    pub image_is : IsImageOf bare_code room cells depth entry parts
     image_is = record {
       program = image.program;
       does = λ input bytes.
           let upper = (runs input bytes).agrees in
           let low = image.does input bytes (never input bytes) in (
             (λ m. upper.0 (low.0 m)),
-            subst (λ (s : CountedSetting). Agree (counted_outside s) (processor_machine rv32im) outside_lines
+            subst (λ (s : CountedSetting). Agree (roomy_outside room s) (processor_machine rv32im) (room + outside_lines)
                 (λ m. upper.0 (low.0 m)) (counted_first_state s input) (goes (start (memory_of parts) entry input))) same_setting
-                (agree_through (counted_outside (setting_on code image.pool depth))
-                (asm_machine (primitives constants image.pool) depth functions) (processor_machine rv32im) 0
+                (agree_through (roomy_outside room (setting_on bare_code image.pool depth))
+                (asm_machine (primitives constants image.pool) depth functions) (processor_machine rv32im) room
                 outside_lines upper.0 low.0
-                (counted_first_state (setting_on code image.pool depth) input)
+                (counted_first_state (setting_on bare_code image.pool depth) input)
                 (asm_start lowered.main_lines (first_world image.pool input))
                 (goes (start (memory_of parts) entry input)) upper.1 low.1),
           );
-      leaves_cells = λ input bytes n by stops empty.
-          let ends = (runs input bytes).ends n by
-          (subst (λ (s : CountedSetting). (counted_after counted_cost s input n).control ≡ stopped by) (sym same_setting)
+      leaves_cells = λ input bytes n stops empty.
+          let ends = (runs input bytes).ends n well
+          (subst (λ (s : CountedSetting). (counted_after (roomy_cost room) s input n).control ≡ stopped well) (sym same_setting)
           stops) in
           let last = image.ends input bytes (never input bytes) ends.0 _ ends.1 ends.2 in
-          let all = ends.3 (subst (λ (s : CountedSetting). busy (counted_after counted_cost s input n).heap ≡ 0)
+          let all = ends.3 refl (subst (λ (s : CountedSetting). busy (counted_after (roomy_cost room) s input n).heap ≡ 0)
           (sym same_setting) empty) in (
             last.0,
             (

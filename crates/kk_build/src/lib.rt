@@ -20,9 +20,9 @@ use kk_back::image;
 use kk_base::{Bytes, NoMemory, Refusal};
 use kk_front::{accepted_programs_are_typed, read};
 use kk_middle::{
-    compile, compiled_programs_are_marked, compiled_programs_are_short,
-    compiled_programs_can_be_lowered, compiled_programs_have_their_kinds,
-    compiled_programs_keep_meaning,
+    compile, compiled_programs_are_marked, compiled_programs_can_be_lowered,
+    compiled_programs_have_their_kinds, compiled_programs_keep_meaning,
+    compiled_tokens_can_be_lowered,
 };
 use kk_syntax::Accepted;
 pub use law::images_follow_their_programs_without_limits;
@@ -49,7 +49,7 @@ pub fn build(alloc: Global, text: &[u8], cells: u32, depth: u32) -> Result<Bytes
     }
 }
 
-/// The file of the image of an accepted program, by its counted form.
+/// The file of the image of an accepted program, by its counted form with its tokens.
 fn file_of(alloc: Global, accepted: &Accepted, cells: u32, depth: u32) -> Result<Bytes, NoMemory>
     requires checked { IsChecked (program_tree accepted.now.typed.program) (typings_of accepted.now.typed) }
     requires given { AreGiven accepted.now.typed accepted.now.instances }
@@ -57,14 +57,14 @@ fn file_of(alloc: Global, accepted: &Accepted, cells: u32, depth: u32) -> Result
     requires sizes { AreSizes cells depth }
     ensures { IfOk result (IsFileOf (program_tree accepted.now.typed.program) cells depth) }
 {
-    let counted = compile(alloc, accepted)?;
+    let tokened = compile(alloc, accepted)?;
     compiled_programs_keep_meaning();
     compiled_programs_are_marked();
     compiled_programs_have_their_kinds();
     compiled_programs_can_be_lowered();
-    compiled_programs_are_short();
+    compiled_tokens_can_be_lowered();
     judged_programs_are_fit();
-    let image = image(alloc, &counted, &accepted.instances.texts, cells, depth)?;
+    let image = image(alloc, &tokened, &accepted.instances.texts, cells, depth)?;
     let file = write(alloc, &image)?;
     Ok(file)
 }

@@ -15,3 +15,4 @@ mod Apart
 mod ShapeKinds
 mod FewFields
 mod Tags
+mod FewNodes

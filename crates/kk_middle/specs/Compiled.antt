@@ -1,5 +1,5 @@
--- What the counted form of an accepted program is.
-use Rattle.std.specs.Prelude.{◌≡◌, map}
+-- What the counted form of an accepted program is, and that form with its tokens.
+use Rattle.std.specs.Prelude.{◌≡◌, ℕ, List, map}
 use Rattle.kk_syntax.specs.declared.ground.Ground.{Ground}
 use Rattle.kk_syntax.specs.declared.typed.Typed.{Typed}
 use Rattle.kk_syntax.specs.GroundPrograms.{ground_program}
@@ -17,11 +17,14 @@ use Rattle.kk_norm.specs.Normalized.{IsCoreForm}
 use Rattle.kk_counted.specs.declared.counted.Counted.{Counted}
 use Rattle.kk_counted.specs.declared.shape.InstanceShape.{InstanceShape}
 use Rattle.kk_counted.specs.Int32.{AllHaveInt32}
-use Rattle.kk_counted.specs.Programs.{function_of}
+use Rattle.kk_counted.specs.Programs.{function_of, program_of}
 use Rattle.kk_counted.specs.Shaping.{positions_in}
+use Rattle.kk_counted.specs.TokenedForms.{tokened_program}
+use Rattle.kk_counted.specs.declared.tokened.Tokened.{Tokened}
 use Rattle.kk_insert.specs.Insertion.{inserted}
 use Rattle.kk_insert.specs.Shapes.{cells_told, cells_in, facts_of}
 use Rattle.kk_dropspec.specs.Specialised.{special_function}
+use Rattle.kk_reuse.specs.Pairing.{paired_program}
 
 -- the positions of the instances: those of the functions that they are
 abbrev pub instance_positions : Ground → PositionTable → PositionTable
@@ -48,3 +51,12 @@ pub record IsCompiled (typed : Typed) (given : Ground) (made : Counted) : Type 0
   pub body_nodes : made.body_nodes ≡ greatest_nodes (program_tree typed.program)
   pub nodes : made.nodes ≡ given.summed_nodes
   pub numbers : AllHaveInt32 (map function_of made.functions.items)
+
+-- A program with tokens is that of a counted form: each construction takes the newest token of its function. Its shape and its two
+-- numbers of nodes are the same.
+pub record IsTokenedOf (counted : Counted) (made : Tokened) : Type 0 where
+  pub shape : made.shape ≡ counted.shape
+  pub program : (texts : List (List ℕ))
+      → tokened_program made.functions.items texts ≡ paired_program (program_of counted.functions.items texts)
+  pub body_nodes : made.body_nodes ≡ counted.body_nodes
+  pub nodes : made.nodes ≡ counted.nodes

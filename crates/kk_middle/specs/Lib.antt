@@ -4,3 +4,4 @@ pub mod Meaning
 pub mod MarkedPrograms
 pub mod ShapeKinds
 pub mod Lowerings
+pub mod TokenLowerings

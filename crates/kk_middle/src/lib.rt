@@ -1,4 +1,4 @@
-//! From an accepted program to its counted form. What the passes need of each other stands here, as laws.
+//! From an accepted program to its counted form with tokens. What the passes need of each other stands here, as laws.
 #![tactic(auto)]
 
 mod law;
@@ -6,6 +6,7 @@ mod lowering;
 mod meaning;
 mod positions;
 mod program;
+mod tokens;
 
 pub use law::{
     core_constructors_are_consistent, owned_positions_of_instances_are_closed,
@@ -21,3 +22,4 @@ pub use meaning::{
 };
 pub use positions::positions_of_instances;
 pub use program::compile;
+pub use tokens::compiled_tokens_can_be_lowered;

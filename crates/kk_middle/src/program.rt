@@ -5,8 +5,9 @@ ghost use Rattle.kk_syntax.specs.PositionsOf.{PositionTable};
 ghost use Rattle.kk_syntax.specs.Programs.{program_tree};
 ghost use Rattle.kk_syntax.specs.TypedPrograms.{typings_of};
 ghost use Rattle.kk_mono.specs.Grounds.{AreGiven};
+ghost use Rattle.kk_counted.specs.declared.counted.Counted.{Counted};
 ghost use Rattle.kk_middle.specs.LentNames.{AllKeepLent};
-ghost use Rattle.kk_middle.specs.Compiled.{IsCompiled};
+ghost use Rattle.kk_middle.specs.Compiled.{IsCompiled, IsTokenedOf};
 
 use crate::law::{
     core_constructors_are_consistent, owned_positions_of_instances_are_closed,
@@ -15,23 +16,25 @@ use crate::law::{
 use crate::positions::positions_of_instances;
 use kk_base::NoMemory;
 use kk_borrow::owned;
-use kk_counted::Counted;
+use kk_counted::Tokened;
 use kk_insert::typed_code_is_insertable;
 use kk_instances::instances_mean_the_program;
 use kk_norm::normal;
 use kk_syntax::Accepted;
 use std::alloc::Global;
 
-/// The counted form of an accepted program: the core form of its instances, in which each variable that owns a reference is
-/// used up once on each path, and each opening of a cell goes by the cell's count.
+/// The counted form of an accepted program with its tokens: the core form of its instances, in which each variable that owns a
+/// reference is used up once on each path, each opening of a cell goes by the cell's count, and each construction uses the newest
+/// cell again that its function has opened.
 ///
 /// The recursion is as deep as the deepest expression.
-pub fn compile(alloc: Global, accepted: &Accepted) -> Result<Counted, NoMemory>
+pub fn compile(alloc: Global, accepted: &Accepted) -> Result<Tokened, NoMemory>
     requires checked { IsChecked (program_tree accepted.now.typed.program) (typings_of accepted.now.typed) }
     requires given { AreGiven accepted.now.typed accepted.now.instances }
     requires lent { (positions : PositionTable) → IsLeast (program_tree accepted.now.typed.program) positions
         → AllKeepLent (program_tree accepted.now.typed.program) positions }
-    ensures { IfOk result (IsCompiled accepted.now.typed accepted.now.instances) }
+    ensures { IfOk result (λ made. (counted : Counted) × IsCompiled accepted.now.typed accepted.now.instances counted
+        × IsTokenedOf counted made) }
 {
     instances_mean_the_program();
     let core = normal(alloc, &accepted.instances)?;
@@ -42,6 +45,7 @@ pub fn compile(alloc: Global, accepted: &Accepted) -> Result<Counted, NoMemory>
     typed_code_is_insertable();
     core_constructors_are_consistent();
     let counted = kk_insert::run(alloc, &core, &positions)?;
-    let made = kk_dropspec::run(alloc, counted)?;
+    let special = kk_dropspec::run(alloc, counted)?;
+    let made = kk_reuse::run(alloc, special)?;
     Ok(made)
 }

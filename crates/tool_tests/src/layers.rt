@@ -9,9 +9,9 @@ use kk_build::build;
 use kk_front::{accepted_programs_are_typed, read};
 use kk_memio::{MemSink, MemSource};
 use kk_middle::{
-    compile, compiled_programs_are_marked, compiled_programs_are_short,
-    compiled_programs_can_be_lowered, compiled_programs_have_their_kinds,
-    compiled_programs_keep_meaning,
+    compile, compiled_programs_are_marked, compiled_programs_can_be_lowered,
+    compiled_programs_have_their_kinds, compiled_programs_keep_meaning,
+    compiled_tokens_can_be_lowered,
 };
 use rv_cells::judged_programs_are_fit;
 use rv_sim::{Halt, Machine};
@@ -93,6 +93,22 @@ fun main()
   println(len(build(3)))
 ";
 
+/// The cells of the list are held as tokens while `summed` goes down it.
+const HELD: &str = "type list<a> { Nil; Cons(head: a, tail: list<a>) }
+fun build(n: int32): list<int32>
+  if n == 0 then Nil else Cons(n, build(n - 1))
+fun sum(xs: list<int32>): int32
+  match xs
+    Nil -> 0
+    Cons(x, xx) -> x + sum(xx)
+fun summed(xs: list<int32>): list<int32>
+  match xs
+    Cons(x, xx) -> Cons(x + sum(summed(xx)), Nil)
+    Nil -> Cons(1, Nil)
+fun main()
+  println(sum(summed(build(3))))
+";
+
 /// `id` is called at two types.
 const IDENTITY: &str = "fun id(x: a): a
   x
@@ -108,14 +124,14 @@ fn file_of(alloc: Global, text: &str) -> Result<Option<Bytes>, NoMemory> {
         Err(_) => return Ok(None),
     };
     accepted_programs_are_typed();
-    let counted = compile(alloc, &accepted)?;
+    let tokened = compile(alloc, &accepted)?;
     compiled_programs_keep_meaning();
     compiled_programs_are_marked();
     compiled_programs_have_their_kinds();
     compiled_programs_can_be_lowered();
-    compiled_programs_are_short();
+    compiled_tokens_can_be_lowered();
     judged_programs_are_fit();
-    let image = image(alloc, &counted, &accepted.instances.texts, CELLS, DEPTH)?;
+    let image = image(alloc, &tokened, &accepted.instances.texts, CELLS, DEPTH)?;
     let file = write(alloc, &image)?;
     Ok(Some(file))
 }
@@ -144,14 +160,8 @@ fn a_function_has_an_instance_for_each_type(rt: HostRuntime) {
     assert!(rt; matches!(&read, Ok(accepted) if accepted.instances.instances.len() == 3));
 }
 
-/// Runs the image that is built of a text on an empty input. It exits with 0 and leaves all cells free.
-fn check_cells(
-    rt: &impl Abort,
-    alloc: Global,
-    text: &str,
-    cells: u32,
-    depth: u32,
-) -> Result<(), Fail>
+/// How the image that is built of a text ends on an empty input, and how many of its cells are free then.
+fn run_of(alloc: Global, text: &str, cells: u32, depth: u32) -> Result<(Halt, u32), Fail>
     requires { AreSizes cells depth }
 {
     let file = match build(alloc, text.as_bytes(), cells, depth) {
@@ -162,11 +172,23 @@ fn check_cells(
     let mut machine = Machine::load(alloc, &image)?;
     let mut input = MemSource::new(alloc, b"", &[])?;
     let mut out = MemSink::new(alloc, 100, &[])?;
-    assert_eq!(rt;
-        machine.run(10_000_000, &mut input, &mut out),
-        Halt::Exit(0)
-    );
-    assert_eq!(rt; machine.free_cells(cells), cells);
+    let halt = machine.run(10_000_000, &mut input, &mut out);
+    Ok((halt, machine.free_cells(cells)))
+}
+
+/// It exits with 0 and leaves all cells free.
+fn check_cells(
+    rt: &impl Abort,
+    alloc: Global,
+    text: &str,
+    cells: u32,
+    depth: u32,
+) -> Result<(), Fail>
+    requires { AreSizes cells depth }
+{
+    let (halt, free) = run_of(alloc, text, cells, depth)?;
+    assert_eq!(rt; halt, Halt::Exit(0));
+    assert_eq!(rt; free, cells);
     Ok(())
 }
 
@@ -174,4 +196,20 @@ fn check_cells(
 fn cells_are_free_at_the_end(rt: HostRuntime) -> Result<(), Fail> {
     check_cells(&rt, rt.alloc(), SHARED_PAIR, 2, DEPTH)?;
     check_cells(&rt, rt.alloc(), DEPTH_OF_CALLS, 3, 5)
+}
+
+/// At the end of the list all three cells are held. The construction there takes one of them back.
+#[test]
+fn a_held_cell_serves_a_construction(rt: HostRuntime) -> Result<(), Fail> {
+    check_cells(&rt, rt.alloc(), HELD, 3, DEPTH)
+}
+
+/// With two cells `build` finds the heap full. With five open calls `sum` finds the stack full, while two cells are held.
+#[test]
+fn full_heaps_and_stacks_end_a_run(rt: HostRuntime) -> Result<(), Fail> {
+    let (heap, _) = run_of(rt.alloc(), HELD, 2, DEPTH)?;
+    assert_eq!(rt; heap, Halt::Exit(101));
+    let (stack, _) = run_of(rt.alloc(), HELD, 3, 5)?;
+    assert_eq!(rt; stack, Halt::Exit(102));
+    Ok(())
 }

@@ -1,4 +1,4 @@
-//! Code with tokens, as the pairing makes it of a compiled program. No image has it yet.
+//! The tokens of compiled programs.
 
 use crate::layers::{ARITHMETIC, REVERSE};
 use kk_base::NoMemory;
@@ -8,15 +8,14 @@ use kk_middle::compile;
 use std::alloc::Global;
 
 /// The code of a text with its tokens; none where the text is refused.
-fn paired(alloc: Global, text: &str) -> Result<Option<Tokened>, NoMemory> {
+fn compiled(alloc: Global, text: &str) -> Result<Option<Tokened>, NoMemory> {
     let accepted = match read(alloc, text.as_bytes()) {
         Ok(accepted) => accepted,
         Err(_) => return Ok(None),
     };
     accepted_programs_are_typed();
-    let counted = compile(alloc, &accepted)?;
-    let paired = kk_reuse::run(alloc, counted)?;
-    Ok(Some(paired))
+    let made = compile(alloc, &accepted)?;
+    Ok(Some(made))
 }
 
 /// Whether a block has a construction in the cell of a token.
@@ -53,9 +52,9 @@ fn some_arm_fills(program: &Tokened) -> bool {
 /// `rev` makes its cell in the one that its row has opened. A program without cells has no such construction.
 #[test]
 fn a_list_is_reversed_in_its_own_cells(rt: HostRuntime) -> Result<(), NoMemory> {
-    let reverse = paired(rt.alloc(), REVERSE)?;
+    let reverse = compiled(rt.alloc(), REVERSE)?;
     assert!(rt; matches!(&reverse, Some(program) if some_arm_fills(program)));
-    let arithmetic = paired(rt.alloc(), ARITHMETIC)?;
+    let arithmetic = compiled(rt.alloc(), ARITHMETIC)?;
     assert!(rt; matches!(&arithmetic, Some(program) if !some_arm_fills(program)));
     Ok(())
 }

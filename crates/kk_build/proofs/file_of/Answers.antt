@@ -2,11 +2,14 @@ use Rattle.std.proofs.Common.{sym, subst, List, ℕ, arith, refl}
 use Rattle.kk_syntax.specs.GroundPrograms.{ground_program}
 use Rattle.kk_syntax.specs.Programs.{program_tree}
 use Rattle.kk_syntax.specs.Shapes.{greatest_nodes}
+use Rattle.kk_counted.specs.CountedCodes.{CountedProgram}
 use Rattle.kk_counted.specs.Programs.{program_of}
+use Rattle.kk_counted.specs.TokenedForms.{tokened_program}
 use Rattle.kk_middle.specs.Compiled.{instance_positions}
 use Rattle.kk_middle.specs.Meaning.{store_steps}
+use Rattle.kk_middle.specs.TokenLowerings.{token_room, TokensCanBeLowered}
 use Rattle.kk_source.specs.Settings.{setting_of}
-use Rattle.kk_back.specs.Images.{IsRunnable, IsImageOf}
+use Rattle.kk_back.specs.Images.{IsRunnable, IsImageOf, IsImageOfTokened}
 use Rattle.kk_build.proofs.Building.{file_agrees, file_leaves, file_is_bounded}
 use Rattle.kk_build.proofs.Loading.{touches_as_loaded}
 use Rattle.kk_build.proofs.Nodes.{instances_have_no_more, program_has_some}
@@ -17,53 +20,65 @@ pub image-requires-clause-runnable : goal.image-requires-clause-runnable
 image-requires-clause-runnable c =
     let typed = c.args.accepted.now.typed in
     let given = c.args.accepted.now.instances in
-    let made = c.in_ok-counted.counted in
-    let compiled = c.in_ok-counted.ensures in
+    let made = c.in_ok-tokened.tokened in
+    let counted = c.in_ok-tokened.ensures.0 in
+    let compiled = c.in_ok-tokened.ensures.1 in
+    let of = c.in_ok-tokened.ensures.2 in
     let checked = c.requires.checked in
     let lent = c.requires.lent compiled.table in
     let cells = c.args.cells in
     let depth = c.args.depth in
-    subst (λ (texts : List (List ℕ)). IsRunnable made.shape (program_of made.functions.items texts) cells depth) (sym c.deref.ensures.value)
-    (runnable c.judged_programs_are_fit.ensures made given cells depth (setting_of (program_tree typed.program) compiled.table cells depth)
+    subst (λ (texts : List (List ℕ)). IsRunnable made.shape (tokened_program made.functions.items texts) cells depth)
+    (sym c.deref.ensures.value)
+    (runnable c.judged_programs_are_fit.ensures counted made given cells depth
+    (setting_of (program_tree typed.program) compiled.table cells depth)
     (instance_positions given compiled.table) (greatest_nodes (ground_program given)) (store_steps (ground_program given))
-    c.requires.sizes
-    (c.compiled_programs_can_be_lowered.ensures typed given made checked c.requires.given compiled lent)
-    (c.compiled_programs_are_short.ensures typed given made checked c.requires.given compiled)
-    (c.compiled_programs_are_marked.ensures typed given made checked c.requires.given compiled) compiled.numbers
-    (c.compiled_programs_keep_meaning.ensures typed given made checked c.requires.given compiled lent cells depth)
-    (c.compiled_programs_have_their_kinds.ensures typed given made checked c.requires.given compiled lent cells depth))
+    c.requires.sizes of.shape
+    (c.compiled_tokens_can_be_lowered.ensures typed given counted made checked c.requires.given compiled of)
+    (c.compiled_programs_can_be_lowered.ensures typed given counted checked c.requires.given compiled lent)
+    (c.compiled_programs_are_marked.ensures typed given counted checked c.requires.given compiled) compiled.numbers
+    (c.compiled_programs_keep_meaning.ensures typed given counted checked c.requires.given compiled lent cells depth)
+    (c.compiled_programs_have_their_kinds.ensures typed given counted checked c.requires.given compiled lent cells depth))
 
 pub returns : goal.returns
 returns c =
     let typed = c.args.accepted.now.typed in
     let given = c.args.accepted.now.instances in
-    let made = c.in_ok-counted.counted in
-    let compiled = c.in_ok-counted.ensures in
+    let made = c.in_ok-tokened.tokened in
+    let counted = c.in_ok-tokened.ensures.0 in
+    let compiled = c.in_ok-tokened.ensures.1 in
     let cells = c.args.cells in
     let depth = c.args.depth in
-    let code = program_of made.functions.items given.texts.items in
+    let code = program_of counted.functions.items given.texts.items in
     let program = program_tree typed.program in
     let greatest = greatest_nodes (ground_program given) in
+    let room = token_room given in
     let entry = c.in_ok-image.image.entry in
     let parts = c.in_ok-image.image.parts in
-    let image : IsImageOf code cells depth entry parts =
-    subst (λ (texts : List (List ℕ)). IsImageOf (program_of made.functions.items texts) cells depth entry parts) c.deref.ensures.value
-    c.in_ok-image.ensures in
+    let tokens : TokensCanBeLowered counted made given
+    = c.compiled_tokens_can_be_lowered.ensures typed given counted made c.requires.checked c.requires.given compiled
+    c.in_ok-tokened.ensures.2 in
+    let image : IsImageOf code room cells depth entry parts =
+    subst (λ (bare : CountedProgram). IsImageOf bare room cells depth entry parts) tokens.form
+    (subst (λ (texts : List (List ℕ)). IsImageOfTokened (tokened_program made.functions.items texts) cells depth entry parts)
+    c.deref.ensures.value c.in_ok-image.ensures room tokens.room) in
     let positions = instance_positions given compiled.table in
     let up = store_steps (ground_program given) in
-    let keeps = c.compiled_programs_keep_meaning.ensures typed given made c.requires.checked c.requires.given compiled
+    let keeps = c.compiled_programs_keep_meaning.ensures typed given counted c.requires.checked c.requires.given compiled
     (c.requires.lent compiled.table) cells depth in
     let loaded = c.in_ok-file.ensures.read_again in
     record {
       is_image = record { entry = entry; parts = parts; program = image.program; written = c.in_ok-file.ensures.written; loads = loaded };
       setting = setting_of program compiled.table cells depth;
       is_run = record { positions = compiled.table; least = compiled.least; is = refl };
-      agrees = file_agrees program compiled.table positions code greatest up cells depth entry parts image keeps loaded;
-      leaves_no_cell = file_leaves program compiled.table positions code greatest up cells depth entry parts image keeps loaded;
+      agrees = file_agrees program compiled.table positions code greatest room up (omega arith) cells depth entry parts image keeps
+          loaded;
+      leaves_no_cell = file_leaves program compiled.table positions code greatest room up (omega arith) cells depth entry parts
+          image keeps loaded;
       touches_no_free = touches_as_loaded loaded (setting_of program compiled.table cells depth) cells image.touches_no_free;
       bounded = λ nodes few.
           let most = instances_have_no_more c.requires.given.instances in
           let some = program_has_some c.requires.given.instances in
-          file_is_bounded program compiled.table positions code greatest up cells depth entry parts image keeps loaded nodes
-          (omega (arith, most, few)) (omega (arith, some, few));
+          file_is_bounded program compiled.table positions code greatest room up (omega arith) cells depth entry parts image keeps
+          loaded nodes (omega (arith, most, few)) (omega (arith, some, few));
     }

@@ -78,23 +78,31 @@ run-requires-clause-consistent c =
 pub returns : goal.returns
 returns c =
     let code : ProgramCode = core_code c.in_ok-core.core in
-    let shape = c.in_ok-made.ensures.shape in
-    record {
-      table = positions_of c.in_ok-table.table;
-      least = c.in_ok-table.ensures;
-      core = c.in_ok-core.core;
-      form = c.in_ok-core.ensures.form;
-      functions = c.in_ok-made.ensures.functions ∙ ap (map special_function) c.in_ok-counted.ensures.functions
-          ∙ ap (λ (positions : PositionTable). map special_function (inserted positions code).functions) c.in_ok-positions.ensures;
-      positions = ap (λ (s : Shape). Shaping.positions_in s.instances.items) shape ∙ c.in_ok-counted.ensures.positions
-          ∙ c.in_ok-positions.ensures;
-      tells = c.in_ok-core.ensures.cells;
-      cells = ap (λ (s : Shape). map cells_in s.instances.items) shape ∙ c.in_ok-counted.ensures.cells;
-      results = ap (λ (s : Shape). map (λ (i : InstanceShape). i.result_has_cells) s.instances.items) shape
-          ∙ c.in_ok-counted.ensures.results;
-      constructors = ap (λ (s : Shape). map facts_of s.constructors.items) shape ∙ c.in_ok-counted.ensures.constructors;
-      body_nodes = c.in_ok-made.ensures.body_nodes ∙ c.in_ok-counted.ensures.body_nodes ∙ c.in_ok-core.ensures.greatest_nodes
-          ∙ c.requires.given.greatest;
-      nodes = c.in_ok-made.ensures.nodes ∙ c.in_ok-counted.ensures.nodes ∙ c.in_ok-core.ensures.summed_nodes;
-      numbers = c.in_ok-made.ensures.numbers;
-    }
+    let shape = c.in_ok-special.ensures.shape in (
+      c.in_ok-special.special,
+      record {
+        table = positions_of c.in_ok-table.table;
+        least = c.in_ok-table.ensures;
+        core = c.in_ok-core.core;
+        form = c.in_ok-core.ensures.form;
+        functions = c.in_ok-special.ensures.functions ∙ ap (map special_function) c.in_ok-counted.ensures.functions
+            ∙ ap (λ (positions : PositionTable). map special_function (inserted positions code).functions) c.in_ok-positions.ensures;
+        positions = ap (λ (s : Shape). Shaping.positions_in s.instances.items) shape ∙ c.in_ok-counted.ensures.positions
+            ∙ c.in_ok-positions.ensures;
+        tells = c.in_ok-core.ensures.cells;
+        cells = ap (λ (s : Shape). map cells_in s.instances.items) shape ∙ c.in_ok-counted.ensures.cells;
+        results = ap (λ (s : Shape). map (λ (i : InstanceShape). i.result_has_cells) s.instances.items) shape
+            ∙ c.in_ok-counted.ensures.results;
+        constructors = ap (λ (s : Shape). map facts_of s.constructors.items) shape ∙ c.in_ok-counted.ensures.constructors;
+        body_nodes = c.in_ok-special.ensures.body_nodes ∙ c.in_ok-counted.ensures.body_nodes ∙ c.in_ok-core.ensures.greatest_nodes
+            ∙ c.requires.given.greatest;
+        nodes = c.in_ok-special.ensures.nodes ∙ c.in_ok-counted.ensures.nodes ∙ c.in_ok-core.ensures.summed_nodes;
+        numbers = c.in_ok-special.ensures.numbers;
+      },
+      record {
+        shape = c.in_ok-made.ensures.shape;
+        program = c.in_ok-made.ensures.program;
+        body_nodes = c.in_ok-made.ensures.body_nodes;
+        nodes = c.in_ok-made.ensures.nodes;
+      },
+    )
