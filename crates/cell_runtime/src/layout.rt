@@ -1,14 +1,14 @@
 //! Where the runtime keeps its data.
 
 ghost use Rattle.std.specs.Prelude.{◌≡◌, ◌+◌, ◌*◌, ◌<◌, ◌≤◌};
-ghost use Rattle.cell_runtime.specs.Layouts.{layout_of};
+ghost use Rattle.cell_runtime.specs.Layouts.{below_pointer, layout_of};
 
 use rv_isa::environment::CELL_SIZE;
 
 /// Bytes before the cells: the buffer, and what is missing to a multiple of a cell's.
 const BYTES_BEFORE_CELLS: u32 = 32;
 
-/// The stack begins at a multiple of these bytes, so that one LUI gives its begin.
+/// The stack pointer is at a multiple of these bytes in the lowest frame, so that one LUI gives its address.
 const PAGE_BYTES: u32 = 4096;
 
 /// Bytes of a word.
@@ -22,11 +22,29 @@ pub struct Layout {
     pub cells: u32,
     /// The end of the cells.
     pub cells_end: u32,
-    /// The begin of the lowest frame that the stack has room for. The word before it is no cell's: a call that finds no
-    /// frame may write there.
+    /// Where the stack pointer stands in the lowest frame that the stack has room for. The word before that frame is no
+    /// cell's: a call that finds no frame may write there.
     pub stack: u32,
-    /// The end of the first frame, and of the memory part.
+    /// Where the stack pointer stands before the first frame, and the end of the memory part.
     pub stack_end: u32,
+}
+
+/// The most bytes of a frame that a load reaches from its first word.
+const NARROW_FRAME: u32 = 2044;
+
+/// How far a load reaches down.
+const REACH_DOWN: u32 = 2048;
+
+/// How far the stack pointer stands above the first word of its frame.
+fn below_pointer(frame_bytes: u32) -> u32
+    ensures is { result ≡ below_pointer frame_bytes }
+    ensures few { result ≤ 2048 }
+{
+    if frame_bytes > NARROW_FRAME {
+        REACH_DOWN
+    } else {
+        0
+    }
 }
 
 impl Layout {
@@ -38,7 +56,8 @@ impl Layout {
         ensures { result ≡ layout_of cells depth frame_bytes }
     {
         let cells_end = BYTES_BEFORE_CELLS + CELL_SIZE * cells;
-        let stack = (cells_end + WORD_BYTES).div_ceil(PAGE_BYTES) * PAGE_BYTES;
+        let low = cells_end + WORD_BYTES + below_pointer(frame_bytes);
+        let stack = low.div_ceil(PAGE_BYTES) * PAGE_BYTES;
         Layout {
             cells: BYTES_BEFORE_CELLS,
             cells_end,

@@ -23,7 +23,8 @@ use Rattle.elf_image.specs.Program.{IsProgramImage, program_parts, text_start, m
 use Rattle.elf_image.specs.declared.part.Part.{Part}
 use Rattle.cell_heap.specs.Pool.{Pool}
 use Rattle.cell_runtime.specs.declared.start.TheConstants.{TEXT_WORDS}
-use Rattle.cell_runtime.specs.Layouts.{next_page}
+use Rattle.cell_runtime.specs.Layouts.{below_pointer, next_page}
+use Rattle.cell_runtime.proofs.Reaching.{below_most}
 use Rattle.cell_runtime.specs.Texts.{IsText}
 use Rattle.rv_world.specs.Operations.{Constants, all_bytes}
 use Rattle.rv_world.specs.World.{World, first_world, primitives}
@@ -53,18 +54,19 @@ placeable cells depth asm placed runtime made valid plain runtime_is sizes =
     let functions : List Lines = asm_functions asm in
     let placed_are : List PlacedLines = placed_functions placed in
     let same : length placed_are ≡ length functions = as_many functions placed_are valid.functions in
-    let frame : frame_size placed_are ≤ 2044 = frame_most placed_are plain.slots in
+    let frame : frame_size placed_are ≤ 4088 = frame_most placed_are plain.slots in
     let few : length functions < 1025 = made.few in
-    let fits : functions_length functions ≤ 400000000 = made.fits.instructions in
+    let fits : functions_length functions ≤ 448000000 = made.fits.instructions in
     let shorter : placed_functions_length placed_are ≤ functions_length functions = plain.short in
     let bytes : length (all_bytes (placed_constants placed)) ≡ length (all_bytes (asm_constants asm)) = ap (λ (texts : List (List ℕ)). length (all_bytes texts)) valid.constants in
     let most : length (all_bytes (asm_constants asm)) ≤ 8388608 = made.fits.bytes in
-    let bottom_is : runtime.memory.stack_bottom ≡ next_page (32 + 32 * cells + 4) = ap (λ (memory : DataSection). memory.stack_bottom) runtime_is.memory in
+    let low : ℕ = 32 + 32 * cells + 4 + below_pointer (frame_size placed_are) in
+    let bottom_is : runtime.memory.stack_bottom ≡ next_page low = ap (λ (memory : DataSection). memory.stack_bottom) runtime_is.memory in
     record {
       lines = runtime_is.within;
       runtime_size = omega (arith, runtime_is.words);
-      bottom = omega (arith, bottom_is, sizes.few_cells);
-      bottom_page = omega (arith, bottom_is, page_multiple (32 + 32 * cells + 4));
+      bottom = omega (arith, bottom_is, sizes.few_cells, below_most (frame_size placed_are));
+      bottom_page = omega (arith, bottom_is, page_multiple low);
       frames = frame;
       few_functions = omega (arith, same, few);
       short = omega (arith, fits, shorter);

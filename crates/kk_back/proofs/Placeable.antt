@@ -45,8 +45,8 @@ slots_most (function ∷ functions) below =
     let rest = slots_most functions below.1 in
     omega (arith, first, rest)
 
--- a frame is at most 2,044 bytes
-pub frame_most : (functions : List PlacedLines) → AllByRecursion (λ (function : PlacedLines). AllSlotsBelow most_values function.code) functions → frame_size functions ≤ 2044
+-- a frame is at most 4,088 bytes
+pub frame_most : (functions : List PlacedLines) → AllByRecursion (λ (function : PlacedLines). AllSlotsBelow most_values function.code) functions → frame_size functions ≤ 4088
 frame_most functions below = let slots = slots_most functions below in omega (arith, slots)
 
 -- as many functions are placed as there are

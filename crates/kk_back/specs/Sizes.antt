@@ -6,7 +6,7 @@ use Rattle.rv_world.specs.Operations.{all_bytes}
 
 -- the instructions of all functions, with their moves
 abbrev pub most_instructions : ℕ
-most_instructions = 400000000
+most_instructions = 448000000
 
 -- the constant bytes
 abbrev pub most_bytes : ℕ

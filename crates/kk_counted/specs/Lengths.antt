@@ -57,6 +57,29 @@ abbrev pub all_computes : List CountedFunction → ℕ
 all_computes [] = 0
 all_computes (function ∷ functions) = computes function.body + all_computes functions
 
+-- how many forms a code has beside its dups and drops
+abbrev mutual
+  pub forms_in : Counted → ℕ
+  forms_in (give x) = 1
+  forms_in (tail_call f arguments) = 1
+  forms_in (branch x positive negative) = suc (forms_in positive + forms_in negative)
+  forms_in (case x decisions arms) = suc (arms_forms arms)
+  forms_in (compute x form arguments rest) = suc (forms_in rest)
+  forms_in (inside x block rest) = suc (forms_in block + forms_in rest)
+  forms_in (read x c fields rest) = suc (forms_in rest)
+  forms_in (open_cell x c fields used rest) = suc (forms_in rest)
+  forms_in (if_unique x c fields used rest) = suc (forms_in rest)
+  forms_in (dup x rest) = forms_in rest
+  forms_in (drop x rest) = forms_in rest
+
+  pub arms_forms : CountedArms → ℕ
+  arms_forms no_arm = 0
+  arms_forms (arm body rest) = forms_in body + arms_forms rest
+
+abbrev pub all_forms_in : List CountedFunction → ℕ
+all_forms_in [] = 0
+all_forms_in (function ∷ functions) = forms_in function.body + all_forms_in functions
+
 -- The most that the limits make of it: no form of the core form has more dups and drops put before and behind it than there are
 -- variables, and some for its arguments.
 abbrev pub most_references : ℕ
@@ -70,3 +93,4 @@ most_length =
 pub record AreShort (functions : List CountedFunction) : Type 0 where
   pub length : functions_length functions ≤ most_length
   pub computes : all_computes functions ≤ most_program_forms
+  pub forms : all_forms_in functions ≤ most_program_forms

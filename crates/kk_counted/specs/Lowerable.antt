@@ -122,6 +122,27 @@ abbrev mutual
   HaveArities no_arm = Unit {0}
   HaveArities (arm body rest) = HasArities body × HaveArities rest
 
+-- ---- openings
+
+-- each opening of a code goes by the count of the cell
+abbrev mutual
+  pub OpensByCount : Counted → Type 0
+  OpensByCount (give x) = Unit {0}
+  OpensByCount (tail_call f arguments) = Unit {0}
+  OpensByCount (branch x positive negative) = OpensByCount positive × OpensByCount negative
+  OpensByCount (case x decisions arms) = OpenByCount arms
+  OpensByCount (compute x form arguments rest) = OpensByCount rest
+  OpensByCount (inside x block rest) = OpensByCount block × OpensByCount rest
+  OpensByCount (read x c fields rest) = OpensByCount rest
+  OpensByCount (open_cell x c fields used rest) = ⊥
+  OpensByCount (if_unique x c fields used rest) = OpensByCount rest
+  OpensByCount (dup x rest) = OpensByCount rest
+  OpensByCount (drop x rest) = OpensByCount rest
+
+  pub OpenByCount : CountedArms → Type 0
+  OpenByCount no_arm = Unit {0}
+  OpenByCount (arm body rest) = OpensByCount body × OpenByCount rest
+
 -- ---- functions
 
 -- A function by its number can be lowered: some variables of it are marked as types tell, its variables are few and numbered in
@@ -143,3 +164,7 @@ pub record IsLowerable (table : CellMarks) (f : ℕ) (function : CountedFunction
 abbrev pub AreLowerable : CellMarks → List CountedFunction → Type 0
 AreLowerable table functions = (f : ℕ) (function : CountedFunction) → slice_get functions f ≡ Some function
     → IsLowerable table f function
+
+abbrev pub AllOpenByCount : List CountedFunction → Type 0
+AllOpenByCount functions =
+    (f : ℕ) (function : CountedFunction) → slice_get functions f ≡ Some function → OpensByCount function.body

@@ -1,7 +1,8 @@
--- Specialised code has as many openings on a path as the code that it is made of.
+-- Specialised code has as many openings on a path as the code that it is made of, and each goes by the count of the cell.
 use Rattle.std.proofs.Common.{◌≡◌, ℕ, zero, suc, ◌≤◌, List, [], ◌∷◌, map, Some, refl, ap, subst, arith}
 use Rattle.std.specs.Prelude.{slice_get}
 use Rattle.kk_counted.specs.CountedCodes.{Counted, give, tail_call, branch, case, compute, inside, read, open_cell, if_unique, dup, drop, CountedArms, no_arm, arm, CountedFunction, CountedProgram}
+use Rattle.kk_counted.specs.Lowerable.{OpensByCount, OpenByCount, AllOpenByCount}
 use Rattle.kk_counted.specs.TokenCosts.{openings, openings_of, OpenAtMost}
 use Rattle.kk_dropspec.specs.Specialised.{special, special_arms, special_function, special_program}
 
@@ -36,3 +37,28 @@ special_opens most program few f function is = by program.functions few f is
         let same : special_function first ≡ function = cc is in
         subst (λ (g : CountedFunction). openings g.body ≤ most) same (omega (arith, same_openings first.body, few zero first refl))
     by (first ∷ functions) few (suc f) is = by functions (λ g other there. few (suc g) other there) f is
+
+mutual
+  by_count : (code : Counted) → OpensByCount (special code)
+  by_count (give x) = tt
+  by_count (tail_call f arguments) = tt
+  by_count (branch x positive negative) = (by_count positive, by_count negative)
+  by_count (case x decisions arms) = arms_by_count arms
+  by_count (compute x form arguments rest) = by_count rest
+  by_count (inside x block rest) = (by_count block, by_count rest)
+  by_count (read x c fields rest) = by_count rest
+  by_count (open_cell x c fields used rest) = by_count rest
+  by_count (if_unique x c fields used rest) = by_count rest
+  by_count (dup x rest) = by_count rest
+  by_count (drop x rest) = by_count rest
+
+  arms_by_count : (arms : CountedArms) → OpenByCount (special_arms arms)
+  arms_by_count no_arm = tt
+  arms_by_count (arm body rest) = (by_count body, arms_by_count rest)
+
+pub all_by_count : (functions : List CountedFunction) → AllOpenByCount (map special_function functions)
+all_by_count [] f function is = cc is
+all_by_count (first ∷ functions) zero function is =
+    let same : special_function first ≡ function = cc is in
+    subst (λ (g : CountedFunction). OpensByCount g.body) same (by_count first.body)
+all_by_count (first ∷ functions) (suc f) function is = all_by_count functions f function is

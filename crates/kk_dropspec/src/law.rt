@@ -8,7 +8,7 @@ ghost use Rattle.kk_counted.specs.CountedStates.{CountedSetting, CountedState};
 ghost use Rattle.kk_counted.specs.Keeping.{FitsAlways, HasShapeAlways};
 ghost use Rattle.kk_counted.specs.Kinds.{HasKindsAlways};
 ghost use Rattle.kk_counted.specs.Lengths.{AreShort};
-ghost use Rattle.kk_counted.specs.Lowerable.{AreLowerable};
+ghost use Rattle.kk_counted.specs.Lowerable.{AreLowerable, AllOpenByCount};
 ghost use Rattle.kk_counted.specs.Marks.{CellMarks, IsMarked};
 ghost use Rattle.kk_counted.specs.Spending.{IsSpent};
 ghost use Rattle.kk_counted.specs.TokenCosts.{OpenAtMost};
@@ -72,4 +72,10 @@ pub fn specialised_code_can_be_lowered()
 /// Specialised code has no more openings on a path than the code that it is made of. It is a law, and does nothing.
 pub fn specialised_code_opens_no_more()
     ensures { (most : ℕ) (program : CountedProgram) → OpenAtMost most program → OpenAtMost most (special_program program) }
+{}
+
+/// In specialised code each opening goes by the count of the cell, whatever the code is that it is made of. It is a law, and does
+/// nothing.
+pub fn specialised_code_opens_by_count()
+    ensures { (functions : List CountedFunction) → AllOpenByCount (map special_function functions) }
 {}

@@ -1,5 +1,5 @@
--- How long inserted code is at most, and how many forms on values it has.
-use Rattle.std.proofs.Common.{◌≡◌, ℕ, suc, ◌+◌, ◌*◌, ◌≤◌, ◌||◌, Bool, true, false, not, List, [], ◌∷◌, ◌++◌, length, arith, refl, ◌∙◌}
+-- How long inserted code is at most, and how many forms it has.
+use Rattle.std.proofs.Common.{◌≡◌, ℕ, suc, ◌+◌, ◌*◌, ◌≤◌, ◌||◌, Bool, true, false, not, List, [], ◌∷◌, ◌++◌, length, arith, refl, ap, ◌∙◌}
 use Rattle.kk_syntax.specs.Shapes.{is_among, without}
 use Rattle.kk_syntax.specs.GroundTyping.{Signature, Table}
 use Rattle.kk_syntax.specs.PositionsOf.{PositionTable}
@@ -11,7 +11,7 @@ use Rattle.kk_core.specs.CoreTyping.{Facts, HasCodeType, AreArmsTyped, AreCodesT
 use Rattle.kk_core.specs.Sizes.{Ordered, OrderedArms, below, forms, forms_of_arms, most_variables, most_program_forms}
 use Rattle.kk_counted.proofs.ListLengths.{filter_few, positions_few, numbers_length}
 use Rattle.kk_counted.specs.CountedCodes as Counted
-use Rattle.kk_counted.specs.Lengths.{form_length, reference_length, most_references, most_length, code_length, arms_length, functions_length, computes, arms_computes, all_computes, AreShort}
+use Rattle.kk_counted.specs.Lengths.{form_length, reference_length, most_references, most_length, code_length, arms_length, functions_length, computes, arms_computes, all_computes, forms_in, arms_forms, all_forms_in, AreShort}
 use Rattle.kk_counted.specs.Spending.{AreApart, at_positions, numbers_from, is_owned}
 use Rattle.kk_insert.specs.Insertion.{dups, drops, dropping, common, used, lends, owns, wants, back, opening, lent_of, own, insert, insert_arms, inserted_functions, inserted}
 use Rattle.kk_insert.proofs.Below.{more_below, filter_below, fields_below, own_below}
@@ -169,81 +169,103 @@ module _ (table : Table) (few : HasFew table) (positions : PositionTable) (lent 
         apart each less has.2 in
         omega (arith, one, first, later)
 
--- ---- forms on values
+-- ---- forms
 
-dups_compute : (xs : List ℕ) (code : Counted.Counted) → computes (dups xs code) ≡ computes code
-dups_compute [] code = refl
-dups_compute (x ∷ xs) code = dups_compute xs code
+dups_forms : (xs : List ℕ) (code : Counted.Counted) → forms_in (dups xs code) ≡ forms_in code
+dups_forms [] code = refl
+dups_forms (x ∷ xs) code = dups_forms xs code
 
-drops_compute : (xs : List ℕ) (code : Counted.Counted) → computes (drops xs code) ≡ computes code
-drops_compute [] code = refl
-drops_compute (x ∷ xs) code = drops_compute xs code
+drops_forms : (xs : List ℕ) (code : Counted.Counted) → forms_in (drops xs code) ≡ forms_in code
+drops_forms [] code = refl
+drops_forms (x ∷ xs) code = drops_forms xs code
 
-dropping_computes : (all now : List ℕ) (code : Counted.Counted) → computes (dropping all now code) ≡ computes code
-dropping_computes all now code = drops_compute (without now all) code
+dropping_forms : (all now : List ℕ) (code : Counted.Counted) → forms_in (dropping all now code) ≡ forms_in code
+dropping_forms all now code = drops_forms (without now all) code
 
-back_computes : (lent given : List ℕ) (x : ℕ) (now : List ℕ) (code : Counted.Counted)
-    → computes (back lent given x now code) ≡ computes code
-back_computes lent given x now code =
-    dropping_computes (owns lent given (without (x ∷ []) now)) (without (x ∷ []) now) (dropping (x ∷ []) now code)
-    ∙ dropping_computes (x ∷ []) now code
+back_forms : (lent given : List ℕ) (x : ℕ) (now : List ℕ) (code : Counted.Counted)
+    → forms_in (back lent given x now code) ≡ forms_in code
+back_forms lent given x now code =
+    dropping_forms (owns lent given (without (x ∷ []) now)) (without (x ∷ []) now) (dropping (x ∷ []) now code)
+    ∙ dropping_forms (x ∷ []) now code
 
-opening_computes : (stays : Bool) (x c : ℕ) (fields in_use : List ℕ) (code : Counted.Counted)
-    → computes (opening stays x c fields in_use code) ≡ computes code
-opening_computes true x c fields in_use code = dups_compute in_use code
-opening_computes false x c fields in_use code = refl
+opening_forms : (stays : Bool) (x c : ℕ) (fields in_use : List ℕ) (code : Counted.Counted)
+    → forms_in (opening stays x c fields in_use code) ≡ suc (forms_in code)
+opening_forms true x c fields in_use code = ap suc (dups_forms in_use code)
+opening_forms false x c fields in_use code = refl
 
 module _ (positions : PositionTable) (lent : List ℕ) where
   mutual
-    few_computes : (left : List ℕ) (code : Code) → computes (insert positions lent left code) ≤ forms code
-    few_computes left (give x) =
-        let same = dups_compute (wants lent (x ∷ []) left) (Counted.give x) in omega (arith, same)
-    few_computes left (tail_call f arguments) =
-        let same = dups_compute (wants lent (used positions (Call f) arguments) left) (Counted.tail_call f arguments) in
+    few_forms : (left : List ℕ) (code : Code) → forms_in (insert positions lent left code) ≤ forms code
+    few_forms left (give x) = let same = dups_forms (wants lent (x ∷ []) left) (Counted.give x) in omega (arith, same)
+    few_forms left (tail_call f arguments) =
+        let same = dups_forms (wants lent (used positions (Call f) arguments) left) (Counted.tail_call f arguments) in
         omega (arith, same)
-    few_computes left (branch x positive negative) =
+    few_forms left (branch x positive negative) =
         let all = own positions lent left (branch x positive negative) in
-        let one = dropping_computes all (own positions lent left positive) (insert positions lent left positive) in
-        let two = dropping_computes all (own positions lent left negative) (insert positions lent left negative) in
-        let first = few_computes left positive in
-        let second = few_computes left negative in
+        let one = dropping_forms all (own positions lent left positive) (insert positions lent left positive) in
+        let two = dropping_forms all (own positions lent left negative) (insert positions lent left negative) in
+        let first = few_forms left positive in
+        let second = few_forms left negative in
         omega (arith, one, two, first, second)
-    few_computes left (case x decisions arms) =
+    few_forms left (case x decisions arms) =
         let each = arms_few left (own positions lent left (case x decisions arms)) arms in omega (arith, each)
-    few_computes left (compute x form arguments rest) =
+    few_forms left (compute x form arguments rest) =
         let now = own positions lent left rest in
         let given = lends positions form arguments in
         let code = insert positions lent left rest in
-        let same = dups_compute (wants lent (used positions form arguments) (owns lent given (without (x ∷ []) now)))
+        let same = dups_forms (wants lent (used positions form arguments) (owns lent given (without (x ∷ []) now)))
         (Counted.compute x form arguments (back lent given x now code)) in
-        let behind = back_computes lent given x now code in
-        let later = few_computes left rest in
+        let behind = back_forms lent given x now code in
+        let later = few_forms left rest in
         omega (arith, same, behind, later)
-    few_computes left (use_of x rest) =
-        let same = dropping_computes (own positions lent left (use_of x rest)) (own positions lent left rest)
+    few_forms left (use_of x rest) =
+        let same = dropping_forms (own positions lent left (use_of x rest)) (own positions lent left rest)
         (insert positions lent left rest) in
-        let later = few_computes left rest in
+        let later = few_forms left rest in
         omega (arith, same, later)
-    few_computes left (unpack x c fields rest) =
+    few_forms left (unpack x c fields rest) =
         let now = own positions lent left rest in
-        let same = opening_computes (is_among lent x || is_among now x) x c fields (common now fields)
+        let same = opening_forms (is_among lent x || is_among now x) x c fields (common now fields)
         (insert positions lent left rest) in
-        let later = few_computes left rest in
+        let later = few_forms left rest in
         omega (arith, same, later)
-    few_computes left (inside x block rest) =
+    few_forms left (inside x block rest) =
         let now = own positions lent left rest in
-        let one = few_computes (without (x ∷ []) now) block in
-        let same = dropping_computes (x ∷ []) now (insert positions lent left rest) in
-        let two = few_computes left rest in
+        let one = few_forms (without (x ∷ []) now) block in
+        let same = dropping_forms (x ∷ []) now (insert positions lent left rest) in
+        let two = few_forms left rest in
         omega (arith, one, same, two)
 
-    arms_few : (left all : List ℕ) (arms : Arms) → arms_computes (insert_arms positions lent left all arms) ≤ forms_of_arms arms
+    arms_few : (left all : List ℕ) (arms : Arms) → arms_forms (insert_arms positions lent left all arms) ≤ forms_of_arms arms
     arms_few left all no_arm = omega arith
     arms_few left all (arm pattern body rest) =
-        let same = dropping_computes all (own positions lent left body) (insert positions lent left body) in
-        let one = few_computes left body in
+        let same = dropping_forms all (own positions lent left body) (insert positions lent left body) in
+        let one = few_forms left body in
         let later = arms_few left all rest in
         omega (arith, same, one, later)
+
+-- those on values are among them
+mutual
+  computes_few : (code : Counted.Counted) → computes code ≤ forms_in code
+  computes_few (Counted.give x) = omega arith
+  computes_few (Counted.tail_call f arguments) = omega arith
+  computes_few (Counted.branch x positive negative) = omega (arith, computes_few positive, computes_few negative)
+  computes_few (Counted.case x decisions arms) = omega (arith, arms_compute_few arms)
+  computes_few (Counted.compute x form arguments rest) = omega (arith, computes_few rest)
+  computes_few (Counted.inside x block rest) = omega (arith, computes_few block, computes_few rest)
+  computes_few (Counted.read x c fields rest) = omega (arith, computes_few rest)
+  computes_few (Counted.open_cell x c fields in_use rest) = omega (arith, computes_few rest)
+  computes_few (Counted.if_unique x c fields in_use rest) = omega (arith, computes_few rest)
+  computes_few (Counted.dup x rest) = computes_few rest
+  computes_few (Counted.drop x rest) = computes_few rest
+
+  arms_compute_few : (arms : Counted.CountedArms) → arms_computes arms ≤ arms_forms arms
+  arms_compute_few Counted.no_arm = omega arith
+  arms_compute_few (Counted.arm body rest) = omega (arith, computes_few body, arms_compute_few rest)
+
+all_compute_few : (functions : List Counted.CountedFunction) → all_computes functions ≤ all_forms_in functions
+all_compute_few [] = omega arith
+all_compute_few (function ∷ functions) = omega (arith, computes_few function.body, all_compute_few functions)
 
 -- ---- functions
 
@@ -272,13 +294,13 @@ module _ (table : Table) (few : HasFew table) (positions : PositionTable) where
       none y is = absurd (cc)
 
 functions_few : (positions : PositionTable) (f : ℕ) (functions : List FunctionCode)
-    → all_computes (inserted_functions positions f functions) ≤ all_forms functions
+    → all_forms_in (inserted_functions positions f functions) ≤ all_forms functions
 functions_few positions f [] = omega arith
 functions_few positions f (function ∷ functions) =
     let lent = lent_of positions f function in
-    let first = dropping_computes (at_positions (is_owned positions [] f) 0 (numbers_from 0 function.parameters))
+    let first = dropping_forms (at_positions (is_owned positions [] f) 0 (numbers_from 0 function.parameters))
     (own positions lent [] function.body) (insert positions lent [] function.body) in
-    let body = few_computes positions lent [] function.body in
+    let body = few_forms positions lent [] function.body in
     let later = functions_few positions (suc f) functions in
     omega (arith, first, body, later)
 
@@ -287,7 +309,8 @@ pub inserted_short : (positions : PositionTable) (table : Table) (code : Program
 inserted_short positions table code typed small few =
     record {
       length = short;
-      computes = fewer;
+      computes = omega (arith, all_compute_few (inserted positions code).functions, fewer);
+      forms = fewer;
     }
   where
     short : functions_length (inserted positions code).functions ≤ most_length
@@ -298,5 +321,5 @@ inserted_short positions table code typed small few =
         let cases = small.cases in
         omega (arith, all, many, each, cases)
 
-    fewer : all_computes (inserted positions code).functions ≤ most_program_forms
+    fewer : all_forms_in (inserted positions code).functions ≤ most_program_forms
     fewer = let all = functions_few positions 0 code.functions in let each = small.all in omega (arith, all, each)

@@ -12,7 +12,8 @@ pub use law::{
     tail_calls_of_core_forms_lend_on,
 };
 pub use lowering::{
-    compiled_programs_are_short, compiled_programs_can_be_lowered, compiled_programs_open_few_cells,
+    compiled_programs_are_short, compiled_programs_can_be_lowered, compiled_programs_open_by_count,
+    compiled_programs_open_few_cells,
 };
 pub use meaning::{
     compiled_programs_are_marked, compiled_programs_have_their_kinds,

@@ -9,6 +9,7 @@ ghost use Rattle.kk_syntax.specs.TypedPrograms.{typings_of};
 ghost use Rattle.kk_mono.specs.Grounds.{AreGiven};
 ghost use Rattle.kk_counted.specs.declared.counted.Counted.{Counted};
 ghost use Rattle.kk_counted.specs.Lengths.{AreShort};
+ghost use Rattle.kk_counted.specs.Lowerable.{AllOpenByCount};
 ghost use Rattle.kk_counted.specs.Programs.{program_of};
 ghost use Rattle.kk_counted.specs.TokenCosts.{OpenAtMost};
 ghost use Rattle.kk_middle.specs.Compiled.{IsCompiled};
@@ -16,7 +17,10 @@ ghost use Rattle.kk_middle.specs.LentNames.{AllKeepLent};
 ghost use Rattle.kk_middle.specs.Lowerings.{CanBeLowered};
 
 use crate::meaning::compiled_core_forms_are_insertable;
-use kk_dropspec::{specialised_code_can_be_lowered, specialised_code_opens_no_more};
+use kk_dropspec::{
+    specialised_code_can_be_lowered, specialised_code_opens_by_count,
+    specialised_code_opens_no_more,
+};
 use kk_insert::{
     inserted_code_can_be_lowered, inserted_code_is_short, inserted_code_is_spent,
     inserted_code_opens_no_more, typed_code_is_marked,
@@ -62,4 +66,12 @@ pub fn compiled_programs_open_few_cells()
     core_forms_open_few_cells();
     inserted_code_opens_no_more();
     specialised_code_opens_no_more();
+}
+
+/// In the counted form of an accepted program each opening goes by the count of the cell. It is a law, and does nothing.
+pub fn compiled_programs_open_by_count()
+    ensures { (typed : Typed) (given : Ground) (made : Counted) → IsCompiled typed given made
+        → AllOpenByCount (program_of made.functions.items given.texts.items).functions }
+{
+    specialised_code_opens_by_count();
 }

@@ -3,7 +3,9 @@ mod Examples
 pub mod Spends
 pub mod Pairs
 pub mod Programs
-mod Rooms
+pub mod Rooms
+mod Lengths
+mod Lowering
 pub mod Ahead
 pub mod Walks
 pub mod Steps

@@ -79,11 +79,11 @@ filled_before (suc more) n code = (
 
 -- ---- a number of tokens
 
-kept_few : (b : Bool) (n : ℕ) → (if b then n else 0) ≤ n
+pub kept_few : (b : Bool) (n : ℕ) → (if b then n else 0) ≤ n
 kept_few true n = omega arith
 kept_few false n = omega arith
 
-taken_few : (form : Form) (arguments : List ℕ) (n : ℕ) → taken form arguments n ≤ n
+pub taken_few : (form : Form) (arguments : List ℕ) (n : ℕ) → taken form arguments n ≤ n
 taken_few form arguments n = by (makes_cell form arguments)
   where
     by : (b : Bool) → (if b then n - 1 else n) ≤ n
@@ -91,7 +91,7 @@ taken_few form arguments n = by (makes_cell form arguments)
     by false = omega arith
 
 mutual
-  leaves_few : (code : Counted) (behind : Bool) (n : ℕ) → leaves behind n code ≤ n + openings code
+  pub leaves_few : (code : Counted) (behind : Bool) (n : ℕ) → leaves behind n code ≤ n + openings code
   leaves_few (give x) behind n = omega arith
   leaves_few (tail_call f arguments) behind n = omega arith
   leaves_few (branch x positive negative) behind n =
@@ -139,7 +139,7 @@ mutual
         arms_leave_few rest behind n,
       )
 
-slots_many : (n : ℕ) → length (slots_below n) ≡ n
+pub slots_many : (n : ℕ) → length (slots_below n) ≡ n
 slots_many zero = refl
 slots_many (suc n) = omega (arith, slots_many n)
 

@@ -34,7 +34,7 @@ last_there slots n below = below n ∙ low n
     low : (n : ℕ) → nat_lt n (suc n) ≡ true
     low n = grind (arith, nat_tests)
 
-next_free : (slots : List ℕ) (n : ℕ) → AreBelow slots n → is_among slots n ≡ false
+pub next_free : (slots : List ℕ) (n : ℕ) → AreBelow slots n → is_among slots n ≡ false
 next_free slots n below = below n ∙ high n
   where
     high : (n : ℕ) → nat_lt n n ≡ false

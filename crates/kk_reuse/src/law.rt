@@ -1,4 +1,4 @@
-ghost use Rattle.std.specs.Prelude.{◌≡◌, ◌+◌, ◌*◌, ℕ, List};
+ghost use Rattle.std.specs.Prelude.{◌≡◌, ◌≤◌, ◌+◌, ◌*◌, ℕ, List};
 ghost use Rattle.kk_base.specs.Agreements.{Agree};
 ghost use Rattle.kk_counted.specs.BareForms.{bare_program};
 ghost use Rattle.kk_counted.specs.CountedCodes.{CountedProgram};
@@ -6,7 +6,11 @@ ghost use Rattle.kk_counted.specs.CountedCosts.{roomy_cost};
 ghost use Rattle.kk_counted.specs.CountedMachine.{counted_machine, NotStuck};
 ghost use Rattle.kk_counted.specs.CountedStates.{CountedSetting, CountedState, counted_first_state};
 ghost use Rattle.kk_counted.specs.Keeping.{counted_after};
+ghost use Rattle.kk_counted.specs.Lengths.{AreShort};
+ghost use Rattle.kk_counted.specs.Lowerable.{AllOpenByCount};
 ghost use Rattle.kk_counted.specs.TokenCosts.{token_cost, HasRoom, OpenAtMost, AreStatesKept};
+ghost use Rattle.kk_counted.specs.TokenLengths.{AreTokensShort};
+ghost use Rattle.kk_counted.specs.TokenLowerable.{most_slots, AreTokensLowerable};
 ghost use Rattle.kk_counted.specs.TokenMachine.{token_machine};
 ghost use Rattle.kk_counted.specs.TokenRuns.{IsSameRun};
 ghost use Rattle.kk_counted.specs.TokenSpending.{AreTokensSpent};
@@ -54,3 +58,17 @@ pub fn paired_code_costs_what_it_has_room_for()
     tokens_keep_runs_the_same();
     tokens_cost_what_they_have_room_for();
 }
+
+/// Paired code can be lowered where the code has few openings on a path, each by the count of the cell: a function has no more slots
+/// than that, and tokens are held around calls alone. It is a law, and does nothing.
+pub fn paired_code_can_be_lowered()
+    ensures { (most : ℕ) (program : CountedProgram) → OpenAtMost most program → most ≤ most_slots
+        → AllOpenByCount program.functions → AreTokensLowerable (paired_program program).functions }
+{}
+
+/// Paired code is short where the code is that it is made of, which has few openings on a path: at each form but a dup and a drop
+/// its tokens add no more than eight instructions for each slot. It has no more forms on values. It is a law, and does nothing.
+pub fn paired_code_is_short()
+    ensures { (most : ℕ) (program : CountedProgram) → OpenAtMost most program → most ≤ most_slots
+        → AreShort program.functions → AreTokensShort (paired_program program).functions }
+{}

@@ -26,7 +26,7 @@ use Rattle.rv_cells.proofs.FormLengths.{lines_append, loads_length, dup_length, 
 use Rattle.rv_cells.proofs.FormLengths.{tail_length, marks_many, form_short}
 use Rattle.rv_cells.proofs.TestLengths.{nodes_short}
 
-goal_length : (goal : Goal) (x : ℕ) → code_length (goal_lines goal x) ≤ 6
+pub goal_length : (goal : Goal) (x : ℕ) → code_length (goal_lines goal x) ≤ 6
 goal_length returns x = omega arith
 goal_length (joins y label) x = omega arith
 

@@ -14,7 +14,7 @@ use Rattle.kk_syntax.specs.Shapes.{is_among}
 use Rattle.kk_source.specs.FormEffects.{piece_of}
 use Rattle.kk_counted.specs.Lowerable.{HasArity}
 use Rattle.kk_counted.specs.Marks.{CellMarks, field_marks, HaveMarks, IsFormMarked}
-use Rattle.rv_isa.specs.declared.asm.Action.TheVariants.{Label, TailCall, Call as Calls}
+use Rattle.rv_isa.specs.declared.asm.Action.TheVariants.{Compute, Label, TailCall, Call as Calls}
 use Rattle.rv_isa.specs.declared.asm.ImmediateOperation.{ImmediateOperation}
 use Rattle.rv_isa.specs.declared.asm.ImmediateOperation.TheVariants.{Addi, Sltiu, Xori}
 use Rattle.rv_isa.specs.declared.asm.Operation.TheVariants as Op
@@ -28,7 +28,7 @@ use Rattle.rv_cells.specs.Layout.{header_of}
 use Rattle.rv_cells.specs.CellLines.{Loads, Stores, AllLoads, AllStores, dup_lines, drop_lines, dups_lines, drops_lines}
 use Rattle.rv_cells.specs.CellLines.{ConstructLines, OpenLines, UniqueLines}
 use Rattle.rv_cells.specs.CountedLines.{Setting, ComputeLines}
-use Rattle.rv_cells.specs.Written.{free_lines}
+use Rattle.rv_cells.specs.Written.{end_lines}
 
 pub lines_append : (first second : List Line) → code_length (first ++ second) ≡ code_length first + code_length second
 lines_append [] second = omega arith
@@ -39,7 +39,7 @@ lines_append (line ∷ first) second = omega (arith, lines_append first second)
 pub load_length : (cell i into : ℕ) (line : Line) → Loads cell i into line → line_length line ≡ 4
 load_length cell i into line is = ap line_length is.2
 
-store_length : (cell i from : ℕ) (line : Line) → Stores cell i from line → line_length line ≡ 5
+pub store_length : (cell i from : ℕ) (line : Line) → Stores cell i from line → line_length line ≡ 5
 store_length cell i from line is = ap line_length is.2
 
 pub loads_length : (cell i : ℕ) (xs : List ℕ) (lines : List Line) → AllLoads cell i xs lines → code_length lines ≡ 4 * length xs
@@ -58,7 +58,7 @@ stores_length cell i (x ∷ xs) lines is =
 
 -- ---- references
 
-filter_few : (takes : ℕ → Bool) (xs : List ℕ) → length (filter takes xs) ≤ length xs
+pub filter_few : (takes : ℕ → Bool) (xs : List ℕ) → length (filter takes xs) ≤ length xs
 filter_few takes [] = omega arith
 filter_few takes (x ∷ xs) = by (takes x) (filter_few takes xs)
   where
@@ -82,14 +82,14 @@ module _ (holds : ℕ → Bool) where
       by true = omega arith
       by false = omega arith
 
-  dups_length : (xs : List ℕ) → code_length (dups_lines holds xs) ≤ 7 * length xs
+  pub dups_length : (xs : List ℕ) → code_length (dups_lines holds xs) ≤ 7 * length xs
   dups_length [] = omega arith
   dups_length (x ∷ xs) =
       let whole = lines_append (dup_lines holds x) (dups_lines holds xs) in
       let one = dup_length x in
       let more = dups_length xs in omega (arith, whole, one, more)
 
-  drops_length : (base : ℕ) (xs : List ℕ) → code_length (drops_lines base holds xs) ≤ 7 * length xs
+  pub drops_length : (base : ℕ) (xs : List ℕ) → code_length (drops_lines base holds xs) ≤ 7 * length xs
   drops_length base [] = omega arith
   drops_length base (x ∷ xs) =
       let whole = lines_append (drop_lines base holds x) (drops_lines base holds xs) in
@@ -118,7 +118,7 @@ module _ (holds : ℕ → Bool) where
       let others : List ℕ = filter (λ y. not (is_among used y)) fields in
       let dropped : List Line = drops_lines base holds others in
       let dupped : List Line = dups_lines holds kept in
-      let freed : List Line = free_lines x behind in
+      let freed : List Line = end_lines (acts (Compute Op.Free) (x ∷ [])) behind in
       let lowered : List Line = is.2 ∷ computes (Op.Immediate Addi is.3) (base ∷ []) base ∷ is.4 ∷ dupped in
       let alone : List Line = is.1 ++ (dropped ++ freed) in
       let shares : List Line = acts (Label shared) [] ∷ (is.1 ++ lowered) in
@@ -156,7 +156,7 @@ module _ (holds : ℕ → Bool) where
         few,
       )
 
-construct_length : (base x header : ℕ) (arguments : List ℕ) (lines : List Line) → ConstructLines base x header arguments lines
+pub construct_length : (base x header : ℕ) (arguments : List ℕ) (lines : List Line) → ConstructLines base x header arguments lines
     → length arguments ≤ 6 → code_length lines ≤ 60
 construct_length base x header arguments lines is few =
     let whole = ap code_length is.6 in

@@ -460,18 +460,18 @@ node_is node at edges otherwise way tested is first second =
 
 pub cases_written : {a b c d : Lowering} (facts : Facts) (goal : Goal) (last : Last) (x : ℕ) (decisions : Decisions) (arms : _)
     (targets : Targets)
-    (nodes : List Node) (first second : List Block) → last ≡ Case x decisions arms → nodes ≡ decisions.nodes.items
-    → first ≡ arms.items → second ≡ arms.items
-    → TookTargets (length first) (length decisions.nodes.items) targets a b
+    (nodes : List Node) (second : List Block) (count : ℕ) → last ≡ Case x decisions arms → nodes ≡ decisions.nodes.items
+    → second ≡ arms.items → count ≡ length arms.items
+    → TookTargets count (length decisions.nodes.items) targets a b
     → WroteLines (NodesLines facts.layout b.base targets.nodes targets.arms x 0 (map node_tree nodes)) b c
     → WroteArms facts goal targets.arms (map block_code second) c d → WroteCode facts goal (last_code last) a d
-cases_written {a} {b} {c} {d} facts goal last x decisions arms targets nodes first second is nodes_is first_is second_is took
+cases_written {a} {b} {c} {d} facts goal last x decisions arms targets nodes second count is nodes_is second_is count_is took
     choice bodies =
     subst (λ (code : Counted). WroteCode facts goal code a d) (sym (Views.case_code x decisions arms) ∙ ap last_code (sym is))
     (code_cases facts goal x (decisions_of decisions) (map block_code arms.items) targets
     (subst (λ n. TookTargets n (length (decisions_of decisions)) targets a b)
-    (ap length first_is ∙ sym (length_all block_code arms.items))
-    (subst (λ n. TookTargets (length first) n targets a b) (sym (length_all node_tree decisions.nodes.items)) took))
+    (count_is ∙ sym (length_all block_code arms.items))
+    (subst (λ n. TookTargets count n targets a b) (sym (length_all node_tree decisions.nodes.items)) took))
     (subst (λ ns. WroteLines (NodesLines facts.layout b.base targets.nodes targets.arms x 0 (map node_tree ns)) b c) nodes_is
     choice)
     (subst (λ bs. WroteArms facts goal targets.arms (map block_code bs) c d) second_is bodies))

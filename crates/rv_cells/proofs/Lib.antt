@@ -82,3 +82,6 @@ pub mod TokenComputing
 pub mod FormWords
 pub mod TokenSimulating
 pub mod TokenMeaning
+pub mod TokenMarks
+pub mod TokenGrown
+pub mod TokenLowered

@@ -92,18 +92,18 @@ function_written {a} {b} shape literals f function constructors body params coun
 
 -- ---- functions
 
-get_longer : {A : Type 0} (xs more : List A) (k : ℕ) (x : A) → slice_get xs k ≡ Some x → slice_get (xs ++ more) k ≡ Some x
+pub get_longer : {A : Type 0} (xs more : List A) (k : ℕ) (x : A) → slice_get xs k ≡ Some x → slice_get (xs ++ more) k ≡ Some x
 get_longer [] more k x is = absurd (cc)
 get_longer (first ∷ xs) more zero x is = is
 get_longer (first ∷ xs) more (suc k) x is = get_longer xs more k x is
 
-get_behind : {A : Type 0} (xs : List A) (x : A) (k : ℕ) → k ≡ length xs → slice_get (xs ++ x ∷ []) k ≡ Some x
+pub get_behind : {A : Type 0} (xs : List A) (x : A) (k : ℕ) → k ≡ length xs → slice_get (xs ++ x ∷ []) k ≡ Some x
 get_behind [] x zero is = refl
 get_behind [] x (suc k) is = absurd (omega (arith, is))
 get_behind (first ∷ xs) x zero is = absurd (omega (arith, is))
 get_behind (first ∷ xs) x (suc k) is = get_behind xs x k (omega (arith, is))
 
-get_push : {A : Type 0} (xs : List A) (x y : A) (k : ℕ) → slice_get (xs ++ x ∷ []) k ≡ Some y
+pub get_push : {A : Type 0} (xs : List A) (x y : A) (k : ℕ) → slice_get (xs ++ x ∷ []) k ≡ Some y
     → (slice_get xs k ≡ Some y) ⊎ ((k ≡ length xs) × (x ≡ y))
 get_push [] x y zero is = inr (refl, grind (arith, is))
 get_push [] x y (suc k) is = absurd (cc)

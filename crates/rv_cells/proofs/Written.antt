@@ -30,7 +30,7 @@ use Rattle.std.proofs.lemmas.List.{length-take-le, take_more}
 use Rattle.kk_syntax.specs.Shapes.{is_among}
 use Rattle.kk_core.specs.Decisions.{NodeTree, tests}
 use Rattle.kk_core.specs.declared.decisions.Edge.{Edge}
-use Rattle.rv_isa.specs.declared.asm.Action.TheVariants.{Label, Branch}
+use Rattle.rv_isa.specs.declared.asm.Action.TheVariants.{Compute, Label, Branch}
 use Rattle.rv_isa.specs.declared.asm.Condition.TheVariants.{NotEqual}
 use Rattle.rv_isa.specs.declared.asm.Operation.TheVariants as Op
 use Rattle.rv_isa.specs.declared.asm.ImmediateOperation.TheVariants.{Andi}
@@ -42,7 +42,8 @@ use Rattle.rv_lower.specs.Written.{Wrote, WroteLines, TookLabel}
 use Rattle.rv_lower.proofs.Written.{wrote_then}
 use Rattle.rv_lower.proofs.Grown.{grows_of, grows_took, grows_then, grows_more}
 use Rattle.rv_cells.specs.Layout.{Layout}
-use Rattle.rv_cells.specs.CellLines.{Loads, Stores, AllLoads, AllStores, Walks, dups_lines, drops_lines, UniqueLines}
+use Rattle.rv_cells.specs.CellLines.{Loads, Stores, AllLoads, AllStores, Walks, dups_lines, drops_lines, CountLines, ConstructLines}
+use Rattle.rv_cells.specs.CellLines.{FillLines, hold_lines, unhold_lines}
 use Rattle.rv_cells.specs.CountedLines.{
   is_plain,
   answer_word,
@@ -54,7 +55,8 @@ use Rattle.rv_cells.specs.CountedLines.{
   NodeLines,
   NodesLines,
 }
-use Rattle.rv_cells.specs.Written.{TestsCount, free_lines, LowersCount, LoadsTag, WroteUnique}
+use Rattle.rv_cells.specs.TokenedWritten.{take_line, request_lines, StoreLines, WroteFill}
+use Rattle.rv_cells.specs.Written.{TestsCount, end_lines, LowersCount, LoadsTag, WroteCountOpening, WroteUnique}
 
 pub three_same : {a b c d e f : Line} → a ≡ b → c ≡ d → e ≡ f → a ∷ c ∷ e ∷ [] ≡ b ∷ d ∷ f ∷ []
 three_same {a} {b} {c} {d} {e} {f} first second third = cc (first, second, third)
@@ -125,21 +127,21 @@ walk_more {n} {index} {line} {a} {b} {c} value xs less is wrote one more = recor
 
 -- ---- an opening by the count of a cell
 
-module _ {holds : ℕ → Bool} {x : ℕ} {fields used : List ℕ} where
-  pub unique_written : {shared behind : ℕ} {loads : List Line} {a b c d e f g h i j k l : Lowering} → TookLabel shared a b
+module _ {holds : ℕ → Bool} {x : ℕ} {fields used : List ℕ} {ends : Line} {begins : List Line} where
+  pub count_opening_written : {shared behind : ℕ} {loads : List Line} {a b c d e f g h i j k l m : Lowering} → TookLabel shared a b
       → TookLabel behind b c
       → AllLoads x 2 fields loads → WroteLines (TestsCount c.base shared x) c d → Wrote loads d e
-      → Wrote (drops_lines e.base holds (filter (λ y. not (is_among used y)) fields)) e f → Wrote (free_lines x behind) f g
-      → Wrote (acts (Label shared) [] ∷ []) g h → Wrote loads h i → WroteLines (LowersCount i.base x) i j
-      → Wrote (dups_lines holds (filter (is_among used) fields)) j k → Wrote (acts (Label behind) [] ∷ []) k l
-      → WroteUnique holds x fields used a l
-  unique_written {shared} {behind} {loads} {a} {b} {c} {d} {e} {f} {g} {h} {i} {j} {k} {l} first second all test one drops free
-      label again less dups last = record {
+      → Wrote (drops_lines e.base holds (filter (λ y. not (is_among used y)) fields)) e f → Wrote (end_lines ends behind) f g
+      → Wrote (acts (Label shared) [] ∷ []) g h → Wrote begins h i → Wrote loads i j → WroteLines (LowersCount j.base x) j k
+      → Wrote (dups_lines holds (filter (is_among used) fields)) k l → Wrote (acts (Label behind) [] ∷ []) l m
+      → WroteCountOpening holds x fields used ends begins a m
+  count_opening_written {shared} {behind} {loads} {a} {b} {c} {d} {e} {f} {g} {h} {i} {j} {k} {l} {m} first second all test one
+      drops end label began again less dups last = record {
         lines = lines;
         grows = grows_more (omega arith) (grows_then (grows_took first) (grows_then (grows_took second) (grows_of whole)));
         label = whole.label ∙ second.next ∙ ap (λ n. n + 1) first.next ∙ two a.next_label;
-        are = subst (λ n. UniqueLines a.base holds a.next_label n x fields used lines) (second.is ∙ first.next)
-            (subst (λ n. UniqueLines a.base holds n behind x fields used lines) first.is (
+        are = subst (λ n. CountLines a.base holds a.next_label n x fields used ends begins lines) (second.is ∙ first.next)
+            (subst (λ n. CountLines a.base holds n behind x fields used ends begins lines) first.is (
               test_own.0,
               loads,
               less_own.0,
@@ -150,10 +152,12 @@ module _ {holds : ℕ → Bool} {x : ℕ} {fields used : List ℕ} where
               less_own.3,
               less_own.4,
               less_own.5,
-              ap (λ (ls : List Line). ls ++ ((loads ++ (dropped ++ free_lines x behind)) ++
-                  ((acts (Label shared) [] ∷ (loads ++ (less.lines ++ dupped))) ++ (acts (Label behind) [] ∷ [])))) test_own.2
-                  ∙ ap (λ (ls : List Line). tested ++ ((loads ++ (dropped ++ free_lines x behind)) ++
-                  ((acts (Label shared) [] ∷ (loads ++ (ls ++ dupped))) ++ (acts (Label behind) [] ∷ [])))) less_own.6,
+              ap (λ (ls : List Line). ls ++ ((loads ++ (dropped ++ end_lines ends behind)) ++
+                  ((acts (Label shared) [] ∷ (begins ++ (loads ++ (less.lines ++ dupped)))) ++ (acts (Label behind) [] ∷ []))))
+                  test_own.2
+                  ∙ ap (λ (ls : List Line). tested ++ ((loads ++ (dropped ++ end_lines ends behind)) ++
+                  ((acts (Label shared) [] ∷ (begins ++ (loads ++ (ls ++ dupped)))) ++ (acts (Label behind) [] ∷ []))))
+                  less_own.6,
             ));
       }
     where
@@ -166,8 +170,8 @@ module _ {holds : ℕ → Bool} {x : ℕ} {fields used : List ℕ} where
       at_e : e.base ≡ a.base
       at_e = one.base ∙ test.wrote.base ∙ at_c
 
-      at_i : i.base ≡ a.base
-      at_i = again.base ∙ label.base ∙ free.base ∙ drops.base ∙ at_e
+      at_j : j.base ≡ a.base
+      at_j = again.base ∙ began.base ∙ label.base ∙ end.base ∙ drops.base ∙ at_e
 
       dropped : List Line
       dropped = drops_lines a.base holds (filter (λ y. not (is_among used y)) fields)
@@ -179,21 +183,67 @@ module _ {holds : ℕ → Bool} {x : ℕ} {fields used : List ℕ} where
       test_own = subst (λ n. TestsCount n shared x test.lines) at_c test.are
 
       less_own : LowersCount a.base x less.lines
-      less_own = subst (λ n. LowersCount n x less.lines) at_i less.are
+      less_own = subst (λ n. LowersCount n x less.lines) at_j less.are
 
       tested : List Line
       tested = test_own.0 ∷ sets 1 (a.base + 1) ∷ acts (Branch NotEqual shared) (a.base ∷ (a.base + 1) ∷ []) ∷ []
 
       lines : List Line
-      lines = test.lines ++ ((loads ++ (dropped ++ free_lines x behind)) ++
-          ((acts (Label shared) [] ∷ (loads ++ (less.lines ++ dupped))) ++ (acts (Label behind) [] ∷ [])))
+      lines = test.lines ++ ((loads ++ (dropped ++ end_lines ends behind)) ++
+          ((acts (Label shared) [] ∷ (begins ++ (loads ++ (less.lines ++ dupped)))) ++ (acts (Label behind) [] ∷ [])))
 
-      whole : Wrote lines c l
+      whole : Wrote lines c m
       whole =
           wrote_then test.wrote
           (wrote_then (wrote_then one (wrote_then (subst (λ n. Wrote
-          (drops_lines n holds (filter (λ y. not (is_among used y)) fields)) e f) at_e drops) free))
-          (wrote_then (wrote_then label (wrote_then again (wrote_then less.wrote dups))) last))
+          (drops_lines n holds (filter (λ y. not (is_among used y)) fields)) e f) at_e drops) end))
+          (wrote_then (wrote_then label (wrote_then began (wrote_then again (wrote_then less.wrote dups)))) last))
+
+-- one of a cell that is freed
+pub unique_written : {holds : ℕ → Bool} {x : ℕ} {fields used : List ℕ} {ends : Line} {a b : Lowering}
+    → ends ≡ acts (Compute Op.Free) (x ∷ []) → WroteCountOpening holds x fields used ends [] a b
+    → WroteUnique holds x fields used a b
+unique_written {holds} {x} {fields} {used} {ends} {a} is wrote = record {
+  lines = wrote.lines;
+  grows = wrote.grows;
+  label = wrote.label;
+  are = subst (λ line. CountLines a.base holds a.next_label (a.next_label + 1) x fields used line [] wrote.lines) is wrote.are;
+}
+
+-- ---- constructions
+
+pub construction_written : {a b c : Lowering} (x header : ℕ) (arguments : List ℕ) → Wrote (take_line x ∷ []) a b
+    → WroteLines (StoreLines b.base x header arguments) b c → WroteLines (ConstructLines a.base x header arguments) a c
+construction_written {a} {b} {c} x header arguments takes stores = record {
+  lines = take_line x ∷ stores.lines;
+  wrote = wrote_then takes stores.wrote;
+  are = subst (λ n. ConstructLines n x header arguments (take_line x ∷ stores.lines)) takes.base stores.are;
+}
+
+-- a construction in the cell of a token
+pub fill_written : {x token header filled : ℕ} {others arguments : List ℕ} {a b c d e f : Lowering} → TookLabel filled a b
+    → Wrote (copies_to token x ∷ copies_to x b.base ∷ acts (Branch NotEqual filled) (b.base ∷ []) ∷ []) b c
+    → Wrote (request_lines x others) c d → Wrote (acts (Label filled) [] ∷ []) d e
+    → WroteLines (StoreLines e.base x header arguments) e f → WroteFill x token others header arguments a f
+fill_written {x} {token} {header} {filled} {others} {arguments} {a} {b} {c} {d} {e} {f} took test requests
+    labelled stores = record {
+      lines = test_lines a.base ++ (request_lines x others ++ (acts (Label filled) [] ∷ stores.lines));
+      grows = grows_more (omega arith) (grows_then (grows_took took) (grows_of
+          (wrote_then (subst (λ n. Wrote (test_lines n) b c) took.base test)
+          (wrote_then requests (wrote_then labelled stores.wrote)))));
+      label = stores.wrote.label ∙ labelled.label ∙ requests.label ∙ test.label ∙ took.next;
+      are = subst (λ n. FillLines a.base x token others n header arguments
+          (test_lines a.base ++ (request_lines x others ++ (acts (Label filled) [] ∷ stores.lines)))) took.is (
+            stores.lines,
+            subst (λ n. StoreLines n x header arguments stores.lines)
+                (labelled.base ∙ requests.base ∙ test.base ∙ took.base) stores.are,
+            ap (λ (ls : List Line). test_lines a.base ++ ls)
+                (append_assoc (hold_lines others) (take_line x ∷ unhold_lines others) (acts (Label filled) [] ∷ stores.lines)),
+          );
+    }
+  where
+    test_lines : ℕ → List Line
+    test_lines base = copies_to token x ∷ copies_to x base ∷ acts (Branch NotEqual filled) (base ∷ []) ∷ []
 
 -- ---- tests
 

@@ -13,3 +13,6 @@ pub mod Tables
 pub mod Lowered
 pub mod TokenedLowered
 pub mod TokenedMeaning
+pub mod TokenedMarking
+pub mod TokenedWritten
+pub mod TokenedFunctions

@@ -17,7 +17,7 @@ use Rattle.rv_lower.specs.Written.{lines_written, texts_written, texts_of, Grows
 use Rattle.rv_cells.specs.declared.known.Known.{Known}
 use Rattle.rv_cells.specs.declared.decide.Targets.{Targets}
 use Rattle.rv_cells.specs.Layout.{Layout, layout_of}
-use Rattle.rv_cells.specs.CellLines.{Loads, Stores, UniqueLines}
+use Rattle.rv_cells.specs.CellLines.{Loads, Stores, CountLines, UniqueLines}
 use Rattle.rv_cells.specs.CountedLines.{Setting, ComputeLines, CodeLines, ArmsLines}
 
 -- ---- what is known
@@ -58,9 +58,9 @@ TestsCount base shared x lines =
     (test : Line) × Loads x 0 base test
     × (lines ≡ test ∷ sets 1 (base + 1) ∷ acts (Branch NotEqual shared) (base ∷ (base + 1) ∷ []) ∷ [])
 
--- a cell is freed, and the code goes on at a label
-abbrev pub free_lines : ℕ → ℕ → List Line
-free_lines x behind = acts (Compute Op.Free) (x ∷ []) ∷ acts (Jump behind) [] ∷ []
+-- behind a line the code goes on at a label
+abbrev pub end_lines : Line → ℕ → List Line
+end_lines ends behind = ends ∷ acts (Jump behind) [] ∷ []
 
 -- the count of a cell is lowered
 abbrev pub LowersCount : ℕ → ℕ → List Line → Type 0
@@ -90,7 +90,16 @@ pub record TookTargets (arms nodes : ℕ) (targets : Targets) (old new : Lowerin
   pub second : targets.nodes ≡ old.next_label + arms
   pub took : TookLabels (arms + nodes) targets.arms old new
 
--- an opening by the count of a cell was written, with two labels
+-- An opening by the count of a cell was written, with two labels: with a line for a cell that has no other reference, and with
+-- lines for one that has.
+pub record WroteCountOpening (holds : ℕ → Bool) (x : ℕ) (fields used : List ℕ) (ends : Line) (begins : List Line)
+    (old new : Lowering) : Type 0 where
+  pub lines : List Line
+  pub grows : Grows 0 lines old new
+  pub label : new.next_label ≡ old.next_label + 2
+  pub are : CountLines old.base holds old.next_label (old.next_label + 1) x fields used ends begins lines
+
+-- the same of a cell that is freed
 pub record WroteUnique (holds : ℕ → Bool) (x : ℕ) (fields used : List ℕ) (old new : Lowering) : Type 0 where
   pub lines : List Line
   pub grows : Grows 0 lines old new

@@ -66,7 +66,7 @@ fn write_step(lowering: &mut Lowering, known: &Known<'_>, step: &Step) -> Result
 }
 
 /// The lines of a form on variables, whose value a variable takes.
-fn write_form(
+pub fn write_form(
     lowering: &mut Lowering,
     known: &Known<'_>,
     into: u32,
@@ -105,23 +105,22 @@ fn write_last(
             write_block(lowering, known, negative, goal)
         }
         Last::Case(variable, decisions, arms) => {
-            let targets = take_targets(lowering, decisions, arms)?;
+            let targets = take_targets(lowering, decisions, arms.len())?;
             write_nodes(lowering, known, targets, *variable, decisions.nodes())?;
             write_arms(lowering, known, targets.arms, arms, goal)
         }
     }
 }
 
-/// Labels for the arms of a case, and then for the nodes of its decisions.
-fn take_targets(
+/// Labels for so many arms of a case, and then for the nodes of its decisions.
+pub fn take_targets(
     lowering: &mut Lowering,
     decisions: &Decisions,
-    arms: &[Block],
+    arms: usize,
 ) -> Result<Targets, NoMemory>
-    ensures { IfOk result (λ targets. TookTargets (length arms.now) (length decisions.now.nodes.items) targets lowering.old
-        lowering.new) }
+    ensures { IfOk result (λ targets. TookTargets arms (length decisions.now.nodes.items) targets lowering.old lowering.new) }
 {
-    let first = take_labels(lowering, arms.len())?;
+    let first = take_labels(lowering, arms)?;
     let nodes = take_labels(lowering, decisions.nodes().len())?;
     Ok(Targets { nodes, arms: first })
 }

@@ -1,11 +1,12 @@
 // The lines of the forms that touch cells.
 
-ghost use Rattle.std.specs.Prelude.{◌≡◌, ◌*◌, map, not, filter, IfOk, OnOk};
+ghost use Rattle.std.specs.Prelude.{◌≡◌, ◌*◌, [], ◌∷◌, map, not, filter, IfOk, OnOk};
 ghost use Rattle.kk_syntax.specs.Shapes.{is_among};
 ghost use Rattle.rv_lower.specs.Written.{short_line, Wrote, WroteLines};
 ghost use Rattle.rv_cells.specs.CellLines.{Loads, Stores, AllLoads, AllStores, dup_lines, drop_lines, dups_lines, drops_lines};
 ghost use Rattle.rv_cells.specs.CellLines.{ConstructLines, ReadLines, OpenLines};
-ghost use Rattle.rv_cells.specs.Written.{holds_known, free_lines, TestsCount, LowersCount, WroteUnique};
+ghost use Rattle.rv_cells.specs.TokenedWritten.{StoreLines};
+ghost use Rattle.rv_cells.specs.Written.{holds_known, end_lines, TestsCount, LowersCount, WroteCountOpening, WroteUnique};
 
 use crate::known::Known;
 use kk_base::NoMemory;
@@ -97,10 +98,22 @@ pub fn write_construction(
 ) -> Result<(), NoMemory>
     ensures { OnOk result (WroteLines (ConstructLines lowering.old.base into header arguments.now) lowering.old lowering.new) }
 {
+    lowering.push(Action::Routine(Routine::Take), &[], Some(into))?;
+    write_stores(lowering, into, header, arguments)
+}
+
+/// Stores the words of a construction in a cell.
+pub fn write_stores(
+    lowering: &mut Lowering,
+    into: u32,
+    header: u32,
+    arguments: &[u32],
+) -> Result<(), NoMemory>
+    ensures { OnOk result (WroteLines (StoreLines lowering.old.base into header arguments.now) lowering.old lowering.new) }
+{
     let word = lowering.base;
     let (head, count) = (store(into, HEADER, word)?, store(into, COUNT, word)?);
     let fields = stores(lowering.alloc, into, arguments)?;
-    lowering.push(Action::Routine(Routine::Take), &[], Some(into))?;
     lowering.write(&[set(header, word), head])?;
     lowering.write(&fields)?;
     lowering.write(&[set(1, word), count])
@@ -182,7 +195,7 @@ pub fn write_opening(
     write_drop(lowering, known, cell)
 }
 
-/// An opening by the count of the cell.
+/// An opening by the count of the cell: one that has no other reference is freed.
 pub fn write_unique(
     lowering: &mut Lowering,
     known: &Known<'_>,
@@ -192,14 +205,32 @@ pub fn write_unique(
 ) -> Result<(), NoMemory>
     ensures { OnOk result (WroteUnique (holds_known known.now) cell fields.now used.now lowering.old lowering.new) }
 {
+    let ends = act(Action::Compute(Operation::Free), Reads::One(cell));
+    write_count_opening(lowering, known, cell, fields, used, ends, &[])
+}
+
+/// An opening by the count of the cell, with a line for one that has no other reference, and with lines for one that has.
+pub fn write_count_opening(
+    lowering: &mut Lowering,
+    known: &Known<'_>,
+    cell: u32,
+    fields: &[u32],
+    used: &[u32],
+    ends: Short,
+    begins: &[Short],
+) -> Result<(), NoMemory>
+    ensures { OnOk result (WroteCountOpening (holds_known known.now) cell fields.now used.now (short_line ends)
+        (map short_line begins.now) lowering.old lowering.new) }
+{
     let shared = lowering.take_label()?;
     let behind = lowering.take_label()?;
     let loads = loads(lowering.alloc, cell, fields)?;
     write_count_test(lowering, cell, shared)?;
     lowering.write(&loads)?;
     write_drops(lowering, known, fields, used)?;
-    write_free(lowering, cell, behind)?;
+    write_end(lowering, ends, behind)?;
     write_label(lowering, shared)?;
+    lowering.write(begins)?;
     lowering.write(&loads)?;
     write_less(lowering, cell)?;
     write_dups(lowering, known, fields, used)?;
@@ -222,14 +253,11 @@ fn write_count_test(lowering: &mut Lowering, cell: u32, shared: u32) -> Result<(
     ])
 }
 
-/// Frees a cell, and goes on at a label.
-fn write_free(lowering: &mut Lowering, cell: u32, behind: u32) -> Result<(), NoMemory>
-    ensures { OnOk result (Wrote (free_lines cell behind) lowering.old lowering.new) }
+/// Writes a line, and goes on at a label.
+fn write_end(lowering: &mut Lowering, ends: Short, behind: u32) -> Result<(), NoMemory>
+    ensures { OnOk result (Wrote (end_lines (short_line ends) behind) lowering.old lowering.new) }
 {
-    lowering.write(&[
-        act(Action::Compute(Operation::Free), Reads::One(cell)),
-        act(Action::Jump(behind), Reads::Nothing),
-    ])
+    lowering.write(&[ends, act(Action::Jump(behind), Reads::Nothing)])
 }
 
 /// Lowers the count of a cell.

@@ -3,11 +3,14 @@
 ghost use Rattle.std.specs.Prelude.{◌≡◌, ◌+◌, ◌*◌, IfOk};
 ghost use Rattle.rv_cells.specs.Layout.{mask_of, header_of};
 ghost use Rattle.rv_cells.specs.CountedLines.{is_plain};
+ghost use Rattle.rv_cells.specs.TokenedLines.{values_of_slots};
+ghost use Rattle.rv_cells.specs.TokenedWritten.{variables_known};
 ghost use Rattle.rv_cells.specs.Written.{holds_known, layout_known};
 
 use kk_base::NoMemory;
 use kk_core::{Answer, ConstructorShape};
 use kk_syntax::StringLiteral;
+use std::alloc::Global;
 
 /// What the writing of a function's code reads.
 #[derive(Clone, Copy, Drop)]
@@ -73,6 +76,31 @@ impl Known<'_> {
         } else {
             Err(NoMemory)
         }
+    }
+
+    /// The value of a slot: those of slots are behind all variables. More than a `u32` counts would want more memory than there is.
+    pub fn slot(&self, slot: u32) -> Result<u32, NoMemory>
+        ensures { IfOk result (λ value. value ≡ variables_known self.now + slot) }
+    {
+        let Ok(variables) = u32::try_from(self.marks.len()) else {
+            return Err(NoMemory);
+        };
+        match variables.checked_add(slot) {
+            Some(value) => Ok(value),
+            None => Err(NoMemory),
+        }
+    }
+
+    /// The values of slots.
+    pub fn slots(&self, alloc: Global, slots: &[u32]) -> Result<Vec<u32>, NoMemory>
+        ensures { IfOk result (λ values. values.items ≡ values_of_slots (variables_known self.now) slots.now) }
+    {
+        let mut values = Vec::new(alloc);
+        for slot in slots {
+            let value = self.slot(*slot)?;
+            values.push(value)?;
+        }
+        Ok(values)
     }
 
     /// Whether the word of a value shows an answer.

@@ -10,6 +10,11 @@ mod known;
 mod law;
 mod mark;
 mod program;
+mod token_block;
+mod token_cells;
+mod token_mark;
+mod token_program;
+mod token_slots;
 
 pub use law::{
     cells_are_counted_or_set_aside, cells_in_hand_are_counted, cells_in_hand_are_held,
@@ -20,3 +25,4 @@ pub use law::{
     unique_cells_are_opened, unused_cells_hold_no_heap, words_in_hand_are_stored,
 };
 pub use program::lower;
+pub use token_program::lower_tokened;

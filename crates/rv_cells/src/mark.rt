@@ -29,7 +29,7 @@ pub fn marks_of(
 }
 
 /// The marks of the parameters of an instance. Behind the last instance there are none.
-fn parameters_of(alloc: Global, shape: &Shape, number: usize) -> Result<Vec<bool>, NoMemory>
+pub fn parameters_of(alloc: Global, shape: &Shape, number: usize) -> Result<Vec<bool>, NoMemory>
     ensures { IfOk result (λ marks. marks.items ≡ parameter_marks (table_of shape.now) number) }
 {
     match shape.instances().get(number) {
@@ -50,7 +50,7 @@ fn marks_in(alloc: Global, parameters: &[Parameter]) -> Result<Vec<bool>, NoMemo
 }
 
 /// Gives a variable a mark.
-fn set_mark(marks: &mut Vec<bool>, variable: u32, mark: bool) -> Result<(), NoMemory>
+pub fn set_mark(marks: &mut Vec<bool>, variable: u32, mark: bool) -> Result<(), NoMemory>
     ensures { OnOk result (marks.new.items ≡ marked variable mark marks.old.items) }
 {
     let index = variable as usize;
@@ -62,7 +62,7 @@ fn set_mark(marks: &mut Vec<bool>, variable: u32, mark: bool) -> Result<(), NoMe
 }
 
 /// Of each field of a constructor, whether its type has cells. Behind the last constructor there are none.
-fn fields_of(shape: &Shape, constructor: u32) -> &[bool]
+pub fn fields_of(shape: &Shape, constructor: u32) -> &[bool]
     ensures { result.now ≡ field_marks (table_of shape.now) constructor }
 {
     match shape.constructors().get(constructor as usize) {
@@ -72,7 +72,7 @@ fn fields_of(shape: &Shape, constructor: u32) -> &[bool]
 }
 
 /// Gives the variables that take the fields of a cell their marks. The recursion is as deep as the fields are many.
-fn mark_fields(marks: &mut Vec<bool>, fields: &[u32], each: &[bool]) -> Result<(), NoMemory>
+pub fn mark_fields(marks: &mut Vec<bool>, fields: &[u32], each: &[bool]) -> Result<(), NoMemory>
     ensures { OnOk result (marks.new.items ≡ all_marked fields.now each.now marks.old.items) }
 {
     let [field, fields @ ..] = fields else {
@@ -109,7 +109,7 @@ fn mark_of_made(shape: &Shape, constructor: u32, arguments: &[u32]) -> bool
 }
 
 /// The mark of the value of a form.
-fn mark_of_form(shape: &Shape, form: Form, arguments: &[u32]) -> bool
+pub fn mark_of_form(shape: &Shape, form: Form, arguments: &[u32]) -> bool
     ensures { result ≡ mark_of_form (table_of shape.now) form arguments.now }
 {
     match form {

@@ -42,7 +42,7 @@ is_alive_behind v action rest = is_alive_after action (is_alive v rest) (λ l. i
 
 -- there are so many values at most in a function; each is a number below this
 abbrev pub most_values : ℕ
-most_values = 510
+most_values = 1021
 
 -- a label stands once, and the label of a jump or a branch lies ahead
 abbrev pub AreLabelsAhead : Action → List Line → Type 0

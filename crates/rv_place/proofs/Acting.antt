@@ -24,8 +24,8 @@ use Rattle.rv_isa.specs.Standing.{Code}
 use Rattle.rv_isa.proofs.Same.{same_register}
 use Rattle.rv_place.specs.Registers.{sp, t0}
 use Rattle.rv_place.specs.Instructions.{words_of_jump, JumpsTo, CallsTo, BranchesOn, words_of_operation}
-use Rattle.rv_place.specs.Addresses.{slot_offset, slots_of_place, slots_of_operands, words_of_action, words_of_line, words_of_lines, forms_of, entry_words, entries_from, words_of_function, words_of_functions}
-use Rattle.rv_place.specs.Lines.{Map, CallsForToken, IsSymbolAt, EntersAt, LinesAt, FunctionsAt, BranchesTo}
+use Rattle.rv_place.specs.Addresses.{slot_offset, words_of_shift, slots_of_place, slots_of_operands, words_of_action, words_of_line, words_of_lines, forms_of, entry_words, entries_from, words_of_function, words_of_functions}
+use Rattle.rv_place.specs.Lines.{Map, IsFromPointer, CallsForToken, IsSymbolAt, EntersAt, LinesAt, FunctionsAt, BranchesTo}
 use Rattle.rv_place.specs.declared.reach.Forms.{Forms}
 use Rattle.rv_place.specs.declared.reach.Reach.{Reach}
 use Rattle.rv_place.specs.declared.reach.Reach.TheVariants.{Near, Far}
@@ -72,7 +72,11 @@ on_token chart labels from args name word inside word_is emitted =
     let reaches : JumpReaches labels.forms.jumps (at + 4) target =
     text_reaches charts behind target (omega (arith, target_is, charts.first_word)) (omega (arith, target_is)) (omega (arith, target_is, high)) in
     let room : slot_offset k + 4 ≤ chart.frame = omega (arith, token_slot args k slot_is, inside) in (
-      (sets.0, (sets.1, subst (λ f. slot_offset k + 4 ≤ f) charts.frame room), sets.2),
+      (
+        sets.0,
+        (subst (λ (j : Reach). IsFromPointer j (slot_offset k) sets.0) within.jumps sets.1, subst (λ f. slot_offset k + 4 ≤ f) charts.frame room),
+        sets.2,
+      ),
       subst (CallsTo labels.forms.jumps code (at + 4)) same (here.calls is_at (subst (JumpReaches labels.forms.jumps (at + 4)) (sym same) reaches)),
     ))
     emitted
@@ -148,8 +152,10 @@ module _ (chart : Chart) (labels : Labels) (from : ℕ) (args : List Operand) (i
         (text_reaches charts inside (entry + 4 * entry_words map.jumps) (omega (arith, place.word)) (omega (arith, place.low)) place.high))
         emitted)
 
-    pub on_return : action ≡ Return → Grew 3 (ReturnBy chart) old new → Acted old new action
-    on_return is emitted = subst (Acted old new) (sym is) (grew_so refl (λ code at here is_at map charts start whole has inside. here map charts) emitted)
+    pub on_return : action ≡ Return → labels.forms.jumps ≡ chart.jumps → Grew (2 + words_of_shift chart.jumps) (ReturnBy chart) old new → Acted old new action
+    on_return is same emitted =
+        subst (Acted old new) (sym is)
+        (grew_so (ap (λ (j : Reach). 2 + words_of_shift j) (sym same)) (λ code at here is_at map charts start whole has inside. here map charts) emitted)
 
     pub on_routine : {of : routine.Routine} {word : ℕ} → action ≡ Routine of
         → ((runtime : ℕ) (labels : List (Symbol × ℕ)) → AreSymbols runtime labels chart.symbols → IsAddressOf runtime labels (symbol.Routine of) word)

@@ -17,7 +17,7 @@ use Rattle.cell_heap.proofs.Frames.{SameInside, SameInside-store}
 use Rattle.cell_heap.proofs.Blocks.{outside-holds}
 use Rattle.rv_world.specs.World.{World, first_world}
 use Rattle.rv_world.specs.Operations.{all_bytes}
-use Rattle.rv_place.specs.Addresses.{entry_words}
+use Rattle.rv_place.specs.Addresses.{words_of_shift, entry_words, frame_bias}
 use Rattle.rv_place.specs.Lines.{Map, FunctionAt}
 use Rattle.rv_place.specs.Grounds.{stack_end, constant_bytes, Ground, Rests}
 use Rattle.rv_place.specs.Running.{AllPlain, most_lines, FramesAt, Running}
@@ -52,7 +52,7 @@ pub record IsBefore (map : Map) (pool : Pool) (depth stop entry : ℕ) (code : C
   pub rests : Rests map code parts s
   pub pc_is : s.pc ≡ entry
   pub way_is : value s.registers 1 ≡ stop
-  pub base_is : value s.registers 2 ≡ stack_end map depth
+  pub base_is : value s.registers 2 ≡ stack_end map depth + frame_bias map.jumps
   pub trace_is : s.trace ≡ []
   pub left_is : s.left ≡ input
   pub cells : HoldsCells pool (unused_cells pool) [] s
@@ -69,12 +69,12 @@ module _ {map : Map} {pool : Pool} {functions : List PlacedLines} {depth buffer 
   allowed : can_store parts base 4 ≡ true
   allowed = ground.stores base above (omega (arith, base_is, ground.some_frame)) base_word
 
-  takes : Shifts pool.cells code 4 (5 ∷ 2 ∷ []) (with_number base 4 stop s.memory) base (entry + 4 * entry_words map.jumps) s
+  takes : Shifts pool.cells code (2 + words_of_shift map.jumps + 1) (5 ∷ 2 ∷ []) (with_number base 4 stop s.memory) (base + frame_bias map.jumps) (entry + 4 * entry_words map.jumps) s
   takes =
       let full = ground.stack_full in
       let more : base + map.frame ≢ map.bottom = λ e. omega (arith, above, ground.some_frame) in
-      entry_takes pool.cells ground.below before.rests.stands map entry before.pc_is main_at.entry full.0 full.1 base stop (before.base_is ∙ sym base_is) before.way_is
-      more ground.small_frame (omega (arith, base_is, ground.in_range)) base_word (rw before.rests.parts_are allowed)
+      entry_takes pool.cells ground.below before.rests.stands map entry before.pc_is main_at.entry full.0 full.1 base stop (before.base_is ∙ ap (λ b. b + frame_bias map.jumps) (sym base_is)) before.way_is
+      more (omega (arith, base_is, ground.in_range)) base_word (rw before.rests.parts_are allowed)
       (behind_misses before.cells base (omega (arith, above, ground.cells_below)))
 
   constants_stay : bytes_at takes.after.memory map.constants.first (constant_bytes map) ≡ all_bytes map.constants.texts
@@ -89,7 +89,7 @@ module _ {map : Map} {pool : Pool} {functions : List PlacedLines} {depth buffer 
       (entered_in (most_lines functions) entry main before.rests.stands ground.below main_at (plain_found functions plain 0 main first) (few_found functions 0 main first))
       (λ k w e. cc) refl (refl, base_is)
 
-  pub entry-begins : Begins map pool functions depth stop code parts main input 4 s
+  pub entry-begins : Begins map pool functions depth stop code parts main input (2 + words_of_shift map.jumps + 1) s
   entry-begins = record {
     after = takes.after;
     walks = walks_done takes.done;
@@ -100,7 +100,9 @@ module _ {map : Map} {pool : Pool} {functions : List PlacedLines} {depth buffer 
       left = takes.done.left_is ∙ before.left_is;
       bytes = subst (All (λ byte. byte < 256)) (sym (takes.done.left_is ∙ before.left_is)) input_bytes;
       room = ground.some_depth;
-      frames = rw (takes.done.memory_is, takes.done.pc_is, takes.base_is) frames_stand;
+      base = base;
+      base_is = takes.base_is;
+      frames = rw (takes.done.memory_is, takes.done.pc_is) frames_stand;
       registers = λ x word e. cc;
       cells = outside-holds before.cells (roots_done takes.done refl) (subst (λ m. SameInside pool s.memory m) (sym takes.done.memory_is) (SameInside-store pool s.memory base stop (inr (omega (arith, above, ground.cells_below))))) (record { same = λ slot some. absurd (some refl) });
     };

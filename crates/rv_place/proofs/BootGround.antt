@@ -12,7 +12,9 @@ use Rattle.rv_isa.specs.declared.placed.Symbol.TheVariants as symbol
 use Rattle.rv_isa.specs.PlacedCode.{placed_functions}
 use Rattle.rv_isa.specs.Standing.{Code, code_of}
 use Rattle.rv_isa.proofs.Standing.{Has-front, Has-get, code_of-Has, code_of-place}
-use Rattle.cell_runtime.specs.Layouts.{next_page, layout_of}
+use Rattle.cell_runtime.specs.Layouts.{below_pointer, next_page, layout_of}
+use Rattle.cell_runtime.specs.Lines.{words_of}
+use Rattle.cell_runtime.proofs.Reaching.{below_most}
 use Rattle.cell_runtime.specs.Texts.{IsRuntime, runtime_labels, IsText}
 use Rattle.kk_base.specs.Sizes.{greatest_cells, greatest_depth}
 use Rattle.cell_runtime.specs.declared.start.TheConstants.{TEXT_WORDS}
@@ -24,11 +26,13 @@ use Rattle.cell_runtime.specs.Drops.{IsDrop}
 use Rattle.cell_runtime.specs.Tokens.{IsHold, IsUnhold}
 use Rattle.rv_place.specs.Images.{code_in}
 use Rattle.rv_place.specs.declared.words.Words.{Words}
-use Rattle.rv_place.specs.Addresses.{IsBehind, frame_size}
-use Rattle.rv_place.specs.Texts.{ArePlaceable, most_text_words, most_constant_bytes, text_bytes, memory_of, pool_in, map_of, ArePlacedWords}
+use Rattle.rv_place.specs.Addresses.{jump_words, words_of_functions, IsBehind, frame_size}
+use Rattle.rv_place.specs.declared.reach.Reach.TheVariants.{Near}
+use Rattle.rv_place.specs.Texts.{ArePlaceable, most_text_words, most_constant_bytes, jumps_of, text_bytes, memory_of, pool_in, map_of, ArePlacedWords}
 use Rattle.rv_place.specs.Grounds.{HasRoutine, Ground}
 use Rattle.rv_place.proofs.BootLoaded.{two_parts, text-loaded, memory-loaded, memory-stored, stored-behind}
 use Rattle.rv_place.proofs.BootSizes.{memory_behind, memory_page, page_behind, page_near, page_multiple, stack_most, words_most, bytes_most, memory_most}
+use Rattle.rv_place.proofs.Shifting.{bias_below, bias_word}
 
 -- the stop behind the start, where main comes back to
 abbrev pub stop_address : ℕ
@@ -71,16 +75,17 @@ pub record HasRoom (cells depth frame text memory bottom size : ℕ) : Type 0 wh
   pub behind : text_start + text ≤ memory
   pub near : memory ≤ text_start + 4 * most_text_words + most_constant_bytes + 4095
   pub memory_page : memory % 4096 ≡ 0
-  pub some_cells : 36 + 32 * cells ≤ bottom
-  pub few_cells : bottom ≤ 33558563
+  pub some_cells : 36 + 32 * cells + below_pointer frame ≤ bottom
+  pub few_cells : bottom ≤ 33560611
   pub bottom_page : bottom % 4096 ≡ 0
   pub size_is : size ≡ bottom + depth * frame
-  pub few_frames : depth * frame ≤ 133955584
+  pub few_frames : depth * frame ≤ 267911168
 
 pub has-room : {cells depth : ℕ} {runtime program : Placed} → cells ≤ greatest_cells → depth ≤ greatest_depth → IsText cells depth (frame_size (placed_functions program)) runtime → ArePlaceable runtime program
     → HasRoom cells depth (frame_size (placed_functions program)) (text_bytes runtime program) (memory_of runtime program) runtime.memory.stack_bottom runtime.memory.size
 has-room {cells} {depth} {runtime} {program} few_cells few_depth is_runtime placeable =
-    let low : ℕ = 32 + 32 * cells + 4 in
+    let below = below_most (frame_size (placed_functions program)) in
+    let low : ℕ = 32 + 32 * cells + 4 + below_pointer (frame_size (placed_functions program)) in
     let bottom_is : runtime.memory.stack_bottom ≡ next_page low = ap (λ (section : DataSection). section.stack_bottom) is_runtime.memory in
     let size_is : runtime.memory.size ≡ next_page low + depth * frame_size (placed_functions program) = ap (λ (section : DataSection). section.size) is_runtime.memory in
     record {
@@ -130,6 +135,10 @@ module _ {cells depth : ℕ} {runtime program : Placed} {words : Words} (is_runt
       → Ground (map_of runtime program) (pool_in cells runtime program) (placed_functions program) depth memory stop_address (code_in words) (two_parts text memory size)
   has-ground text memory size text_is memory_is some_depth placeable room =
       let stands = runtime-stands in
+      let bias = bias_below (frame_size (placed_functions program)) jump_words (words_of runtime.natives.items + words_of_functions Near (placed_functions program)) in
+      let some_cells = room.some_cells in
+      let below = below_most (frame_size (placed_functions program)) in
+      let bias_words = bias_word (jumps_of runtime program) in
       record {
         functions_at = placed.functions;
         below = λ at i here.
@@ -137,11 +146,10 @@ module _ {cells depth : ℕ} {runtime program : Placed} {words : Words} (is_runt
             let where_is = place.1 in
             let inside : place.0 < length words.instructions.items = slice_get_within words.instructions.items place.0 i place.2 in
             omega (arith, placed.size, words_most placeable);
-        small_frame = placeable.frames;
         some_frame = omega arith;
         frame_words = omega arith;
         some_depth = some_depth;
-        bottom_word = omega (arith, room.memory_page, room.bottom_page);
+        bottom_word = omega (arith, room.memory_page, room.bottom_page, bias_words);
         in_range = omega (arith, room.near, room.few_cells, room.few_frames);
         loads = λ at low high word. memory-loaded text memory size at 4 (omega arith) (omega (arith, room.size_is));
         stores = λ at low high word. memory-stored text memory size at 4 (omega arith) (omega (arith, room.size_is));

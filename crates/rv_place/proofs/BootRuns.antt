@@ -1,5 +1,5 @@
 -- The loaded image agrees with the machine of the placed form, where the processor simulates that machine.
-use Rattle.std.proofs.Common.{◌≡◌, ◌<◌, ℕ, suc, ◌+◌, ◌-◌, ◌*◌, List, [], ◌∷◌, length, All, Some, refl, ap, sym, subst, ◌∙◌, arith}
+use Rattle.std.proofs.Common.{◌≡◌, ◌≤◌, ◌<◌, ℕ, suc, ◌+◌, ◌-◌, ◌*◌, List, [], ◌∷◌, length, All, Some, refl, ap, sym, subst, ◌∙◌, arith}
 use Rattle.std.specs.List.{slice_get}
 use Rattle.kk_base.specs.Simulations.{Simulates}
 use Rattle.kk_base.specs.Agreements.{Agree}
@@ -28,15 +28,17 @@ use Rattle.cell_heap.specs.Known.{HoldsCells}
 use Rattle.cell_runtime.proofs.Blocks.{start_holds}
 use Rattle.rv_world.specs.World.{World, first_world, primitives}
 use Rattle.rv_place.specs.declared.words.Words.{Words}
-use Rattle.rv_place.specs.Addresses.{frame_size, entries_from}
+use Rattle.rv_place.specs.Addresses.{jump_words, words_of_shift, words_of_functions, frame_size, frame_bias, entries_from}
 use Rattle.rv_place.specs.declared.reach.Reach.{Reach}
+use Rattle.rv_place.specs.declared.reach.Reach.TheVariants.{Near}
+use Rattle.rv_place.proofs.Shifting.{bias_below}
 use Rattle.rv_place.specs.Lines.{FunctionAt}
 use Rattle.rv_place.specs.Texts.{text_bytes, memory_of, pool_in, constants_of, map_of, jumps_of}
 use Rattle.rv_place.specs.Images.{first_processor, parts_of, code_in, main_entry, outside_lines, IsPlacedImage, EndsWithCells}
 use Rattle.rv_place.specs.Grounds.{stack_end, constant_bytes, Ground, Rests}
 use Rattle.rv_place.specs.Running.{NeverStuck, Related, Passing}
 use Rattle.rv_place.proofs.RunningInside.{walks_then, stands_part, start_walks}
-use Rattle.rv_place.proofs.RunningLines.{function_found}
+use Rattle.rv_place.proofs.RunningLines.{shift_most, function_found}
 use Rattle.rv_place.proofs.BootAgreements.{agree_after_instructions}
 use Rattle.rv_place.proofs.BootSizes.{text_size}
 use Rattle.rv_place.proofs.BootGround.{stop_address, HasRoom, own_code, own-part, own-inside, has-room, runtime-stands, has-ground}
@@ -69,12 +71,14 @@ module _ {cells depth : ℕ} {runtime program : Placed} {words : Words} {text : 
       first_entry (jumps_of runtime program) (text_start + 4 * words_of runtime.natives.items) (placed_functions program) found.0 found.1 ∙ ap (λ n. text_start + 4 * n) image.runtime_is.words in
       subst (λ entry. FunctionAt (map_of runtime program) (code_in words) entry main) entry_is found.2
 
-  -- the stack ends with the memory
-  stack_ends : memory_start (length text) + (layout_of cells depth (frame_size (placed_functions program))).stack_end ≡ stack_end (map_of runtime program) depth
+  -- the stack pointer begins at the end of the memory
+  stack_ends : memory_start (length text) + (layout_of cells depth (frame_size (placed_functions program))).stack_end
+      ≡ stack_end (map_of runtime program) depth + frame_bias (jumps_of runtime program)
   stack_ends =
       let size_is : runtime.memory.size ≡ (layout_of cells depth (frame_size (placed_functions program))).stack_end = ap (λ (section : DataSection). section.size) image.runtime_is.memory in
       let same : memory_start (length text) ≡ memory_of runtime program = ap memory_start bytes_are in
-      omega (arith, room.size_is)
+      let bias = bias_below (frame_size (placed_functions program)) jump_words (words_of runtime.natives.items + words_of_functions Near (placed_functions program)) in
+      omega (arith, room.size_is, room.some_cells)
 
   module _ (input : List ℕ) (input_bytes : All (λ byte. byte < 256) input) where
     -- the start comes to main's entry
@@ -107,8 +111,14 @@ module _ {cells depth : ℕ} {runtime program : Placed} {words : Words} {text : 
       cells = subst (λ pool. HoldsCells pool (unused_cells pool) [] started.0) (ap (λ n. pool_of cells n) (ap memory_start bytes_are)) (start_holds started.1.cells);
     }
 
-    -- 13 silent instructions lead to the begin of main's lines
-    pub image-begins : Begins (map_of runtime program) (pool_in cells runtime program) (placed_functions program) depth stop_address (code_in words) (parts_of text runtime) main input 13 (first_processor text runtime.memory.size input)
+    -- how many silent instructions lead to the begin of main's lines: those of the start, and of main's entry
+    abbrev first_steps : ℕ
+    first_steps = 9 + (2 + words_of_shift (jumps_of runtime program) + 1)
+
+    few_first : first_steps ≤ 14
+    few_first = omega (arith, shift_most (jumps_of runtime program))
+
+    pub image-begins : Begins (map_of runtime program) (pool_in cells runtime program) (placed_functions program) depth stop_address (code_in words) (parts_of text runtime) main input first_steps (first_processor text runtime.memory.size input)
     image-begins =
         let frame : ℕ = frame_size (placed_functions program) in
         let base : ℕ = stack_end (map_of runtime program) depth - frame in
@@ -126,7 +136,7 @@ module _ {cells depth : ℕ} {runtime program : Placed} {words : Words} {text : 
 
       pub image-agrees : Agree (placed_machine (primitives (constants_of runtime program) (pool_in cells runtime program)) depth (placed_functions program)) (processor_machine rv32im) outside_lines (λ m. m * pace + length main.code + 1) (placed_start main (first_world (pool_in cells runtime program) input)) (goes (first_processor text runtime.memory.size input))
       image-agrees =
-          agree_after_instructions _ 3 13 (λ m. m * pace + length main.code + 1) (placed_start main (first_world (pool_in cells runtime program) input)) (first_processor text runtime.memory.size input) image-begins.after image-begins.walks.leads image-begins.told begins-agree
+          agree_after_instructions _ 3 14 first_steps (λ m. m * pace + length main.code + 1) (placed_start main (first_world (pool_in cells runtime program) input)) (first_processor text runtime.memory.size input) image-begins.after few_first image-begins.walks.leads image-begins.told begins-agree
 
       -- no state of its run touches a free cell outside of the runtime's words
       pub image-passes : (count : ℕ) → Passing (map_of runtime program) (pool_in cells runtime program) (run count (first_processor text runtime.memory.size input))
@@ -147,8 +157,8 @@ module _ {cells depth : ℕ} {runtime program : Placed} {words : Words} {text : 
           let last : Progress = state (processor_machine rv32im) reaches.steps (goes image-begins.after) in
           let related : Related (map_of runtime program) (pool_in cells runtime program) (placed_functions program) depth stop_address (code_in words) (parts_of text runtime) reaches.credit_after reaches.idle_after (ended how world) last
           = subst (λ turn. Related (map_of runtime program) (pool_in cells runtime program) (placed_functions program) depth stop_address (code_in words) (parts_of text runtime) reaches.credit_after reaches.idle_after turn last) is reaches.related in
-          let there : run (13 + reaches.steps) (first_processor text runtime.memory.size input) ≡ last = image-begins.walks.leads.by reaches.steps ∙ sym (state-run rv32im reaches.steps image-begins.after) in (
-            13 + reaches.steps,
+          let there : run (first_steps + reaches.steps) (first_processor text runtime.memory.size input) ≡ last = image-begins.walks.leads.by reaches.steps ∙ sym (state-run rv32im reaches.steps image-begins.after) in (
+            first_steps + reaches.steps,
             subst (EndsWithCells (pool_in cells runtime program) how world) (sym there) (record {
               ending = related.1.0;
               trace = related.1.1;

@@ -7,7 +7,7 @@ use Rattle.rv_isa.specs.declared.asm.Action.{Action}
 use Rattle.rv_isa.specs.declared.asm.Action.TheVariants.{Compute, Label, Jump, Branch, Call, TailCall, Return, Routine, Hold, Unhold}
 use Rattle.rv_isa.specs.declared.asm.Operation.{Operation}
 use Rattle.rv_isa.specs.declared.placed.Placed.{Placed}
-use Rattle.rv_isa.specs.Costs.{operation_instructions, action_instructions, placed_line_length, placed_code_length, placed_functions_length}
+use Rattle.rv_isa.specs.Costs.{operation_instructions, action_length, placed_line_length, placed_code_length, placed_functions_length}
 use Rattle.rv_isa.specs.PlacedCode.{PlacedLine, does, moves, PlacedLines, placed_functions, placed_constants}
 use Rattle.cell_runtime.specs.Layouts.{next_page}
 use Rattle.rv_world.specs.Operations.{all_bytes}
@@ -16,7 +16,7 @@ use Rattle.rv_place.specs.Instructions.{words_of_operation}
 use Rattle.rv_place.specs.Addresses.{words_of_action, words_of_line, words_of_lines, words_of_functions, forms_of}
 use Rattle.rv_place.specs.declared.reach.Forms.{Forms}
 use Rattle.rv_place.specs.declared.reach.Reach.{Reach}
-use Rattle.rv_place.proofs.RunningLines.{jump_most, branch_most}
+use Rattle.rv_place.proofs.RunningLines.{jump_most, shift_most, branch_most}
 use Rattle.rv_place.specs.Texts.{ArePlaceable, most_text_words, most_constant_bytes, text_words, text_bytes, memory_of, ArePlacedWords, jumps_of}
 use Rattle.rv_place.specs.Bytes.{IsTextOf}
 
@@ -34,14 +34,14 @@ operation_most (Operation.Sw offset) = omega arith
 operation_most Operation.Dup = omega arith
 operation_most Operation.Free = omega arith
 
-action_most : (forms : Forms) (action : Action) → words_of_action forms action ≤ action_instructions action
+action_most : (forms : Forms) (action : Action) → words_of_action forms action ≤ action_length action
 action_most forms (Compute operation) = operation_most operation
 action_most forms (Label l) = omega arith
 action_most forms (Jump l) = jump_most forms.jumps
 action_most forms (Branch condition l) = branch_most forms.jumps forms.branches
 action_most forms (Call f) = omega (arith, jump_most forms.jumps)
 action_most forms (TailCall f) = jump_most forms.jumps
-action_most forms Return = omega arith
+action_most forms Return = omega (arith, shift_most forms.jumps)
 action_most forms (Routine routine) = jump_most forms.jumps
 action_most forms Hold = omega (arith, jump_most forms.jumps)
 action_most forms Unhold = omega (arith, jump_most forms.jumps)
@@ -54,9 +54,9 @@ lines_most : (forms : Forms) (lines : List PlacedLine) → words_of_lines forms 
 lines_most forms [] = omega arith
 lines_most forms (line ∷ lines) = omega (arith, line_most forms line, lines_most forms lines)
 
-functions_most : (jumps : Reach) (functions : List PlacedLines) → words_of_functions jumps functions ≤ 6 * length functions + placed_functions_length functions
+functions_most : (jumps : Reach) (functions : List PlacedLines) → words_of_functions jumps functions ≤ 7 * length functions + placed_functions_length functions
 functions_most jumps [] = omega arith
-functions_most jumps (function ∷ functions) = omega (arith, jump_most jumps, lines_most (forms_of jumps function.code) function.code, functions_most jumps functions)
+functions_most jumps (function ∷ functions) = omega (arith, jump_most jumps, shift_most jumps, lines_most (forms_of jumps function.code) function.code, functions_most jumps functions)
 
 -- ---- pages
 
@@ -79,8 +79,8 @@ pub page_multiple : (n : ℕ) → next_page n % 4096 ≡ 0
 page_multiple n = omega arith
 
 -- all frames
-pub stack_most : (depth frame : ℕ) → depth ≤ greatest_depth → frame ≤ 2044 → depth * frame ≤ 133955584
-stack_most depth frame few small = mul-le depth frame greatest_depth 2044 few small
+pub stack_most : (depth frame : ℕ) → depth ≤ greatest_depth → frame ≤ 4088 → depth * frame ≤ 267911168
+stack_most depth frame few small = mul-le depth frame greatest_depth 4088 few small
 
 -- ---- the text
 

@@ -1,10 +1,10 @@
 -- Jumps and branches as instructions, near and far.
-use Rattle.std.proofs.Common.{◌≡◌, ℕ, ◌*◌, List, refl, sym, subst}
+use Rattle.std.proofs.Common.{◌≡◌, ◌⊎◌, inl, inr, ℕ, ◌*◌, List, refl, sym, subst}
 use Rattle.rv_isa.specs.declared.register.Register.{Register}
 use Rattle.rv_isa.specs.declared.instr.Instr.{Instr}
 use Rattle.rv_isa.specs.declared.asm.Condition.{Condition}
 use Rattle.rv_place.specs.declared.reach.Reach.{Reach}
-use Rattle.rv_place.specs.declared.reach.Reach.TheVariants.{Near, Far}
+use Rattle.rv_place.specs.declared.reach.Reach.TheVariants.{Near, Far, Wide}
 use Rattle.rv_place.specs.Addresses.{branch_words}
 use Rattle.rv_place.specs.Instructions.{words_of_jump, JumpsBy, words_of_branch, BranchesOn}
 use Rattle.rv_place.specs.Emitted.{Grew, AreNear, JumpReaches, BranchReaches}
@@ -24,9 +24,12 @@ module _ (from : ℕ) (back : Register) (target : ℕ) {reach : Reach} {old new 
   pub jump_near : reach ≡ Near → JumpGrew from Near back target old new → JumpGrew from reach back target old new
   jump_near is grew = subst (λ (r : Reach). JumpGrew from r back target old new) (sym is) grew
 
-  pub jump_far : reach ≡ Far → Grew 2 (λ code at. JumpsBy Far code at back target) old new
+  pub jump_far : (reach ≡ Far) ⊎ (reach ≡ Wide) → Grew 2 (λ code at. JumpsBy Far code at back target) old new
       → JumpGrew from reach back target old new
-  jump_far is grew =
+  jump_far (inl is) grew =
+      subst (λ (r : Reach). JumpGrew from r back target old new) (sym is)
+      (grew_so refl (λ code at here is_at reaches. here) grew)
+  jump_far (inr is) grew =
       subst (λ (r : Reach). JumpGrew from r back target old new) (sym is)
       (grew_so refl (λ code at here is_at reaches. here) grew)
 
@@ -38,6 +41,7 @@ module _ (from : ℕ) (jumps : Reach) (condition : Condition) (a b : Register) (
       → BranchGrew from jumps reach condition a b target old new
   branch_near is grew = subst (λ (r : Reach). BranchGrew from jumps r condition a b target old new) (sym is) grew
 
-  pub branch_far : reach ≡ Far → BranchGrew from jumps Far condition a b target old new
+  pub branch_far : (reach ≡ Far) ⊎ (reach ≡ Wide) → BranchGrew from jumps Far condition a b target old new
       → BranchGrew from jumps reach condition a b target old new
-  branch_far is grew = subst (λ (r : Reach). BranchGrew from jumps r condition a b target old new) (sym is) grew
+  branch_far (inl is) grew = subst (λ (r : Reach). BranchGrew from jumps r condition a b target old new) (sym is) grew
+  branch_far (inr is) grew = subst (λ (r : Reach). BranchGrew from jumps r condition a b target old new) (sym is) grew

@@ -30,6 +30,7 @@ pub mod Moving
 pub mod Operands
 pub mod Operating
 pub mod Near
+pub mod Shifting
 pub mod Jumping
 pub mod Acting
 pub mod Texting

@@ -10,6 +10,8 @@ use Rattle.rv_isa.specs.PlacedCode.{from_of, to_of}
 use Rattle.cell_runtime.proofs.SameLines.{same_lw, same_sw}
 use Rattle.rv_place.specs.Addresses.{slot_offset, slots_of_place}
 use Rattle.rv_place.specs.declared.chart.Chart.{Chart}
+use Rattle.rv_place.specs.declared.reach.Reach.{Reach}
+use Rattle.rv_place.specs.Lines.{IsFromPointer}
 use Rattle.rv_place.specs.Emitted.{Grew, MoveBy}
 use Rattle.rv_place.proofs.Emitting.{grew_so}
 
@@ -23,18 +25,18 @@ module _ (chart : Chart) {old new : List Instr} where
   moves_copy {way} {from} {to} {zero} is zero_is emitted =
       subst (λ w. Grew 1 (MoveBy chart w) old new) (sym is) (grew_so refl (λ code at here map charts. (zero, zero_is, here)) emitted)
 
-  pub moves_load : {way : Way} {from : ℕ} {to stack : Register} {offset : Immediate} → way ≡ Load from to → offset.word ≡ slot_offset from → Within chart way
+  pub moves_load : {way : Way} {from : ℕ} {to stack : Register} {offset : Immediate} → way ≡ Load from to → IsFromPointer chart.jumps (slot_offset from) offset → Within chart way
       → stack.number ≡ 2 → Grew 1 (λ code at. code at ≡ Some (Lw to stack offset)) old new → Grew 1 (MoveBy chart way) old new
   moves_load {way} {from} {to} {stack} {offset} is offset_is inside stack_is emitted =
       let at_way : 4 * max (from + 1) 0 + 4 ≤ chart.frame = subst (Within chart) is inside in
       let within : slot_offset from + 4 ≤ chart.frame = omega arith in
       subst (λ w. Grew 1 (MoveBy chart w) old new) (sym is)
-      (grew_so refl (λ code at here map charts. (offset, (offset_is, subst (λ f. slot_offset from + 4 ≤ f) charts.frame within), here ∙ ap Some (same_lw refl stack_is refl))) emitted)
+      (grew_so refl (λ code at here map charts. (offset, (subst (λ (j : Reach). IsFromPointer j (slot_offset from) offset) charts.jumps offset_is, subst (λ f. slot_offset from + 4 ≤ f) charts.frame within), here ∙ ap Some (same_lw refl stack_is refl))) emitted)
 
-  pub moves_store : {way : Way} {from stack : Register} {to : ℕ} {offset : Immediate} → way ≡ Store from to → offset.word ≡ slot_offset to → Within chart way
+  pub moves_store : {way : Way} {from stack : Register} {to : ℕ} {offset : Immediate} → way ≡ Store from to → IsFromPointer chart.jumps (slot_offset to) offset → Within chart way
       → stack.number ≡ 2 → Grew 1 (λ code at. code at ≡ Some (Sw stack from offset)) old new → Grew 1 (MoveBy chart way) old new
   moves_store {way} {from} {stack} {to} {offset} is offset_is inside stack_is emitted =
       let at_way : 4 * max 0 (to + 1) + 4 ≤ chart.frame = subst (Within chart) is inside in
       let within : slot_offset to + 4 ≤ chart.frame = omega arith in
       subst (λ w. Grew 1 (MoveBy chart w) old new) (sym is)
-      (grew_so refl (λ code at here map charts. (offset, (offset_is, subst (λ f. slot_offset to + 4 ≤ f) charts.frame within), here ∙ ap Some (same_sw stack_is refl refl))) emitted)
+      (grew_so refl (λ code at here map charts. (offset, (subst (λ (j : Reach). IsFromPointer j (slot_offset to) offset) charts.jumps offset_is, subst (λ f. slot_offset to + 4 ≤ f) charts.frame within), here ∙ ap Some (same_sw stack_is refl refl))) emitted)

@@ -7,8 +7,8 @@ use Rattle.rv_isa.specs.PlacedMachine.{is_label_line}
 use Rattle.rv_place.specs.declared.chart.Chart.{Chart}
 use Rattle.rv_place.specs.declared.reach.Forms.{Forms}
 use Rattle.rv_place.specs.declared.reach.Reach.{Reach}
-use Rattle.rv_place.specs.declared.reach.Reach.TheVariants.{Near, Far}
-use Rattle.rv_place.specs.Instructions.{words_of_branch}
+use Rattle.rv_place.specs.declared.reach.Reach.TheVariants.{Near, Far, Wide}
+use Rattle.rv_place.specs.Instructions.{words_of_jump, words_of_branch}
 use Rattle.rv_place.specs.Addresses.{words_of_line, words_of_lines, label_address, reach_of, branch_words, forms_of}
 use Rattle.rv_place.specs.Lines.{Map}
 use Rattle.rv_place.specs.Emitted.{Charts, JumpReaches, BranchReaches, IsInText, IsInFunction}
@@ -21,6 +21,11 @@ near_by limit words false test is = cc
 
 pub near_within : (limit words : ℕ) → reach_of limit words ≡ Near → words < limit
 near_within limit words is = near_by limit words (nat_lt words limit) refl is
+
+-- jumps are near only where frames are narrow
+pub near_narrow : (wide : Bool) (reach : Reach) → cond wide Wide reach ≡ Near → reach ≡ Near
+near_narrow true reach is = cc
+near_narrow false reach is = is
 
 -- a function whose branches are near is short with them
 pub short_function : (jumps : Reach) (lines : List PlacedLine) → (forms_of jumps lines).branches ≡ Near
@@ -74,6 +79,7 @@ module _ {chart : Chart} {map : Map} (charts : Charts chart map) where
         target_below = omega arith;
       }
   jump_reaches Far is at target word target_word low high target_low target_high = tt
+  jump_reaches Wide is at target word target_word low high target_low target_high = tt
 
   module _ {forms : Forms} {start : ℕ} {whole : List PlacedLine} {at words : ℕ}
       (inside : IsInFunction map forms start whole at words) where
@@ -90,6 +96,15 @@ module _ {chart : Chart} {map : Map} (charts : Charts chart map) where
         let label = label_between forms l start whole target is inside.text.word in
         text_reaches target label.word (omega (arith, label.low, inside.text.low))
         (omega (arith, label.high, inside.text.high))
+
+  -- a jump that a branch leads over reaches a label
+  over_jump : (forms : Forms) (start : ℕ) (whole : List PlacedLine) (at target : ℕ)
+      → IsInFunction map forms start whole at (1 + words_of_jump forms.jumps)
+      → IsBetween start (words_of_lines forms whole) target → JumpReaches forms.jumps (at + 4) target
+  over_jump forms start whole at target inside label =
+      jump_reaches forms.jumps inside.jumps (at + 4) target (omega (arith, inside.word)) label.word
+      (omega (arith, inside.low, inside.text.low)) (omega (arith, inside.high, inside.text.high))
+      (omega (arith, label.low, inside.text.low)) (omega (arith, label.high, inside.text.high))
 
   branch_by : (forms : Forms) (start : ℕ) (whole : List PlacedLine) (at target : ℕ) (reach : Reach) → forms.branches ≡ reach
       → IsInFunction map forms start whole at (words_of_branch forms.jumps reach)
@@ -110,10 +125,8 @@ module _ {chart : Chart} {map : Map} (charts : Charts chart map) where
         at_below = omega arith;
         target_below = omega arith;
       }
-  branch_by forms start whole at target Far is inside label =
-      jump_reaches forms.jumps inside.jumps (at + 4) target (omega (arith, inside.word)) label.word
-      (omega (arith, inside.low, inside.text.low)) (omega (arith, inside.high, inside.text.high))
-      (omega (arith, label.low, inside.text.low)) (omega (arith, label.high, inside.text.high))
+  branch_by forms start whole at target Far is inside label = over_jump forms start whole at target inside label
+  branch_by forms start whole at target Wide is inside label = over_jump forms start whole at target inside label
 
   -- a branch in a function to a label of its own
   pub branch_reaches : {forms : Forms} {start : ℕ} {whole : List PlacedLine} {at : ℕ}

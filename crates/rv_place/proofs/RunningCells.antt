@@ -110,12 +110,12 @@ module _ {map_of : Map} {pool : Pool} {functions : List PlacedLines} {depth buff
         → Done pool.cells code n changed (with_number at 4 v s.memory) (s.pc + 4 * words_of_operation operation) s u → IsOutside 2 changed
         → NoneHanded changed
         → at + 4 ≤ end_of pool → can_store parts at 4 ≡ true → s.pc + 4 * words_of_operation operation < 2 ^ 32
-        → HoldsCells pool next (links_of map_of (value s.registers 2) (f ∷ fs)) u
+        → HoldsCells pool next (links_of map_of (running.base) (f ∷ fs)) u
         → 1 ≤ n → n ≤ most → Comes map_of pool functions depth stop code parts most old
         (placed_goes behind fs known (with_cells world next)) s
     changed_comes {n} most at v next u done outside none inside allowed fits holds some within =
         let stand = running.frames in
-        let sp = value s.registers 2 in
+        let sp = running.base in
         let low = sp_low ground f fs known world s running in
         let under = ground.cells_below in
         let here : FramesAt map_of code (most_lines functions) stop (stack_end map_of depth) s.memory
@@ -125,7 +125,7 @@ module _ {map_of : Map} {pool : Pool} {functions : List PlacedLines} {depth buff
         (record { frames = behind ∷ fs; registers = known; shared = with_cells world next }) s u n (walks_done done)
         (runs_on map_of pool functions depth stop code parts
         (record { frames = f ∷ fs; registers = known; shared = world }) next s u (behind ∷ fs) known sp running done
-        (constants_kept ground f fs known world s running at v allowed) running.room (done.kept 2 outside)
+        (constants_kept ground f fs known world s running at v allowed) running.room (done.kept 2 outside ∙ running.base_is)
         (frames_kept map_of code (most_lines functions) stop (stack_end map_of depth) ground.some_frame s.memory
         (with_number at 4 v s.memory) (s.pc + 4 * words_of_operation operation) sp (behind ∷ fs)
         (λ x above high. word-apart at v s.memory x (inr (omega arith))) here)

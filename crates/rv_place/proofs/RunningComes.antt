@@ -19,6 +19,7 @@ use Rattle.cell_runtime.specs.Registers.{IsOutside}
 use Rattle.std.specs.List.{list_any}
 use Rattle.cell_heap.specs.Pool.{Pool}
 use Rattle.rv_world.specs.World.{World, with_cells, primitives}
+use Rattle.rv_place.specs.Addresses.{frame_bias}
 use Rattle.rv_place.specs.Lines.{Map}
 use Rattle.rv_place.specs.Grounds.{Ground, stack_end, constant_bytes}
 use Rattle.rv_place.specs.Running.{most_lines, IsIn, FramesAt, links_of, Agrees, Running, lines_left, StandsFor, Passing}
@@ -121,7 +122,7 @@ module _ (map : Map) (pool : Pool) (functions : List PlacedLines) (depth stop : 
     stands_for = λ credit idle saved left. (u, refl, saved, left, running);
     told = sym running.trace;
     within = omega arith;
-    moves = some_moves n (lines_left t.frames) (most_lines functions) old some (left_few t u.pc (value u.registers 2) u.memory running.frames);
+    moves = some_moves n (lines_left t.frames) (most_lines functions) old some (left_few t u.pc running.base u.memory running.frames);
     passes = walks.passes;
   }
 
@@ -156,11 +157,10 @@ module _ (map : Map) (pool : Pool) (functions : List PlacedLines) (depth stop : 
   pub runs_on : {n : ℕ} {changed : List ℕ} {memory : ℕ → ℕ} {next : ℕ} (t : PlacedState World) (cells : Cells) (s u : Processor) (frames : List (Frame PlacedLine)) (known : ℕ → Option ℕ) (base : ℕ)
       → Running map pool functions depth stop code parts t s → Done pool.cells code n changed memory next s u
       → bytes_at memory map.constants.first (constant_bytes map) ≡ bytes_at s.memory map.constants.first (constant_bytes map)
-      → length frames ≤ depth → value u.registers 2 ≡ base → FramesAt map code (most_lines functions) stop (stack_end map depth) memory next base frames → Agrees known u.registers
+      → length frames ≤ depth → value u.registers 2 ≡ base + frame_bias map.jumps → FramesAt map code (most_lines functions) stop (stack_end map depth) memory next base frames → Agrees known u.registers
       → HoldsCells pool cells (links_of map base frames) u → Running map pool functions depth stop code parts (record { frames = frames; registers = known; shared = with_cells t.shared cells }) u
   runs_on {memory = memory} {next = next} t cells s u frames known base running done same room base_is stand agrees holds =
       let at_pc : FramesAt map code (most_lines functions) stop (stack_end map depth) memory u.pc base frames = subst (λ a. FramesAt map code (most_lines functions) stop (stack_end map depth) memory a base frames) (sym done.pc_is) stand in
-      let at_base : FramesAt map code (most_lines functions) stop (stack_end map depth) memory u.pc (value u.registers 2) frames = subst (λ b. FramesAt map code (most_lines functions) stop (stack_end map depth) memory u.pc b frames) (sym base_is) at_pc in
       record {
         rests = record {
           stands = done.stands;
@@ -171,9 +171,11 @@ module _ (map : Map) (pool : Pool) (functions : List PlacedLines) (depth stop : 
         left = done.left_is ∙ running.left;
         bytes = subst (λ bytes. All (λ byte. byte < 256) bytes) (sym done.left_is) running.bytes;
         room = room;
-        frames = subst (λ m. FramesAt map code (most_lines functions) stop (stack_end map depth) m u.pc (value u.registers 2) frames) (sym done.memory_is) at_base;
+        base = base;
+        base_is = base_is;
+        frames = subst (λ m. FramesAt map code (most_lines functions) stop (stack_end map depth) m u.pc base frames) (sym done.memory_is) at_pc;
         registers = agrees;
-        cells = subst (λ b. HoldsCells pool cells (links_of map b frames) u) (sym base_is) holds;
+        cells = holds;
       }
 
 -- ---- a line of the newest frame
@@ -181,24 +183,24 @@ module _ (map : Map) (pool : Pool) (functions : List PlacedLines) (depth stop : 
 module _ {map : Map} {pool : Pool} {functions : List PlacedLines} {depth buffer stop : ℕ} {code : Code} {parts : List Part} (ground : Ground map pool functions depth buffer stop code parts)
     (f : Frame PlacedLine) (fs : List (Frame PlacedLine)) (known : ℕ → Option ℕ) (world : World) (s : Processor)
     (running : Running map pool functions depth stop code parts (record { frames = f ∷ fs; registers = known; shared = world }) s) where
-  base_sum : value s.registers 2 + suc (length fs) * map.frame ≡ map.bottom + depth * map.frame
-  base_sum = frames_sum map code (most_lines functions) stop (stack_end map depth) s.memory s.pc (value s.registers 2) (f ∷ fs) running.frames
+  base_sum : running.base + suc (length fs) * map.frame ≡ map.bottom + depth * map.frame
+  base_sum = frames_sum map code (most_lines functions) stop (stack_end map depth) s.memory s.pc (running.base) (f ∷ fs) running.frames
 
-  pub sp_low : map.bottom ≤ value s.registers 2
-  sp_low = base_low (value s.registers 2) (suc (length fs)) map.frame map.bottom depth base_sum running.room
+  pub sp_low : map.bottom ≤ running.base
+  sp_low = base_low (running.base) (suc (length fs)) map.frame map.bottom depth base_sum running.room
 
-  pub sp_word : value s.registers 2 % 4 ≡ 0
-  sp_word = base_word (value s.registers 2) (suc (length fs)) map.frame map.bottom depth base_sum ground.frame_words ground.bottom_word
+  pub sp_word : running.base % 4 ≡ 0
+  sp_word = base_word (running.base) (suc (length fs)) map.frame map.bottom depth base_sum ground.frame_words ground.bottom_word
 
-  pub sp_high : value s.registers 2 + map.frame ≤ stack_end map depth
+  pub sp_high : running.base + map.frame ≤ stack_end map depth
   sp_high =
       let sum = base_sum in let more = suc-mul (length fs) map.frame in omega arith
 
-  pub sp_room : suc (length (f ∷ fs)) ≤ depth → map.bottom + map.frame ≤ value s.registers 2
-  sp_room room = base_room (value s.registers 2) (suc (length fs)) map.frame map.bottom depth base_sum room
+  pub sp_room : suc (length (f ∷ fs)) ≤ depth → map.bottom + map.frame ≤ running.base
+  sp_room room = base_room (running.base) (suc (length fs)) map.frame map.bottom depth base_sum room
 
-  pub sp_last : depth ≤ length (f ∷ fs) → value s.registers 2 ≡ map.bottom
-  sp_last full = let room = running.room in base_full (value s.registers 2) (suc (length fs)) map.frame map.bottom depth base_sum (omega arith)
+  pub sp_last : depth ≤ length (f ∷ fs) → running.base ≡ map.bottom
+  sp_last full = let room = running.room in base_full (running.base) (suc (length fs)) map.frame map.bottom depth base_sum (omega arith)
 
   -- a store to the stack leaves the constants alone
   pub constants_kept : (at v : ℕ) → can_store parts at 4 ≡ true → bytes_at (with_number at 4 v s.memory) map.constants.first (constant_bytes map) ≡ bytes_at s.memory map.constants.first (constant_bytes map)
@@ -211,5 +213,5 @@ module _ {map : Map} {pool : Pool} {functions : List PlacedLines} {depth buffer 
   stays most old {n = n} u behind known' done outside none is_in agrees some within =
       let stand = running.frames in
       comes_go map pool functions depth stop code parts most old (record { frames = record f { code = behind } ∷ fs; registers = known'; shared = world }) s u n (walks_done done)
-      (runs_on map pool functions depth stop code parts (record { frames = f ∷ fs; registers = known; shared = world }) world.cells s u (record f { code = behind } ∷ fs) known' (value s.registers 2) running done refl running.room
-      (done.kept 2 outside) (is_in, stand.1, stand.2, stand.3) agrees (cells_done running.cells (roots_done done none) done.memory_is)) some within
+      (runs_on map pool functions depth stop code parts (record { frames = f ∷ fs; registers = known; shared = world }) world.cells s u (record f { code = behind } ∷ fs) known' (running.base) running done refl running.room
+      (done.kept 2 outside ∙ running.base_is) (is_in, stand.1, stand.2, stand.3) agrees (cells_done running.cells (roots_done done none) done.memory_is)) some within

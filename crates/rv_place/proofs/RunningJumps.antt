@@ -31,7 +31,7 @@ use Rattle.rv_world.specs.Operations.{holds}
 use Rattle.cell_heap.specs.Pool.{Pool}
 use Rattle.rv_world.specs.World.{World, primitives}
 use Rattle.rv_place.specs.Registers.{zero_register, ra}
-use Rattle.rv_place.specs.Addresses.{label_address, entry_words}
+use Rattle.rv_place.specs.Addresses.{words_of_shift, label_address, entry_words, frame_bias}
 use Rattle.rv_place.specs.Instructions.{words_of_jump, JumpsTo, CallsTo, words_of_branch}
 use Rattle.rv_place.specs.declared.reach.Forms.{Forms}
 use Rattle.rv_place.specs.declared.reach.Reach.{Reach}
@@ -44,7 +44,7 @@ use Rattle.rv_place.proofs.RunningRows.{Shifts, jump_to, jump_last, branch_last,
 use Rattle.rv_place.proofs.RunningFree.{behind_misses}
 use Rattle.rv_place.proofs.RunningFrames.{known_put, agrees_put, frames_pushed}
 use Rattle.rv_place.proofs.RunningLinks.{roots_done, cells_done, cells_ended, slots_below}
-use Rattle.rv_place.proofs.RunningLines.{Labelled, label_found, label_there, jump_below, function_found, plain_found, few_found, entered_in, goes_to_label, jump_some, jump_most, branch_some, branch_most, branch_below}
+use Rattle.rv_place.proofs.RunningLines.{Labelled, label_found, label_there, jump_below, function_found, plain_found, few_found, entered_in, goes_to_label, jump_some, jump_most, shift_most, branch_some, branch_most, branch_below}
 use Rattle.rv_place.proofs.RunningWords.{words_in, in_registers, passed_known, branches_taken, branches_passed}
 use Rattle.rv_place.proofs.RunningInside.{walks_done, stands_part, passes_to_exit}
 use Rattle.rv_place.proofs.RunningComes.{or_stuck_some, Comes, comes_go, comes_ended, runs_on, agrees_done, sp_low, sp_word, sp_high, sp_room, sp_last, constants_kept, stays}
@@ -74,6 +74,13 @@ outside_entry x high = ((λ e. omega arith), ((λ e. omega arith), ((λ e. omega
 none_held : {S H W : Type 0} (held : List ℕ) (next turn : Turn S H W) → unless_held held next ≡ turn → turn ≢ stuck → (held ≡ []) × (next ≡ turn)
 none_held [] next turn is good = (refl, is)
 none_held (k ∷ ks) next turn is good = absurd (good (sym is))
+
+-- whether the stack is full, by the number of its frames
+is_full : (depth n : ℕ) → nat_le depth n ≡ true → depth ≤ n
+is_full depth n test = grind (arith, nat_tests)
+
+has_room : (depth n : ℕ) → nat_le depth n ≡ false → suc n ≤ depth
+has_room depth n test = grind (arith, nat_tests)
 
 -- a run that leads to an exit
 pub exit_runs : {code : Code} {n number count : ℕ} (s u : Processor) → Leads n s u → (exits : Exits code number count u) → run (n + count) s ≡ record { processor = exits.last; ending = exited number }
@@ -184,10 +191,10 @@ module _ {map_of : Map} {pool : Pool} {functions : List PlacedLines} {depth buff
       let gets = jump_to pool.cells ground.below running.rests.stands forms.jumps s.pc refl zero_register (function.0 + 4 * entry_words map_of.jumps) (here function.0 function.1) inside.at_word in
       subst (λ t. Comes map_of pool functions depth stop code parts 2 old t s) result.2
       (comes_go map_of pool functions depth stop code parts 2 old (record { frames = placed_entered result.0 ∷ fs; registers = passed 0 words; shared = world }) s gets.after (words_of_jump forms.jumps) (walks_done gets.done)
-      (runs_on map_of pool functions depth stop code parts (record { frames = f ∷ fs; registers = known; shared = world }) world.cells s gets.after (placed_entered result.0 ∷ fs) (passed 0 words) (value s.registers 2) running gets.done refl running.room
-      (gets.done.kept 2 ((λ e. cc), ((λ e. cc), tt))) (inside, (λ k w none. cc), tt, stand.3)
+      (runs_on map_of pool functions depth stop code parts (record { frames = f ∷ fs; registers = known; shared = world }) world.cells s gets.after (placed_entered result.0 ∷ fs) (passed 0 words) (running.base) running gets.done refl running.room
+      (gets.done.kept 2 ((λ e. cc), ((λ e. cc), tt)) ∙ running.base_is) (inside, (λ k w none. cc), tt, stand.3)
       (agrees_done s gets.after (passed 0 words) gets.done (refl, (refl, tt)) (passed_agree (TailCall g) args words (λ k place is_one. is_one) fit.0 words_are))
-      (subst (λ links. HoldsCells pool world.cells links gets.after) (ap (λ held. links_in (value s.registers 2) f.cells held (links_of map_of (value s.registers 2 + map_of.frame) fs)) free.0) (cells_done running.cells (roots_done gets.done refl) gets.done.memory_is))) (jump_some forms.jumps) (jump_most forms.jumps))
+      (subst (λ links. HoldsCells pool world.cells links gets.after) (ap (λ held. links_in (running.base) f.cells held (links_of map_of (running.base + map_of.frame) fs)) free.0) (cells_done running.cells (roots_done gets.done refl) gets.done.memory_is))) (jump_some forms.jumps) (jump_most forms.jumps))
 
   -- ---- a call that finds no frame left
 
@@ -197,13 +204,14 @@ module _ {map_of : Map} {pool : Pool} {functions : List PlacedLines} {depth buff
       let word = running.rests.stands.aligned entry _ function.entry.sets in
       let full_at = ground.stack_full in
       let called = jump_to pool.cells ground.below running.rests.stands forms.jumps s.pc refl ra entry calls word in
-      let last : value called.after.registers 2 ≡ map_of.bottom = called.done.kept 2 ((λ e. cc), ((λ e. cc), tt)) ∙ sp_last ground f fs known world s running full in
+      let last : value called.after.registers 2 ≡ map_of.bottom + frame_bias map_of.jumps =
+      called.done.kept 2 ((λ e. cc), ((λ e. cc), tt)) ∙ (running.base_is ∙ ap (λ b. b + frame_bias map_of.jumps) (sp_last ground f fs known world s running full)) in
       let goes = entry_full pool.cells ground.below called.done.stands map_of entry called.done.pc_is function.entry full_at.0 full_at.1 (symbol_word full_at.0 full_at.1) last in
       let done = done_then called.done goes.done in
       let exits = full_at.2 goes.after (record { stands = stands_part ground.own_part done.stands; pc_is = done.pc_is }) in
       comes_ended map_of pool functions depth stop code parts 7 old (primitives map_of.constants pool).stack_full world s (words_of_jump forms.jumps + (1 + words_of_branch map_of.jumps Far) + 3) (record { processor = exits.last; ending = exited 102 }) (exit_runs s goes.after done.leads exits)
       (passes_to_exit ground done exits)
-      (refl, exits.trace ∙ (done.trace_is ∙ running.trace), (links_of map_of (value s.registers 2) (f ∷ fs), cells_ended (cells_done running.cells (roots_done done refl) (done.memory_is ∙ called.done.memory_is)) exits))
+      (refl, exits.trace ∙ (done.trace_is ∙ running.trace), (links_of map_of (running.base) (f ∷ fs), cells_ended (cells_done running.cells (roots_done done refl) (done.memory_is ∙ called.done.memory_is)) exits))
       (omega arith) (omega (arith, jump_most forms.jumps, jump_most map_of.jumps))
     where
       symbol_word : (target : ℕ) → IsSymbolAt map_of symbol.StackFull target → target % 4 ≡ 0
@@ -220,7 +228,7 @@ module _ {map_of : Map} {pool : Pool} {functions : List PlacedLines} {depth buff
       by (slot k) gives = tt
 
   -- the cells behind a store of the way back, below the frames
-  pushed_cells : (base : ℕ) → value s.registers 2 ≡ base + map_of.frame → (u : Processor) → SameRoots s u → u.memory ≡ with_number base 4 (s.pc + 4 * words_of_jump forms.jumps) s.memory → map_of.bottom ≤ base
+  pushed_cells : (base : ℕ) → running.base ≡ base + map_of.frame → (u : Processor) → SameRoots s u → u.memory ≡ with_number base 4 (s.pc + 4 * words_of_jump forms.jumps) s.memory → map_of.bottom ≤ base
       → HoldsCells pool world.cells (links_of map_of (base + map_of.frame) (f ∷ fs)) u
   pushed_cells base base_is u roots stored low =
       let under = ground.cells_below in
@@ -228,7 +236,7 @@ module _ {map_of : Map} {pool : Pool} {functions : List PlacedLines} {depth buff
       let some = ground.some_frame in
       subst (λ b. HoldsCells pool world.cells (links_of map_of b (f ∷ fs)) u) base_is
       (outside-holds running.cells roots (subst (λ m. SameInside pool s.memory m) (sym stored) (SameInside-store pool s.memory base way (inr (omega arith))))
-      (slots_below map_of (value s.registers 2) (f ∷ fs) s.memory u.memory (λ x above. ap (λ m. number_at m x 4) stored ∙ word-apart base way s.memory x (inr (omega arith)))))
+      (slots_below map_of (running.base) (f ∷ fs) s.memory u.memory (λ x above. ap (λ m. number_at m x 4) stored ∙ word-apart base way s.memory x (inr (omega arith)))))
 
   call_comes : (g : ℕ) (callee : PlacedLines) (entry : ℕ) (args : List Operand) (into : Option Operand) (words : List ℕ) → slice_get functions g ≡ Some callee → FunctionAt map_of code entry callee → CallsTo forms.jumps code s.pc entry
       → ((next : ℕ) → s.pc + 4 * words_of_jump forms.jumps ≡ next → next < 2 ^ 32 → IsIn map_of code (most_lines functions) next (record left_behind { into = awaited into }))
@@ -240,17 +248,18 @@ module _ {map_of : Map} {pool : Pool} {functions : List PlacedLines} {depth buff
       let full_at = ground.stack_full in
       let called = jump_to pool.cells ground.below running.rests.stands forms.jumps s.pc refl ra entry calls word in
       let last = jump_last pool.cells ground.below forms.jumps s.pc ra entry calls in
-      let base = value s.registers 2 - map_of.frame in
-      let sp = value s.registers 2 in
+      let base = running.base - map_of.frame in
+      let sp = running.base in
       let low = sp_room ground f fs known world s running room in
       let high = sp_high ground f fs known world s running in
       let some = ground.some_frame in
       let range = ground.in_range in
       let base_is : sp ≡ base + map_of.frame = omega arith in
-      let sp_is : value called.after.registers 2 ≡ base + map_of.frame = called.done.kept 2 ((λ e. cc), ((λ e. cc), tt)) ∙ base_is in
+      let sp_is : value called.after.registers 2 ≡ base + map_of.frame + frame_bias map_of.jumps =
+      called.done.kept 2 ((λ e. cc), ((λ e. cc), tt)) ∙ (running.base_is ∙ ap (λ b. b + frame_bias map_of.jumps) base_is) in
       let base_words : base % 4 ≡ 0 = (let a = sp_word ground f fs known world s running in let b = ground.frame_words in omega arith) in
       let allowed : can_store parts base 4 ≡ true = ground.stores base (omega arith) (omega arith) base_words in
-      let takes = entry_takes pool.cells ground.below called.done.stands map_of entry called.done.pc_is function.entry full_at.0 full_at.1 base (s.pc + 4 * words_of_jump forms.jumps) sp_is (called.value_is (λ e. cc)) (omega arith) ground.small_frame (omega arith) base_words
+      let takes = entry_takes pool.cells ground.below called.done.stands map_of entry called.done.pc_is function.entry full_at.0 full_at.1 base (s.pc + 4 * words_of_jump forms.jumps) sp_is (called.value_is (λ e. cc)) (omega arith) (omega arith) base_words
       (rw (called.done.parts_are, running.rests.parts_are) allowed)
       (misses_done base called.done ((λ e. cc), ((λ e. cc), tt)) ((λ e. cc), ((λ e. cc), tt)) ((λ e. cc), ((λ e. cc), tt)) (behind_misses running.cells base (let under = ground.cells_below in omega arith))) in
       let done = done_as {changed' = 1 ∷ 1 ∷ 5 ∷ 2 ∷ []} (done_then called.done takes.done) (ap (λ m. with_number base 4 (s.pc + 4 * words_of_jump forms.jumps) m) called.done.memory_is) refl (λ x out. out) in
@@ -258,13 +267,13 @@ module _ {map_of : Map} {pool : Pool} {functions : List PlacedLines} {depth buff
       let waiting : FramesAt map_of code (most_lines functions) stop (stack_end map_of depth) s.memory (s.pc + 4 * words_of_jump forms.jumps) (base + map_of.frame) (record left_behind { into = awaited into } ∷ fs) =
       subst (λ b. FramesAt map_of code (most_lines functions) stop (stack_end map_of depth) s.memory (s.pc + 4 * words_of_jump forms.jumps) b (record left_behind { into = awaited into } ∷ fs)) base_is
       (is_behind (s.pc + 4 * words_of_jump forms.jumps) refl (omega arith), stand.1, awaits_first g into gives, stand.3) in
-      comes_go map_of pool functions depth stop code parts 7 old after s takes.after (words_of_jump forms.jumps + 4) (walks_done done)
+      comes_go map_of pool functions depth stop code parts 7 old after s takes.after (words_of_jump forms.jumps + (2 + words_of_shift map_of.jumps + 1)) (walks_done done)
       (runs_on map_of pool functions depth stop code parts (record { frames = f ∷ fs; registers = known; shared = world }) world.cells s takes.after after.frames (passed 0 words) base running done
       (constants_kept ground f fs known world s running base (s.pc + 4 * words_of_jump forms.jumps) allowed) room takes.base_is
       (frames_pushed map_of code (most_lines functions) stop (stack_end map_of depth) ground.some_frame s.memory base (s.pc + 4 * words_of_jump forms.jumps) (entry + 4 * entry_words map_of.jumps) (placed_entered callee) (record left_behind { into = awaited into } ∷ fs) (omega arith)
       (callee_in g callee entry callee_is function) (λ k w none. cc) refl waiting)
       (agrees_same (passed 0 words) s.registers takes.after.registers agrees (λ x w is. done.kept x (outside_entry x (passed_high 0 words x w is))))
-      (pushed_cells base base_is takes.after (roots_done done refl) done.memory_is (omega arith))) (omega arith) (omega (arith, jump_most forms.jumps))
+      (pushed_cells base base_is takes.after (roots_done done refl) done.memory_is (omega arith))) (omega arith) (omega (arith, jump_most forms.jumps, shift_most map_of.jumps))
 
   -- what a call comes to, by whether the stack is full
   abbrev called : Option Operand → List ℕ → Bool → PlacedLines → PlacedTurn World Ending
@@ -276,12 +285,11 @@ module _ {map_of : Map} {pool : Pool} {functions : List PlacedLines} {depth buff
       → gives_into (Call g) into ≡ true → Agrees (passed 0 words) s.registers → Comes map_of pool functions depth stop code parts 7 old (called into words full callee) s
   call_by true g callee args into words test callee_is here is_behind gives agrees =
       let function = function_found map_of code map_of.entries functions ground.functions_at g callee callee_is in
-      let full : depth ≤ length (f ∷ fs) = grind (arith, nat_tests) in
-      full_comes g callee function.0 function.2 (here function.0 function.1) full
+      full_comes g callee function.0 function.2 (here function.0 function.1) (is_full depth (length (f ∷ fs)) test)
   call_by false g callee args into words test callee_is here is_behind gives agrees =
       let function = function_found map_of code map_of.entries functions ground.functions_at g callee callee_is in
-      let room : suc (length (f ∷ fs)) ≤ depth = grind (arith, nat_tests) in
-      call_comes g callee function.0 args into words callee_is function.2 (here function.0 function.1) is_behind gives agrees room
+      call_comes g callee function.0 args into words callee_is function.2 (here function.0 function.1) is_behind gives agrees
+      (has_room depth (length (f ∷ fs)) test)
 
   pub follow_call : (g : ℕ) (args : List Operand) (into : Option Operand) (words : List ℕ) (start : ℕ) (turn : PlacedTurn World Ending)
       → ((next : ℕ) → s.pc + 4 * words_of_jump forms.jumps ≡ next → next < 2 ^ 32 → IsIn map_of code (most_lines functions) next (record left_behind { into = awaited into }))
@@ -305,37 +313,37 @@ module _ {map_of : Map} {pool : Pool} {functions : List PlacedLines} {depth buff
   way_fits memory way base [] stand = let e : way ≡ stop = stand.0 in (rw e ground.stop_word, rw e ground.stop_below)
   way_fits memory way base (g ∷ gs) stand = (stand.0.at_word, stand.0.below)
 
-  back : (fs : List (Frame PlacedLine)) → Running map_of pool functions depth stop code parts (state_of fs) s
-      → Shifts pool.cells code 3 (1 ∷ 2 ∷ 0 ∷ []) s.memory (value s.registers 2 + map_of.frame) (number_at s.memory (value s.registers 2) 4) s
+  back : (fs : List (Frame PlacedLine)) (running : Running map_of pool functions depth stop code parts (state_of fs) s)
+      → Shifts pool.cells code (1 + words_of_shift map_of.jumps + 1) (1 ∷ 2 ∷ 0 ∷ []) s.memory (running.base + map_of.frame + frame_bias map_of.jumps) (number_at s.memory (running.base) 4) s
   back fs running =
-      let sp = value s.registers 2 in
+      let sp = running.base in
       let fits = way_fits s.memory (number_at s.memory sp 4) (sp + map_of.frame) fs running.frames.3 in
       let low = sp_low ground f fs known world s running in
       let high = sp_high ground f fs known world s running in
       let some = ground.some_frame in
       let range = ground.in_range in
       let word = sp_word ground f fs known world s running in
-      return_goes pool.cells ground.below running.rests.stands map_of s.pc refl returns sp (number_at s.memory sp 4) refl refl fits.0 fits.1 (omega arith) word (rw running.rests.parts_are (ground.loads sp low (omega arith) word))
+      return_goes pool.cells ground.below running.rests.stands map_of s.pc refl returns sp (number_at s.memory sp 4) running.base_is refl fits.0 fits.1 (omega arith) word (rw running.rests.parts_are (ground.loads sp low (omega arith) word))
       (behind_misses running.cells sp (let under = ground.cells_below in omega arith))
 
-  return_last : Running map_of pool functions depth stop code parts (state_of []) s → Comes map_of pool functions depth stop code parts 3 old (ended (primitives map_of.constants pool).finished world) s
+  return_last : Running map_of pool functions depth stop code parts (state_of []) s → Comes map_of pool functions depth stop code parts 4 old (ended (primitives map_of.constants pool).finished world) s
   return_last running =
       let goes = back [] running in
       let at_stop : goes.after.pc ≡ stop = goes.done.pc_is ∙ running.frames.3.0 in
       let exits = ground.ends goes.after (record { stands = stands_part ground.own_part goes.done.stands; pc_is = at_stop }) in
-      comes_ended map_of pool functions depth stop code parts 3 old (primitives map_of.constants pool).finished world s 6 (record { processor = exits.last; ending = exited 0 }) (exit_runs s goes.after goes.done.leads exits)
+      comes_ended map_of pool functions depth stop code parts 4 old (primitives map_of.constants pool).finished world s (1 + words_of_shift map_of.jumps + 1 + 3) (record { processor = exits.last; ending = exited 0 }) (exit_runs s goes.after goes.done.leads exits)
       (passes_to_exit ground goes.done exits)
-      (refl, exits.trace ∙ (goes.done.trace_is ∙ running.trace), (links_of map_of (value s.registers 2) (f ∷ []), cells_ended (cells_done running.cells (roots_done goes.done refl) goes.done.memory_is) exits)) (omega arith) (omega arith)
+      (refl, exits.trace ∙ (goes.done.trace_is ∙ running.trace), (links_of map_of (running.base) (f ∷ []), cells_ended (cells_done running.cells (roots_done goes.done refl) goes.done.memory_is) exits)) (omega arith) (omega (arith, shift_most map_of.jumps))
 
   return_to : f.held ≡ [] → (g : Frame PlacedLine) (gs : List (Frame PlacedLine)) (running : Running map_of pool functions depth stop code parts (state_of (g ∷ gs)) s) (known' : ℕ → Option ℕ)
-      → ((u : Processor) → value u.registers 10 ≡ value s.registers 10 → Agrees known' u.registers) → Comes map_of pool functions depth stop code parts 3 old (placed_goes g gs known' world) s
+      → ((u : Processor) → value u.registers 10 ≡ value s.registers 10 → Agrees known' u.registers) → Comes map_of pool functions depth stop code parts 4 old (placed_goes g gs known' world) s
   return_to free g gs running known' agrees =
       let goes = back (g ∷ gs) running in
       let room : length (g ∷ gs) ≤ depth = (let all = running.room in omega arith) in
-      comes_go map_of pool functions depth stop code parts 3 old (record { frames = g ∷ gs; registers = known'; shared = world }) s goes.after 3 (walks_done goes.done)
-      (runs_on map_of pool functions depth stop code parts (state_of (g ∷ gs)) world.cells s goes.after (g ∷ gs) known' (value s.registers 2 + map_of.frame) running goes.done refl room goes.base_is running.frames.3
+      comes_go map_of pool functions depth stop code parts 4 old (record { frames = g ∷ gs; registers = known'; shared = world }) s goes.after (1 + words_of_shift map_of.jumps + 1) (walks_done goes.done)
+      (runs_on map_of pool functions depth stop code parts (state_of (g ∷ gs)) world.cells s goes.after (g ∷ gs) known' (running.base + map_of.frame) running goes.done refl room goes.base_is running.frames.3
       (agrees goes.after (goes.done.kept 10 ((λ e. cc), ((λ e. cc), ((λ e. cc), tt)))))
-      (subst (λ links. HoldsCells pool world.cells links goes.after) (ap (λ held. links_in (value s.registers 2) f.cells held (links_of map_of (value s.registers 2 + map_of.frame) (g ∷ gs))) free) (cells_done running.cells (roots_done goes.done refl) goes.done.memory_is))) (omega arith) (omega arith)
+      (subst (λ links. HoldsCells pool world.cells links goes.after) (ap (λ held. links_in (running.base) f.cells held (links_of map_of (running.base + map_of.frame) (g ∷ gs))) free) (cells_done running.cells (roots_done goes.done refl) goes.done.memory_is))) (omega arith) (omega (arith, shift_most map_of.jumps))
 
   -- what a frame gets is in the first register of arguments
   got_result : (waits : Option ℕ) (result : Option ℕ) (known' : ℕ → Option ℕ) → AwaitsFirst waits → ((w : ℕ) → result ≡ Some w → known 10 ≡ Some w) → Agrees known s.registers → received waits result empty ≡ Some known'
@@ -349,11 +357,11 @@ module _ {map_of : Map} {pool : Pool} {functions : List PlacedLines} {depth buff
       (λ w is. let e : word ≡ w = cc in (rw awaits (same ∙ (holds.1 ∙ e)), subst (λ v. v < 2 ^ 32) e holds.2)) (λ x handed apart. refl))
 
   returned : f.held ≡ [] → (fs : List (Frame PlacedLine)) (result : Option ℕ) (turn : PlacedTurn World Ending) → Running map_of pool functions depth stop code parts (state_of fs) s → ((w : ℕ) → result ≡ Some w → known 10 ≡ Some w)
-      → placed_returns (primitives map_of.constants pool) fs world result ≡ turn → turn ≢ stuck → Comes map_of pool functions depth stop code parts 3 old turn s
-  returned free [] result turn running first is good = subst (λ t. Comes map_of pool functions depth stop code parts 3 old t s) is (return_last running)
+      → placed_returns (primitives map_of.constants pool) fs world result ≡ turn → turn ≢ stuck → Comes map_of pool functions depth stop code parts 4 old turn s
+  returned free [] result turn running first is good = subst (λ t. Comes map_of pool functions depth stop code parts 4 old t s) is (return_last running)
   returned free (g ∷ gs) result turn running first is good =
       let got = or_stuck_some (received g.into result empty) (λ registers. placed_goes g gs registers world) turn is good in
-      subst (λ t. Comes map_of pool functions depth stop code parts 3 old t s) got.2
+      subst (λ t. Comes map_of pool functions depth stop code parts 4 old t s) got.2
       (return_to free g gs running got.0 (got_result g.into result got.0 running.frames.3.2 first running.registers got.1))
 
   result_words : (words : List ℕ) (result : Option ℕ) (w : ℕ) → result_of words ≡ Some result → result ≡ Some w → passed 0 words 10 ≡ Some w
@@ -363,7 +371,7 @@ module _ {map_of : Map} {pool : Pool} {functions : List PlacedLines} {depth buff
 
   pub follow_return : (fs : List (Frame PlacedLine)) (rest : List PlacedLine) (args : List Operand) (into : Option Operand) (words : List ℕ) (turn : PlacedTurn World Ending) → Running map_of pool functions depth stop code parts (state_of fs) s
       → conforms Return args into ≡ true → all_of (map (λ (arg : Operand). read_at known f.cells arg.place) args) ≡ Some words
-      → placed_acts (primitives map_of.constants pool) depth functions (record f { code = rest }) fs known world Return args into words ≡ turn → turn ≢ stuck → Comes map_of pool functions depth stop code parts 3 old turn s
+      → placed_acts (primitives map_of.constants pool) depth functions (record f { code = rest }) fs known world Return args into words ≡ turn → turn ≢ stuck → Comes map_of pool functions depth stop code parts 4 old turn s
   follow_return fs rest args into words turn running conform words_are is good =
       let fit = and_parts (take_from Return 0 args) (gives_into Return into) conform in
       let next = none_held f.held (or_stuck (result_of words) (λ result. placed_returns (primitives map_of.constants pool) fs world result)) turn is good in

@@ -8,12 +8,12 @@ use Rattle.rv_isa.specs.Frames.{Frame, found}
 use Rattle.rv_isa.specs.PlacedMachine.{is_label_line, placed_entered}
 use Rattle.rv_isa.specs.Processor.{Processor}
 use Rattle.rv_isa.specs.Standing.{Code, Stands}
-use Rattle.rv_place.specs.Addresses.{words_of_line, label_address, forms_of, entry_words}
+use Rattle.rv_place.specs.Addresses.{words_of_shift, words_of_line, label_address, forms_of, entry_words}
 use Rattle.rv_place.specs.Instructions.{words_of_jump, JumpsBy, words_of_branch, BranchesOn}
 use Rattle.rv_place.specs.Registers.{zero_register}
 use Rattle.rv_place.specs.declared.reach.Forms.{Forms}
 use Rattle.rv_place.specs.declared.reach.Reach.{Reach}
-use Rattle.rv_place.specs.declared.reach.Reach.TheVariants.{Near, Far}
+use Rattle.rv_place.specs.declared.reach.Reach.TheVariants.{Near, Far, Wide}
 use Rattle.rv_place.specs.Lines.{Map, LineAt, LinesAt, FunctionAt, FunctionsAt}
 use Rattle.rv_place.specs.Running.{IsPlain, ArePlain, AllPlain, most_lines, IsIn}
 
@@ -59,29 +59,40 @@ label_there (Some a) some = (a, refl)
 pub jump_below : (reach : Reach) (code : Code) (at : ℕ) (back : Register) (target : ℕ) → JumpsBy reach code at back target → target < 2 ^ 32
 jump_below Near code at back target (offset, sum, here) = omega arith
 jump_below Far code at back target (upper, lower, sum, has) = omega arith
+jump_below Wide code at back target (upper, lower, sum, has) = omega arith
 
 -- and so is that of a branch
 pub branch_below : (jumps reach : Reach) (code : Code) (at : ℕ) (condition : Condition) (a b : Register) (target : ℕ) → BranchesOn jumps reach code at condition a b target → target < 2 ^ 32
 branch_below jumps Near code at condition a b target (offset, sum, here) = omega arith
 branch_below jumps Far code at condition a b target (over, over_is, here, jump) = jump_below jumps code (at + 4) zero_register target jump
+branch_below jumps Wide code at condition a b target (over, over_is, here, jump) = jump_below jumps code (at + 4) zero_register target jump
 
 -- ---- how many instructions a jump and a branch are
 
 pub jump_some : (reach : Reach) → 1 ≤ words_of_jump reach
 jump_some Near = omega arith
 jump_some Far = omega arith
+jump_some Wide = omega arith
 
 pub jump_most : (reach : Reach) → words_of_jump reach ≤ 2
 jump_most Near = omega arith
 jump_most Far = omega arith
+jump_most Wide = omega arith
+
+pub shift_most : (reach : Reach) → words_of_shift reach ≤ 2
+shift_most Near = omega arith
+shift_most Far = omega arith
+shift_most Wide = omega arith
 
 pub branch_some : (jumps reach : Reach) → 1 ≤ words_of_branch jumps reach
 branch_some jumps Near = omega arith
 branch_some jumps Far = omega arith
+branch_some jumps Wide = omega arith
 
 pub branch_most : (jumps reach : Reach) → words_of_branch jumps reach ≤ 3
 branch_most jumps Near = omega arith
 branch_most jumps Far = omega (arith, jump_most jumps)
+branch_most jumps Wide = omega (arith, jump_most jumps)
 
 -- ---- functions
 
@@ -116,7 +127,7 @@ pub entered_in : {map : Map} {code : Code} {s : Processor} (most entry : ℕ) (c
     → FunctionAt map code entry callee → ArePlain callee.code callee.code → length callee.code ≤ most → IsIn map code most (entry + 4 * entry_words map.jumps) (placed_entered callee)
 entered_in {map} most entry callee stands below function plain few =
     let first = stands.aligned entry _ function.entry.sets in
-    let last = below (entry + 8 + 4 * words_of_jump map.jumps + 4) _ function.entry.takes.1.0 in
+    let last = below (entry + 8 + 4 * words_of_jump map.jumps + 4 * words_of_shift map.jumps) _ function.entry.saves in
     record {
       forms = forms_of map.jumps callee.code;
       start = entry + 4 * entry_words map.jumps;

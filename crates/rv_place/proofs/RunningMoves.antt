@@ -31,7 +31,7 @@ use Rattle.cell_heap.specs.Pool.{Pool}
 use Rattle.cell_heap.proofs.Blocks.{mapped}
 use Rattle.rv_world.specs.World.{World, computed_in, primitives}
 use Rattle.rv_place.specs.Registers.{zero_register, sp}
-use Rattle.rv_place.specs.Addresses.{slot_offset}
+use Rattle.rv_place.specs.Addresses.{frame_bias, slot_offset}
 use Rattle.rv_place.specs.Instructions.{words_of_operation}
 use Rattle.rv_place.specs.Lines.{Map, register_into, MovesBy, ActsAt}
 use Rattle.rv_place.specs.declared.reach.Forms.{Forms}
@@ -39,6 +39,7 @@ use Rattle.rv_place.specs.Grounds.{Ground, stack_end}
 use Rattle.rv_place.specs.Running.{IsHandedOut, GivesHandedOut, most_lines, IsIn, links_of, Running}
 use Rattle.rv_place.proofs.RunningExecuting.{MissesFree, Gets, addi_row, plain_gets, load_gets, store_goes}
 use Rattle.rv_place.proofs.RunningFree.{behind_misses}
+use Rattle.rv_place.proofs.RunningRows.{from_pointer}
 use Rattle.rv_place.proofs.RunningFrames.{handed_apart, agrees_kept, frames_put}
 use Rattle.rv_place.proofs.RunningLinks.{is_own, handed_own, roots_done, links_put, slots_apart}
 use Rattle.rv_place.proofs.RunningWords.{words_in, in_registers, Computed, computes}
@@ -92,6 +93,8 @@ module _ {map_of : Map} {pool : Pool} {functions : List PlacedLines} {depth buff
         left = running.left;
         bytes = running.bytes;
         room = running.room;
+        base = running.base;
+        base_is = running.base_is;
         frames = (is_in, stand.1, stand.2, stand.3);
         registers = running.registers;
         cells = running.cells;
@@ -108,37 +111,37 @@ module _ {map_of : Map} {pool : Pool} {functions : List PlacedLines} {depth buff
         (rw (none, holds.1) same, fits)
 
     -- the slot that is loaded from, or stored to
-    slot_address : (k : ℕ) (offset : ℕ) → offset ≡ slot_offset k → slot_offset k + 4 ≤ map_of.frame → sum_word (value s.registers 2) offset ≡ value s.registers 2 + slot_offset k
+    slot_address : (k : ℕ) (offset : ℕ) → sum_word (frame_bias map_of.jumps) offset ≡ slot_offset k → slot_offset k + 4 ≤ map_of.frame → sum_word (value s.registers 2) offset ≡ running.base + slot_offset k
     slot_address k offset is inside =
         let high = sp_high ground f fs known world s running in let range = ground.in_range in
-        rw is (omega arith)
+        rw running.base_is (from_pointer running.base (frame_bias map_of.jumps) (slot_offset k) offset is (omega arith))
 
-    slot_loads : (k : ℕ) → slot_offset k + 4 ≤ map_of.frame → can_load s.parts (value s.registers 2 + slot_offset k) 4 ≡ true
+    slot_loads : (k : ℕ) → slot_offset k + 4 ≤ map_of.frame → can_load s.parts (running.base + slot_offset k) 4 ≡ true
     slot_loads k inside =
         let low = sp_low ground f fs known world s running in
         let high = sp_high ground f fs known world s running in
         let word = sp_word ground f fs known world s running in
-        rw running.rests.parts_are (ground.loads (value s.registers 2 + slot_offset k) (omega arith) (omega arith) (slot_word (value s.registers 2) k word))
+        rw running.rests.parts_are (ground.loads (running.base + slot_offset k) (omega arith) (omega arith) (slot_word (running.base) k word))
 
-    slot_stores : (k : ℕ) → slot_offset k + 4 ≤ map_of.frame → can_store parts (value s.registers 2 + slot_offset k) 4 ≡ true
+    slot_stores : (k : ℕ) → slot_offset k + 4 ≤ map_of.frame → can_store parts (running.base + slot_offset k) 4 ≡ true
     slot_stores k inside =
         let low = sp_low ground f fs known world s running in
         let high = sp_high ground f fs known world s running in
         let word = sp_word ground f fs known world s running in
-        ground.stores (value s.registers 2 + slot_offset k) (omega arith) (omega arith) (slot_word (value s.registers 2) k word)
+        ground.stores (running.base + slot_offset k) (omega arith) (omega arith) (slot_word (running.base) k word)
 
     -- it lies behind the cells
-    slot_misses : (k : ℕ) → MissesFree pool.cells s (value s.registers 2 + slot_offset k)
+    slot_misses : (k : ℕ) → MissesFree pool.cells s (running.base + slot_offset k)
     slot_misses k =
         let low = sp_low ground f fs known world s running in
         let under = ground.cells_below in
-        behind_misses running.cells (value s.registers 2 + slot_offset k) (omega arith)
+        behind_misses running.cells (running.base + slot_offset k) (omega arith)
 
     -- a word was stored in a slot that holds no held token
-    slot_stored : (k : ℕ) (word : Option ℕ) (v : ℕ) → slot_offset k + 4 ≤ map_of.frame → is_among k f.held ≡ false → (u : Processor) → SameRoots s u → u.memory ≡ with_number (value s.registers 2 + slot_offset k) 4 v s.memory
-        → HoldsCells pool world.cells (links_of map_of (value s.registers 2) (record behind { cells = put k word f.cells } ∷ fs)) u
+    slot_stored : (k : ℕ) (word : Option ℕ) (v : ℕ) → slot_offset k + 4 ≤ map_of.frame → is_among k f.held ≡ false → (u : Processor) → SameRoots s u → u.memory ≡ with_number (running.base + slot_offset k) 4 v s.memory
+        → HoldsCells pool world.cells (links_of map_of (running.base) (record behind { cells = put k word f.cells } ∷ fs)) u
     slot_stored k word v inside unheld u roots stored =
-        let base = value s.registers 2 in
+        let base = running.base in
         let low = sp_low ground f fs known world s running in
         let under = ground.cells_below in
         let below = links_of map_of (base + map_of.frame) fs in
@@ -160,22 +163,22 @@ module _ {map_of : Map} {pool : Pool} {functions : List PlacedLines} {depth buff
         (copied from.number imm.word none)
     follow_move (Load from to) (offset, offset_is, here) handed unheld =
         let address = slot_address from offset.word offset_is.0 offset_is.1 in
-        let word = slot_word (value s.registers 2) from (sp_word ground f fs known world s running) in
-        let gets = load_gets pool.cells ground.below running.rests.stands refl {rd = to} {base = sp} {offset = offset} {address = value s.registers 2 + slot_offset from} {word = number_at s.memory (value s.registers 2 + slot_offset from) 4}
+        let word = slot_word (running.base) from (sp_word ground f fs known world s running) in
+        let gets = load_gets pool.cells ground.below running.rests.stands refl {rd = to} {base = sp} {offset = offset} {address = running.base + slot_offset from} {word = number_at s.memory (running.base + slot_offset from) 4}
         here address word (slot_loads from offset_is.1) refl (slot_misses from) in
-        got_stays to (f.cells from) (number_at s.memory (value s.registers 2 + slot_offset from) 4) gets (ground.below s.pc (Instr.Lw to sp offset) here) handed
+        got_stays to (f.cells from) (number_at s.memory (running.base + slot_offset from) 4) gets (ground.below s.pc (Instr.Lw to sp offset) here) handed
         (λ v is. let holds = running.frames.1 from v is in (holds.1, holds.2))
     follow_move (Store from to) (offset, offset_is, here) handed unheld =
         let address = slot_address to offset.word offset_is.0 offset_is.1 in
-        let word = slot_word (value s.registers 2) to (sp_word ground f fs known world s running) in
+        let word = slot_word (running.base) to (sp_word ground f fs known world s running) in
         let allowed = slot_stores to offset_is.1 in
-        let base = value s.registers 2 in
-        let goes = store_goes pool.cells ground.below running.rests.stands refl {base = sp} {from = from} {offset = offset} {address = value s.registers 2 + slot_offset to} {word = value s.registers from.number}
+        let base = running.base in
+        let goes = store_goes pool.cells ground.below running.rests.stands refl {base = sp} {from = from} {offset = offset} {address = running.base + slot_offset to} {word = value s.registers from.number}
         here address refl word (rw running.rests.parts_are allowed) (slot_misses to) in
         let after : PlacedState World = record { frames = record behind { cells = put to (known from.number) f.cells } ∷ fs; registers = known; shared = world } in
         comes_go map_of pool functions depth stop code parts 1 old after s goes.after 1 (walks_done goes.done)
         (runs_on map_of pool functions depth stop code parts (record { frames = f ∷ fs; registers = known; shared = world }) world.cells s goes.after after.frames known base running goes.done
-        (constants_kept ground f fs known world s running (base + slot_offset to) (value s.registers from.number) allowed) running.room (goes.done.kept 2 tt)
+        (constants_kept ground f fs known world s running (base + slot_offset to) (value s.registers from.number) allowed) running.room (goes.done.kept 2 tt ∙ running.base_is)
         (frames_put map_of code (most_lines functions) stop (stack_end map_of depth) ground.some_frame s.memory base to (value s.registers from.number) s.pc (s.pc + 4) (known from.number) f (record behind { cells = put to (known from.number) f.cells }) fs
         offset_is.1 (λ w is. let holds = running.registers from.number w is in (holds.1, holds.2)) refl refl
         (is_in (put to (known from.number) f.cells) (s.pc + 4) refl (ground.below s.pc (Instr.Sw sp from offset) here)) running.frames)

@@ -1,10 +1,10 @@
 -- The rows of instructions that placed code is made of, executed: constants, jumps, branches, entries of functions and returns.
-use Rattle.std.proofs.Common.{◌≡◌, ◌≢◌, ◌≤◌, ◌<◌, ℕ, ◌+◌, ◌-◌, ◌%◌, ◌^◌, List, [], ◌∷◌, Some, Bool, true, false, not, nat_eq, refl, sym, ap, ◌∙◌, arith, ◌*◌}
+use Rattle.std.proofs.Common.{◌≡◌, ◌≢◌, ◌<◌, ℕ, ◌+◌, ◌-◌, ◌%◌, ◌^◌, List, [], ◌∷◌, Some, Bool, true, false, not, nat_eq, refl, ap, ◌∙◌, arith, ◌*◌}
 use Rattle.std.proofs.lemmas.Bool.Decides.{nat_tests}
 use Rattle.rv_isa.specs.declared.register.Register.{Register}
 use Rattle.rv_isa.specs.declared.immediate.BranchOffset.{BranchOffset}
 use Rattle.rv_isa.specs.declared.instr.Instr.{Instr}
-use Rattle.rv_isa.specs.declared.instr.Instr.TheVariants.{Lw, Addi, Jalr}
+use Rattle.rv_isa.specs.declared.instr.Instr.TheVariants.{Addi, Jalr}
 use Rattle.rv_isa.specs.declared.immediate.Immediate.{Immediate}
 use Rattle.rv_isa.specs.declared.asm.Condition.{Condition}
 use Rattle.rv_isa.specs.declared.asm.Condition.TheVariants.{Equal}
@@ -17,11 +17,11 @@ use Rattle.rv_isa.specs.Processor.{Processor, value, can_load, can_store}
 use Rattle.rv_isa.specs.Standing.{Code, Stands}
 use Rattle.rv_world.specs.Operations.{compares}
 use Rattle.rv_place.specs.Registers.{zero_register, ra, sp, t0}
-use Rattle.rv_place.specs.Addresses.{entry_words}
-use Rattle.rv_place.specs.Instructions.{branch_instruction, opposite, Zero, LoadsWord, words_of_jump, JumpsBy, words_of_branch, BranchesOn}
+use Rattle.rv_place.specs.Addresses.{words_of_shift, entry_words, frame_bias}
+use Rattle.rv_place.specs.Instructions.{branch_instruction, opposite, LoadsWord, words_of_jump, JumpsFar, JumpsBy, words_of_branch, BranchesFar, BranchesOn}
 use Rattle.rv_place.specs.declared.reach.Reach.{Reach}
-use Rattle.rv_place.specs.declared.reach.Reach.TheVariants.{Near, Far}
-use Rattle.rv_place.specs.Lines.{Map, IsSymbolAt, ReturnsFrom, EntersAt}
+use Rattle.rv_place.specs.declared.reach.Reach.TheVariants.{Near, Far, Wide}
+use Rattle.rv_place.specs.Lines.{Map, ShiftsStack, IsSymbolAt, ReturnsFrom, EntersAt}
 use Rattle.rv_place.proofs.RunningExecuting.{addi_row, lui_row, branch_effect, MissesFree, Done, Gets, Goes, misses_done, done_then, done_as, done_on, target_of, next_is, plain_gets, load_gets, store_goes, jump_gets, branch_goes, opposite_compares, near_gets}
 
 -- instructions that leave a word in the stack pointer
@@ -30,8 +30,21 @@ pub record Shifts (cells : ℕ) (code : Code) (steps : ℕ) (changed : List ℕ)
   pub done : Done cells code steps changed memory next s after
   pub base_is : value after.registers 2 ≡ base
 
-shifted : (base frame : ℕ) → frame ≤ 2044 → base + frame < 2 ^ 32 → sum_word (base + frame) (2 ^ 32 - frame) ≡ base
-shifted base frame small below = omega arith
+-- a frame is taken from the stack pointer
+shifted : (base frame bias : ℕ) → base + frame + bias < 2 ^ 32 → sum_word (base + frame + bias) (2 ^ 32 - frame) ≡ base + bias
+shifted base frame bias below = omega arith
+
+-- two words that are added are their sum
+added_twice : (n a b size : ℕ) → sum_word a b ≡ size → sum_word (sum_word n a) b ≡ sum_word n size
+added_twice n a b size is = omega (arith, is)
+
+-- the address of what stands so far above the first word of a frame, by its offset from the stack pointer
+pub from_pointer : (base bias above offset : ℕ) → sum_word bias offset ≡ above → base + above < 2 ^ 32 → sum_word (base + bias) offset ≡ base + above
+from_pointer base bias above offset is below = omega (arith, is)
+
+-- the first word of a frame
+first_word : (base bias offset : ℕ) → sum_word bias offset ≡ 0 → base < 2 ^ 32 → sum_word (base + bias) offset ≡ base
+first_word base bias offset is below = omega (arith, is)
 
 same_address : (base : ℕ) → base < 2 ^ 32 → sum_word base 0 ≡ base
 same_address base below = omega arith
@@ -47,26 +60,33 @@ module _ (cells : ℕ) {code : Code} (below : (at : ℕ) (i : Instr) → code at
         value_is = λ some. second.value_is some ∙ (ap (λ v. sum_word v lower.word) (first.value_is some) ∙ sum);
       }
 
-  pub jump_to : {s : Processor} → Stands code s → (reach : Reach) (at : ℕ) → s.pc ≡ at → (back : Register) (target : ℕ) → JumpsBy reach code at back target → target % 4 ≡ 0
-      → Gets cells code (words_of_jump reach) (1 ∷ back.number ∷ []) back.number (at + 4 * words_of_jump reach) target s
-  jump_to stands Near at pc_is back target (offset, sum, here) aligned =
-      let jump = near_gets cells below stands pc_is {back = back} {offset = offset} here sum aligned in
-      record { after = jump.after; done = done_as {changed' = 1 ∷ back.number ∷ []} jump.done refl refl (λ x out. out.1); value_is = jump.value_is }
-  jump_to stands Far at pc_is back target (upper, lower, sum, has) aligned =
+  far_to : {s : Processor} → Stands code s → (at : ℕ) → s.pc ≡ at → (back : Register) (target : ℕ) → JumpsFar code at back target → target % 4 ≡ 0
+      → Gets cells code 2 (1 ∷ back.number ∷ []) back.number (at + 8) target s
+  far_to stands at pc_is back target (upper, lower, sum, has) aligned =
       let first = plain_gets cells below stands pc_is (lui_row ra upper) has.0 in
       let target_is : sum_word (value first.after.registers 1) lower.word ≡ target = ap (λ v. sum_word v lower.word) (first.value_is (λ e. cc)) ∙ sum in
       let second = jump_gets cells below first.done.stands first.done.pc_is {back = back} {by = ra} {offset = lower} has.1.0 target_is aligned in
       let behind : at + 4 + 4 ≡ at + 8 = omega arith in
       record { after = second.after; done = done_on first.done second.done; value_is = λ kept. second.value_is kept ∙ behind }
 
+  pub jump_to : {s : Processor} → Stands code s → (reach : Reach) (at : ℕ) → s.pc ≡ at → (back : Register) (target : ℕ) → JumpsBy reach code at back target → target % 4 ≡ 0
+      → Gets cells code (words_of_jump reach) (1 ∷ back.number ∷ []) back.number (at + 4 * words_of_jump reach) target s
+  jump_to stands Near at pc_is back target (offset, sum, here) aligned =
+      let jump = near_gets cells below stands pc_is {back = back} {offset = offset} here sum aligned in
+      record { after = jump.after; done = done_as {changed' = 1 ∷ back.number ∷ []} jump.done refl refl (λ x out. out.1); value_is = jump.value_is }
+  jump_to stands Far at pc_is back target jump aligned = far_to stands at pc_is back target jump aligned
+  jump_to stands Wide at pc_is back target jump aligned = far_to stands at pc_is back target jump aligned
+
   -- the address behind a jump, or a branch, is a word
   pub jump_last : (reach : Reach) (at : ℕ) (back : Register) (target : ℕ) → JumpsBy reach code at back target → at + 4 * words_of_jump reach < 2 ^ 32
   jump_last Near at back target (offset, sum, here) = below at (Instr.Jal back offset) here
   jump_last Far at back target (upper, lower, sum, has) = let last = below (at + 4) (Jalr back ra lower) has.1.0 in omega arith
+  jump_last Wide at back target (upper, lower, sum, has) = let last = below (at + 4) (Jalr back ra lower) has.1.0 in omega arith
 
   pub branch_last : (jumps reach : Reach) (at : ℕ) (condition : Condition) (a b : Register) (target : ℕ) → BranchesOn jumps reach code at condition a b target → at + 4 * words_of_branch jumps reach < 2 ^ 32
   branch_last jumps Near at condition a b target (offset, sum, here) = below at (branch_instruction condition a b offset) here
   branch_last jumps Far at condition a b target (over, over_is, here, jump) = let last = jump_last jumps (at + 4) zero_register target jump in omega arith
+  branch_last jumps Wide at condition a b target (over, over_is, here, jump) = let last = jump_last jumps (at + 4) zero_register target jump in omega arith
 
   -- a branch whose condition holds leads to the target, and another behind it
   module _ {s : Processor} (stands : Stands code s) (at : ℕ) (pc_is : s.pc ≡ at) (condition : Condition) (a b : Register) (target : ℕ) (jumps : Reach) where
@@ -77,24 +97,18 @@ module _ (cells : ℕ) {code : Code} (below : (at : ℕ) (i : Instr) → code at
     opposed : (test : Bool) → compares condition (value s.registers a.number) (value s.registers b.number) ≡ test → compares (opposite condition) (value s.registers a.number) (value s.registers b.number) ≡ not test
     opposed test is = opposite_compares condition (value s.registers a.number) (value s.registers b.number) ∙ ap not is
 
-    pub branch_taken : (reach : Reach) → BranchesOn jumps reach code at condition a b target → target % 4 ≡ 0 → compares condition (value s.registers a.number) (value s.registers b.number) ≡ true
-        → Goes cells code (words_of_branch jumps reach) (1 ∷ 0 ∷ []) s.memory target s
-    branch_taken Near (offset, sum, here) aligned holds =
-        let target_is : sum_word s.pc offset.word ≡ target = ap (λ pc. sum_word pc offset.word) pc_is ∙ sum in
-        let goes = branch_goes cells below stands pc_is (branch_instruction condition a b offset) (sum_word s.pc offset.word) {next = target} here (goes_by condition offset true holds) target_is aligned in
-        record { after = goes.after; done = done_as {changed' = 1 ∷ 0 ∷ []} goes.done refl refl (λ x out. tt) }
-    branch_taken Far (over, over_is, here, jump) aligned holds =
+    -- over the jump behind a far branch
+    far_taken : BranchesFar jumps code at condition a b target → target % 4 ≡ 0 → compares condition (value s.registers a.number) (value s.registers b.number) ≡ true
+        → Goes cells code (1 + words_of_jump jumps) (1 ∷ 0 ∷ []) s.memory target s
+    far_taken (over, over_is, here, jump) aligned holds =
         let word = stands.aligned at (branch_instruction (opposite condition) a b over) here in
         let first = branch_goes cells below stands pc_is (branch_instruction (opposite condition) a b over) (sum_word s.pc 4) {next = at + 4} here (goes_by (opposite condition) over false (opposed true holds)) (next_is cells below stands pc_is here) (omega arith) in
         let second = jump_to first.done.stands jumps (at + 4) first.done.pc_is zero_register target jump aligned in
         record { after = second.after; done = done_on first.done second.done }
 
-    pub branch_passed : (reach : Reach) → BranchesOn jumps reach code at condition a b target → compares condition (value s.registers a.number) (value s.registers b.number) ≡ false
-        → Goes cells code 1 [] s.memory (at + 4 * words_of_branch jumps reach) s
-    branch_passed Near (offset, sum, here) fails =
-        let word = stands.aligned at (branch_instruction condition a b offset) here in
-        branch_goes cells below stands pc_is (branch_instruction condition a b offset) (sum_word s.pc 4) {next = at + 4} here (goes_by condition offset false fails) (next_is cells below stands pc_is here) (omega arith)
-    branch_passed Far (over, over_is, here, jump) fails =
+    far_passed : BranchesFar jumps code at condition a b target → compares condition (value s.registers a.number) (value s.registers b.number) ≡ false
+        → Goes cells code 1 [] s.memory (at + 4 * (1 + words_of_jump jumps)) s
+    far_passed (over, over_is, here, jump) fails =
         let word = stands.aligned at (branch_instruction (opposite condition) a b over) here in
         let last = jump_last jumps (at + 4) zero_register target jump in
         let next : ℕ = at + 4 * (1 + words_of_jump jumps) in
@@ -102,10 +116,54 @@ module _ (cells : ℕ) {code : Code} (below : (at : ℕ) (i : Instr) → code at
         let over_at : sum_word s.pc over.word ≡ next = rw (pc_is, over_is) (target_of at (4 + 4 * words_of_jump jumps) (omega arith) ∙ behind) in
         branch_goes cells below stands pc_is (branch_instruction (opposite condition) a b over) (sum_word s.pc over.word) {next = next} here (goes_by (opposite condition) over true (opposed false fails)) over_at (omega arith)
 
+    pub branch_taken : (reach : Reach) → BranchesOn jumps reach code at condition a b target → target % 4 ≡ 0 → compares condition (value s.registers a.number) (value s.registers b.number) ≡ true
+        → Goes cells code (words_of_branch jumps reach) (1 ∷ 0 ∷ []) s.memory target s
+    branch_taken Near (offset, sum, here) aligned holds =
+        let target_is : sum_word s.pc offset.word ≡ target = ap (λ pc. sum_word pc offset.word) pc_is ∙ sum in
+        let goes = branch_goes cells below stands pc_is (branch_instruction condition a b offset) (sum_word s.pc offset.word) {next = target} here (goes_by condition offset true holds) target_is aligned in
+        record { after = goes.after; done = done_as {changed' = 1 ∷ 0 ∷ []} goes.done refl refl (λ x out. tt) }
+    branch_taken Far branch aligned holds = far_taken branch aligned holds
+    branch_taken Wide branch aligned holds = far_taken branch aligned holds
+
+    pub branch_passed : (reach : Reach) → BranchesOn jumps reach code at condition a b target → compares condition (value s.registers a.number) (value s.registers b.number) ≡ false
+        → Goes cells code 1 [] s.memory (at + 4 * words_of_branch jumps reach) s
+    branch_passed Near (offset, sum, here) fails =
+        let word = stands.aligned at (branch_instruction condition a b offset) here in
+        branch_goes cells below stands pc_is (branch_instruction condition a b offset) (sum_word s.pc 4) {next = at + 4} here (goes_by condition offset false fails) (next_is cells below stands pc_is here) (omega arith)
+    branch_passed Far branch fails = far_passed branch fails
+    branch_passed Wide branch fails = far_passed branch fails
+
+  -- ---- the stack pointer
+
+  one_shift : {s : Processor} → Stands code s → (size at : ℕ) → s.pc ≡ at → (whole : Immediate) → whole.word ≡ size → code at ≡ Some (Addi sp sp whole)
+      → Shifts cells code 1 (2 ∷ []) s.memory (sum_word (value s.registers 2) size) (at + 4) s
+  one_shift {s} stands size at pc_is whole size_is here =
+      let gets = plain_gets cells below stands pc_is (addi_row sp sp whole) here in
+      record { after = gets.after; done = gets.done; base_is = gets.value_is (λ e. cc) ∙ ap (λ w. sum_word (value s.registers 2) w) size_is }
+
+  -- a word is added to it
+  shifts_by : {s : Processor} → Stands code s → (reach : Reach) (size at : ℕ) → s.pc ≡ at → ShiftsStack reach size code at
+      → Shifts cells code (words_of_shift reach) (2 ∷ []) s.memory (sum_word (value s.registers 2) size) (at + 4 * words_of_shift reach) s
+  shifts_by stands Near size at pc_is (whole, size_is, here) = one_shift stands size at pc_is whole size_is here
+  shifts_by stands Far size at pc_is (whole, size_is, here) = one_shift stands size at pc_is whole size_is here
+  shifts_by {s} stands Wide size at pc_is (first, second, sum, has) =
+      let a = plain_gets cells below stands pc_is (addi_row sp sp first) has.0 in
+      let b = plain_gets cells below a.done.stands a.done.pc_is (addi_row sp sp second) has.1.0 in
+      record {
+        after = b.after;
+        done = done_as {changed' = 2 ∷ []} (done_on a.done b.done) refl (omega arith) (λ x out. (out.0, (out.0, tt)));
+        base_is = b.value_is (λ e. cc)
+            ∙ (ap (λ v. sum_word v second.word) (a.value_is (λ e. cc)) ∙ added_twice (value s.registers 2) first.word second.word size sum);
+      }
+
   -- ---- entries
 
   module _ {s : Processor} (stands : Stands code s) (map : Map) (at : ℕ) (pc_is : s.pc ≡ at) (entry : EntersAt map code at) (full : ℕ) (full_at : IsSymbolAt map symbol.StackFull full) where
-    bottom_gets : Gets cells code 1 (5 ∷ []) 5 map.bottom (at + 4) s
+    -- the stack pointer in the lowest frame
+    abbrev lowest : ℕ
+    lowest = map.bottom + frame_bias map.jumps
+
+    bottom_gets : Gets cells code 1 (5 ∷ []) 5 lowest (at + 4) s
     bottom_gets =
         let first = plain_gets cells below stands pc_is (lui_row t0 entry.bottom) entry.sets in
         record { after = first.after; done = first.done; value_is = λ some. first.value_is some ∙ entry.bottom_is }
@@ -113,72 +171,65 @@ module _ (cells : ℕ) {code : Code} (below : (at : ℕ) (i : Instr) → code at
     same_sp : value bottom_gets.after.registers 2 ≡ value s.registers 2
     same_sp = bottom_gets.done.kept 2 ((λ e. cc), tt)
 
-    test_is : (test : Bool) → nat_eq (value s.registers 2) map.bottom ≡ test → compares Equal (value bottom_gets.after.registers 2) (value bottom_gets.after.registers 5) ≡ test
+    test_is : (test : Bool) → nat_eq (value s.registers 2) lowest ≡ test → compares Equal (value bottom_gets.after.registers 2) (value bottom_gets.after.registers 5) ≡ test
     test_is test is = rw (same_sp, bottom_gets.value_is (λ e. cc)) is
 
     -- at the lowest frame the stack is full
-    pub entry_full : full % 4 ≡ 0 → value s.registers 2 ≡ map.bottom → Goes cells code (1 + words_of_branch map.jumps Far) (5 ∷ 1 ∷ 0 ∷ []) s.memory full s
+    pub entry_full : full % 4 ≡ 0 → value s.registers 2 ≡ map.bottom + frame_bias map.jumps → Goes cells code (1 + words_of_branch map.jumps Far) (5 ∷ 1 ∷ 0 ∷ []) s.memory full s
     entry_full aligned last =
-        let test : nat_eq (value s.registers 2) map.bottom ≡ true = grind (arith, nat_tests) in
+        let test : nat_eq (value s.registers 2) lowest ≡ true = grind (arith, nat_tests) in
         let second = branch_taken bottom_gets.done.stands (at + 4) bottom_gets.done.pc_is Equal sp t0 full map.jumps Far (entry.full full full_at) aligned (test_is true test) in
         record { after = second.after; done = done_on bottom_gets.done second.done }
 
     -- else the test leads over the jump
-    entry_passes : value s.registers 2 ≢ map.bottom → Goes cells code 2 (5 ∷ []) s.memory (at + 8 + 4 * words_of_jump map.jumps) s
+    entry_passes : value s.registers 2 ≢ lowest → Goes cells code 2 (5 ∷ []) s.memory (at + 8 + 4 * words_of_jump map.jumps) s
     entry_passes more =
-        let test : nat_eq (value s.registers 2) map.bottom ≡ false = grind (arith, nat_tests) in
+        let test : nat_eq (value s.registers 2) lowest ≡ false = grind (arith, nat_tests) in
         let second = branch_passed bottom_gets.done.stands (at + 4) bottom_gets.done.pc_is Equal sp t0 full map.jumps Far (entry.full full full_at) (test_is false test) in
         record { after = second.after; done = done_as {changed' = 5 ∷ []} (done_on bottom_gets.done second.done) refl (omega arith) (λ x out. out) }
 
     -- and a frame is taken
-    entry_shifts : (base : ℕ) → value s.registers 2 ≡ base + map.frame → base + map.frame ≢ map.bottom → map.frame ≤ 2044 → base + map.frame < 2 ^ 32
-        → Shifts cells code 3 (5 ∷ 2 ∷ []) s.memory base (at + 8 + 4 * words_of_jump map.jumps + 4) s
-    entry_shifts base base_is more small fits =
-        let tested : Goes cells code 2 (5 ∷ []) s.memory (at + 8 + 4 * words_of_jump map.jumps) s = entry_passes (λ e. more (sym base_is ∙ e)) in
-        let old_base : value tested.after.registers 2 ≡ base + map.frame = tested.done.kept 2 ((λ e. cc), tt) ∙ base_is in
-        let third = plain_gets cells below tested.done.stands {at = at + 8 + 4 * words_of_jump map.jumps} tested.done.pc_is (addi_row sp sp entry.frame) entry.takes.0 in
+    entry_shifts : (base : ℕ) → value s.registers 2 ≡ base + map.frame + frame_bias map.jumps → base + map.frame ≢ map.bottom → base + map.frame + frame_bias map.jumps < 2 ^ 32
+        → Shifts cells code (2 + words_of_shift map.jumps) (5 ∷ 2 ∷ []) s.memory (base + frame_bias map.jumps) (at + 8 + 4 * words_of_jump map.jumps + 4 * words_of_shift map.jumps) s
+    entry_shifts base base_is more fits =
+        let tested : Goes cells code 2 (5 ∷ []) s.memory (at + 8 + 4 * words_of_jump map.jumps) s = entry_passes (λ e. more (omega (arith, e, base_is))) in
+        let old_base : value tested.after.registers 2 ≡ base + map.frame + frame_bias map.jumps = tested.done.kept 2 ((λ e. cc), tt) ∙ base_is in
+        let third = shifts_by tested.done.stands map.jumps (2 ^ 32 - map.frame) (at + 8 + 4 * words_of_jump map.jumps) tested.done.pc_is entry.takes in
         record {
           after = third.after;
           done = done_on tested.done third.done;
-          base_is = third.value_is (λ e. cc) ∙ rw (old_base, entry.frame_is) (shifted base map.frame small fits);
+          base_is = third.base_is ∙ rw old_base (shifted base map.frame (frame_bias map.jumps) fits);
         }
 
-    pub entry_takes : (base way : ℕ) → value s.registers 2 ≡ base + map.frame → value s.registers 1 ≡ way → base + map.frame ≢ map.bottom → map.frame ≤ 2044 → base + map.frame < 2 ^ 32
-        → base % 4 ≡ 0 → can_store s.parts base 4 ≡ true → MissesFree cells s base → Shifts cells code 4 (5 ∷ 2 ∷ []) (with_number base 4 way s.memory) base (at + 4 * entry_words map.jumps) s
-    entry_takes base way base_is way_is more small fits aligned allowed misses =
-        let moved : Shifts cells code 3 (5 ∷ 2 ∷ []) s.memory base (at + 8 + 4 * words_of_jump map.jumps + 4) s = entry_shifts base base_is more small fits in
-        let address : sum_word (value moved.after.registers 2) entry.zero.word ≡ base = rw (moved.base_is, entry.zero_is) (same_address base (omega arith)) in
+    pub entry_takes : (base way : ℕ) → value s.registers 2 ≡ base + map.frame + frame_bias map.jumps → value s.registers 1 ≡ way → base + map.frame ≢ map.bottom → base + map.frame + frame_bias map.jumps < 2 ^ 32
+        → base % 4 ≡ 0 → can_store s.parts base 4 ≡ true → MissesFree cells s base
+        → Shifts cells code (2 + words_of_shift map.jumps + 1) (5 ∷ 2 ∷ []) (with_number base 4 way s.memory) (base + frame_bias map.jumps) (at + 4 * entry_words map.jumps) s
+    entry_takes base way base_is way_is more fits aligned allowed misses =
+        let moved = entry_shifts base base_is more fits in
+        let address : sum_word (value moved.after.registers 2) entry.back.word ≡ base = rw moved.base_is (first_word base (frame_bias map.jumps) entry.back.word entry.back_is (omega arith)) in
         let saved : value moved.after.registers 1 ≡ way = moved.done.kept 1 ((λ e. cc), ((λ e. cc), tt)) ∙ way_is in
-        let fourth = store_goes cells below moved.done.stands {at = at + 8 + 4 * words_of_jump map.jumps + 4} moved.done.pc_is {base = sp} {from = ra} {offset = entry.zero} {address = base} {word = way} entry.takes.1.0 address saved aligned (rw moved.done.parts_are allowed)
+        let last = store_goes cells below moved.done.stands {at = at + 8 + 4 * words_of_jump map.jumps + 4 * words_of_shift map.jumps} moved.done.pc_is {base = sp} {from = ra} {offset = entry.back} {address = base} {word = way} entry.saves address saved aligned (rw moved.done.parts_are allowed)
         (misses_done base moved.done ((λ e. cc), ((λ e. cc), tt)) ((λ e. cc), ((λ e. cc), tt)) ((λ e. cc), ((λ e. cc), tt)) misses) in
         record {
-          after = fourth.after;
-          done = done_as {changed' = 5 ∷ 2 ∷ []} (done_then moved.done fourth.done) (ap (λ m. with_number base 4 way m) moved.done.memory_is) (omega arith) (λ x out. out);
-          base_is = fourth.done.kept 2 tt ∙ moved.base_is;
+          after = last.after;
+          done = done_as {changed' = 5 ∷ 2 ∷ []} (done_then moved.done last.done) (ap (λ m. with_number base 4 way m) moved.done.memory_is) (omega arith) (λ x out. out);
+          base_is = last.done.kept 2 tt ∙ moved.base_is;
         }
 
   -- ---- returns
 
-  -- the way back is loaded, and the frame given back
-  return_shifts : {s : Processor} → Stands code s → (map : Map) (at : ℕ) → s.pc ≡ at → (zero frame : Immediate) → Zero zero → frame.word ≡ map.frame → code at ≡ Some (Lw ra sp zero) → code (at + 4) ≡ Some (Addi sp sp frame)
-      → (base way : ℕ) → value s.registers 2 ≡ base → number_at s.memory base 4 ≡ way → base + map.frame < 2 ^ 32 → base % 4 ≡ 0 → can_load s.parts base 4 ≡ true → MissesFree cells s base
-      → (t : Processor) × Done cells code 2 (1 ∷ 2 ∷ []) s.memory (at + 4 + 4) s t × (value t.registers 1 ≡ way) × (value t.registers 2 ≡ base + map.frame)
-  return_shifts {s} stands map at pc_is zero frame zero_is frame_is loads shifts base way base_is way_is fits aligned allowed misses =
-      let address : sum_word (value s.registers 2) zero.word ≡ base = rw (base_is, zero_is) (same_address base (omega arith)) in
-      let first = load_gets cells below stands pc_is {rd = ra} {base = sp} {offset = zero} {address = base} {word = way} loads address aligned allowed way_is misses in
-      let second = plain_gets cells below first.done.stands first.done.pc_is (addi_row sp sp frame) shifts in
-      let old_base : value first.after.registers 2 ≡ base = first.done.kept 2 ((λ e. cc), tt) ∙ base_is in (
-        second.after,
-        done_on first.done second.done,
-        second.done.kept 1 ((λ e. cc), tt) ∙ first.value_is (λ e. cc),
-        second.value_is (λ e. cc) ∙ rw (old_base, frame_is) (omega arith),
-      )
-
-  pub return_goes : {s : Processor} → Stands code s → (map : Map) (at : ℕ) → s.pc ≡ at → ReturnsFrom map code at → (base way : ℕ) → value s.registers 2 ≡ base → number_at s.memory base 4 ≡ way
-      → way % 4 ≡ 0 → way < 2 ^ 32 → base + map.frame < 2 ^ 32 → base % 4 ≡ 0 → can_load s.parts base 4 ≡ true → MissesFree cells s base → Shifts cells code 3 (1 ∷ 2 ∷ 0 ∷ []) s.memory (base + map.frame) way s
-  return_goes {s} stands map at pc_is (zero, frame, zero_is, frame_is, has) base way base_is way_is way_word way_fits fits aligned allowed misses =
-      let back = return_shifts stands map at pc_is zero frame zero_is frame_is has.0 has.1.0 base way base_is way_is fits aligned allowed misses in
-      let moved : Done cells code 2 (1 ∷ 2 ∷ []) s.memory (at + 4 + 4) s back.0 = back.1 in
-      let target_is : sum_word (value back.0.registers 1) zero.word ≡ way = rw (back.2, zero_is) (same_address way way_fits) in
-      let third = jump_gets cells below moved.stands moved.pc_is {back = zero_register} {by = ra} {offset = zero} has.1.1.0 target_is way_word in
-      record { after = third.after; done = done_on moved third.done; base_is = third.done.kept 2 ((λ e. cc), tt) ∙ back.3 }
+  -- the way back is loaded, the frame given back, and the way gone
+  pub return_goes : {s : Processor} → Stands code s → (map : Map) (at : ℕ) → s.pc ≡ at → ReturnsFrom map code at → (base way : ℕ) → value s.registers 2 ≡ base + frame_bias map.jumps → number_at s.memory base 4 ≡ way
+      → way % 4 ≡ 0 → way < 2 ^ 32 → base + map.frame + frame_bias map.jumps < 2 ^ 32 → base % 4 ≡ 0 → can_load s.parts base 4 ≡ true → MissesFree cells s base
+      → Shifts cells code (1 + words_of_shift map.jumps + 1) (1 ∷ 2 ∷ 0 ∷ []) s.memory (base + map.frame + frame_bias map.jumps) way s
+  return_goes {s} stands map at pc_is returns base way base_is way_is way_word way_fits fits aligned allowed misses =
+      let address : sum_word (value s.registers 2) returns.back.word ≡ base = rw base_is (first_word base (frame_bias map.jumps) returns.back.word returns.back_is (omega arith)) in
+      let first = load_gets cells below stands pc_is {rd = ra} {base = sp} {offset = returns.back} {address = base} {word = way} returns.loads address aligned allowed way_is misses in
+      let old_base : value first.after.registers 2 ≡ base + frame_bias map.jumps = first.done.kept 2 ((λ e. cc), tt) ∙ base_is in
+      let second = shifts_by first.done.stands map.jumps map.frame (at + 4) first.done.pc_is returns.gives in
+      let way_now : value second.after.registers 1 ≡ way = second.done.kept 1 ((λ e. cc), tt) ∙ first.value_is (λ e. cc) in
+      let raised : sum_word (value first.after.registers 2) map.frame ≡ base + map.frame + frame_bias map.jumps = rw old_base (omega arith) in
+      let moved = done_on first.done second.done in
+      let target_is : sum_word (value second.after.registers 1) returns.zero.word ≡ way = rw (way_now, returns.zero_is) (same_address way way_fits) in
+      let third = jump_gets cells below moved.stands moved.pc_is {back = zero_register} {by = ra} {offset = returns.zero} returns.goes target_is way_word in
+      record { after = third.after; done = done_on moved third.done; base_is = third.done.kept 2 ((λ e. cc), tt) ∙ (second.base_is ∙ raised) }

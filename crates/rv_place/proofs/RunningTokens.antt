@@ -18,7 +18,7 @@ use Rattle.rv_isa.specs.Primitives.{stuck, or_stuck, by_token}
 use Rattle.rv_isa.specs.Frames.{Frame, all_of, only_of, holding, unholding, off_top, is_among}
 use Rattle.rv_isa.specs.PlacedMachine.{PlacedTurn, read_at, only_slot, slot_of, placed_goes, placed_acts}
 use Rattle.rv_isa.specs.Bytes.{number_at}
-use Rattle.rv_isa.specs.Processor.{Processor, Ending, value, can_store}
+use Rattle.rv_isa.specs.Processor.{Processor, Ending, value, can_load, can_store}
 use Rattle.rv_isa.specs.Standing.{Code}
 use Rattle.rv_isa.proofs.Bytes.{bytes_at-same}
 use Rattle.rv_isa.proofs.Standing.{Stands-leads}
@@ -36,16 +36,16 @@ use Rattle.cell_runtime.specs.Tokens.{Held, no_token, newest, IsHold, IsUnhold}
 use Rattle.cell_runtime.proofs.Blocks.{word_kept, token_view, held_holds, unheld_holds, again_holds}
 use Rattle.rv_world.specs.World.{World, with_cells, on_cells, primitives}
 use Rattle.rv_place.specs.Registers.{ra, sp, a0}
-use Rattle.rv_place.specs.Addresses.{slot_offset}
+use Rattle.rv_place.specs.Addresses.{frame_bias, slot_offset}
 use Rattle.rv_place.specs.Instructions.{words_of_jump, CallsTo}
 use Rattle.rv_place.specs.declared.reach.Forms.{Forms}
-use Rattle.rv_place.specs.Lines.{Map, IsSymbolAt, CallsForToken}
+use Rattle.rv_place.specs.Lines.{Map, IsFromPointer, IsSymbolAt, CallsForToken}
 use Rattle.rv_place.specs.Grounds.{Ground, stack_end, constant_bytes}
 use Rattle.rv_place.specs.Running.{most_lines, IsIn, FramesAt, word_of, links_in, links_of, Running}
 use Rattle.rv_place.proofs.RunningExecuting.{Done, addi_row, done_on, plain_gets}
 use Rattle.rv_place.proofs.RunningInside.{Walks, walks_done, walks_then, stands_part, returns_walk}
 use Rattle.rv_place.proofs.RunningLines.{jump_some, jump_most}
-use Rattle.rv_place.proofs.RunningRows.{jump_to, jump_last}
+use Rattle.rv_place.proofs.RunningRows.{from_pointer, jump_to, jump_last}
 use Rattle.rv_place.proofs.RunningFrames.{handed_apart, frames_kept}
 use Rattle.rv_place.proofs.RunningLinks.{slots_in, roots_done, cells_done, slots_apart, is_in_again}
 use Rattle.rv_place.proofs.RunningComes.{or_stuck_some, Comes, comes_go, sp_low, sp_word, sp_high}
@@ -155,7 +155,7 @@ module _ {map_of : Map} {pool : Pool} {functions : List PlacedLines} {depth buff
   behind = record f { code = rest }
 
   abbrev base : ℕ
-  base = value s.registers 2
+  base = running.base
 
   abbrev way : ℕ
   way = s.pc + 4 + 4 * words_of_jump forms.jumps
@@ -173,7 +173,7 @@ module _ {map_of : Map} {pool : Pool} {functions : List PlacedLines} {depth buff
     is_slot : IsSlot pool after.parts (base + slot_offset k)
 
   called : (name : Symbol) (k target : ℕ) → IsSymbolAt map_of name target → slot_offset k + 4 ≤ map_of.frame → (offset : Immediate)
-      → offset.word ≡ slot_offset k → code s.pc ≡ Some (Addi a0 sp offset)
+      → IsFromPointer map_of.jumps (slot_offset k) offset → code s.pc ≡ Some (Addi a0 sp offset)
       → CallsTo forms.jumps code (s.pc + 4) target → Called k target
   called name k target (before, place, target_is) inside offset offset_is here calls =
       let runtime = ground.runtime_word in
@@ -185,7 +185,8 @@ module _ {map_of : Map} {pool : Pool} {functions : List PlacedLines} {depth buff
       let first = plain_gets pool.cells ground.below running.rests.stands refl (addi_row a0 sp offset) here in
       let second = jump_to pool.cells ground.below first.done.stands forms.jumps (s.pc + 4) first.done.pc_is ra target calls (omega arith) in
       let done = done_on first.done second.done in
-      let address : sum_word base offset.word ≡ base + slot_offset k = rw offset_is (omega arith) in
+      let address : sum_word (value s.registers 2) offset.word ≡ base + slot_offset k =
+      rw running.base_is (from_pointer base (frame_bias map_of.jumps) (slot_offset k) offset.word offset_is (omega arith)) in
       let aligned : (base + slot_offset k) % 4 ≡ 0 = omega arith in
       record {
         after = second.after;
@@ -197,10 +198,10 @@ module _ {map_of : Map} {pool : Pool} {functions : List PlacedLines} {depth buff
           aligned = aligned;
           below = omega arith;
           apart = inr (omega arith);
-          loads = rw (done.parts_are, running.rests.parts_are)
-              (ground.loads (base + slot_offset k) (omega arith) (omega arith) aligned);
-          stores = rw (done.parts_are, running.rests.parts_are)
-              (ground.stores (base + slot_offset k) (omega arith) (omega arith) aligned);
+          loads = ap (λ p. can_load p (base + slot_offset k) 4) (done.parts_are ∙ running.rests.parts_are)
+              ∙ ground.loads (base + slot_offset k) (omega arith) (omega arith) aligned;
+          stores = ap (λ p. can_store p (base + slot_offset k) 4) (done.parts_are ∙ running.rests.parts_are)
+              ∙ ground.stores (base + slot_offset k) (omega arith) (omega arith) aligned;
         };
       }
 
@@ -234,8 +235,8 @@ module _ {map_of : Map} {pool : Pool} {functions : List PlacedLines} {depth buff
       let under = ground.cells_below in
       let known' : ℕ → Option ℕ = λ x. cond ((x == 5) || (x == 10)) None (known x) in
       let pc_is : t.pc ≡ way = back ∙ call.way_is in
-      let base_is : value t.registers 2 ≡ base = registers 2 (λ e. cc) (λ e. cc)
-      ∙ call.done.kept 2 ((λ e. cc), ((λ e. cc), ((λ e. cc), tt))) in
+      let base_is = registers 2 (λ e. cc) (λ e. cc)
+      ∙ (call.done.kept 2 ((λ e. cc), ((λ e. cc), ((λ e. cc), tt))) ∙ running.base_is) in
       let whole = walks_then (walks_done call.done) walks in
       let same_way : s.pc + 4 * (1 + words_of_jump forms.jumps) ≡ way = omega arith in
       let here : FramesAt map_of code (most_lines functions) stop (stack_end map_of depth) s.memory way base
@@ -260,8 +261,9 @@ module _ {map_of : Map} {pool : Pool} {functions : List PlacedLines} {depth buff
         left = left ∙ call.done.left_is ∙ running.left;
         bytes = subst (λ bytes. All (λ byte. byte < 256) bytes) (sym (left ∙ call.done.left_is)) running.bytes;
         room = running.room;
-        frames = subst (λ b. FramesAt map_of code (most_lines functions) stop (stack_end map_of depth) t.memory t.pc b
-            (record behind { held = held } ∷ fs)) (sym base_is) at_pc;
+        base = base;
+        base_is = base_is;
+        frames = at_pc;
         registers = λ x w is.
             let kept = kept_known known x w is in
             let old_word = running.registers x w kept.2 in (
@@ -271,7 +273,7 @@ module _ {map_of : Map} {pool : Pool} {functions : List PlacedLines} {depth buff
                   ∙ old_word.1,
               old_word.2,
             );
-        cells = subst (λ b. HoldsCells pool next (links_of map_of b (record behind { held = held } ∷ fs)) t) (sym base_is) holds;
+        cells = holds;
       }) (omega (arith, jump_some forms.jumps)) (omega (arith, jump_most forms.jumps, within))
 
   abbrev after_known : ℕ → Option ℕ

@@ -1,5 +1,5 @@
 -- The parts of a text.
-use Rattle.std.proofs.Common.{◌≡◌, ◌≤◌, ◌<◌, ℕ, zero, suc, ◌+◌, ◌*◌, ◌%◌, List, [], ◌∷◌, ◌++◌, length, Some, refl, sym, ap, ◌∙◌, subst, arith}
+use Rattle.std.proofs.Common.{◌≡◌, ◌≤◌, ◌<◌, ℕ, zero, suc, ◌+◌, ◌*◌, ◌%◌, List, [], ◌∷◌, ◌++◌, length, Some, nat_lt, refl, sym, ap, ◌∙◌, subst, arith}
 use Rattle.std.specs.List.{slice_get}
 use Rattle.elf_image.specs.Program.{text_start}
 use Rattle.rv_isa.specs.declared.register.Register.{Register}
@@ -18,11 +18,11 @@ use Rattle.rv_isa.specs.Standing.{Has, code_of}
 use Rattle.rv_isa.proofs.Standing.{Has-back, code_of-Has, code_of-get}
 use Rattle.rv_world.specs.Operations.{address_in}
 use Rattle.rv_place.specs.Instructions.{LoadsWord}
-use Rattle.rv_place.specs.Addresses.{words_of_function, words_of_functions, entry_words, jump_words, entries_from}
+use Rattle.rv_place.specs.Addresses.{words_of_function, words_of_functions, entry_words, jump_words, frame_size, reach_of, entries_from}
 use Rattle.rv_place.specs.declared.reach.Reach.{Reach}
 use Rattle.rv_place.specs.declared.reach.Reach.TheVariants.{Near}
 use Rattle.rv_place.specs.Texts.{jumps_of, text_words}
-use Rattle.rv_place.proofs.Near.{near_within}
+use Rattle.rv_place.proofs.Near.{near_within, near_narrow}
 use Rattle.rv_place.specs.Lines.{Map, FunctionsAt}
 use Rattle.cell_runtime.specs.Lines.{AreWithin, words_of}
 use Rattle.cell_runtime.specs.Texts.{greatest_reach}
@@ -113,7 +113,8 @@ entries_among jumps at (function ∷ functions) (suc f) entry there word =
 pub short_text : (runtime program : Placed) → jumps_of runtime program ≡ Near → text_start + 4 * text_words runtime program < text_start + 4 * jump_words
 short_text runtime program near =
     let words = words_of runtime.natives.items + words_of_functions Near (placed_functions program) in
-    let few : words < jump_words = near_within jump_words words near in
+    let few : words < jump_words =
+    near_within jump_words words (near_narrow (nat_lt 2044 (frame_size (placed_functions program))) (reach_of jump_words words) near) in
     let same : words_of_functions (jumps_of runtime program) (placed_functions program) ≡ words_of_functions Near (placed_functions program) = ap (λ (j : Reach). words_of_functions j (placed_functions program)) near in
     omega (arith, few, same)
 

@@ -12,7 +12,13 @@ use Rattle.rv_isa.specs.PlacedMachine.{is_label_line}
 use Rattle.rv_place.specs.Instructions.{words_of_operation, words_of_jump, words_of_branch}
 use Rattle.rv_place.specs.declared.reach.Forms.{Forms}
 use Rattle.rv_place.specs.declared.reach.Reach.{Reach}
-use Rattle.rv_place.specs.declared.reach.Reach.TheVariants.{Near, Far}
+use Rattle.rv_place.specs.declared.reach.Reach.TheVariants.{Near, Far, Wide}
+
+-- how many instructions give the stack pointer another frame: a wide one is given in two parts
+abbrev pub words_of_shift : Reach → ℕ
+words_of_shift Near = 1
+words_of_shift Far = 1
+words_of_shift Wide = 2
 
 -- how many instructions an action is, by the forms of jumps and branches; a token that is held or taken back takes the address of its slot and a call
 abbrev pub words_of_action : Forms → Action → ℕ
@@ -22,7 +28,7 @@ words_of_action forms (Jump l) = words_of_jump forms.jumps
 words_of_action forms (Branch condition l) = words_of_branch forms.jumps forms.branches
 words_of_action forms (Call f) = words_of_jump forms.jumps
 words_of_action forms (TailCall f) = words_of_jump forms.jumps
-words_of_action forms Return = 3
+words_of_action forms Return = 2 + words_of_shift forms.jumps
 words_of_action forms (Routine routine) = words_of_jump forms.jumps
 words_of_action forms Hold = 1 + words_of_jump forms.jumps
 words_of_action forms Unhold = 1 + words_of_jump forms.jumps
@@ -61,7 +67,7 @@ forms_of jumps lines = record { jumps = jumps; branches = reach_of branch_words 
 
 -- a function begins with its entry, which compares the stack with its lowest frame, takes a frame and saves the way back
 abbrev pub entry_words : Reach → ℕ
-entry_words jumps = 4 + words_of_jump jumps
+entry_words jumps = 3 + words_of_jump jumps + words_of_shift jumps
 
 abbrev pub words_of_function : Reach → PlacedLines → ℕ
 words_of_function jumps function = entry_words jumps + words_of_lines (forms_of jumps function.code) function.code
@@ -103,7 +109,19 @@ slots_of_functions (function ∷ functions) = max (slots_of_lines function.code)
 abbrev pub frame_size : List PlacedLines → ℕ
 frame_size functions = 4 * slots_of_functions functions + 4
 
--- where a slot stands above the stack pointer
+-- the most bytes of a frame
+abbrev pub greatest_frame : Reach → ℕ
+greatest_frame Near = 2044
+greatest_frame Far = 2044
+greatest_frame Wide = 4088
+
+-- how far above a frame's first word the stack pointer stands: a load reaches as far down as up
+abbrev pub frame_bias : Reach → ℕ
+frame_bias Near = 0
+frame_bias Far = 0
+frame_bias Wide = 2048
+
+-- where a slot stands above the first word of its frame
 abbrev pub slot_offset : ℕ → ℕ
 slot_offset k = 4 * k + 4
 

@@ -21,15 +21,15 @@ use Rattle.rv_isa.specs.Standing.{Code, Has}
 use Rattle.cell_runtime.specs.Lines.{Spells}
 use Rattle.cell_runtime.specs.Lines as OfRuntime
 use Rattle.rv_world.specs.Operations.{address_in}
-use Rattle.rv_place.specs.Addresses.{words_of_action, words_of_line, words_of_lines, words_of_function, words_of_functions, branch_words, jump_words, entry_words, entries_from, slot_offset, IsBehind, label_address}
-use Rattle.rv_place.specs.Lines.{Map, ActsAt, LineAt, LinesAt, FunctionAt, FunctionsAt, EntersAt, MovesBy, ReturnsFrom, registers_of, register_into}
+use Rattle.rv_place.specs.Addresses.{words_of_action, words_of_shift, words_of_line, words_of_lines, words_of_function, words_of_functions, branch_words, jump_words, entry_words, entries_from, slot_offset, frame_bias, IsBehind, label_address}
+use Rattle.rv_place.specs.Lines.{Map, IsFromPointer, ShiftsStack, ActsAt, LineAt, LinesAt, FunctionAt, FunctionsAt, EntersAt, MovesBy, ReturnsFrom, registers_of, register_into}
 use Rattle.rv_place.specs.Registers.{zero_register, ra, sp, a0}
 use Rattle.rv_isa.specs.PlacedMachine.{only_slot}
-use Rattle.rv_place.specs.Instructions.{Zero, Computes, CallsTo}
+use Rattle.rv_place.specs.Instructions.{Computes, CallsTo}
 use Rattle.rv_place.specs.declared.chart.Chart.{Chart}
 use Rattle.rv_place.specs.declared.labels.Labels.{Labels}
 use Rattle.rv_place.specs.declared.reach.Reach.{Reach}
-use Rattle.rv_place.specs.declared.reach.Reach.TheVariants.{Near, Far}
+use Rattle.rv_place.specs.declared.reach.Reach.TheVariants.{Near, Far, Wide}
 use Rattle.rv_place.specs.declared.reach.Forms.{Forms}
 use Rattle.rv_place.specs.declared.symbols.Symbols.{Symbols}
 
@@ -66,11 +66,13 @@ pub record AreNear (distance at target : ℕ) : Type 0 where
 abbrev pub JumpReaches : Reach → ℕ → ℕ → Type 0
 JumpReaches Near at target = AreNear (4 * jump_words) at target
 JumpReaches Far at target = Unit {0}
+JumpReaches Wide at target = Unit {0}
 
 -- and so does a branch, where jumps lead so far
 abbrev pub BranchReaches : Reach → Reach → ℕ → ℕ → Type 0
 BranchReaches jumps Near at target = AreNear (4 * branch_words) at target
 BranchReaches jumps Far at target = JumpReaches jumps (at + 4) target
+BranchReaches jumps Wide at target = JumpReaches jumps (at + 4) target
 
 -- so many instructions at an address are within the text
 pub record IsInText (map : Map) (at words : ℕ) : Type 0 where
@@ -113,11 +115,11 @@ pub record AreSymbols (runtime : ℕ) (labels : List (Symbol × ℕ)) (symbols :
 pub record Charts (chart : Chart) (map : Map) : Type 0 where
   pub jumps : chart.jumps ≡ map.jumps
   pub frame : chart.frame ≡ map.frame
-  pub bottom : chart.bottom ≡ map.bottom
+  pub bottom : chart.bottom ≡ map.bottom + frame_bias map.jumps
   pub entries : chart.entries.items ≡ map.entries
   pub entries_in : (f entry : ℕ) → slice_get map.entries f ≡ Some entry → IsInText map entry (entry_words map.jumps)
   pub symbols_in : (name : Symbol) (before : ℕ) → IsBehind name before map.labels → map.runtime + 4 * before ≤ map.constants.first
-  pub bottom_page : map.bottom % 4096 ≡ 0
+  pub bottom_page : (map.bottom + frame_bias map.jumps) % 4096 ≡ 0
   pub first_word : map.runtime % 4 ≡ 0
   pub short : map.jumps ≡ Near → map.constants.first < map.runtime + 4 * jump_words
   pub below : map.constants.first < 2 ^ 32
@@ -144,7 +146,7 @@ HasLabels labels start whole = (l : ℕ) → get nat_cmp labels.addresses l ≡ 
 
 -- the address of the slot of a token goes to a0, and a routine is called: code that was emitted for an address
 pub record TokenCalled (jumps : Reach) (args : List Operand) (target from : ℕ) (code : Code) (at : ℕ) : Type 0 where
-  pub sets : (k : ℕ) → only_slot args ≡ Some k → (offset : Immediate) × (offset.word ≡ slot_offset k) × (code at ≡ Some (Addi a0 sp offset))
+  pub sets : (k : ℕ) → only_slot args ≡ Some k → (offset : Immediate) × IsFromPointer jumps (slot_offset k) offset × (code at ≡ Some (Addi a0 sp offset))
   pub calls : at ≡ from → JumpReaches jumps (at + 4) target → CallsTo jumps code (at + 4) target
 
 -- code of each kind that was emitted for an address, `from`, by every map that the chart is of; lines are those of a function that has these labels
@@ -175,9 +177,10 @@ abbrev pub MoveBy : Chart → Way → Code → ℕ → Type 0
 MoveBy chart way code at = (map : Map) → Charts chart map → MovesBy map code at way
 
 -- a frame of so many bytes is taken, and the way back saved
-abbrev pub TakesFrame : ℕ → Code → ℕ → Type 0
-TakesFrame size code at =
-    (frame : Immediate) × (zero : Immediate) × (frame.word ≡ 2 ^ 32 - size) × Zero zero × Has code at (Addi sp sp frame ∷ Sw sp ra zero ∷ [])
+abbrev pub TakesFrame : Reach → ℕ → Code → ℕ → Type 0
+TakesFrame jumps size code at =
+    ShiftsStack jumps (2 ^ 32 - size) code at
+    × ((back : Immediate) × IsFromPointer jumps 0 back × (code (at + 4 * words_of_shift jumps) ≡ Some (Sw sp ra back)))
 
 abbrev pub EntryBy : Chart → ℕ → Code → ℕ → Type 0
 EntryBy chart from code at = at ≡ from → (map : Map) → Charts chart map → IsInText map at (entry_words map.jumps) → EntersAt map code at

@@ -18,6 +18,7 @@ use Rattle.cell_runtime.specs.Drops.{IsDrop}
 use Rattle.cell_runtime.specs.Tokens.{IsHold, IsUnhold}
 use Rattle.cell_heap.specs.Pool.{Pool, end_of}
 use Rattle.rv_world.specs.Operations.{all_bytes}
+use Rattle.rv_place.specs.Addresses.{frame_bias}
 use Rattle.rv_place.specs.Lines.{Map, IsSymbolAt, FunctionsAt}
 
 -- what stands at a symbol of the runtime is of a kind
@@ -38,12 +39,11 @@ stack_end map depth = map.bottom + depth * map.frame
 pub record Ground (map : Map) (pool : Pool) (functions : List PlacedLines) (depth buffer stop : ℕ) (code : Code) (parts : List Part) : Type 0 where
   pub functions_at : FunctionsAt map code map.entries functions
   pub below : (at : ℕ) (i : Instr) → code at ≡ Some i → at + 4 < 2 ^ 32
-  pub small_frame : map.frame ≤ 2044
   pub some_frame : 4 ≤ map.frame
   pub frame_words : map.frame % 4 ≡ 0
   pub some_depth : 1 ≤ depth
   pub bottom_word : map.bottom % 4 ≡ 0
-  pub in_range : stack_end map depth < 2 ^ 32
+  pub in_range : stack_end map depth + frame_bias map.jumps < 2 ^ 32
   pub loads : (at : ℕ) → map.bottom ≤ at → at + 4 ≤ stack_end map depth → at % 4 ≡ 0 → can_load parts at 4 ≡ true
   pub stores : (at : ℕ) → map.bottom ≤ at → at + 4 ≤ stack_end map depth → at % 4 ≡ 0 → can_store parts at 4 ≡ true
   pub buffer_below : buffer + buffer_bytes ≤ pool.first

@@ -21,7 +21,7 @@ use Rattle.rv_isa.specs.Arithmetic.{sum_word}
 use Rattle.rv_isa.specs.Standing.{Code, Has}
 use Rattle.rv_world.specs.Operations.{Constants, address_in}
 use Rattle.rv_place.specs.declared.reach.Reach.{Reach}
-use Rattle.rv_place.specs.declared.reach.Reach.TheVariants.{Near, Far}
+use Rattle.rv_place.specs.declared.reach.Reach.TheVariants.{Near, Far, Wide}
 
 abbrev pub register_instruction : RegisterOperation → Register → Register → Register → Instr
 register_instruction Add rd a b = Instr.Add rd a b
@@ -88,13 +88,19 @@ LoadsWord code at rd word =
 abbrev pub words_of_jump : Reach → ℕ
 words_of_jump Near = 1
 words_of_jump Far = 2
+words_of_jump Wide = 2
 
--- A jump to an address; the way back goes to a register, which may be zero. A near one is JAL, by the distance; a far one is JALR behind LUI of ra.
-abbrev pub JumpsBy : Reach → Code → ℕ → Register → ℕ → Type 0
-JumpsBy Near code at back target = (offset : JumpOffset) × (sum_word at offset.word ≡ target) × (code at ≡ Some (Instr.Jal back offset))
-JumpsBy Far code at back target =
+-- a jump to any address, JALR behind LUI of ra
+abbrev pub JumpsFar : Code → ℕ → Register → ℕ → Type 0
+JumpsFar code at back target =
     (upper : UpperImmediate) × (lower : Immediate) × (sum_word upper.word lower.word ≡ target)
     × Has code at (Instr.Lui ra upper ∷ Instr.Jalr back ra lower ∷ [])
+
+-- A jump to an address; the way back goes to a register, which may be zero. A near one is JAL, by the distance.
+abbrev pub JumpsBy : Reach → Code → ℕ → Register → ℕ → Type 0
+JumpsBy Near code at back target = (offset : JumpOffset) × (sum_word at offset.word ≡ target) × (code at ≡ Some (Instr.Jal back offset))
+JumpsBy Far code at back target = JumpsFar code at back target
+JumpsBy Wide code at back target = JumpsFar code at back target
 
 abbrev pub JumpsTo : Reach → Code → ℕ → ℕ → Type 0
 JumpsTo reach code at target = JumpsBy reach code at zero_register target
@@ -106,15 +112,20 @@ CallsTo reach code at target = JumpsBy reach code at ra target
 abbrev pub words_of_branch : Reach → Reach → ℕ
 words_of_branch jumps Near = 1
 words_of_branch jumps Far = 1 + words_of_jump jumps
+words_of_branch jumps Wide = 1 + words_of_jump jumps
 
--- A branch on two registers to an address. A near one is one instruction, by the distance; for a far one the branch of the opposite condition leads
--- over a jump.
+-- a branch to any address: that of the opposite condition leads over a jump
+abbrev pub BranchesFar : Reach → Code → ℕ → Condition → Register → Register → ℕ → Type 0
+BranchesFar jumps code at condition a b target =
+    (over : BranchOffset) × (over.word ≡ 4 + 4 * words_of_jump jumps) × (code at ≡ Some (branch_instruction (opposite condition) a b over))
+    × JumpsTo jumps code (at + 4) target
+
+-- a branch on two registers to an address; a near one is one instruction, by the distance
 abbrev pub BranchesOn : Reach → Reach → Code → ℕ → Condition → Register → Register → ℕ → Type 0
 BranchesOn jumps Near code at condition a b target =
     (offset : BranchOffset) × (sum_word at offset.word ≡ target) × (code at ≡ Some (branch_instruction condition a b offset))
-BranchesOn jumps Far code at condition a b target =
-    (over : BranchOffset) × (over.word ≡ 4 + 4 * words_of_jump jumps) × (code at ≡ Some (branch_instruction (opposite condition) a b over))
-    × JumpsTo jumps code (at + 4) target
+BranchesOn jumps Far code at condition a b target = BranchesFar jumps code at condition a b target
+BranchesOn jumps Wide code at condition a b target = BranchesFar jumps code at condition a b target
 
 -- The count of the cell to which a register refers is raised: it is loaded to ra, and stored again. A branch leads over this where the reference
 -- is odd, which names no cell.

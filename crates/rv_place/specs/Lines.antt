@@ -18,16 +18,18 @@ use Rattle.rv_isa.specs.declared.placed.Way.{Way}
 use Rattle.rv_isa.specs.declared.placed.Way.TheVariants.{Copy, Load, Store}
 use Rattle.rv_isa.specs.PlacedCode.{PlacedLine, does, moves, PlacedLines}
 use Rattle.rv_isa.specs.PlacedMachine.{only_slot}
+use Rattle.rv_isa.specs.Arithmetic.{sum_word}
 use Rattle.rv_isa.specs.Standing.{Code, Has}
 use Rattle.rv_world.specs.Operations.{Constants}
 use Rattle.rv_place.specs.Instructions.{Zero, words_of_jump, JumpsTo, CallsTo, BranchesOn, Computes}
-use Rattle.rv_place.specs.Addresses.{words_of_line, label_address, forms_of, entry_words, slot_offset, IsBehind}
+use Rattle.rv_place.specs.Addresses.{words_of_line, words_of_shift, label_address, forms_of, entry_words, frame_bias, slot_offset, IsBehind}
 use Rattle.rv_place.specs.declared.reach.Forms.{Forms}
 use Rattle.rv_place.specs.declared.reach.Reach.{Reach}
-use Rattle.rv_place.specs.declared.reach.Reach.TheVariants.{Far}
+use Rattle.rv_place.specs.declared.reach.Reach.TheVariants.{Near, Far, Wide}
 
 -- Where what code names stands.
--- jumps: how far jumps lead; frame: the bytes of a frame; bottom: the address of the lowest frame that the stack has room for
+-- jumps: how far jumps lead, and whether frames are wide; frame: the bytes of a frame; bottom: the address of the lowest frame that the stack
+-- has room for
 -- entries: the addresses of the functions; runtime: that of the runtime, and its labels with the instructions before them
 -- constants: the constant bytes
 pub record Map : Type 0 where
@@ -70,20 +72,36 @@ BranchesTo forms code at condition (a ∷ []) target = BranchesOn forms.jumps fo
 BranchesTo forms code at condition (a ∷ b ∷ []) target = BranchesOn forms.jumps forms.branches code at condition a b target
 BranchesTo forms code at condition registers target = Unit {0}
 
+-- the offset, from the stack pointer, of what stands so far above the first word of its frame
+abbrev pub IsFromPointer : Reach → ℕ → Immediate → Type 0
+IsFromPointer jumps above offset = sum_word (frame_bias jumps) offset.word ≡ above
+
 -- a slot of the frame: the offset of a load or a store from the stack pointer
 abbrev pub IsOffsetOf : Map → ℕ → Immediate → Type 0
-IsOffsetOf map k offset = (offset.word ≡ slot_offset k) × (slot_offset k + 4 ≤ map.frame)
+IsOffsetOf map k offset = IsFromPointer map.jumps (slot_offset k) offset × (slot_offset k + 4 ≤ map.frame)
 
 abbrev pub MovesBy : Map → Code → ℕ → Way → Type 0
 MovesBy map code at (Copy from to) = (imm : Immediate) × Zero imm × (code at ≡ Some (Addi to from imm))
 MovesBy map code at (Load from to) = (offset : Immediate) × IsOffsetOf map from offset × (code at ≡ Some (Lw to sp offset))
 MovesBy map code at (Store from to) = (offset : Immediate) × IsOffsetOf map to offset × (code at ≡ Some (Sw sp from offset))
 
+-- a word is added to the stack pointer, in two parts where frames are wide
+abbrev pub ShiftsStack : Reach → ℕ → Code → ℕ → Type 0
+ShiftsStack Near size code at = (whole : Immediate) × (whole.word ≡ size) × (code at ≡ Some (Addi sp sp whole))
+ShiftsStack Far size code at = (whole : Immediate) × (whole.word ≡ size) × (code at ≡ Some (Addi sp sp whole))
+ShiftsStack Wide size code at =
+    (first : Immediate) × (second : Immediate) × (sum_word first.word second.word ≡ size)
+    × Has code at (Addi sp sp first ∷ Addi sp sp second ∷ [])
+
 -- a return takes the way back from the frame, gives the frame back and goes there
-abbrev pub ReturnsFrom : Map → Code → ℕ → Type 0
-ReturnsFrom map code at =
-    (zero : Immediate) × (frame : Immediate) × Zero zero × (frame.word ≡ map.frame)
-    × Has code at (Lw ra sp zero ∷ Addi sp sp frame ∷ Jalr zero_register ra zero ∷ [])
+pub record ReturnsFrom (map : Map) (code : Code) (at : ℕ) : Type 0 where
+  pub back : Immediate
+  pub back_is : IsFromPointer map.jumps 0 back
+  pub loads : code at ≡ Some (Lw ra sp back)
+  pub gives : ShiftsStack map.jumps map.frame code (at + 4)
+  pub zero : Immediate
+  pub zero_is : Zero zero
+  pub goes : code (at + 4 + 4 * words_of_shift map.jumps) ≡ Some (Jalr zero_register ra zero)
 
 -- a token is held or taken back: the routine is called with the address of its slot in a0
 abbrev pub CallsForToken : Map → Forms → Code → ℕ → Symbol → List Operand → Type 0
@@ -125,14 +143,13 @@ LinesAt map forms code start whole at (line ∷ lines) =
 -- taken, and the way back saved in its first word
 pub record EntersAt (map : Map) (code : Code) (at : ℕ) : Type 0 where
   pub bottom : UpperImmediate
-  pub bottom_is : bottom.word ≡ map.bottom
+  pub bottom_is : bottom.word ≡ map.bottom + frame_bias map.jumps
   pub sets : code at ≡ Some (Lui t0 bottom)
   pub full : (target : ℕ) → IsSymbolAt map symbol.StackFull target → BranchesOn map.jumps Far code (at + 4) Equal sp t0 target
-  pub frame : Immediate
-  pub frame_is : frame.word ≡ 2 ^ 32 - map.frame
-  pub zero : Immediate
-  pub zero_is : Zero zero
-  pub takes : Has code (at + 8 + 4 * words_of_jump map.jumps) (Addi sp sp frame ∷ Sw sp ra zero ∷ [])
+  pub takes : ShiftsStack map.jumps (2 ^ 32 - map.frame) code (at + 8 + 4 * words_of_jump map.jumps)
+  pub back : Immediate
+  pub back_is : IsFromPointer map.jumps 0 back
+  pub saves : code (at + 8 + 4 * words_of_jump map.jumps + 4 * words_of_shift map.jumps) ≡ Some (Sw sp ra back)
 
 pub record FunctionAt (map : Map) (code : Code) (at : ℕ) (function : PlacedLines) : Type 0 where
   pub entry : EntersAt map code at

@@ -23,7 +23,7 @@ use Rattle.cell_heap.specs.Blocks.{Cells}
 use Rattle.cell_heap.specs.Known.{HoldsCells}
 use Rattle.cell_runtime.specs.declared.start.TheConstants.{TEXT_WORDS}
 use Rattle.rv_world.specs.World.{World, primitives}
-use Rattle.rv_place.specs.Addresses.{slot_offset}
+use Rattle.rv_place.specs.Addresses.{frame_bias, slot_offset}
 use Rattle.rv_place.specs.Lines.{Map, LinesAt}
 use Rattle.rv_place.specs.Grounds.{stack_end, Rests}
 use Rattle.rv_place.specs.declared.reach.Forms.{Forms}
@@ -88,7 +88,7 @@ abbrev pub AwaitsFirst : Option ℕ → Type 0
 AwaitsFirst None = Unit {0}
 AwaitsFirst (Some x) = x ≡ 10
 
--- The frames from the newest one on, which goes on at an address, and whose base is the stack pointer. The first word of each is the address where
+-- The frames from the newest one on, which goes on at an address, and whose first word is at another. The first word of each is the address where
 -- the frame goes on that waits for it; behind the oldest frame that is the stop, and the stack ends.
 abbrev pub FramesAt : Map → Code → ℕ → ℕ → ℕ → (ℕ → ℕ) → ℕ → ℕ → List (Frame PlacedLine) → Type 0
 FramesAt map code most stop roof memory at base [] = (at ≡ stop) × (base ≡ roof)
@@ -121,9 +121,11 @@ pub record Running (map : Map) (pool : Pool) (functions : List PlacedLines) (dep
   pub left : s.left ≡ t.shared.left
   pub bytes : All (λ byte. byte < 256) s.left
   pub room : length t.frames ≤ depth
-  pub frames : FramesAt map code (most_lines functions) stop (stack_end map depth) s.memory s.pc (value s.registers 2) t.frames
+  pub base : ℕ
+  pub base_is : value s.registers 2 ≡ base + frame_bias map.jumps
+  pub frames : FramesAt map code (most_lines functions) stop (stack_end map depth) s.memory s.pc base t.frames
   pub registers : Agrees t.registers s.registers
-  pub cells : HoldsCells pool t.shared.cells (links_of map (value s.registers 2) t.frames) s
+  pub cells : HoldsCells pool t.shared.cells (links_of map base t.frames) s
 
 -- the lines that are left of the running frame
 abbrev pub lines_left : List (Frame PlacedLine) → ℕ

@@ -1,5 +1,5 @@
 -- What a text is made of: the runtime's instructions, those of the functions behind them, and the constants behind these.
-use Rattle.std.specs.Prelude.{◌≡◌, ℕ, ◌+◌, ◌*◌, ◌%◌, ◌≤◌, List, ◌++◌, length}
+use Rattle.std.specs.Prelude.{◌≡◌, ℕ, ◌+◌, ◌-◌, ◌*◌, ◌%◌, ◌≤◌, List, ◌++◌, length, cond, nat_lt}
 use Rattle.elf_image.specs.Program.{text_start, memory_start}
 use Rattle.rv_isa.specs.declared.instr.Instr.{Instr}
 use Rattle.rv_isa.specs.declared.placed.Placed.{Placed}
@@ -10,17 +10,17 @@ use Rattle.cell_runtime.specs.Lines.{Spells, AreWithin, words_of, labels_of}
 use Rattle.cell_heap.specs.Pool.{Pool}
 use Rattle.cell_runtime.specs.Texts.{pool_of, greatest_reach}
 use Rattle.rv_world.specs.Operations.{Constants, all_bytes}
-use Rattle.rv_place.specs.Addresses.{reach_of, jump_words, words_of_functions, entries_from, frame_size}
+use Rattle.rv_place.specs.Addresses.{reach_of, jump_words, words_of_functions, entries_from, frame_size, frame_bias}
 use Rattle.rv_place.specs.Lines.{Map, FunctionsAt}
 use Rattle.rv_place.specs.declared.reach.Reach.{Reach}
-use Rattle.rv_place.specs.declared.reach.Reach.TheVariants.{Near}
+use Rattle.rv_place.specs.declared.reach.Reach.TheVariants.{Near, Wide}
 use Rattle.rv_place.specs.declared.words.Words.{Words}
 
 -- ---- what can be placed
 
 -- the most instructions of the lines of all functions, each counted at its most and without the functions' entries
 abbrev pub most_text_length : ℕ
-most_text_length = 400000000
+most_text_length = 448000000
 
 -- the most functions of a program
 abbrev pub most_functions : ℕ
@@ -30,9 +30,9 @@ most_functions = 1024
 abbrev pub most_runtime_words : ℕ
 most_runtime_words = 1024
 
--- the most instructions of a text, where each function has an entry of 6 at most
+-- the most instructions of a text, where each function has an entry of 7 at most
 abbrev pub most_text_words : ℕ
-most_text_words = most_runtime_words + 6 * most_functions + most_text_length
+most_text_words = most_runtime_words + 7 * most_functions + most_text_length
 
 -- the most constant bytes of a program
 abbrev pub most_constant_bytes : ℕ
@@ -47,22 +47,25 @@ abbrev pub greatest_bottom : ℕ
 greatest_bottom = 268435456
 
 -- A runtime and a program that can be placed: the stack begins at a page, so that one LUI gives the address of its lowest frame;
--- frames are at most 2,044 bytes, so that each slot is within reach of the stack pointer; and the text is small enough for a text part.
+-- frames are at most 4,088 bytes, so that each slot is within reach of the stack pointer; and the text is small enough for a text part.
 pub record ArePlaceable (runtime program : Placed) : Type 0 where
   pub lines : AreWithin greatest_reach runtime.natives.items
   pub runtime_size : words_of runtime.natives.items ≤ most_runtime_words
   pub bottom : runtime.memory.stack_bottom ≤ greatest_bottom
   pub bottom_page : runtime.memory.stack_bottom % 4096 ≡ 0
-  pub frames : frame_size (placed_functions program) ≤ 2044
+  pub frames : frame_size (placed_functions program) ≤ 4088
   pub few_functions : length (placed_functions program) ≤ most_functions
   pub short : placed_functions_length (placed_functions program) ≤ most_text_length
   pub few_bytes : length (all_bytes (placed_constants program)) ≤ most_constant_bytes
 
 -- ---- the text
 
--- how far jumps lead: where the text is few instructions with near jumps, they are near
+-- How far jumps lead. Where a frame is larger than a load reaches from its first word, they lead anywhere; else, where the text is few
+-- instructions with near jumps, they are near.
 abbrev pub jumps_of : Placed → Placed → Reach
-jumps_of runtime program = reach_of jump_words (words_of runtime.natives.items + words_of_functions Near (placed_functions program))
+jumps_of runtime program =
+    cond (nat_lt 2044 (frame_size (placed_functions program))) Wide
+    (reach_of jump_words (words_of runtime.natives.items + words_of_functions Near (placed_functions program)))
 
 -- how many instructions a text has
 abbrev pub text_words : Placed → Placed → ℕ
@@ -88,7 +91,7 @@ abbrev pub map_of : Placed → Placed → Map
 map_of runtime program = record {
   jumps = jumps_of runtime program;
   frame = frame_size (placed_functions program);
-  bottom = memory_of runtime program + runtime.memory.stack_bottom;
+  bottom = memory_of runtime program + runtime.memory.stack_bottom - frame_bias (jumps_of runtime program);
   entries = entries_from (jumps_of runtime program) (text_start + 4 * words_of runtime.natives.items) (placed_functions program);
   runtime = text_start;
   labels = labels_of 0 runtime.natives.items;

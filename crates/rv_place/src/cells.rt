@@ -2,9 +2,10 @@
 
 ghost use Rattle.std.specs.Prelude.{◌≡◌, ℕ, ◌+◌, ◌*◌, ◌≤◌, Some, OnOk};
 ghost use Rattle.rv_isa.specs.PlacedMachine.{only_slot};
-ghost use Rattle.rv_place.specs.Addresses.{slot_offset, slots_of_operands};
+ghost use Rattle.rv_place.specs.Addresses.{greatest_frame, slot_offset, slots_of_operands};
 ghost use Rattle.rv_place.specs.Instructions.{RaisesCount, FreesToken, words_of_jump};
 ghost use Rattle.rv_place.specs.Texts.{greatest_address};
+ghost use Rattle.rv_place.specs.Lines.{IsFromPointer};
 ghost use Rattle.rv_place.specs.Emitted.{Grew, TokenCalled};
 
 use crate::emit::{emit, emit_call, slot_offset};
@@ -94,9 +95,9 @@ pub fn emit_free(code: &mut Vec<Instr>, token: Register) -> Result<(), NoMemory>
 }
 
 /// The offset of the slot of a token from the stack pointer.
-fn token_offset(args: &[Operand]) -> Immediate
-    requires { 4 * slots_of_operands args.now + 4 ≤ 2044 }
-    ensures { (k : ℕ) → only_slot args.now ≡ Some k → result.word ≡ slot_offset k }
+fn token_offset(jumps: Reach, args: &[Operand]) -> Immediate
+    requires { 4 * slots_of_operands args.now + 4 ≤ greatest_frame jumps }
+    ensures { (k : ℕ) → only_slot args.now ≡ Some k → IsFromPointer jumps (slot_offset k) result }
 {
     match args.first() {
         Some(
@@ -104,7 +105,7 @@ fn token_offset(args: &[Operand]) -> Immediate
                 place: Place::Slot(slot),
                 ..
             },
-        ) => slot_offset(*slot),
+        ) => slot_offset(jumps, *slot),
         _ => Immediate::ZERO,
     }
 }
@@ -118,7 +119,7 @@ pub fn emit_token(
     target: u32,
 ) -> Result<(), NoMemory>
     requires at { at ≤ greatest_address }
-    requires slots { 4 * slots_of_operands args.now + 4 ≤ 2044 }
+    requires slots { 4 * slots_of_operands args.now + 4 ≤ greatest_frame jumps }
     ensures { OnOk result (Grew (1 + words_of_jump jumps) (TokenCalled jumps args.now target at) code.old.items code.new.items) }
 {
     emit(
@@ -126,7 +127,7 @@ pub fn emit_token(
         Instr::Addi {
             rd: Register::A0,
             rs1: Register::SP,
-            imm: token_offset(args),
+            imm: token_offset(jumps, args),
         },
     )?;
     emit_call(code, at + 4, jumps, target)?;

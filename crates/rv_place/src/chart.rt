@@ -13,7 +13,7 @@ pub struct Chart {
     pub jumps: Reach,
     /// The bytes of a frame.
     pub frame: u32,
-    /// The address of the lowest frame.
+    /// Where the stack pointer stands in the lowest frame.
     pub bottom: u32,
     /// The addresses of the functions.
     pub entries: Vec<u32>,

@@ -3,11 +3,13 @@
 ghost use Rattle.std.specs.Prelude.{◌≡◌, ◌+◌, ◌-◌, ◌*◌, ◌%◌, ◌^◌, ◌≤◌, Some, OnOk, max};
 ghost use Rattle.rv_isa.specs.Arithmetic.{sum_word};
 ghost use Rattle.rv_isa.specs.PlacedCode.{from_of, to_of};
-ghost use Rattle.rv_place.specs.declared.reach.Reach.TheVariants.{Near, Far};
-ghost use Rattle.rv_place.specs.Addresses.{slot_offset, slots_of_place, branch_words, jump_words, entry_words};
+ghost use Rattle.rv_isa.specs.declared.instr.Instr.TheVariants.{Addi};
+ghost use Rattle.rv_place.specs.declared.reach.Reach.TheVariants.{Near, Far, Wide};
+ghost use Rattle.rv_place.specs.Addresses.{slot_offset, slots_of_place, branch_words, jump_words, entry_words, frame_bias, greatest_frame, words_of_shift};
 ghost use Rattle.rv_place.specs.Registers.{zero_register, ra, sp, t0};
 ghost use Rattle.rv_place.specs.Instructions.{LoadsWord, words_of_jump, words_of_branch, JumpsBy, JumpsTo, CallsTo, BranchesOn, branch_instruction, opposite};
 ghost use Rattle.rv_place.specs.Texts.{greatest_address};
+ghost use Rattle.rv_place.specs.Lines.{IsFromPointer, ShiftsStack};
 ghost use Rattle.rv_place.specs.Emitted.{Grew, AreNear, JumpReaches, BranchReaches, TakesFrame, ReturnBy, EntryBy, MoveBy};
 
 use crate::chart::Chart;
@@ -115,7 +117,7 @@ fn emit_jump_by(
 {
     match reach {
         Reach::Near => emit_near_jump(code, at, back, target),
-        Reach::Far => emit_far_jump(code, back, target),
+        Reach::Far | Reach::Wide => emit_far_jump(code, back, target),
     }
 }
 
@@ -238,49 +240,109 @@ pub fn emit_branch(
 {
     match forms.branches {
         Reach::Near => emit_near_branch(code, at, condition, left, right, target),
-        Reach::Far => emit_far_branch(code, at, forms.jumps, condition, left, right, target),
+        Reach::Far | Reach::Wide => {
+            emit_far_branch(code, at, forms.jumps, condition, left, right, target)
+        }
     }
 }
 
 // ---- frames
 
-/// An immediate that is a number of bytes within a frame.
-fn small(number: u32) -> Immediate
-    requires { number ≤ 2044 }
-    ensures { result.word ≡ number }
+/// The offset from the stack pointer of what stands so far above the first word of its frame.
+fn from_pointer(jumps: Reach, above: u32) -> Immediate
+    requires { above ≤ greatest_frame jumps }
+    ensures { IsFromPointer jumps above result }
 {
-    Immediate::new(number)
+    Immediate::new(above.wrapping_sub(jumps.frame_bias()))
 }
 
 /// The offset of a slot from the stack pointer.
-pub fn slot_offset(slot: u32) -> Immediate
-    requires { slot_offset slot ≤ 2044 }
-    ensures { result.word ≡ slot_offset slot }
+pub fn slot_offset(jumps: Reach, slot: u32) -> Immediate
+    requires { slot_offset slot ≤ greatest_frame jumps }
+    ensures { IsFromPointer jumps (slot_offset slot) result }
 {
-    small(4 * slot + 4)
+    from_pointer(jumps, 4 * slot + 4)
+}
+
+/// Adds to the stack pointer.
+fn emit_addition(code: &mut Vec<Instr>, imm: Immediate) -> Result<(), NoMemory>
+    ensures { OnOk result (Grew 1 (λ c at. c at ≡ Some (Addi sp sp imm)) code.old.items code.new.items) }
+{
+    emit(
+        code,
+        Instr::Addi {
+            rd: Register::SP,
+            rs1: Register::SP,
+            imm,
+        },
+    )
+}
+
+/// Adds to the stack pointer, in two parts.
+fn emit_additions(
+    code: &mut Vec<Instr>,
+    first: Immediate,
+    second: Immediate,
+) -> Result<(), NoMemory>
+    ensures { OnOk result (Grew 2 (ShiftsStack Wide (sum_word first.word second.word)) code.old.items code.new.items) }
+{
+    emit_addition(code, first)?;
+    emit_addition(code, second)?;
+    Ok(())
+}
+
+/// Gives a frame back.
+fn emit_raising(code: &mut Vec<Instr>, jumps: Reach, frame: u32) -> Result<(), NoMemory>
+    requires { frame ≤ greatest_frame jumps }
+    ensures { OnOk result (Grew (words_of_shift jumps) (ShiftsStack jumps frame) code.old.items code.new.items) }
+{
+    match jumps {
+        Reach::Near | Reach::Far => emit_addition(code, Immediate::new(frame)),
+        Reach::Wide => {
+            let half = frame / 2;
+            emit_additions(code, Immediate::new(half), Immediate::new(frame - half))
+        }
+    }
+}
+
+/// A number, subtracted from 0.
+fn negative(number: u32) -> Immediate
+    requires some { 1 ≤ number }
+    requires few { number ≤ 2044 }
+    ensures { result.word ≡ 2 ^ 32 - number }
+{
+    Immediate::new(0u32.wrapping_sub(number))
+}
+
+/// Takes a frame.
+fn emit_lowering(code: &mut Vec<Instr>, jumps: Reach, frame: u32) -> Result<(), NoMemory>
+    requires some { 4 ≤ frame }
+    requires few { frame ≤ greatest_frame jumps }
+    ensures { OnOk result (Grew (words_of_shift jumps) (ShiftsStack jumps (2 ^ 32 - frame)) code.old.items code.new.items) }
+{
+    match jumps {
+        Reach::Near | Reach::Far => emit_addition(code, negative(frame)),
+        Reach::Wide => {
+            let half = frame / 2;
+            emit_additions(code, negative(half), negative(frame - half))
+        }
+    }
 }
 
 /// A return: takes the way back from the frame, gives the frame back and goes there.
 pub fn emit_return(code: &mut Vec<Instr>, chart: &Chart) -> Result<(), NoMemory>
-    requires { chart.now.frame ≤ 2044 }
-    ensures { OnOk result (Grew 3 (ReturnBy chart.now) code.old.items code.new.items) }
+    requires { chart.now.frame ≤ greatest_frame chart.now.jumps }
+    ensures { OnOk result (Grew (2 + words_of_shift chart.now.jumps) (ReturnBy chart.now) code.old.items code.new.items) }
 {
     emit(
         code,
         Instr::Lw {
             rd: Register::RA,
             rs1: Register::SP,
-            imm: Immediate::ZERO,
+            imm: from_pointer(chart.jumps, 0),
         },
     )?;
-    emit(
-        code,
-        Instr::Addi {
-            rd: Register::SP,
-            rs1: Register::SP,
-            imm: small(chart.frame),
-        },
-    )?;
+    emit_raising(code, chart.jumps, chart.frame)?;
     emit(
         code,
         Instr::Jalr {
@@ -293,25 +355,18 @@ pub fn emit_return(code: &mut Vec<Instr>, chart: &Chart) -> Result<(), NoMemory>
 }
 
 /// Takes a frame, and saves the way back in its first word.
-fn emit_taking(code: &mut Vec<Instr>, frame: u32) -> Result<(), NoMemory>
-    requires some { 1 ≤ frame }
-    requires few { frame ≤ 2044 }
-    ensures { OnOk result (Grew 2 (λ c at. TakesFrame frame c at) code.old.items code.new.items) }
+fn emit_taking(code: &mut Vec<Instr>, jumps: Reach, frame: u32) -> Result<(), NoMemory>
+    requires some { 4 ≤ frame }
+    requires few { frame ≤ greatest_frame jumps }
+    ensures { OnOk result (Grew (1 + words_of_shift jumps) (λ c at. TakesFrame jumps frame c at) code.old.items code.new.items) }
 {
-    emit(
-        code,
-        Instr::Addi {
-            rd: Register::SP,
-            rs1: Register::SP,
-            imm: Immediate::new(0u32.wrapping_sub(frame)),
-        },
-    )?;
+    emit_lowering(code, jumps, frame)?;
     emit(
         code,
         Instr::Sw {
             rs1: Register::SP,
             rs2: Register::RA,
-            imm: Immediate::ZERO,
+            imm: from_pointer(jumps, 0),
         },
     )?;
     Ok(())
@@ -327,8 +382,8 @@ fn page(address: u32) -> UpperImmediate
 /// The entry of a function, at the address `at`: where no frame is left, the stop for a full stack; else a frame is taken.
 pub fn emit_entry(code: &mut Vec<Instr>, at: u32, chart: &Chart) -> Result<(), NoMemory>
     requires at { at + 4 ≤ greatest_address }
-    requires some { 1 ≤ chart.now.frame }
-    requires few { chart.now.frame ≤ 2044 }
+    requires some { 4 ≤ chart.now.frame }
+    requires few { chart.now.frame ≤ greatest_frame chart.now.jumps }
     ensures { OnOk result (Grew (entry_words chart.now.jumps) (EntryBy chart.now at) code.old.items code.new.items) }
 {
     emit(
@@ -347,13 +402,13 @@ pub fn emit_entry(code: &mut Vec<Instr>, at: u32, chart: &Chart) -> Result<(), N
         Register::T0,
         chart.symbols.stack_full,
     )?;
-    emit_taking(code, chart.frame)?;
+    emit_taking(code, chart.jumps, chart.frame)?;
     Ok(())
 }
 
 /// A move.
 pub fn emit_move(code: &mut Vec<Instr>, chart: &Chart, way: Way) -> Result<(), NoMemory>
-    requires frame { chart.now.frame ≤ 2044 }
+    requires frame { chart.now.frame ≤ greatest_frame chart.now.jumps }
     requires slots { 4 * max (slots_of_place (from_of way)) (slots_of_place (to_of way)) + 4 ≤ chart.now.frame }
     ensures { OnOk result (Grew 1 (MoveBy chart.now way) code.old.items code.new.items) }
 {
@@ -371,7 +426,7 @@ pub fn emit_move(code: &mut Vec<Instr>, chart: &Chart, way: Way) -> Result<(), N
             Instr::Lw {
                 rd: to,
                 rs1: Register::SP,
-                imm: slot_offset(from),
+                imm: slot_offset(chart.jumps, from),
             },
         ),
         Way::Store { from, to } => emit(
@@ -379,7 +434,7 @@ pub fn emit_move(code: &mut Vec<Instr>, chart: &Chart, way: Way) -> Result<(), N
             Instr::Sw {
                 rs1: Register::SP,
                 rs2: from,
-                imm: slot_offset(to),
+                imm: slot_offset(chart.jumps, to),
             },
         ),
     }

@@ -4,7 +4,7 @@ ghost use Rattle.std.specs.Prelude.{◌≡◌, ℕ, ◌+◌, ◌*◌, ◌^◌, �
 ghost use Rattle.rv_isa.specs.Costs.{placed_code_length, placed_functions_length};
 ghost use Rattle.rv_isa.specs.PlacedCode.{placed_line_of, placed_lines_of};
 ghost use Rattle.rv_isa.specs.PlacedMachine.{is_label_line};
-ghost use Rattle.rv_place.specs.Addresses.{words_of_action, words_of_line, words_of_lines, words_of_function, words_of_functions, label_address, slots_of_operands, slots_of_line, slots_of_lines, slots_of_functions};
+ghost use Rattle.rv_place.specs.Addresses.{words_of_action, words_of_line, words_of_lines, words_of_function, words_of_functions, label_address, greatest_frame, slots_of_operands, slots_of_line, slots_of_lines, slots_of_functions};
 ghost use Rattle.rv_place.specs.Texts.{most_text_length, most_functions, greatest_address};
 ghost use Rattle.rv_place.specs.Emitted.{Grew, ActionBy, LineBy, LinesBy, FunctionBy, FunctionsBy};
 
@@ -30,7 +30,8 @@ fn emit_action(
     into: Option<Operand>,
 ) -> Result<(), NoMemory>
     requires at { at ≤ greatest_address }
-    requires frame { chart.now.frame ≤ 2044 }
+    requires same { labels.now.forms.jumps ≡ chart.now.jumps }
+    requires frame { chart.now.frame ≤ greatest_frame chart.now.jumps }
     requires slots { 4 * slots_of_operands args.now + 4 ≤ chart.now.frame }
     ensures { OnOk result (Grew (words_of_action labels.now.forms action) (ActionBy chart.now labels.now at action args.now into) code.old.items code.new.items) }
 {
@@ -69,7 +70,8 @@ fn emit_item(
     item: &Item,
 ) -> Result<(), NoMemory>
     requires at { at ≤ greatest_address }
-    requires frame { chart.now.frame ≤ 2044 }
+    requires same { labels.now.forms.jumps ≡ chart.now.jumps }
+    requires frame { chart.now.frame ≤ greatest_frame chart.now.jumps }
     requires slots { 4 * slots_of_line (placed_line_of item.now) + 4 ≤ chart.now.frame }
     ensures { OnOk result (Grew (words_of_line labels.now.forms (placed_line_of item.now)) (LineBy chart.now labels.now at (placed_line_of item.now)) code.old.items code.new.items) }
 {
@@ -92,8 +94,9 @@ fn emit_items(
     labels: &Labels,
     items: &[Item],
 ) -> Result<(), NoMemory>
+    requires same { labels.now.forms.jumps ≡ chart.now.jumps }
     requires fits { start + 4 * placed_code_length (map placed_line_of items.now) ≤ greatest_address }
-    requires frame { chart.now.frame ≤ 2044 }
+    requires frame { chart.now.frame ≤ greatest_frame chart.now.jumps }
     requires slots { 4 * slots_of_lines (map placed_line_of items.now) + 4 ≤ chart.now.frame }
     ensures { OnOk result (Grew (words_of_lines labels.now.forms (map placed_line_of items.now)) (LinesBy chart.now labels.now start (map placed_line_of items.now)) code.old.items code.new.items) }
 {
@@ -113,10 +116,10 @@ fn emit_function(
     entry: u32,
     function: &PlacedFunction,
 ) -> Result<(), NoMemory>
-    requires fits { entry + 4 * (6 + placed_code_length (map placed_line_of function.now.code.items)) ≤ greatest_address }
+    requires fits { entry + 4 * (7 + placed_code_length (map placed_line_of function.now.code.items)) ≤ greatest_address }
     requires short { placed_code_length (map placed_line_of function.now.code.items) ≤ most_text_length }
-    requires some_frame { 1 ≤ chart.now.frame }
-    requires frame { chart.now.frame ≤ 2044 }
+    requires some_frame { 4 ≤ chart.now.frame }
+    requires frame { chart.now.frame ≤ greatest_frame chart.now.jumps }
     requires slots { 4 * slots_of_lines (map placed_line_of function.now.code.items) + 4 ≤ chart.now.frame }
     ensures { OnOk result (Grew (words_of_function chart.now.jumps (placed_lines_of function.now)) (FunctionBy chart.now entry (placed_lines_of function.now)) code.old.items code.new.items) }
 {
@@ -139,8 +142,8 @@ pub fn emit_functions(
     requires entry { entry ≤ 1048576 }
     requires few { length functions.now ≤ most_functions }
     requires short { placed_functions_length (map placed_lines_of functions.now) ≤ most_text_length }
-    requires some_frame { 1 ≤ chart.now.frame }
-    requires frame { chart.now.frame ≤ 2044 }
+    requires some_frame { 4 ≤ chart.now.frame }
+    requires frame { chart.now.frame ≤ greatest_frame chart.now.jumps }
     requires slots { 4 * slots_of_functions (map placed_lines_of functions.now) + 4 ≤ chart.now.frame }
     ensures { OnOk result (Grew (words_of_functions chart.now.jumps (map placed_lines_of functions.now)) (FunctionsBy chart.now entry (map placed_lines_of functions.now)) code.old.items code.new.items) }
 {

@@ -1,16 +1,18 @@
-// How far jumps and branches lead.
+// How far jumps and branches lead, and how large frames are.
 
 ghost use Rattle.std.specs.Prelude.{◌≡◌, ◌≤◌};
 ghost use Rattle.rv_place.specs.Instructions.{words_of_jump, words_of_branch};
-ghost use Rattle.rv_place.specs.Addresses.{entry_words, reach_of};
+ghost use Rattle.rv_place.specs.Addresses.{entry_words, frame_bias, reach_of, words_of_shift};
 
-/// How far a jump or a branch leads.
+/// How far a jump or a branch leads; of the jumps of a text also whether its frames are wide.
 #[derive(Clone, Copy, PartialEq, Eq, Debug)]
 pub enum Reach {
     /// As far as its own instruction can name.
     Near,
     /// Anywhere.
     Far,
+    /// Anywhere, where frames are larger than a load reaches from their first word.
+    Wide,
 }
 
 /// How far the jumps of a function and its branches lead.
@@ -40,16 +42,38 @@ impl Reach {
     {
         match self {
             Reach::Near => 1,
-            Reach::Far => 2,
+            Reach::Far | Reach::Wide => 2,
+        }
+    }
+
+    /// How many instructions give the stack pointer another frame.
+    pub fn words_of_shift(self) -> u32
+        ensures words { result ≡ words_of_shift self }
+        ensures some { 1 ≤ result }
+        ensures few { result ≤ 2 }
+    {
+        match self {
+            Reach::Near | Reach::Far => 1,
+            Reach::Wide => 2,
+        }
+    }
+
+    /// How far above a frame's first word the stack pointer stands.
+    pub fn frame_bias(self) -> u32
+        ensures { result ≡ frame_bias self }
+    {
+        match self {
+            Reach::Near | Reach::Far => 0,
+            Reach::Wide => 2048,
         }
     }
 
     /// How many instructions the entry of a function is.
     pub fn entry_words(self) -> u32
         ensures words { result ≡ entry_words self }
-        ensures few { result ≤ 6 }
+        ensures few { result ≤ 7 }
     {
-        4 + self.words_of_jump()
+        3 + self.words_of_jump() + self.words_of_shift()
     }
 }
 
@@ -61,7 +85,7 @@ impl Forms {
     {
         match self.branches {
             Reach::Near => 1,
-            Reach::Far => 1 + self.jumps.words_of_jump(),
+            Reach::Far | Reach::Wide => 1 + self.jumps.words_of_jump(),
         }
     }
 }

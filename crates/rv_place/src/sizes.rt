@@ -1,7 +1,7 @@
 // How many instructions code is, how many bytes constants, and how large frames are.
 
 ghost use Rattle.std.specs.Prelude.{◌≡◌, ◌+◌, ◌*◌, ◌≤◌, length, map, max};
-ghost use Rattle.rv_isa.specs.Costs.{operation_instructions, action_instructions, placed_line_length, placed_code_length, placed_functions_length};
+ghost use Rattle.rv_isa.specs.Costs.{operation_instructions, action_length, placed_line_length, placed_code_length, placed_functions_length};
 ghost use Rattle.rv_isa.specs.PlacedCode.{placed_line_of, placed_lines_of, placed_functions, from_of, to_of};
 ghost use Rattle.rv_world.specs.Operations.{all_bytes};
 ghost use Rattle.cell_runtime.specs.Lines.{words_of};
@@ -30,7 +30,7 @@ fn words_of_operation(operation: Operation) -> u32
 /// How many instructions an action is.
 fn words_of_action(forms: Forms, action: Action) -> u32
     ensures words { result ≡ words_of_action forms action }
-    ensures few { result ≤ action_instructions action }
+    ensures few { result ≤ action_length action }
 {
     let jump = forms.jumps.words_of_jump();
     match action {
@@ -38,7 +38,7 @@ fn words_of_action(forms: Forms, action: Action) -> u32
         Action::Label(_) => 0,
         Action::Jump(_) | Action::Call(_) | Action::TailCall(_) | Action::Routine(_) => jump,
         Action::Branch(_, _) => forms.words_of_branch(),
-        Action::Return => 3,
+        Action::Return => 2 + forms.jumps.words_of_shift(),
         Action::Hold | Action::Unhold => 1 + jump,
     }
 }
@@ -89,7 +89,7 @@ pub const JUMP_WORDS: u32 = 262_144;
 pub fn words_of_function(jumps: Reach, function: &PlacedFunction) -> u32
     requires { placed_code_length (map placed_line_of function.now.code.items) ≤ most_text_length }
     ensures words { result ≡ words_of_function jumps (placed_lines_of function.now) }
-    ensures few { result ≤ 6 + placed_code_length (map placed_line_of function.now.code.items) }
+    ensures few { result ≤ 7 + placed_code_length (map placed_line_of function.now.code.items) }
 {
     let forms = forms_of(jumps, &function.code);
     jumps.entry_words() + words_of_items(forms, &function.code)
@@ -100,7 +100,7 @@ pub fn words_of_functions(jumps: Reach, functions: &[PlacedFunction]) -> u32
     requires functions { length functions.now ≤ most_functions }
     requires short { placed_functions_length (map placed_lines_of functions.now) ≤ most_text_length }
     ensures words { result ≡ words_of_functions jumps (map placed_lines_of functions.now) }
-    ensures few { result ≤ 6 * length functions.now + placed_functions_length (map placed_lines_of functions.now) }
+    ensures few { result ≤ 7 * length functions.now + placed_functions_length (map placed_lines_of functions.now) }
 {
     let mut words = 0;
     for function in functions {

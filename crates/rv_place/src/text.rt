@@ -27,14 +27,21 @@ use kk_base::{NoMemory, Text};
 use rv_isa::{Instr, Native, Placed, PlacedFunction};
 use std::alloc::Global;
 
-/// How far the jumps of the text lead: where it is short with near jumps, they are near.
+/// The most bytes of a frame that a load reaches from its first word.
+const NARROW_FRAME: u32 = 2044;
+
+/// How far the jumps of the text lead: anywhere, where frames are wide; else where it is short with near jumps, they are near.
 fn jumps_of(runtime: &Placed, program: &Placed) -> Reach
     requires { ArePlaceable runtime.now program.now }
     ensures { result ≡ jumps_of runtime.now program.now }
 {
     let own = words_of_natives(&runtime.natives);
     let words = own + words_of_functions(Reach::Near, &program.functions);
-    Reach::within(words, JUMP_WORDS)
+    if frame_bytes(program) > NARROW_FRAME {
+        Reach::Wide
+    } else {
+        Reach::within(words, JUMP_WORDS)
+    }
 }
 
 /// How many instructions the text has.

@@ -18,7 +18,7 @@ frame_bytes-requires c = let few = slots_most (placed_functions c.in_ok-program.
 
 pub text-requires-clause-frame : goal.text-requires-clause-frame
 text-requires-clause-frame c =
-    let small : frame_size (placed_functions c.in_ok-program.program) ≤ 2044 = frame_most (placed_functions c.in_ok-program.program) c.in_ok-program.ensures.shape.slots in
+    let small : frame_size (placed_functions c.in_ok-program.program) ≤ 4088 = frame_most (placed_functions c.in_ok-program.program) c.in_ok-program.ensures.shape.slots in
     let is : c.frame_bytes.result ≡ frame_size (placed_functions c.in_ok-program.program) = c.frame_bytes.ensures in
     omega (arith, small, is)
 

@@ -59,8 +59,8 @@ write_last-returns-in_ok-write_nodes-in-Case t c =
     on_ok_weaker c.write_arms.result
     (λ bodies. cases_written (facts_of c.args.known.now) (goal_of c.args.goal) c.args.last.now c.in-Case.variable
     c.in-Case.decisions c.in-Case.arms c.in_ok-targets-in-Case.targets
-    c.nodes.result.now c.deref-in-Case.result.now c.deref-in-Case-2.result.now c.in-Case.is c.nodes.ensures
-    c.deref-in-Case.ensures.value c.deref-in-Case-2.ensures.value
+    c.nodes.result.now c.deref-in-Case.result.now c.len.result c.in-Case.is c.nodes.ensures
+    c.deref-in-Case.ensures.value (omega (arith, c.len.ensures, c.in-Case.arms.ok.0))
     c.in_ok-targets-in-Case.ensures c.in_ok-write_nodes-in-Case.ensures bodies)
     c.write_arms.ensures
 

@@ -35,7 +35,7 @@ returns-in-TailCall c =
 pub returns-in-Return : goal.returns-in-Return
 returns-in-Return c =
     on_so c.emit_return.result
-    (on_return c.args.chart.now c.args.labels.now c.args.at c.args.args.now c.args.into c.in-Return.is)
+    (on_return c.args.chart.now c.args.labels.now c.args.at c.args.args.now c.args.into c.in-Return.is c.requires.same)
     c.emit_return.ensures
 
 pub returns-in-Routine : goal.returns-in-Routine

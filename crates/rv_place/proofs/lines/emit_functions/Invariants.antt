@@ -16,5 +16,5 @@ invariant-loop-function l =
           → Grew (words_of_functions l.chart.jumps whole) (FunctionsBy l.chart l.entry whole) l.fn.code.items new;
       slots : slots_of_functions rest ≤ slots_of_functions whole;
       short : placed_functions_length rest ≤ placed_functions_length whole;
-      low : l.at + 4 * placed_functions_length rest ≤ l.entry + 24 * l.function-index + 4 * placed_functions_length whole;
+      low : l.at + 4 * placed_functions_length rest ≤ l.entry + 28 * l.function-index + 4 * placed_functions_length whole;
     }

@@ -10,6 +10,6 @@ invariant-loop-function l =
     let whole = map placed_lines_of l.functions in
     record {
       words : l.words + words_of_functions l.jumps rest ≡ words_of_functions l.jumps whole;
-      few : l.words + placed_functions_length rest ≤ 6 * l.function-index + placed_functions_length whole;
+      few : l.words + placed_functions_length rest ≤ 7 * l.function-index + placed_functions_length whole;
       short : placed_functions_length rest ≤ placed_functions_length whole;
     }

@@ -11,5 +11,5 @@ invariant-loop-function l =
     record {
       same : l.entries.items ++ entries_from l.jumps l.at rest ≡ entries_from l.jumps l.first whole;
       short : placed_functions_length rest ≤ placed_functions_length whole;
-      low : l.at + 4 * placed_functions_length rest ≤ l.first + 24 * l.function-index + 4 * placed_functions_length whole;
+      low : l.at + 4 * placed_functions_length rest ≤ l.first + 28 * l.function-index + 4 * placed_functions_length whole;
     }

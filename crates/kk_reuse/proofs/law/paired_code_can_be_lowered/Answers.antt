@@ -1,0 +1,5 @@
+use Rattle.kk_reuse.proofs.Lowering.{program_low}
+use Rattle.kk_reuse.proofs.law.paired_code_can_be_lowered.Goals as goal
+
+pub returns : goal.returns
+returns c = program_low

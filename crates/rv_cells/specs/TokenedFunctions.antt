@@ -1,0 +1,46 @@
+-- Functions of a program with tokens, as they are lowered one after the other.
+use Rattle.std.specs.Prelude.{◌≡◌, ℕ, ◌+◌, ◌*◌, ◌≤◌, List, ◌++◌, length, Some, slice_get}
+use Rattle.kk_counted.specs.BareForms.{bare_function}
+use Rattle.kk_counted.specs.TokenLengths.{tokened_computes, all_tokened_computes}
+use Rattle.kk_counted.specs.TokenLowerable.{slots_in}
+use Rattle.kk_counted.specs.TokenedCodes.{TokenedFunction}
+use Rattle.kk_counted.specs.declared.shape.Shape.{Shape}
+use Rattle.rv_isa.specs.AsmCode.{Lines}
+use Rattle.rv_lower.specs.Lowered.{returns, from_to}
+use Rattle.rv_world.specs.Operations.{all_bytes}
+use Rattle.rv_cells.specs.Lowered.{facts_for}
+use Rattle.rv_cells.specs.Marking.{function_marks}
+use Rattle.rv_cells.specs.Tables.{table_of}
+use Rattle.rv_cells.specs.TokenedLines.{CodeLines}
+use Rattle.rv_cells.specs.Written.{setting_in}
+
+-- how many variables the function of a number has
+abbrev pub variables_for : Shape → ℕ → TokenedFunction → ℕ
+variables_for shape f function = length (function_marks (table_of shape) f (bare_function function))
+
+-- The lines of the function of a number, by its marks, with its slots behind its variables and its temporaries behind these, where
+-- these constant bytes stand.
+pub record IsTokenedWritten (shape : Shape) (literals texts : List (List ℕ)) (f : ℕ) (function : TokenedFunction) (lines : Lines)
+    : Type 0 where
+  pub params : lines.params ≡ from_to 0 function.parameters
+  pub labels : ℕ
+  pub code : CodeLines
+      (setting_in (facts_for shape literals f (bare_function function)) (variables_for shape f function + slots_in function.body)
+      texts)
+      (variables_for shape f function) returns 0 function.body lines.code labels
+
+-- a function was lowered, and texts were added behind those that stood there
+pub record LoweredTokened (shape : Shape) (literals : List (List ℕ)) (f : ℕ) (function : TokenedFunction) (lines : Lines)
+    (old new : List (List ℕ)) : Type 0 where
+  pub more : List (List ℕ)
+  pub texts : new ≡ old ++ more
+  pub few : length (all_bytes more) ≤ 256 * tokened_computes function.body
+  pub is : (later : List (List ℕ)) → IsTokenedWritten shape literals (new ++ later) f function lines
+
+-- functions were lowered, and these are their texts: they are lowered however many texts come later
+pub record LoweredTokenedFunctions (shape : Shape) (literals : List (List ℕ)) (functions : List TokenedFunction)
+    (each : List Lines) (texts : List (List ℕ)) : Type 0 where
+  pub as_many : length each ≡ length functions
+  pub few : length (all_bytes texts) ≤ 256 * all_tokened_computes functions
+  pub are : (later : List (List ℕ)) (f : ℕ) (function : TokenedFunction) → slice_get functions f ≡ Some function
+      → (lines : Lines) × ((slice_get each f ≡ Some lines) × IsTokenedWritten shape literals (texts ++ later) f function lines)

@@ -1,0 +1,213 @@
+// The code of blocks with tokens.
+
+ghost use Rattle.std.specs.Prelude.{[], ◌∷◌, map, OnOk};
+ghost use Rattle.kk_counted.specs.TokenedForms.{TokenedMove, tokened_code, tokened_last_code, tokened_move};
+ghost use Rattle.rv_lower.specs.Written.{goal_of};
+ghost use Rattle.rv_cells.specs.TokenedWritten.{variables_known, IfOpens, IfFills};
+ghost use Rattle.rv_cells.specs.TokenedWritten.{WroteTokened, WroteTokenedArms, WroteTokenedSteps};
+ghost use Rattle.rv_cells.specs.Written.{facts_of};
+
+use crate::block::take_targets;
+use crate::cells::{write_drop, write_dup, write_reading};
+use crate::decide::write_nodes;
+use crate::known::Known;
+use crate::token_cells::{
+    with_first, write_asking, write_fill, write_freed, write_hold, write_move, write_null,
+    write_token_opening, write_token_test, write_unhold,
+};
+use kk_base::NoMemory;
+use kk_counted::{TokenedBlock, TokenedLast, TokenedStep};
+use rv_lower::{Goal, Lowering, next, write_label, write_tail_call, write_test, write_value};
+
+/// Writes the code of a block. The recursion is as deep as the block.
+#[cycle(write)]
+pub fn write_tokened(
+    lowering: &mut Lowering,
+    known: &Known<'_>,
+    block: &TokenedBlock,
+    goal: Goal,
+) -> Result<(), NoMemory>
+    ensures { OnOk result (WroteTokened (facts_of known.now) (variables_known known.now) (goal_of goal) (tokened_code block.now)
+        lowering.old lowering.new) }
+{
+    write_steps(lowering, known, &block.steps)?;
+    write_last(lowering, known, &block.last, goal)
+}
+
+#[cycle(write)]
+fn write_steps(
+    lowering: &mut Lowering,
+    known: &Known<'_>,
+    steps: &[TokenedStep],
+) -> Result<(), NoMemory>
+    ensures { OnOk result (WroteTokenedSteps (facts_of known.now) (variables_known known.now) (map tokened_move steps.now)
+        lowering.old lowering.new) }
+{
+    for step in steps {
+        write_step(lowering, known, step)?;
+    }
+    Ok(())
+}
+
+#[cycle(write)]
+fn write_step(
+    lowering: &mut Lowering,
+    known: &Known<'_>,
+    step: &TokenedStep,
+) -> Result<(), NoMemory>
+    ensures { OnOk result (WroteTokenedSteps (facts_of known.now) (variables_known known.now) (tokened_move step.now ∷ [])
+        lowering.old lowering.new) }
+{
+    match step {
+        TokenedStep::Let {
+            variable,
+            form,
+            arguments,
+            others,
+        } => write_asking(lowering, known, *variable, *form, arguments, others),
+        TokenedStep::Inside { variable, block } => write_inside(lowering, known, *variable, block),
+        TokenedStep::Read {
+            variable,
+            fields,
+            ..
+        } => write_reading(lowering, *variable, fields),
+        TokenedStep::Open { .. } => write_opened(lowering, known, step),
+        TokenedStep::IfUnique { .. } => write_opened(lowering, known, step),
+        TokenedStep::Dup { variable } => write_dup(lowering, known, *variable),
+        TokenedStep::Drop { variable } => write_drop(lowering, known, *variable),
+        TokenedStep::Fill { .. } => write_filled(lowering, known, step),
+        TokenedStep::Free { slot } => write_freed(lowering, known, *slot),
+        TokenedStep::Null { slot } => write_null(lowering, known, *slot),
+        TokenedStep::Move { to, from } => write_move(lowering, known, *to, *from),
+        TokenedStep::Hold { slot } => write_hold(lowering, known, *slot),
+        TokenedStep::Unhold { slot } => write_unhold(lowering, known, *slot),
+    }
+}
+
+/// The lines of a step that opens a cell, whose slot may take it.
+fn write_opened(
+    lowering: &mut Lowering,
+    known: &Known<'_>,
+    step: &TokenedStep,
+) -> Result<(), NoMemory>
+    ensures { OnOk result (IfOpens step.now (WroteTokenedSteps (facts_of known.now) (variables_known known.now)
+        (tokened_move step.now ∷ []) lowering.old lowering.new)) }
+{
+    match step {
+        TokenedStep::Open {
+            variable,
+            fields,
+            used,
+            slot,
+            ..
+        } => write_token_opening(lowering, known, *variable, fields, used, *slot),
+        TokenedStep::IfUnique {
+            variable,
+            fields,
+            used,
+            slot,
+            ..
+        } => write_token_opening(lowering, known, *variable, fields, used, *slot),
+        _ => Ok(()),
+    }
+}
+
+/// The lines of a step that makes a construction in the cell of a token.
+fn write_filled(
+    lowering: &mut Lowering,
+    known: &Known<'_>,
+    step: &TokenedStep,
+) -> Result<(), NoMemory>
+    ensures { OnOk result (IfFills step.now (WroteTokenedSteps (facts_of known.now) (variables_known known.now)
+        (tokened_move step.now ∷ []) lowering.old lowering.new)) }
+{
+    let TokenedStep::Fill {
+        variable,
+        slot,
+        constructor,
+        first,
+        arguments,
+        others,
+        ..
+    } = step
+    else {
+        return Ok(());
+    };
+    let (token, made) = (known.slot(*slot)?, *constructor);
+    let fields = with_first(lowering.alloc, *first, arguments)?;
+    write_fill(lowering, known, *variable, token, made, &fields, others)
+}
+
+/// The code of a block whose value a variable takes.
+#[cycle(write)]
+fn write_inside(
+    lowering: &mut Lowering,
+    known: &Known<'_>,
+    into: u32,
+    block: &TokenedBlock,
+) -> Result<(), NoMemory>
+    ensures { OnOk result (WroteTokenedSteps (facts_of known.now) (variables_known known.now)
+        (TokenedMove.runs into (tokened_code block.now) ∷ []) lowering.old lowering.new) }
+{
+    let label = lowering.take_label()?;
+    write_tokened(lowering, known, block, Goal::Join(into, label))?;
+    write_label(lowering, label)
+}
+
+#[cycle(write)]
+fn write_last(
+    lowering: &mut Lowering,
+    known: &Known<'_>,
+    last: &TokenedLast,
+    goal: Goal,
+) -> Result<(), NoMemory>
+    ensures { OnOk result (WroteTokened (facts_of known.now) (variables_known known.now) (goal_of goal) (tokened_last_code last.now)
+        lowering.old lowering.new) }
+{
+    match last {
+        TokenedLast::Return(variable) => write_value(lowering, *variable, goal),
+        TokenedLast::TailCall(function, arguments) => {
+            write_tail_call(lowering, *function, arguments)
+        }
+        TokenedLast::If(variable, positive, negative) => {
+            let label = lowering.take_label()?;
+            write_test(lowering, *variable, label)?;
+            write_tokened(lowering, known, positive, goal)?;
+            write_label(lowering, label)?;
+            write_tokened(lowering, known, negative, goal)
+        }
+        TokenedLast::Case(variable, decisions, arms) => {
+            let targets = take_targets(lowering, decisions, arms.len())?;
+            write_nodes(lowering, known, targets, *variable, decisions.nodes())?;
+            write_arms(lowering, known, targets.arms, arms, goal)
+        }
+        TokenedLast::IfToken(slot, there, absent) => {
+            let label = lowering.take_label()?;
+            write_token_test(lowering, known, *slot, label)?;
+            write_tokened(lowering, known, there, goal)?;
+            write_label(lowering, label)?;
+            write_tokened(lowering, known, absent, goal)
+        }
+    }
+}
+
+/// The arms of a case, each behind its label.
+#[cycle(write)]
+fn write_arms(
+    lowering: &mut Lowering,
+    known: &Known<'_>,
+    label: u32,
+    arms: &[TokenedBlock],
+    goal: Goal,
+) -> Result<(), NoMemory>
+    ensures { OnOk result (WroteTokenedArms (facts_of known.now) (variables_known known.now) (goal_of goal) label
+        (map tokened_code arms.now) lowering.old lowering.new) }
+{
+    let mut here = label;
+    for arm in arms {
+        write_label(lowering, here)?;
+        write_tokened(lowering, known, arm, goal)?;
+        here = next(here)?;
+    }
+    Ok(())
+}

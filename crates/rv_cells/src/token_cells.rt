@@ -1,0 +1,208 @@
+// The lines of the forms that touch tokens.
+
+ghost use Rattle.std.specs.Prelude.{◌≡◌, ◌+◌, [], ◌∷◌, IfOk, OnOk};
+ghost use Rattle.rv_isa.specs.declared.asm.Action.TheVariants.{Compute, Hold, Unhold};
+ghost use Rattle.rv_isa.specs.declared.asm.Operation.TheVariants.{Free};
+ghost use Rattle.rv_lower.specs.Lines.{sets, copies_to, acts};
+ghost use Rattle.rv_lower.specs.Written.{Wrote};
+ghost use Rattle.rv_cells.specs.Layout.{header_of};
+ghost use Rattle.rv_cells.specs.CellLines.{hold_lines, unhold_lines};
+ghost use Rattle.rv_cells.specs.TokenedLines.{values_of_slots};
+ghost use Rattle.rv_cells.specs.TokenedWritten.{variables_known, request_lines, token_test_lines, WroteFill, WroteAsk};
+ghost use Rattle.rv_cells.specs.Written.{facts_of, holds_known, layout_known, WroteCountOpening};
+
+use crate::block::write_form;
+use crate::cells::{write_count_opening, write_stores};
+use crate::known::Known;
+use kk_base::NoMemory;
+use kk_syntax::Form;
+use rv_isa::{Action, Condition, Operation, Routine};
+use rv_lower::{Lowering, Reads, act, copy, set, write_label};
+use std::alloc::Global;
+
+/// An opening by the count of the cell: the slot takes one that has no other reference, and else it is null.
+pub fn write_token_opening(
+    lowering: &mut Lowering,
+    known: &Known<'_>,
+    cell: u32,
+    fields: &[u32],
+    used: &[u32],
+    slot: u32,
+) -> Result<(), NoMemory>
+    ensures { OnOk result (WroteCountOpening (holds_known known.now) cell fields.now used.now
+        (copies_to cell (variables_known known.now + slot)) (sets 0 (variables_known known.now + slot) ∷ []) lowering.old
+        lowering.new) }
+{
+    let token = known.slot(slot)?;
+    let begins = [set(0, token)];
+    write_count_opening(
+        lowering,
+        known,
+        cell,
+        fields,
+        used,
+        copy(cell, token),
+        &begins,
+    )
+}
+
+/// Holds tokens, the first of them last. The recursion is as deep as the tokens are many.
+fn write_holds(lowering: &mut Lowering, tokens: &[u32]) -> Result<(), NoMemory>
+    ensures { OnOk result (Wrote (hold_lines tokens.now) lowering.old lowering.new) }
+{
+    let [token, more @ ..] = tokens else {
+        return Ok(());
+    };
+    write_holds(lowering, more)?;
+    lowering.write(&[act(Action::Hold, Reads::One(*token))])
+}
+
+/// Takes tokens back, from the first one on.
+fn write_unholds(lowering: &mut Lowering, tokens: &[u32]) -> Result<(), NoMemory>
+    ensures { OnOk result (Wrote (unhold_lines tokens.now) lowering.old lowering.new) }
+{
+    for token in tokens {
+        lowering.write(&[act(Action::Unhold, Reads::One(*token))])?;
+    }
+    Ok(())
+}
+
+/// Takes a cell while tokens are held.
+fn write_request(lowering: &mut Lowering, into: u32, tokens: &[u32]) -> Result<(), NoMemory>
+    ensures { OnOk result (Wrote (request_lines into tokens.now) lowering.old lowering.new) }
+{
+    write_holds(lowering, tokens)?;
+    lowering.push(Action::Routine(Routine::Take), &[], Some(into))?;
+    write_unholds(lowering, tokens)
+}
+
+/// A construction in the cell of a token, while the tokens of the other slots are held.
+pub fn write_fill(
+    lowering: &mut Lowering,
+    known: &Known<'_>,
+    into: u32,
+    token: u32,
+    constructor: u32,
+    arguments: &[u32],
+    others: &[u32],
+) -> Result<(), NoMemory>
+    ensures { OnOk result (WroteFill into token (values_of_slots (variables_known known.now) others.now)
+        (header_of (layout_known known.now) constructor) arguments.now lowering.old lowering.new) }
+{
+    let filled = lowering.take_label()?;
+    let header = known.header(constructor)?;
+    let tokens = known.slots(lowering.alloc, others)?;
+    let word = lowering.base;
+    lowering.write(&[
+        copy(token, into),
+        copy(into, word),
+        act(
+            Action::Branch(Condition::NotEqual, filled),
+            Reads::One(word),
+        ),
+    ])?;
+    write_request(lowering, into, &tokens)?;
+    write_label(lowering, filled)?;
+    write_stores(lowering, into, header, arguments)
+}
+
+/// The lines of a form on variables, whose value a variable takes. A construction with fields holds the tokens of the other slots.
+pub fn write_asking(
+    lowering: &mut Lowering,
+    known: &Known<'_>,
+    into: u32,
+    form: Form,
+    arguments: &[u32],
+    others: &[u32],
+) -> Result<(), NoMemory>
+    ensures { OnOk result (WroteAsk (facts_of known.now) (variables_known known.now) into form arguments.now others.now
+        lowering.old lowering.new) }
+{
+    let Form::Construct(constructor) = form else {
+        return write_form(lowering, known, into, form, arguments);
+    };
+    if arguments.is_empty() {
+        return write_form(lowering, known, into, form, arguments);
+    }
+    if others.is_empty() {
+        return write_form(lowering, known, into, form, arguments);
+    }
+    lowering.write(&[set(0, into)])?;
+    write_fill(lowering, known, into, into, constructor, arguments, others)
+}
+
+/// A branch to a label where the token of a slot is null.
+pub fn write_token_test(
+    lowering: &mut Lowering,
+    known: &Known<'_>,
+    slot: u32,
+    label: u32,
+) -> Result<(), NoMemory>
+    ensures { OnOk result (Wrote (token_test_lines lowering.old.base (variables_known known.now + slot) label) lowering.old
+        lowering.new) }
+{
+    let token = known.slot(slot)?;
+    let word = lowering.base;
+    lowering.write(&[
+        copy(token, word),
+        act(Action::Branch(Condition::Equal, label), Reads::One(word)),
+    ])
+}
+
+/// The cell of the token of a slot is free.
+pub fn write_freed(lowering: &mut Lowering, known: &Known<'_>, slot: u32) -> Result<(), NoMemory>
+    ensures { OnOk result (Wrote (acts (Compute Free) ((variables_known known.now + slot) ∷ []) ∷ []) lowering.old lowering.new) }
+{
+    let token = known.slot(slot)?;
+    lowering.write(&[act(Action::Compute(Operation::Free), Reads::One(token))])
+}
+
+/// The token of a slot is null.
+pub fn write_null(lowering: &mut Lowering, known: &Known<'_>, slot: u32) -> Result<(), NoMemory>
+    ensures { OnOk result (Wrote (sets 0 (variables_known known.now + slot) ∷ []) lowering.old lowering.new) }
+{
+    let token = known.slot(slot)?;
+    lowering.write(&[set(0, token)])
+}
+
+/// A slot takes the token of another one.
+pub fn write_move(
+    lowering: &mut Lowering,
+    known: &Known<'_>,
+    to: u32,
+    from: u32,
+) -> Result<(), NoMemory>
+    ensures { OnOk result (Wrote (copies_to (variables_known known.now + from) (variables_known known.now + to) ∷ []) lowering.old
+        lowering.new) }
+{
+    let (into, token) = (known.slot(to)?, known.slot(from)?);
+    lowering.write(&[copy(token, into)])
+}
+
+/// The token of a slot is held.
+pub fn write_hold(lowering: &mut Lowering, known: &Known<'_>, slot: u32) -> Result<(), NoMemory>
+    ensures { OnOk result (Wrote (acts Hold ((variables_known known.now + slot) ∷ []) ∷ []) lowering.old lowering.new) }
+{
+    let token = known.slot(slot)?;
+    lowering.write(&[act(Action::Hold, Reads::One(token))])
+}
+
+/// The token of a slot is taken back.
+pub fn write_unhold(lowering: &mut Lowering, known: &Known<'_>, slot: u32) -> Result<(), NoMemory>
+    ensures { OnOk result (Wrote (acts Unhold ((variables_known known.now + slot) ∷ []) ∷ []) lowering.old lowering.new) }
+{
+    let token = known.slot(slot)?;
+    lowering.write(&[act(Action::Unhold, Reads::One(token))])
+}
+
+/// A first variable and others in one list.
+pub fn with_first(alloc: Global, first: u32, more: &[u32]) -> Result<Vec<u32>, NoMemory>
+    ensures { IfOk result (λ all. all.items ≡ first ∷ more.now) }
+{
+    let mut all = Vec::new(alloc);
+    all.push(first)?;
+    for one in more {
+        all.push(*one)?;
+    }
+    Ok(all)
+}

@@ -1,0 +1,6 @@
+use Rattle.rv_place.proofs.Emitting.{on_so}
+use Rattle.rv_place.proofs.Shifting.{shift_narrow}
+use Rattle.rv_place.proofs.emit.emit_lowering.Goals as goal
+
+pub returns-in-Near : goal.returns-in-Near
+returns-in-Near c = on_so c.emit_addition.result (shift_narrow c.in-Near.is c.negative.result c.negative.ensures) c.emit_addition.ensures
