@@ -2,8 +2,8 @@
 -- tokens, and the assembler's machine does the steps of the machine with tokens.
 use Rattle.std.proofs.Common.{◌≡◌, ℕ, zero, suc, ◌+◌, ◌*◌, ◌%◌, ◌<◌, ◌≤◌, false, List, [], ◌∷◌, Some, All, refl, sym, ◌∙◌, ap, subst, arith}
 use Rattle.std.specs.Prelude.{slice_get}
-use Rattle.kk_base.specs.Agreements.{Agree, Does}
-use Rattle.kk_base.specs.Machines.{Machine, mapped, state, weight_of, trace, ending_after}
+use Rattle.kk_base.specs.Agreements.{Agree}
+use Rattle.kk_base.specs.Machines.{Machine, mapped, state, ending_after}
 use Rattle.kk_base.proofs.Agreements.{agree_through, agree_mapped}
 use Rattle.kk_base.proofs.Machines.{state-add, state_ended}
 use Rattle.kk_base.proofs.Simulations.{simulates_many, simulates_agree, simulates_passing}
@@ -198,9 +198,7 @@ module _ (layout : Layout) (marks : CellMarks) (code : TokenedProgram) (constant
       → (counted_after (roomy_cost room) (bare_setting (setting lowering)) input n).control ≡ CountedControl.stopped by
       → Stops n by
   stops_so n by stops =
-      let does : Does tokened (weight_of counted n bare_start + room) (trace counted n bare_start) (ending_after counted n bare_start)
-      start
-      = has_room.downwards n in
+      let does = has_room.downwards n in
       let m = does.steps in
       let ends : ending_after counted n bare_start ≡ Some by = ap counted_end_at stops in
       let control_is : (token_after token_cost (setting lowering) input m).control ≡ TokenControl.stopped by
