@@ -14,19 +14,21 @@ use Rattle.kk_syntax.specs.Shapes.{is_among}
 use Rattle.kk_source.specs.FormEffects.{piece_of}
 use Rattle.kk_counted.specs.Lowerable.{HasArity}
 use Rattle.kk_counted.specs.Marks.{CellMarks, field_marks, HaveMarks, IsFormMarked}
-use Rattle.rv_isa.specs.declared.asm.Action.TheVariants.{Compute, Label, TailCall, Call as Calls}
+use Rattle.rv_isa.specs.declared.asm.Action.TheVariants.{Compute, Label, TailCall, Call as CallOf, Routine as Calls, Hold, Unhold}
 use Rattle.rv_isa.specs.declared.asm.ImmediateOperation.{ImmediateOperation}
 use Rattle.rv_isa.specs.declared.asm.ImmediateOperation.TheVariants.{Addi, Sltiu, Xori}
 use Rattle.rv_isa.specs.declared.asm.Operation.TheVariants as Op
 use Rattle.rv_isa.specs.declared.asm.RegisterOperation.TheVariants as Register
+use Rattle.rv_isa.specs.declared.routine.Routine.TheVariants.{Take}
 use Rattle.rv_isa.specs.AsmCode.{Line}
 use Rattle.rv_isa.specs.Costs.{line_length, code_length}
-use Rattle.rv_lower.specs.Lines.{computes, sets, acts, registers, copies, temporaries}
+use Rattle.rv_lower.specs.Lines.{computes, sets, copies_to, acts, registers, copies, temporaries}
 use Rattle.rv_lower.specs.Lowered.{tail_lines}
 use Rattle.rv_lower.specs.Lines.{MakesTruth, Compares, ComparesWithOne, BinaryLines, PrintLines, AppliedLines}
 use Rattle.rv_cells.specs.Layout.{header_of}
 use Rattle.rv_cells.specs.CellLines.{Loads, Stores, AllLoads, AllStores, dup_lines, drop_lines, dups_lines, drops_lines}
-use Rattle.rv_cells.specs.CellLines.{ConstructLines, OpenLines, UniqueLines}
+use Rattle.rv_cells.specs.CellLines.{ConstructLines, FillLines, OpenLines, UniqueLines, TokenUniqueLines, CountLines}
+use Rattle.rv_cells.specs.CellLines.{hold_lines, unhold_lines}
 use Rattle.rv_cells.specs.CountedLines.{Setting, ComputeLines}
 use Rattle.rv_cells.specs.Written.{end_lines}
 
@@ -110,24 +112,26 @@ module _ (holds : ℕ → Bool) where
       let drop = drop_length base x in
       let fewer = filter_few (is_among used) fields in omega (arith, whole, apart, behind, loads, dups, drop, fewer, few)
 
-  -- both ways of an opening by the count of a cell
-  pub unique_length : (base shared behind x : ℕ) (fields used : List ℕ) (lines : List Line)
-      → UniqueLines base holds shared behind x fields used lines → length fields ≤ 6 → code_length lines ≤ 180
-  unique_length base shared behind x fields used lines is few =
+  -- both ways of an opening by the count of a cell, but the lines at their ends
+  pub count_length : (base shared behind x : ℕ) (fields used : List ℕ) (ends : Line) (begins lines : List Line)
+      → CountLines base holds shared behind x fields used ends begins lines → length fields ≤ 6
+      → code_length lines ≤ 175 + line_length ends + code_length begins
+  count_length base shared behind x fields used ends begins lines is few =
       let kept : List ℕ = filter (is_among used) fields in
       let others : List ℕ = filter (λ y. not (is_among used y)) fields in
       let dropped : List Line = drops_lines base holds others in
       let dupped : List Line = dups_lines holds kept in
-      let freed : List Line = end_lines (acts (Compute Op.Free) (x ∷ [])) behind in
+      let freed : List Line = end_lines ends behind in
       let lowered : List Line = is.2 ∷ computes (Op.Immediate Addi is.3) (base ∷ []) base ∷ is.4 ∷ dupped in
       let alone : List Line = is.1 ++ (dropped ++ freed) in
-      let shares : List Line = acts (Label shared) [] ∷ (is.1 ++ lowered) in
+      let shares : List Line = acts (Label shared) [] ∷ (begins ++ (is.1 ++ lowered)) in
       let last : List Line = acts (Label behind) [] ∷ [] in
       let whole = ap code_length is.10 in
       let apart = lines_append alone (shares ++ last) in
       let ending = lines_append shares last in
       let first = lines_append is.1 (dropped ++ freed) in
       let frees = lines_append dropped freed in
+      let starts = lines_append begins (is.1 ++ lowered) in
       let second = lines_append is.1 lowered in
       let test = load_length x 0 base is.0 is.5 in
       let loads = loads_length x 2 fields is.1 is.6 in
@@ -144,6 +148,7 @@ module _ (holds : ℕ → Bool) where
         ending,
         first,
         frees,
+        starts,
         second,
         test,
         loads,
@@ -156,6 +161,18 @@ module _ (holds : ℕ → Bool) where
         few,
       )
 
+  pub unique_length : (base shared behind x : ℕ) (fields used : List ℕ) (lines : List Line)
+      → UniqueLines base holds shared behind x fields used lines → length fields ≤ 6 → code_length lines ≤ 180
+  unique_length base shared behind x fields used lines is few =
+      let own = count_length base shared behind x fields used (acts (Compute Op.Free) (x ∷ [])) [] lines is few in
+      omega (arith, own)
+
+  pub token_unique_length : (base shared behind x : ℕ) (fields used : List ℕ) (token : ℕ) (lines : List Line)
+      → TokenUniqueLines base holds shared behind x fields used token lines → length fields ≤ 6 → code_length lines ≤ 182
+  token_unique_length base shared behind x fields used token lines is few =
+      let own = count_length base shared behind x fields used (copies_to x token) (sets 0 token ∷ []) lines is few in
+      omega (arith, own)
+
 pub construct_length : (base x header : ℕ) (arguments : List ℕ) (lines : List Line) → ConstructLines base x header arguments lines
     → length arguments ≤ 6 → code_length lines ≤ 60
 construct_length base x header arguments lines is few =
@@ -164,6 +181,33 @@ construct_length base x header arguments lines is few =
     let head = store_length x 1 base is.0 is.3 in
     let fields = stores_length x 2 arguments is.1 is.4 in
     let count = store_length x 0 base is.2 is.5 in omega (arith, whole, apart, head, fields, count, few)
+
+-- ---- tokens
+
+holds_length : (tokens : List ℕ) → code_length (hold_lines tokens) ≡ 4 * length tokens
+holds_length [] = omega arith
+holds_length (token ∷ tokens) =
+    let apart = lines_append (hold_lines tokens) (acts Hold (token ∷ []) ∷ []) in
+    let more = holds_length tokens in omega (arith, apart, more)
+
+unholds_length : (tokens : List ℕ) → code_length (unhold_lines tokens) ≡ 4 * length tokens
+unholds_length [] = omega arith
+unholds_length (token ∷ tokens) = let more = unholds_length tokens in omega (arith, more)
+
+pub fill_length : (base x token : ℕ) (others : List ℕ) (filled header : ℕ) (arguments : List ℕ) (lines : List Line)
+    → FillLines base x token others filled header arguments lines → length arguments ≤ 6
+    → code_length lines ≤ 80 + 8 * length others
+fill_length base x token others filled header arguments lines is few =
+    let taken : Line = record { action = Calls Take; args = []; into = Some x } in
+    let built : List Line = acts (Label filled) [] ∷ is.0 in
+    let asked : List Line = taken ∷ (unhold_lines others ++ built) in
+    let whole = ap code_length is.2 in
+    let apart = lines_append (hold_lines others) asked in
+    let back = lines_append (unhold_lines others) built in
+    let held = holds_length others in
+    let taken_back = unholds_length others in
+    let stores = construct_length base x header arguments (taken ∷ is.0) is.1 few in
+    omega (arith, whole, apart, back, held, taken_back, stores)
 
 -- ---- operators
 
@@ -224,7 +268,7 @@ temporaries_length base (x ∷ xs) = let more = temporaries_length (base + 1) xs
 call_length : (base x f : ℕ) (arguments : List ℕ) (lines : List Line) → length arguments ≤ 8
     → AppliedLines base x (Call f) arguments lines → code_length lines ≤ 56
 call_length base x f arguments lines few is =
-    let call : Line = record { action = Calls f; args = temporaries base arguments; into = Some x } in
+    let call : Line = record { action = CallOf f; args = temporaries base arguments; into = Some x } in
     let whole = ap code_length is in
     let apart = lines_append (copies base arguments) (call ∷ []) in
     let copied = copies_length base arguments in

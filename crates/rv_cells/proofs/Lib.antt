@@ -65,6 +65,7 @@ pub mod TokenFormedFunctions
 pub mod FormLengths
 pub mod TestLengths
 pub mod CodeLengths
+pub mod TokenCodeLengths
 pub mod TokenFrames
 pub mod TokenTaken
 pub mod TokenCells

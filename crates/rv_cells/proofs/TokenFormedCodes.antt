@@ -83,7 +83,7 @@ tails y xs ys same = ap behind_first same
 -- ---- forms on values
 
 -- a form that names no other tokens is lowered as one without tokens
-ask_plain : (setting : Setting) (variables low x : ℕ) (form : Form) (arguments : List ℕ) (own : List Line) (middle : ℕ)
+pub ask_plain : (setting : Setting) (variables low x : ℕ) (form : Form) (arguments : List ℕ) (own : List Line) (middle : ℕ)
     → AskLines setting variables low x form arguments [] own middle → ComputeLines setting x form arguments own × (low ≡ middle)
 ask_plain setting variables low x (Number value) arguments own middle is = is
 ask_plain setting variables low x Nothing arguments own middle is = is

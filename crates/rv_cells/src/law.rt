@@ -11,6 +11,7 @@ ghost use Rattle.kk_counted.specs.Lengths.{all_computes, functions_length as cou
 ghost use Rattle.kk_counted.specs.Lowerable.{AreLowerable};
 ghost use Rattle.kk_counted.specs.CountBounds.{AllSpendAtMost};
 ghost use Rattle.kk_counted.specs.TokenedCodes.{TokenedFunction, TokenedProgram};
+ghost use Rattle.kk_counted.specs.TokenLengths.{tokened_functions_length, all_tokened_computes};
 ghost use Rattle.kk_counted.specs.TokenLowerable.{AreTokensLowerable};
 ghost use Rattle.kk_counted.specs.TokenSpending.{AreTokensSpent};
 ghost use Rattle.kk_counted.specs.CountedStates.{CountedSetting, CountedState};
@@ -169,6 +170,17 @@ pub fn lowered_tokened_programs_are_well_formed()
         → IsNarrow (layout_in shape) → (layout_in shape).tag 0 ≡ 0 → (layout_in shape).tag 1 ≡ 1
         → (main : TokenedFunction) → slice_get code.functions code.main ≡ Some main → main.parameters ≡ 0
         → IsTokenedLowered (layout_in shape) (table_of shape) code texts each }
+{}
+
+/// The assembler code of a program with tokens whose bare form can be lowered, which spends its tokens, and is lowered, is no longer
+/// than its code with tokens tells, and has at most 256 constant bytes for each form on values: where constructors have at most six
+/// fields. It is a law, and does nothing.
+pub fn lowered_tokened_programs_are_short()
+    ensures { (shape : Shape) (code : TokenedProgram) (texts : List (List ℕ)) (each : List Lines)
+        → AreLowerable (table_of shape) (bare_program code).functions → AreTokensLowerable code.functions → AreTokensSpent code
+        → IsTokenedForm shape code.texts code.functions each texts → IsNarrow (layout_in shape)
+        → (functions_length each ≤ tokened_functions_length code.functions)
+        × (length (all_bytes texts) ≤ 256 * all_tokened_computes code.functions) }
 {}
 
 /// A program in counted form whose functions are all lowered runs the same as its assembler code, where each state of its run is
