@@ -8,7 +8,6 @@ use Rattle.std.proofs.Common.{
   ◌<◌,
   ◌≤◌,
   ◌==◌,
-  ◌⊎◌,
   inl,
   inr,
   Bool,
@@ -24,12 +23,11 @@ use Rattle.std.proofs.Common.{
   refl,
   sym,
   subst,
-  ◌∙◌,
   arith,
 }
 use Rattle.kk_counted.specs.Lowerable.{AreBelow, bound_list}
 use Rattle.std.specs.Prelude.{filter, if◌then◌else◌}
-use Rattle.std.proofs.lemmas.Bool.{eq-eqb, false≢true, or_cases, or_left, or_right}
+use Rattle.std.proofs.lemmas.Bool.{eq-eqb, false≢true, or_left, or_right}
 use Rattle.std.proofs.lemmas.List.Elements.{All-nil}
 use Rattle.kk_core.specs.Sizes.{AreBound}
 use Rattle.kk_syntax.specs.Shapes.{is_among as is_bound}
@@ -240,8 +238,8 @@ module _ (base : ℕ) where
       → Leads (Bound bound) (Bound bound) (4 + length arguments) (sets header base ∷ head ∷ (stores ++ sets 1 base ∷ count ∷ []))
   build_leads bound x header arguments head count stores room here are heads all_stores counts =
       leads_weaker (Bound bound) (Bound bound) (Bound bound) (Bound bound) (1 + (1 + (length arguments + (1 + 1))))
-      (4 + length arguments) (sets header base ∷ head ∷ (stores ++ sets 1 base ∷ count ∷ [])) (λ v is. is) (λ v is. is) (omega arith)
-      (leads_then (Bound bound) Word (Bound bound) 1 (1 + (length arguments + (1 + 1))) (sets header base ∷ [])
+      (4 + length arguments) (sets header base ∷ head ∷ (stores ++ sets 1 base ∷ count ∷ [])) (λ v is. is) (λ v is. is)
+      (omega arith) (leads_then (Bound bound) Word (Bound bound) 1 (1 + (length arguments + (1 + 1))) (sets header base ∷ [])
       (head ∷ (stores ++ sets 1 base ∷ count ∷ []))
       (next_temporary base bound room base (Op.Li header) [] (omega arith) refl (omega arith) tt)
       (leads_then Word Word (Bound bound) 1 (length arguments + (1 + 1)) (head ∷ []) (stores ++ sets 1 base ∷ count ∷ [])
@@ -274,7 +272,8 @@ module _ (base : ℕ) where
       (record { action = Routine Take; args = []; into = Some x } ∷ sets header base ∷ own.0 ∷ (own.1 ++ sets 1 base ∷ own.2 ∷ []))
       (λ v is. is) (λ v is. is) (omega arith)
       (leads_then (Bound bound) (Bound (x ∷ bound)) (Bound (x ∷ bound)) 1 (4 + length arguments)
-      (record { action = Routine Take; args = []; into = Some x } ∷ []) (sets header base ∷ own.0 ∷ (own.1 ++ sets 1 base ∷ own.2 ∷ []))
+      (record { action = Routine Take; args = []; into = Some x } ∷ [])
+      (sets header base ∷ own.0 ∷ (own.1 ++ sets 1 base ∷ own.2 ∷ []))
       (take_leads bound x has less)
       (build_leads (x ∷ bound) x header arguments own.0 own.2 own.1 (room_more base bound x has less)
       (or_left (x == x) (is_bound bound x) (eq-eqb x x refl)) (bound_later bound x arguments are) own.3 own.4 own.5)))

@@ -1,5 +1,5 @@
 -- The lines of a code that can be lowered are well formed, and have only its own labels.
-use Rattle.std.proofs.Common.{◌≡◌, ℕ, suc, ◌+◌, ◌≤◌, ◌==◌, Bool, true, List, [], ◌∷◌, ◌++◌, length, sym, subst, arith}
+use Rattle.std.proofs.Common.{ℕ, suc, ◌+◌, ◌≤◌, ◌==◌, Bool, List, [], ◌∷◌, ◌++◌, length, sym, subst, arith}
 use Rattle.std.proofs.lemmas.Bool.{or_right}
 use Rattle.kk_syntax.specs.Shapes.{is_among as is_bound}
 use Rattle.kk_counted.specs.Arms.{HasArms, HaveArms, arm_count}
@@ -47,7 +47,8 @@ module _ (setting : Setting) (marks : CellMarks) (result : Bool) where
         (some_arm arms some.0) is.3 is.0 is.1 is.4
         (arms_fit arms bound outer given goal low (is.2 + length decisions) high is.1 has within marked.1 numbered orderly.1 some.1
         arities (let nodes = is.3 in omega (arith, nodes)) is.5))
-    code_fits (compute x form arguments rest) bound outer given goal low high lines has within marked numbered arms some arities is =
+    code_fits (compute x form arguments rest) bound outer given goal low high lines has within marked numbered arms some
+        arities is =
         subst (Fits setting.base bound outer goal low high) (sym is.4)
         (fits_form setting bound outer has x numbered.0 goal low high is.1
         (code_fits rest (x ∷ bound) outer given goal low high is.1 (room_more setting.base bound x has numbered.0)
@@ -56,8 +57,8 @@ module _ (setting : Setting) (marks : CellMarks) (result : Bool) where
     code_fits (inside x block rest) bound outer given goal low high lines has within marked numbered arms some arities is =
         subst (Fits setting.base bound outer goal low high) (sym is.5)
         (fits_inside setting.base bound bound outer x numbered.0 goal low is.2 high is.0 is.1
-        (code_fits block bound bound (setting.holds x) (joins x low) (low + 1) is.2 is.0 has (λ v there. there) marked.0 numbered.1.0
-        arms.0 some.0 arities.0 is.3)
+        (code_fits block bound bound (setting.holds x) (joins x low) (low + 1) is.2 is.0 has (λ v there. there) marked.0
+        numbered.1.0 arms.0 some.0 arities.0 is.3)
         (code_fits rest (x ∷ bound) outer given goal is.2 high is.1 (room_more setting.base bound x has numbered.0)
         (λ v there. or_right (x == v) (is_bound bound v) (within v there)) marked.1 numbered.1.1 arms.1 some.1 arities.1 is.4))
     code_fits (read x c fields rest) bound outer given goal low high lines has within marked numbered arms some arities is =
@@ -66,13 +67,15 @@ module _ (setting : Setting) (marks : CellMarks) (result : Bool) where
         (fits_front setting.base bound outer fields goal low high is.1
         (code_fits rest (fields ++ bound) outer given goal low high is.1 (room_front setting.base bound fields has numbered.0.0)
         (behind fields bound outer within) marked.1 numbered.1 arms some arities is.3)))
-    code_fits (open_cell x c fields used rest) bound outer given goal low high lines has within marked numbered arms some arities is =
+    code_fits (open_cell x c fields used rest) bound outer given goal low high lines has within marked numbered arms some
+        arities is =
         subst (Fits setting.base bound outer goal low high) (sym is.4)
         (fits_open setting.base bound outer has goal low high is.1 setting.holds x fields used is.0 marked.0.0 numbered.0.0 is.2
         (fits_front setting.base bound outer fields goal low high is.1
         (code_fits rest (fields ++ bound) outer given goal low high is.1 (room_front setting.base bound fields has numbered.0.0)
         (behind fields bound outer within) marked.1 numbered.1 arms some arities is.3)))
-    code_fits (if_unique x c fields used rest) bound outer given goal low high lines has within marked numbered arms some arities is =
+    code_fits (if_unique x c fields used rest) bound outer given goal low high lines has within marked numbered arms some
+        arities is =
         subst (Fits setting.base bound outer goal low high) (sym is.4)
         (fits_unique setting.base bound has setting.holds x marked.0.0 fields used numbered.0.0 outer goal low high is.0 is.1 is.2
         (fits_front setting.base bound outer fields goal (low + 2) high is.1
@@ -90,8 +93,8 @@ module _ (setting : Setting) (marks : CellMarks) (result : Bool) where
 
     arms_fit : (arms : CountedArms) (bound outer : List ℕ) (given : Bool) (goal : Goal) (label low high : ℕ) (lines : List Line)
         → HasRoom setting.base bound → IsWithin outer bound → HaveMark marks setting.holds result bound given arms
-        → AreArmsNumbered setting.base bound arms → HaveArms arms → AllHaveAnArm arms → HaveArities arms → label + arm_count arms ≤ low
-        → ArmsLines setting goal label low arms lines high
+        → AreArmsNumbered setting.base bound arms → HaveArms arms → AllHaveAnArm arms → HaveArities arms → label
+        + arm_count arms ≤ low → ArmsLines setting goal label low arms lines high
         → ArmsFit setting.base bound outer goal label (arm_count arms) low high lines
     arms_fit no_arm bound outer given goal label low high lines has within marked numbered arms some arities under is =
         subst (ArmsFit setting.base bound outer goal label 0 low high) (sym is.0)

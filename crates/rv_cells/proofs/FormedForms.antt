@@ -1,7 +1,8 @@
 -- The lines of a form that has as many arguments as it takes, before those of the code that follows it.
 use Rattle.std.proofs.Common.{ℕ, ◌+◌, ◌*◌, ◌<◌, List, [], ◌∷◌, ◌++◌, refl, sym, subst, arith}
 use Rattle.kk_syntax.specs.declared.program.Form.{Form}
-use Rattle.kk_syntax.specs.declared.program.Form.TheVariants.{Number, Unit as Nothing, ReadByte, PrintText, Unary, Binary, Print, Construct, Call}
+use Rattle.kk_syntax.specs.declared.program.Form.TheVariants.{Number, Unit as Nothing, ReadByte, PrintText}
+use Rattle.kk_syntax.specs.declared.program.Form.TheVariants.{Unary, Binary, Print, Construct, Call}
 use Rattle.kk_core.specs.Sizes.{AreBound}
 use Rattle.kk_counted.specs.Lowerable.{HasArity}
 use Rattle.rv_isa.specs.declared.asm.Operation.TheVariants as Op
@@ -61,8 +62,8 @@ module _ (setting : Setting) (bound outer : List ℕ) (has : HasRoom setting.bas
       subst (λ (own : List Line). Fits setting.base bound outer goal low high (own ++ more)) (sym is)
       (leads_fit 1 (sets (2 * setting.layout.tag c + 1) x ∷ []) (word_leads (2 * setting.layout.tag c + 1)))
   fits_form (Construct c) (a ∷ arguments) lines arity are is =
-      fits_construct setting.base bound outer has goal low high more x (header_of setting.layout c) (a ∷ arguments) lines less are is
-      fits
+      fits_construct setting.base bound outer has goal low high more x (header_of setting.layout c) (a ∷ arguments) lines less are
+      is fits
   fits_form (Call f) arguments lines arity are is =
       subst (λ (own : List Line). Fits setting.base bound outer goal low high (own ++ more)) (sym is)
       (leads_fit 9 _ (call_lines setting.base bound has x less f arguments arity (all_bound bound arguments are)))

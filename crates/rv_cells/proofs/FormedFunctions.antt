@@ -47,7 +47,8 @@ module _ (layout : Layout) (texts : Texts) (table : CellMarks) (f : ℕ) (functi
 
   fits : Fits setting.base parameters parameters returns 0 is.lowered.labels lines.code
   fits = code_fits setting table (result_mark table f) function.body parameters parameters (result_mark table f) returns 0
-      is.lowered.labels lines.code room (λ v there. there) is.marked.body_marked is.numbered may.arms may.some_arm may.arities is.lowered.code
+      is.lowered.labels lines.code room (λ v there. there) is.marked.body_marked is.numbered may.arms may.some_arm may.arities
+      is.lowered.code
 
   good : Good (Readable setting.base setting.base parameters) lines.code
   good = subst (Good (Readable setting.base setting.base parameters)) (append-nil lines.code)
@@ -55,7 +56,8 @@ module _ (layout : Layout) (texts : Texts) (table : CellMarks) (f : ℕ) (functi
 
   small : All (λ v. v < most_values) (from_to 0 function.parameters)
   small = all_each (λ v. v < most_values) (λ v. v < most_values) (from_to 0 function.parameters) (λ v is. is)
-      (from_to_each (λ v. v < most_values) 0 function.parameters (λ v less. let few = may.few_parameters in omega (arith, less, few)))
+      (from_to_each (λ v. v < most_values) 0 function.parameters (λ v less. let few = may.few_parameters in
+      omega (arith, less, few)))
 
   starts : (v : ℕ) → Readable setting.base setting.base parameters v → is_among v (from_to 0 function.parameters) ≡ true
   starts v readable =
@@ -70,7 +72,8 @@ module _ (layout : Layout) (texts : Texts) (table : CellMarks) (f : ℕ) (functi
     few_params = subst (λ (params : List ℕ). length params ≤ 8) (sym is.lowered.params)
         (let size = from_to_length 0 function.parameters in let few = may.few_parameters in omega (arith, size, few));
     params_small = subst (All (λ v. v < most_values)) (sym is.lowered.params) small;
-    start = λ v alive. subst (λ (params : List ℕ). is_among v params ≡ true) (sym is.lowered.params) (starts v (good.alive v alive));
+    start = λ v alive. subst (λ (params : List ℕ). is_among v params ≡ true) (sym is.lowered.params)
+        (starts v (good.alive v alive));
   }
 
 pub lowered_program : (shape : Shape) (code : CountedProgram) (texts : List (List ℕ)) (each : List Lines)

@@ -28,7 +28,8 @@ listed (x ∷ fields) bound v = sym (bound_behind fields bound x v) ∙ listed f
 -- what is bound behind fields is so with them
 pub behind : (fields bound outer : List ℕ) → IsWithin outer bound → IsWithin outer (fields ++ bound)
 behind [] bound outer within v is = within v is
-behind (x ∷ fields) bound outer within v is = or_right (x == v) (is_bound (fields ++ bound) v) (behind fields bound outer within v is)
+behind (x ∷ fields) bound outer within v is = or_right (x == v) (is_bound (fields ++ bound) v)
+    (behind fields bound outer within v is)
 
 -- so is what is bound before fields and with them
 pub front_within : (fields bound more : List ℕ) → IsWithin bound more → IsWithin (fields ++ bound) (fields ++ more)

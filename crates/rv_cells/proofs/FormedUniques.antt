@@ -81,8 +81,8 @@ module _ (base : ℕ) (bound : List ℕ) (has : HasRoom base bound) (holds : ℕ
       }
 
   -- the way of a shared cell, where nothing else is done
-  pub lowered_leads : (loads : List Line) → AllLoads x 2 fields loads → (count store : Line) (less : Immediate) → Loads x 0 base count
-      → Stores x 0 base store → Leads Before Taken (length fields + (1 + (1 + (1 + length kept))))
+  pub lowered_leads : (loads : List Line) → AllLoads x 2 fields loads → (count store : Line) (less : Immediate)
+      → Loads x 0 base count → Stores x 0 base store → Leads Before Taken (length fields + (1 + (1 + (1 + length kept))))
       (loads ++ (count ∷ computes (Op.Immediate Addi less) (base ∷ []) base ∷ store ∷ dups_lines holds kept))
   lowered_leads loads all_loads count store less loads_count stores =
       leads_then Before Taken Taken (length fields) (1 + (1 + (1 + length kept))) loads _
@@ -233,9 +233,9 @@ module _ (base : ℕ) (bound : List ℕ) (has : HasRoom base bound) (holds : ℕ
       (lowered_leads unique.1 unique.6 unique.2 unique.4 unique.3 unique.7 unique.9) unique.0 unique.5)
 
 -- The same where the cell is a value's token: the value is written on both ways.
-pub fits_token_unique : (base : ℕ) (bound outer : List ℕ) → HasRoom base bound → (holds : ℕ → Bool) (x : ℕ) → is_bound bound x ≡ true
-    → (fields used : List ℕ) → AreBelow base fields → (token : ℕ) → token < base → (goal : Goal) (low high : ℕ)
-    (own more : List Line) → TokenUniqueLines base holds low (low + 1) x fields used token own
+pub fits_token_unique : (base : ℕ) (bound outer : List ℕ) → HasRoom base bound → (holds : ℕ → Bool) (x : ℕ)
+    → is_bound bound x ≡ true → (fields used : List ℕ) → AreBelow base fields → (token : ℕ) → token < base
+    → (goal : Goal) (low high : ℕ) (own more : List Line) → TokenUniqueLines base holds low (low + 1) x fields used token own
     → Fits base (token ∷ bound_list fields bound) outer goal (low + 2) high more → Fits base bound outer goal low high (own ++ more)
 fits_token_unique base bound outer has holds x is fields used below token less goal low high own more unique fits =
     subst (λ (lines : List Line). Fits base bound outer goal low high (lines ++ more)) (sym unique.10)
@@ -256,8 +256,8 @@ fits_token_unique base bound outer has holds x is fields used below token less g
     ends = record {
       no_label = λ l. (refl, tt);
       few = omega arith;
-      good = λ rest good. to_variable base base after Op.Mv (x ∷ []) token rest (room_list base bound fields has below) (omega arith)
-          refl (omega arith) (inl (kept_list bound fields x is), tt) less good;
+      good = λ rest good. to_variable base base after Op.Mv (x ∷ []) token rest (room_list base bound fields has below)
+          (omega arith) refl (omega arith) (inl (kept_list bound fields x is), tt) less good;
     }
 
     nulls : Leads (Readable base base bound) (Readable base base (token ∷ bound)) 1 (sets 0 token ∷ [])

@@ -1,11 +1,12 @@
--- The lines of a code with tokens that can be lowered are well formed, and have only its own labels: where the code spends its tokens,
--- and holds them around calls alone.
+-- The lines of a code with tokens that can be lowered are well formed, and have only its own labels: where the code spends its
+-- tokens, and holds them around calls alone.
 use Rattle.std.proofs.Common.{◌≡◌, ℕ, suc, ◌+◌, ◌<◌, ◌≤◌, ◌==◌, ◌&&◌, ◌⊎◌, inl, inr, Bool, true, false, not, List, [], ◌∷◌, ◌++◌}
 use Rattle.std.proofs.Common.{length, refl, sym, ap, subst, ◌∙◌, arith}
 use Rattle.std.specs.List.{AllByRecursion}
 use Rattle.std.proofs.lemmas.Bool.{or_cases, or_left, or_right, eq-eqb, eqb-true, false≢true, ne_eqb}
 use Rattle.kk_syntax.specs.declared.program.Form.{Form}
-use Rattle.kk_syntax.specs.declared.program.Form.TheVariants.{Number, Unit as Nothing, ReadByte, PrintText, Unary, Binary, Print, Construct, Call}
+use Rattle.kk_syntax.specs.declared.program.Form.TheVariants.{Number, Unit as Nothing, ReadByte, PrintText}
+use Rattle.kk_syntax.specs.declared.program.Form.TheVariants.{Unary, Binary, Print, Construct, Call}
 use Rattle.kk_syntax.specs.Shapes.{is_among, without}
 use Rattle.kk_core.specs.Sizes.{AreBound}
 use Rattle.kk_counted.specs.Arms.{HasArms, HaveArms, arm_count}
@@ -15,7 +16,7 @@ use Rattle.kk_counted.specs.Lowerable.{AreBelow, bound_list, AreNumbered, AreArm
 use Rattle.kk_counted.specs.Marks.{CellMarks, HasMark, HaveMark}
 use Rattle.kk_counted.specs.Spending.{AreApart}
 use Rattle.kk_counted.specs.TokenLowerable.{HasPlainForms, HavePlainForms, HoldsAtCalls, HoldAtCalls}
-use Rattle.kk_counted.specs.TokenSpending.{AreSame, SpendsTokens, SpendAllTokens}
+use Rattle.kk_counted.specs.TokenSpending.{SpendsTokens, SpendAllTokens}
 use Rattle.kk_counted.specs.TokenedCodes.{Tokened, TokenedArms}
 use Rattle.kk_counted.proofs.TokenForms.{among_without}
 use Rattle.rv_isa.specs.declared.asm.Action.TheVariants.{Compute, Unhold}
@@ -45,6 +46,7 @@ use Rattle.rv_cells.proofs.TokenFormedSlots.{values_between, value_other, values
 
 -- ---- lists
 
+-- what is bound, or below a number, is so by more
 bound_within : (bound more xs : List ℕ) → IsWithin bound more → AreBound bound xs → AreBound more xs
 bound_within bound more [] within are = tt
 bound_within bound more (x ∷ xs) within are = (within x are.0, bound_within bound more xs within are.1)
@@ -53,6 +55,7 @@ below_more : (variables slots : ℕ) (xs : List ℕ) → AreBelow variables xs �
 below_more variables slots [] below = tt
 below_more variables slots (x ∷ xs) below = let less = below.0 in (omega (arith, less), below_more variables slots xs below.1)
 
+-- variables are below the values of slots
 each_low : (variables : ℕ) (bound xs : List ℕ) → HasRoom variables bound → AreBound bound xs → Each (λ x. x < variables) xs
 each_low variables bound [] has are = tt
 each_low variables bound (x ∷ xs) has are = (has.low x are.0, each_low variables bound xs has are.1)
@@ -125,9 +128,11 @@ module _ (layout : Layout) (holds : ℕ → Bool) (texts : Texts) (marks : CellM
   HeldFits held bound outer goal low high lines =
       FitsHeld (variables + slots) (values_of_slots variables held) bound outer goal low high lines
 
+  -- they are below the temporaries
   has_room : (unspent bound : List ℕ) → HasRoom variables bound → HasRoom (variables + slots) (reads unspent bound)
   has_room unspent bound has = room_read variables slots unspent bound room has.low
 
+  -- code before which nothing is held
   none_held : (held bound outer : List ℕ) (goal : Goal) (low high : ℕ) (lines : List Line) → held ≡ []
       → FitsCode bound outer goal low high lines → HeldFits held bound outer goal low high lines
   none_held held bound outer goal low high lines none fits =
@@ -184,11 +189,12 @@ module _ (layout : Layout) (holds : ℕ → Bool) (texts : Texts) (marks : CellM
 
   -- ---- single lines
 
+  -- a value is written
   writes : (bound : List ℕ) (operation : Operation) (args : List ℕ) (v : ℕ) → HasRoom (variables + slots) bound
       → may_give (Compute operation) ≡ true → length args ≤ 2 → Each (Readable (variables + slots) (variables + slots) bound) args
       → v < variables + slots
-      → Leads (Readable (variables + slots) (variables + slots) bound) (Readable (variables + slots) (variables + slots) (v ∷ bound)) 1
-      (computes operation args v ∷ [])
+      → Leads (Readable (variables + slots) (variables + slots) bound)
+      (Readable (variables + slots) (variables + slots) (v ∷ bound)) 1 (computes operation args v ∷ [])
   writes bound operation args v has gives few each less = record {
     no_label = λ l. (refl, tt);
     few = omega arith;
@@ -200,6 +206,7 @@ module _ (layout : Layout) (holds : ℕ → Bool) (texts : Texts) (marks : CellM
 
   module _ (held unspent bound outer : List ℕ) (has : HasRoom variables bound) (x : ℕ) (less : x < variables) (goal : Goal)
       (low high : ℕ) (more : List Line) where
+    -- a form that is no call, and a form
     plain_fits : (form : Form) (arguments : List ℕ) (own : List Line) → held ≡ [] → AreBound bound arguments
         → HasArity form arguments → ComputeLines setting x form arguments own
         → HeldFits held (x ∷ reads unspent bound) outer goal low high more
@@ -250,8 +257,8 @@ module _ (layout : Layout) (holds : ℕ → Bool) (texts : Texts) (marks : CellM
         → HasSlots slots code → HasPlainForms code → HoldsAtCalls held code → SpendsTokens left unspent held code
         → AreBelow slots held → AreApart held → CodeLines setting variables goal low code lines high
         → HeldFits held (reads unspent bound) (reads left outer) goal low high lines
-    code_fits (Tokened.give x) bound outer unspent left held given goal low high lines has within marked numbered arms some arities few
-        plain at spends below apart is =
+    code_fits (Tokened.give x) bound outer unspent left held given goal low high lines has within marked numbered arms some arities
+        few plain at spends below apart is =
         none_held held (reads unspent bound) (reads left outer) goal low high lines at
         (subst (FitsCode (reads unspent bound) (reads left outer) goal low high) (sym is.0)
         (subst (λ (high : ℕ). FitsCode (reads unspent bound) (reads left outer) goal low high (goal_lines goal x)) is.1
@@ -260,17 +267,17 @@ module _ (layout : Layout) (holds : ℕ → Bool) (texts : Texts) (marks : CellM
         (read_within variables slots left outer (reads unspent bound)
         (λ v there. variable_there variables slots unspent bound v (within v there))
         (λ y less there. slot_there variables slots unspent bound y less (spends.1 y ∙ there))))))
-    code_fits (Tokened.tail_call f arguments) bound outer unspent left held given goal low high lines has within marked numbered arms
-        some arities few plain at spends below apart is =
+    code_fits (Tokened.tail_call f arguments) bound outer unspent left held given goal low high lines has within marked numbered
+        arms some arities few plain at spends below apart is =
         none_held held (reads unspent bound) (reads left outer) goal low high lines at
         (subst (FitsCode (reads unspent bound) (reads left outer) goal low high) (sym is.0)
         (subst (λ (high : ℕ). FitsCode (reads unspent bound) (reads left outer) goal low high
         (tail_lines (variables + slots) f arguments)) is.1
-        (fits_tail_call (variables + slots) (reads unspent bound) (has_room unspent bound has) (reads left outer) f arguments goal low
-        arities (all_bound (reads unspent bound) arguments
+        (fits_tail_call (variables + slots) (reads unspent bound) (has_room unspent bound has) (reads left outer) f arguments goal
+        low arities (all_bound (reads unspent bound) arguments
         (bound_within bound (reads unspent bound) arguments (variable_there variables slots unspent bound) marked.0)))))
-    code_fits (Tokened.branch x positive negative) bound outer unspent left held given goal low high lines has within marked numbered
-        arms some arities few plain at spends below apart is =
+    code_fits (Tokened.branch x positive negative) bound outer unspent left held given goal low high lines has within marked
+        numbered arms some arities few plain at spends below apart is =
         none_held held (reads unspent bound) (reads left outer) goal low high lines at.0
         (subst (FitsCode (reads unspent bound) (reads left outer) goal low high) (sym is.5)
         (fits_branch (variables + slots) (reads unspent bound) (reads left outer) (has_room unspent bound has) x
@@ -286,17 +293,17 @@ module _ (layout : Layout) (holds : ℕ → Bool) (texts : Texts) (marks : CellM
         none_held held (reads unspent bound) (reads left outer) goal low high lines at.0
         (subst (FitsCode (reads unspent bound) (reads left outer) goal low high) (sym is.6)
         (fits_case (variables + slots) (reads unspent bound) (reads left outer) (has_room unspent bound has) layout x
-        (variable_there variables slots unspent bound x marked.0) goal low (arm_count (bare_arms arms)) is.2 high decisions orderly.0
-        (some_arm (bare_arms arms) some.0) is.3 is.0 is.1 is.4
+        (variable_there variables slots unspent bound x marked.0) goal low (arm_count (bare_arms arms)) is.2 high decisions
+        orderly.0 (some_arm (bare_arms arms) some.0) is.3 is.0 is.1 is.4
         (arms_fit arms bound outer unspent left given goal low (is.2 + length decisions) high is.1 has within marked.1 numbered
         orderly.1 some.1 arities few plain at.1 spends.1 (let nodes = is.3 in omega (arith, nodes)) is.5)))
-    code_fits (Tokened.compute x form arguments others rest) bound outer unspent left held given goal low high lines has within marked
-        numbered arms some arities few plain at spends below apart is =
+    code_fits (Tokened.compute x form arguments others rest) bound outer unspent left held given goal low high lines has within
+        marked numbered arms some arities few plain at spends below apart is =
         let own = ask_plain setting variables low x form arguments is.0 is.2
         (subst (λ (named : List ℕ). AskLines setting variables low x form arguments named is.0 is.2) plain.0 is.3) in
         subst (λ (lines : List Line). HeldFits held (reads unspent bound) (reads left outer) goal low high lines) (sym is.5)
-        (compute_fits held unspent bound (reads left outer) has x numbered.0 goal low high is.1 form arguments others rest is.0 at below
-        marked.0 arities.0 own.0
+        (compute_fits held unspent bound (reads left outer) has x numbered.0 goal low high is.1 form arguments others rest is.0 at
+        below marked.0 arities.0 own.0
         (held_weaker (variables + slots) (values_of_slots variables held) (reads unspent (x ∷ bound)) (x ∷ reads unspent bound)
         (reads left outer) goal low high is.1 (bound_behind_value x unspent bound)
         (code_fits rest (x ∷ bound) outer unspent left held given goal low high is.1 (room_more variables bound x has numbered.0)
@@ -312,24 +319,25 @@ module _ (layout : Layout) (holds : ℕ → Bool) (texts : Texts) (marks : CellM
         (fits_held (variables + slots) (reads unspent bound) (reads spends.0 bound) (joins x low) (low + 1) is.2 is.0
         (code_fits block bound bound unspent spends.0 [] (holds x) (joins x low) (low + 1) is.2 is.0 has (λ v there. there) marked.0
         numbered.1.0 arms.0 some.0 arities.0 few.0 plain.0 at.1.0 spends.1.1.0 tt tt is.3))
-        (fits_weaker (variables + slots) (reads spends.0 (x ∷ bound)) (x ∷ reads spends.0 bound) (reads left outer) goal is.2 high is.1
-        (bound_behind_value x spends.0 bound)
+        (fits_weaker (variables + slots) (reads spends.0 (x ∷ bound)) (x ∷ reads spends.0 bound) (reads left outer) goal is.2 high
+        is.1 (bound_behind_value x spends.0 bound)
         (fits_held (variables + slots) (reads spends.0 (x ∷ bound)) (reads left outer) goal is.2 high is.1
         (code_fits rest (x ∷ bound) outer spends.0 left [] given goal is.2 high is.1 (room_more variables bound x has numbered.0)
-        (λ v there. or_right (x == v) (is_among bound v) (within v there)) marked.1 numbered.1.1 arms.1 some.1 arities.1 few.1 plain.1
-        at.1.1 spends.1.1.1 tt tt is.4)))))
+        (λ v there. or_right (x == v) (is_among bound v) (within v there)) marked.1 numbered.1.1 arms.1 some.1 arities.1 few.1
+        plain.1 at.1.1 spends.1.1.1 tt tt is.4)))))
     code_fits (Tokened.read x c fields rest) bound outer unspent left held given goal low high lines has within marked numbered arms
         some arities few plain at spends below apart is =
         none_held held (reads unspent bound) (reads left outer) goal low high lines at.0
         (subst (FitsCode (reads unspent bound) (reads left outer) goal low high) (sym is.4)
-        (fits_read (variables + slots) (reads unspent bound) (reads left outer) (has_room unspent bound has) goal low high is.1 x fields
+        (fits_read (variables + slots) (reads unspent bound) (reads left outer) (has_room unspent bound has) goal low high is.1
+        x fields
         is.0 (variable_there variables slots unspent bound x marked.0.0) (below_more variables slots fields numbered.0.0) is.2
-        (fits_weaker (variables + slots) (reads unspent (fields ++ bound)) (bound_list fields (reads unspent bound)) (reads left outer)
-        goal low high is.1 (bound_behind_fields fields unspent bound)
+        (fits_weaker (variables + slots) (reads unspent (fields ++ bound)) (bound_list fields (reads unspent bound))
+        (reads left outer) goal low high is.1 (bound_behind_fields fields unspent bound)
         (fits_held (variables + slots) (reads unspent (fields ++ bound)) (reads left outer) goal low high is.1
         (code_fits rest (fields ++ bound) outer unspent left [] given goal low high is.1
-        (room_front variables bound fields has numbered.0.0) (behind fields bound outer within) marked.1 numbered.1 arms some arities
-        few plain at.1 spends.1 tt tt is.3)))))
+        (room_front variables bound fields has numbered.0.0) (behind fields bound outer within) marked.1 numbered.1 arms some
+        arities few plain at.1 spends.1 tt tt is.3)))))
     code_fits (Tokened.open_cell x c fields used y rest) bound outer unspent left held given goal low high lines has within marked
         numbered arms some arities few plain at spends below apart is = absurd plain
     code_fits (Tokened.if_unique x c fields used y rest) bound outer unspent left held given goal low high lines has within marked
@@ -347,28 +355,28 @@ module _ (layout : Layout) (holds : ℕ → Bool) (texts : Texts) (marks : CellM
         (slot_there variables slots unspent bound z less there)))
         (fits_held (variables + slots) (reads (y ∷ unspent) (fields ++ bound)) (reads left outer) goal (low + 2) high is.1
         (code_fits rest (fields ++ bound) outer (y ∷ unspent) left [] given goal (low + 2) high is.1
-        (room_front variables bound fields has numbered.0.0) (behind fields bound outer within) marked.1 numbered.1 arms some arities
-        few.1 plain at.1 spends.1.1 tt tt is.3)))))
-    code_fits (Tokened.dup x rest) bound outer unspent left held given goal low high lines has within marked numbered arms some arities
-        few plain at spends below apart is =
+        (room_front variables bound fields has numbered.0.0) (behind fields bound outer within) marked.1 numbered.1 arms some
+        arities few.1 plain at.1 spends.1.1 tt tt is.3)))))
+    code_fits (Tokened.dup x rest) bound outer unspent left held given goal low high lines has within marked numbered arms some
+        arities few plain at spends below apart is =
         none_held held (reads unspent bound) (reads left outer) goal low high lines at.0
         (subst (FitsCode (reads unspent bound) (reads left outer) goal low high) (sym is.2)
-        (fits_dup (variables + slots) (reads unspent bound) (reads left outer) (has_room unspent bound has) goal low high is.0 holds x
-        (variable_there variables slots unspent bound x marked.0)
+        (fits_dup (variables + slots) (reads unspent bound) (reads left outer) (has_room unspent bound has) goal low high is.0 holds
+        x (variable_there variables slots unspent bound x marked.0)
         (fits_held (variables + slots) (reads unspent bound) (reads left outer) goal low high is.0
-        (code_fits rest bound outer unspent left [] given goal low high is.0 has within marked.1 numbered arms some arities few plain
-        at.1 spends.1 tt tt is.1))))
+        (code_fits rest bound outer unspent left [] given goal low high is.0 has within marked.1 numbered arms some arities few
+        plain at.1 spends.1 tt tt is.1))))
     code_fits (Tokened.drop x rest) bound outer unspent left held given goal low high lines has within marked numbered arms some
         arities few plain at spends below apart is =
         none_held held (reads unspent bound) (reads left outer) goal low high lines at.0
         (subst (FitsCode (reads unspent bound) (reads left outer) goal low high) (sym is.2)
-        (fits_drop (variables + slots) (reads unspent bound) (reads left outer) (has_room unspent bound has) goal low high is.0 holds x
-        (variable_there variables slots unspent bound x marked.0)
+        (fits_drop (variables + slots) (reads unspent bound) (reads left outer) (has_room unspent bound has) goal low high is.0
+        holds x (variable_there variables slots unspent bound x marked.0)
         (fits_held (variables + slots) (reads unspent bound) (reads left outer) goal low high is.0
-        (code_fits rest bound outer unspent left [] given goal low high is.0 has within marked.1 numbered arms some arities few plain
-        at.1 spends.1 tt tt is.1))))
-    code_fits (Tokened.fill x y c first arguments kept others rest) bound outer unspent left held given goal low high lines has within
-        marked numbered arms some arities few plain at spends below apart is =
+        (code_fits rest bound outer unspent left [] given goal low high is.0 has within marked.1 numbered arms some arities few
+        plain at.1 spends.1 tt tt is.1))))
+    code_fits (Tokened.fill x y c first arguments kept others rest) bound outer unspent left held given goal low high lines has
+        within marked numbered arms some arities few plain at spends below apart is =
         none_held held (reads unspent bound) (reads left outer) goal low high lines at.0
         (subst (FitsCode (reads unspent bound) (reads left outer) goal low high) (sym is.4)
         (fits_fill (variables + slots) (reads unspent bound) (reads left outer) (has_room unspent bound has) x
@@ -378,8 +386,8 @@ module _ (layout : Layout) (holds : ℕ → Bool) (texts : Texts) (marks : CellM
         (λ z there. left_there y z unspent (sym (spends.1.1.1.0 z) ∙ there)))
         (values_apart variables others spends.1.1.0) (values_differ variables x others numbered.0) (header_of layout c)
         (first ∷ arguments)
-        (bound_within bound (reads unspent bound) (first ∷ arguments) (variable_there variables slots unspent bound) marked.0) goal low
-        high is.0 is.1 is.2
+        (bound_within bound (reads unspent bound) (first ∷ arguments) (variable_there variables slots unspent bound) marked.0) goal
+        low high is.0 is.1 is.2
         (fits_weaker (variables + slots) (reads (without (y ∷ []) unspent) (x ∷ bound)) (x ∷ reads unspent bound) (reads left outer)
         goal (low + 1) high is.1
         (λ v there. bound_behind_value x unspent bound v (slot_spent y unspent (x ∷ bound) v there))
@@ -387,8 +395,8 @@ module _ (layout : Layout) (holds : ℕ → Bool) (texts : Texts) (marks : CellM
         (code_fits rest (x ∷ bound) outer (without (y ∷ []) unspent) left [] given goal (low + 1) high is.1
         (room_more variables bound x has numbered.0) (λ v there. or_right (x == v) (is_among bound v) (within v there)) marked.1.1
         numbered.1.1 arms some arities.1 few.1.1 plain at.1 spends.1.1.1.1 tt tt is.3)))))
-    code_fits (Tokened.free y rest) bound outer unspent left held given goal low high lines has within marked numbered arms some arities
-        few plain at spends below apart is =
+    code_fits (Tokened.free y rest) bound outer unspent left held given goal low high lines has within marked numbered arms some
+        arities few plain at spends below apart is =
         none_held held (reads unspent bound) (reads left outer) goal low high lines at.0
         (subst (FitsCode (reads unspent bound) (reads left outer) goal low high) (sym is.2)
         (fits_step (variables + slots) (reads unspent bound) (reads unspent bound) (reads left outer) goal low high 1
@@ -396,30 +404,30 @@ module _ (layout : Layout) (holds : ℕ → Bool) (texts : Texts) (marks : CellM
         (effect (variables + slots) (reads unspent bound) (variables + slots) Op.Free ((variables + y) ∷ [])
         (has_room unspent bound has) (omega arith) (omega arith)
         (inl (slot_there variables slots unspent bound y few.0 spends.1.0), tt))
-        (fits_weaker (variables + slots) (reads (without (y ∷ []) unspent) bound) (reads unspent bound) (reads left outer) goal low high
-        is.0 (slot_spent y unspent bound)
+        (fits_weaker (variables + slots) (reads (without (y ∷ []) unspent) bound) (reads unspent bound) (reads left outer) goal low
+        high is.0 (slot_spent y unspent bound)
         (fits_held (variables + slots) (reads (without (y ∷ []) unspent) bound) (reads left outer) goal low high is.0
         (code_fits rest bound outer (without (y ∷ []) unspent) left [] given goal low high is.0 has within marked numbered arms some
         arities few.1 plain at.1 spends.1.1 tt tt is.1)))))
-    code_fits (Tokened.null y rest) bound outer unspent left held given goal low high lines has within marked numbered arms some arities
-        few plain at spends below apart is =
+    code_fits (Tokened.null y rest) bound outer unspent left held given goal low high lines has within marked numbered arms some
+        arities few plain at spends below apart is =
         none_held held (reads unspent bound) (reads left outer) goal low high lines at.0
         (subst (FitsCode (reads unspent bound) (reads left outer) goal low high) (sym is.2)
-        (fits_step (variables + slots) (reads unspent bound) ((variables + y) ∷ reads unspent bound) (reads left outer) goal low high 1
-        (sets 0 (variables + y) ∷ []) is.0
+        (fits_step (variables + slots) (reads unspent bound) ((variables + y) ∷ reads unspent bound) (reads left outer) goal low
+        high 1 (sets 0 (variables + y) ∷ []) is.0
         (writes (reads unspent bound) (Op.Li 0) [] (variables + y) (has_room unspent bound has) refl (omega arith) tt
         (let less = few.0 in omega (arith, less)))
-        (fits_weaker (variables + slots) (reads (y ∷ unspent) bound) ((variables + y) ∷ reads unspent bound) (reads left outer) goal low
-        high is.0 (slot_written y unspent bound)
+        (fits_weaker (variables + slots) (reads (y ∷ unspent) bound) ((variables + y) ∷ reads unspent bound) (reads left outer) goal
+        low high is.0 (slot_written y unspent bound)
         (fits_held (variables + slots) (reads (y ∷ unspent) bound) (reads left outer) goal low high is.0
-        (code_fits rest bound outer (y ∷ unspent) left [] given goal low high is.0 has within marked numbered arms some arities few.1
-        plain at.1 spends.1.1 tt tt is.1)))))
+        (code_fits rest bound outer (y ∷ unspent) left [] given goal low high is.0 has within marked numbered arms some arities
+        few.1 plain at.1 spends.1.1 tt tt is.1)))))
     code_fits (Tokened.move to of rest) bound outer unspent left held given goal low high lines has within marked numbered arms some
         arities few plain at spends below apart is =
         none_held held (reads unspent bound) (reads left outer) goal low high lines at.0
         (subst (FitsCode (reads unspent bound) (reads left outer) goal low high) (sym is.2)
-        (fits_step (variables + slots) (reads unspent bound) ((variables + to) ∷ reads unspent bound) (reads left outer) goal low high 1
-        (copies_to (variables + of) (variables + to) ∷ []) is.0
+        (fits_step (variables + slots) (reads unspent bound) ((variables + to) ∷ reads unspent bound) (reads left outer) goal low
+        high 1 (copies_to (variables + of) (variables + to) ∷ []) is.0
         (writes (reads unspent bound) Op.Mv ((variables + of) ∷ []) (variables + to) (has_room unspent bound has) refl (omega arith)
         (inl (slot_there variables slots unspent bound of few.1.0 spends.1.0), tt) (let less = few.0 in omega (arith, less)))
         (fits_weaker (variables + slots) (reads (to ∷ without (of ∷ []) unspent) bound) ((variables + to) ∷ reads unspent bound)
@@ -427,16 +435,16 @@ module _ (layout : Layout) (holds : ℕ → Bool) (texts : Texts) (marks : CellM
         (slot_more to (without (of ∷ []) unspent) bound (reads unspent bound) (variable_there variables slots unspent bound)
         (λ z less there. slot_there variables slots unspent bound z less (left_there of z unspent there)))
         (fits_held (variables + slots) (reads (to ∷ without (of ∷ []) unspent) bound) (reads left outer) goal low high is.0
-        (code_fits rest bound outer (to ∷ without (of ∷ []) unspent) left [] given goal low high is.0 has within marked numbered arms
-        some arities few.1.1 plain at.1 spends.1.1.1 tt tt is.1)))))
-    code_fits (Tokened.hold y rest) bound outer unspent left held given goal low high lines has within marked numbered arms some arities
-        few plain at spends below apart is =
+        (code_fits rest bound outer (to ∷ without (of ∷ []) unspent) left [] given goal low high is.0 has within marked numbered
+        arms some arities few.1.1 plain at.1 spends.1.1.1 tt tt is.1)))))
+    code_fits (Tokened.hold y rest) bound outer unspent left held given goal low high lines has within marked numbered arms some
+        arities few plain at spends below apart is =
         subst (λ (lines : List Line). HeldFits held (reads unspent bound) (reads left outer) goal low high lines) (sym is.2)
         (fits_hold (variables + slots) (values_of_slots variables held) (reads unspent bound) (reads left outer)
         (has_room unspent bound has) goal low high is.0 (variables + y)
         (slot_there variables slots unspent bound y few.0 spends.0) (value_other variables y held at.0)
-        (code_fits rest bound outer unspent left (y ∷ held) given goal low high is.0 has within marked numbered arms some arities few.1
-        plain at.1 spends.1.1 (few.0, below) (at.0, apart) is.1))
+        (code_fits rest bound outer unspent left (y ∷ held) given goal low high is.0 has within marked numbered arms some arities
+        few.1 plain at.1 spends.1.1 (few.0, below) (at.0, apart) is.1))
     code_fits (Tokened.unhold y rest) bound outer unspent left held given goal low high lines has within marked numbered arms some
         arities few plain at spends below apart is =
         let apart_older = subst AreApart at.1.0 apart in
@@ -447,12 +455,12 @@ module _ (layout : Layout) (holds : ℕ → Bool) (texts : Texts) (marks : CellM
         (fits_unhold (variables + slots) (values_of_slots variables at.0) (reads unspent bound) (reads left outer)
         (has_room unspent bound has) goal low high is.0 (variables + y)
         (slot_there variables slots unspent bound y few.0 spends.1.1.0) (value_other variables y at.0 apart_older.0)
-        (code_fits rest bound outer unspent left at.0 given goal low high is.0 has within marked numbered arms some arities few.1 plain
-        at.1.1
-        (subst (λ (h : List ℕ). SpendsTokens left unspent h rest) (tails y spends.0 at.0 (sym spends.1.0 ∙ at.1.0)) spends.1.1.1) below_older.1
-        apart_older.1 is.1)))
-    code_fits (Tokened.if_token y there absent) bound outer unspent left held given goal low high lines has within marked numbered arms
-        some arities few plain at spends below apart is =
+        (code_fits rest bound outer unspent left at.0 given goal low high is.0 has within marked numbered arms some arities few.1
+        plain at.1.1
+        (subst (λ (h : List ℕ). SpendsTokens left unspent h rest) (tails y spends.0 at.0 (sym spends.1.0 ∙ at.1.0)) spends.1.1.1)
+        below_older.1 apart_older.1 is.1)))
+    code_fits (Tokened.if_token y there absent) bound outer unspent left held given goal low high lines has within marked numbered
+        arms some arities few plain at spends below apart is =
         none_held held (reads unspent bound) (reads left outer) goal low high lines at.0
         (subst (FitsCode (reads unspent bound) (reads left outer) goal low high) (sym is.5)
         (fits_split (variables + slots) (reads unspent bound) (reads left outer) (has_room unspent bound has) Equal
@@ -462,8 +470,8 @@ module _ (layout : Layout) (holds : ℕ → Bool) (texts : Texts) (marks : CellM
         (inl (slot_there variables slots unspent bound y few.0 spends.0), tt))
         goal low is.2 high is.0 is.1
         (fits_held (variables + slots) (reads unspent bound) (reads left outer) goal (low + 1) is.2 is.0
-        (code_fits there bound outer unspent left [] given goal (low + 1) is.2 is.0 has within marked numbered arms some arities few.1.0
-        plain.0 at.1.0 (subst (λ (h : List ℕ). SpendsTokens left unspent h there) at.0 spends.1.1.0) tt tt is.3))
+        (code_fits there bound outer unspent left [] given goal (low + 1) is.2 is.0 has within marked numbered arms some arities
+        few.1.0 plain.0 at.1.0 (subst (λ (h : List ℕ). SpendsTokens left unspent h there) at.0 spends.1.1.0) tt tt is.3))
         (fits_held (variables + slots) (reads unspent bound) (reads left outer) goal is.2 high is.1
         (code_fits absent bound outer unspent left [] given goal is.2 high is.1 has within
         (subst (HasMark marks holds result bound given) (sym spends.1.0) marked)
@@ -477,21 +485,22 @@ module _ (layout : Layout) (holds : ℕ → Bool) (texts : Texts) (marks : CellM
         → HaveArms (bare_arms arms) → AllHaveAnArm (bare_arms arms) → HaveArities (bare_arms arms) → HaveSlots slots arms
         → HavePlainForms arms → HoldAtCalls arms → SpendAllTokens left unspent arms → label + arm_count (bare_arms arms) ≤ low
         → ArmsLines setting variables goal label low arms lines high
-        → ArmsFit (variables + slots) (reads unspent bound) (reads left outer) goal label (arm_count (bare_arms arms)) low high lines
-    arms_fit TokenedArms.no_arm bound outer unspent left given goal label low high lines has within marked numbered arms some arities
-        few plain at spends under is =
+        → ArmsFit (variables + slots) (reads unspent bound) (reads left outer) goal label (arm_count (bare_arms arms)) low
+        high lines
+    arms_fit TokenedArms.no_arm bound outer unspent left given goal label low high lines has within marked numbered arms some
+        arities few plain at spends under is =
         subst (ArmsFit (variables + slots) (reads unspent bound) (reads left outer) goal label 0 low high) (sym is.0)
         (subst (λ (high : ℕ). ArmsFit (variables + slots) (reads unspent bound) (reads left outer) goal label 0 low high []) is.1
         (arms_none (variables + slots) (reads unspent bound) (reads left outer) goal label low))
-    arms_fit (TokenedArms.arm body rest) bound outer unspent left given goal label low high lines has within marked numbered arms some
-        arities few plain at spends under is =
+    arms_fit (TokenedArms.arm body rest) bound outer unspent left given goal label low high lines has within marked numbered arms
+        some arities few plain at spends under is =
         let one = fits_held (variables + slots) (reads unspent bound) (reads left outer) goal low is.2 is.0
         (code_fits body bound outer unspent left [] given goal low is.2 is.0 has within marked.0 numbered.0 arms.0 some.0 arities.0
         few.0 plain.0 at.0 spends.0 tt tt is.3) in
         let up = one.up in
-        subst (ArmsFit (variables + slots) (reads unspent bound) (reads left outer) goal label (suc (arm_count (bare_arms rest))) low
-        high) (sym is.5)
-        (arms_more (variables + slots) (reads unspent bound) (reads left outer) goal label (arm_count (bare_arms rest)) low is.2 high
-        is.0 is.1 one
+        subst (ArmsFit (variables + slots) (reads unspent bound) (reads left outer) goal label (suc (arm_count (bare_arms rest)))
+        low high) (sym is.5)
+        (arms_more (variables + slots) (reads unspent bound) (reads left outer) goal label (arm_count (bare_arms rest)) low is.2
+        high is.0 is.1 one
         (arms_fit rest bound outer unspent left given goal (label + 1) is.2 high is.1 has within marked.1 numbered.1 arms.1 some.1
         arities.1 few.1 plain.1 at.1 spends.1 (omega (arith, under, up)) is.4) under)

@@ -12,7 +12,7 @@ use Rattle.rv_isa.specs.declared.asm.Operation.TheVariants as Op
 use Rattle.rv_isa.specs.declared.routine.Routine.TheVariants.{Take}
 use Rattle.rv_isa.specs.AsmCode.{Line}
 use Rattle.rv_isa.specs.WellFormed.{is_alive, is_alive_at, most_values}
-use Rattle.rv_lower.specs.Lines.{copies_to, sets, acts}
+use Rattle.rv_lower.specs.Lines.{copies_to, acts}
 use Rattle.rv_lower.specs.Lowered.{Goal}
 use Rattle.rv_lower.proofs.Formed.{Each, Readable, Good, HasRoom, room_more, to_variable, to_temporary, good_hands}
 use Rattle.rv_lower.proofs.Formed.{none_some, readable_small, readable_bound}
@@ -21,7 +21,7 @@ use Rattle.rv_lower.proofs.Operations.{Leads, only_bound}
 use Rattle.rv_lower.proofs.Codes.{Ahead, Fits, good_label, goal_up}
 use Rattle.rv_cells.specs.CellLines.{ConstructLines, FillLines, hold_lines, unhold_lines}
 use Rattle.rv_cells.proofs.CellForms.{build_leads, bound_later}
-use Rattle.rv_cells.proofs.TokenFormedHeld.{Holding, holding_none, good_none, holding_weaker, holding_row, back_row, holding_take}
+use Rattle.rv_cells.proofs.TokenFormedHeld.{holding_none, good_none, holding_weaker, holding_row, back_row, holding_take}
 use Rattle.rv_cells.proofs.TokenFormedHeld.{hold_none, unhold_none}
 
 -- the lines behind the first one

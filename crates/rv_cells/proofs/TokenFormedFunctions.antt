@@ -1,6 +1,7 @@
--- The functions of a program with tokens that can be lowered, and is so, are well formed: and the program is one that the simulation
--- takes.
-use Rattle.std.proofs.Common.{◌≡◌, ℕ, suc, ◌+◌, ◌<◌, ◌≤◌, true, false, List, [], ◌∷◌, length, option_map, Some, All, refl, sym, ap, subst, ◌∙◌, arith}
+-- The functions of a program with tokens that can be lowered, and is so, are well formed: and the program is one that the
+-- simulation takes.
+use Rattle.std.proofs.Common.{◌≡◌, ℕ, suc, ◌+◌, ◌<◌, ◌≤◌, true, false, List, []}
+use Rattle.std.proofs.Common.{◌∷◌, length, option_map, Some, All, refl, sym, ap, subst, ◌∙◌, arith}
 use Rattle.std.proofs.Common.{append-nil}
 use Rattle.std.specs.Prelude.{map, slice_get}
 use Rattle.std.proofs.lemmas.Bool.{false≢true}
@@ -74,7 +75,8 @@ module _ (layout : Layout) (texts : Texts) (table : CellMarks) (f : ℕ) (functi
 
   small : All (λ v. v < most_values) (from_to 0 function.parameters)
   small = all_each (λ v. v < most_values) (λ v. v < most_values) (from_to 0 function.parameters) (λ v is. is)
-      (from_to_each (λ v. v < most_values) 0 function.parameters (λ v less. let few = may.few_parameters in omega (arith, less, few)))
+      (from_to_each (λ v. v < most_values) 0 function.parameters (λ v less. let few = may.few_parameters in
+      omega (arith, less, few)))
 
   starts : (v : ℕ) → Readable base base reads v → is_among v (from_to 0 function.parameters) ≡ true
   starts v readable =
@@ -94,7 +96,8 @@ module _ (layout : Layout) (texts : Texts) (table : CellMarks) (f : ℕ) (functi
     few_params = subst (λ (params : List ℕ). length params ≤ 8) (sym is.lowered.params)
         (let size = from_to_length 0 function.parameters in let few = may.few_parameters in omega (arith, size, few));
     params_small = subst (All (λ v. v < most_values)) (sym is.lowered.params) small;
-    start = λ v alive. subst (λ (params : List ℕ). is_among v params ≡ true) (sym is.lowered.params) (starts v (good.alive v alive));
+    start = λ v alive. subst (λ (params : List ℕ). is_among v params ≡ true) (sym is.lowered.params)
+        (starts v (good.alive v alive));
   }
 
 -- as many functions, of which each by its number is well formed

@@ -1,6 +1,6 @@
 -- Well-formed lines before which the tokens of values are held.
-use Rattle.std.proofs.Common.{◌≡◌, ℕ, ◌+◌, ◌<◌, ◌≤◌, ◌==◌, ◌||◌, ◌⊎◌, inl, inr, Bool, true, false, List, [], ◌∷◌, ◌++◌, length}
-use Rattle.std.proofs.Common.{Some, None, refl, sym, ap, subst, ◌∙◌, arith, append_assoc}
+use Rattle.std.proofs.Common.{◌≡◌, ℕ, ◌+◌, ◌<◌, ◌≤◌, ◌==◌, ◌||◌, ◌⊎◌, inl, Bool, true, false, List, [], ◌∷◌, ◌++◌, length}
+use Rattle.std.proofs.Common.{Some, refl, sym, ap, subst, ◌∙◌, arith, append_assoc}
 use Rattle.std.specs.List.{AllByRecursion}
 use Rattle.std.proofs.lemmas.Bool.{false≢true, ne_eqb}
 use Rattle.std.proofs.lemmas.List.Elements.{All-nil, All-cons}
@@ -13,11 +13,12 @@ use Rattle.rv_isa.specs.declared.routine.Routine.TheVariants.{Take}
 use Rattle.rv_isa.specs.AsmCode.{Line}
 use Rattle.rv_isa.specs.Frames.{is_among}
 use Rattle.rv_isa.specs.WellFormed.{is_written, is_alive, is_alive_behind, most_values, AreLabelsAhead, most_args, hands_over}
-use Rattle.rv_isa.specs.WellFormed.{IsSpent, IsLineFormed, AreLinesFormed, AreTokensHeld}
+use Rattle.rv_isa.specs.WellFormed.{IsLineFormed, AreLinesFormed, AreTokensHeld}
 use Rattle.rv_isa.proofs.TokensHeld.{held_from, held_to, held_over}
 use Rattle.rv_lower.specs.Lines.{acts, copies_to, copies, temporaries}
 use Rattle.rv_lower.specs.Lowered.{Goal}
-use Rattle.rv_lower.proofs.Formed.{AllBound, Each, Readable, IsWithin, readable_within, Good, HasRoom, alive_line, none_some, some_same, computes_formed}
+use Rattle.rv_lower.proofs.Formed.{AllBound, Each, Readable, IsWithin, readable_within}
+use Rattle.rv_lower.proofs.Formed.{Good, HasRoom, alive_line, none_some, some_same, computes_formed}
 use Rattle.rv_lower.proofs.Formed.{readable_small, temporary_left, variable_left, hands_formed, hands_alive, temporaries_above}
 use Rattle.rv_lower.proofs.AbsentLabels.{HasNo, has_no_append}
 use Rattle.rv_lower.proofs.Operations.{only_bound, copied}
@@ -39,7 +40,8 @@ good_none B code more = record { formed = record { lines = more.lines; tokens = 
 
 pub holding_weaker : (held : List ℕ) (B C : ℕ → Type 0) (code : List Line) → ((v : ℕ) → B v → C v) → Holding held B code
     → Holding held C code
-holding_weaker held B C code into more = record { lines = more.lines; tokens = more.tokens; alive = λ v is. into v (more.alive v is) }
+holding_weaker held B C code into more =
+    record { lines = more.lines; tokens = more.tokens; alive = λ v is. into v (more.alive v is) }
 
 -- ---- a token more is held, and one is taken back
 
@@ -56,6 +58,7 @@ one_read action y rest labels few keeps small = record {
   into_small = λ v is. absurd (none_some is);
 }
 
+-- a Hold before code before which its value is held, and an Unhold before code before which it is not
 pub holding_more : (held : List ℕ) (B : ℕ → Type 0) (y : ℕ) (rest : List Line) → B y → y < most_values → is_bound held y ≡ false
     → Holding (y ∷ held) B rest → Holding held B (acts Hold (y ∷ []) ∷ rest)
 holding_more held B y rest readable small other more = record {
@@ -117,6 +120,7 @@ holding_take base bound x held rest has less others more = record {
 -- Where the values that are held are between the variables and the temporaries, a call of variables leaves them alone.
 module _ (variables base : ℕ) (bound : List ℕ) (has : HasRoom base bound) (held : List ℕ)
     (between : AllByRecursion (λ (v : ℕ). (variables ≤ v) × (v < base)) held) where
+  -- a copy to a temporary leaves them alone, and so does a call
   copy_left : (x at : ℕ) → x < variables → base ≤ at → (held : List ℕ)
       → AllByRecursion (λ (v : ℕ). (variables ≤ v) × (v < base)) held
       → AllByRecursion (λ (v : ℕ). (is_among v (x ∷ []) ≡ false) × (is_written (Some at) v ≡ false)) held
@@ -143,8 +147,8 @@ module _ (variables base : ℕ) (bound : List ℕ) (has : HasRoom base bound) (h
               (inl all.0, tt) (readable_small base limit bound has (omega (arith, is, le))) (omega (arith, is, le, room)),
           later.lines,
         );
-        tokens = held_over (copies_to x limit) held (copies (limit + 1) xs ++ rest) tt refl (copy_left x limit small.0 above held between)
-            later.tokens;
+        tokens = held_over (copies_to x limit) held (copies (limit + 1) xs ++ rest) tt refl
+            (copy_left x limit small.0 above held between) later.tokens;
         alive = alive_line (Readable base limit bound) (copies_to x limit) (copies (limit + 1) xs ++ rest) (inl all.0, tt)
             (λ v other is. temporary_left base limit bound v (later.alive v is) other);
       }
@@ -240,7 +244,8 @@ module _ (base : ℕ) (held bound outer : List ℕ) (has : HasRoom base bound) (
   fits_held_call variables x f xs between less below few all small fits = record {
     up = fits.up;
     none = λ l apart. has_no_append l (copies base xs ++ call ∷ []) more
-        (has_no_append l (copies base xs) (call ∷ []) ((copied base bound has xs few all).no_label l) (refl, tt)) (fits.none l apart);
+        (has_no_append l (copies base xs) (call ∷ []) ((copied base bound has xs few all).no_label l) (refl, tt))
+        (fits.none l apart);
     good = λ tail ahead. subst (Holding held (Readable base base bound))
         (sym (append_assoc (copies base xs ++ call ∷ []) more tail ∙ append_assoc (copies base xs) (call ∷ []) (more ++ tail)))
         (holding_copies variables base bound has held between base (base + length xs) xs (call ∷ (more ++ tail)) (omega arith) refl

@@ -86,8 +86,8 @@ module _ (variables : ℕ) where
       below zero le v is = let less = low v is in omega (arith, less)
       below (suc n) le v is = by (is_among unspent n) is (below n (omega (arith, le)) v)
         where
-          by : (t : Bool) → is_among (if t then (variables + n) ∷ read_below n unspent bound else read_below n unspent bound) v ≡ true
-              → (is_among (read_below n unspent bound) v ≡ true → v < variables + slots) → v < variables + slots
+          by : (t : Bool) → is_among (if t then (variables + n) ∷ read_below n unspent bound else read_below n unspent bound) v
+              ≡ true → (is_among (read_below n unspent bound) v ≡ true → v < variables + slots) → v < variables + slots
           by false is later = later is
           by true is later = split (or_cases (variables + n == v) (is_among (read_below n unspent bound) v) is)
             where

@@ -1,5 +1,6 @@
 -- The lines of a code are well formed, and have only its own labels.
-use Rattle.std.proofs.Common.{◌≡◌, ℕ, ◌+◌, ◌<◌, ◌≤◌, ◌⊎◌, inl, inr, true, List, [], ◌∷◌, ◌++◌, length, None, IsSome, refl, sym, ap, subst, ◌∙◌, arith, append_assoc}
+use Rattle.std.proofs.Common.{◌≡◌, ℕ, ◌+◌, ◌<◌, ◌≤◌, ◌⊎◌, inl, inr, true, List, [], ◌∷◌, ◌++◌, length, None, IsSome}
+use Rattle.std.proofs.Common.{refl, sym, ap, subst, ◌∙◌, arith, append_assoc}
 use Rattle.std.proofs.lemmas.Bool.{or_cases, false≢true}
 use Rattle.std.proofs.lemmas.List.Elements.{All-nil, All-cons}
 use Rattle.kk_syntax.specs.Shapes.{is_among as is_bound}
@@ -13,7 +14,8 @@ use Rattle.rv_isa.specs.WellFormed.{is_alive, is_alive_at, most_values, IsSpent,
 use Rattle.rv_isa.proofs.TokensHeld.{HoldsNone}
 use Rattle.rv_lower.specs.Lines.{sets, copies_to, acts, copies, temporaries, constant_word}
 use Rattle.rv_lower.specs.Lowered.{Goal, returns, joins, goal_lines, test_lines}
-use Rattle.rv_lower.proofs.Formed.{AllBound, none_some, Readable, IsWithin, within_more, readable_within, AreFormed, formed_more, Good, HasRoom, weaker, alive_line, to_variable, good_hands, readable_more}
+use Rattle.rv_lower.proofs.Formed.{AllBound, none_some, Readable, IsWithin, within_more, readable_within, AreFormed, formed_more}
+use Rattle.rv_lower.proofs.Formed.{Good, HasRoom, weaker, alive_line, to_variable, good_hands, readable_more}
 use Rattle.rv_lower.proofs.AbsentLabels.{HasNo, has_no_append, found_none, found_past, found_here, alive_at_past, alive_at_here, other_label}
 use Rattle.rv_lower.proofs.Labels.{found_label}
 use Rattle.rv_lower.proofs.Operations.{Leads, leads_then, leads_weaker, copied, next_temporary, only_bound}
@@ -59,7 +61,8 @@ goal_later base outer (joins y label) low later between tail le none ahead = (
   λ v is. ahead.3 v (sym (alive_at_past label v between tail (none label ahead.0)) ∙ is),
 )
 
-pub goal_up : (base : ℕ) (outer : List ℕ) (goal : Goal) (low later : ℕ) (tail : List Line) → low ≤ later → IsGoalAhead base outer goal low tail → IsGoalAhead base outer goal later tail
+pub goal_up : (base : ℕ) (outer : List ℕ) (goal : Goal) (low later : ℕ) (tail : List Line) → low ≤ later
+    → IsGoalAhead base outer goal low tail → IsGoalAhead base outer goal later tail
 goal_up base outer returns low later tail le ahead = tt
 goal_up base outer (joins y label) low later tail le ahead = (omega (arith, le, ahead.0), ahead.1, ahead.2, ahead.3)
 
@@ -229,7 +232,8 @@ module _ (base : ℕ) (bound outer : List ℕ) (has : HasRoom base bound) (condi
           → (before ++ (acts (Branch condition low) (temporaries base xs) ∷ (positive ++ (acts (Label low) [] ∷ negative)))) ++ tail
           ≡ before ++ (acts (Branch condition low) (temporaries base xs) ∷ (positive ++ (acts (Label low) [] ∷ (negative ++ tail))))
       whole tail =
-          append_assoc before (acts (Branch condition low) (temporaries base xs) ∷ (positive ++ (acts (Label low) [] ∷ negative))) tail
+          append_assoc before (acts (Branch condition low) (temporaries base xs) ∷ (positive ++ (acts (Label low) [] ∷ negative)))
+          tail
           ∙ ap (λ (code : List Line). before ++ (acts (Branch condition low) (temporaries base xs) ∷ code))
           (append_assoc positive (acts (Label low) [] ∷ negative) tail)
 
