@@ -1,5 +1,5 @@
-//! Tests of the program over devices in memory, of the layers that `build` goes through, of the pairing of tokens, and of the
-//! adapters over real files: tests alone.
+//! Tests of the program over devices in memory, of the layers that `build` goes through, of the tokens of compiled programs, and of
+//! the adapters over real files: tests alone.
 #![tactic(auto)]
 
 #[cfg(test)]
