@@ -68,11 +68,11 @@ AreWellLowered =
 -- the law that the assembler code of a program with tokens is no longer than its form tells
 abbrev pub AreShortLowered : Type 0
 AreShortLowered =
-    (shape : Shape) (functions : List TokenedFunction) (literals texts : List (List ℕ)) (each : List Lines)
-    → AreLowerable (table_of shape) (map bare_function functions) → AreTokensLowerable functions
-    → IsNarrow (layout_in shape) → IsTokenedForm shape literals functions each texts
-    → (Costs.functions_length each ≤ tokened_functions_length functions)
-    × (length (all_bytes texts) ≤ 256 * all_tokened_computes functions)
+    (shape : Shape) (code : TokenedProgram) (texts : List (List ℕ)) (each : List Lines)
+    → AreLowerable (table_of shape) (bare_program code).functions → AreTokensLowerable code.functions → AreTokensSpent code
+    → IsTokenedForm shape code.texts code.functions each texts → IsNarrow (layout_in shape)
+    → (Costs.functions_length each ≤ tokened_functions_length code.functions)
+    × (length (all_bytes texts) ≤ 256 * all_tokened_computes code.functions)
 
 no_params : (names : List ℕ) (n : ℕ) → names ≡ from_to 0 n → n ≡ 0 → names ≡ []
 no_params names n are none = are ∙ ap (from_to 0) none
@@ -93,7 +93,7 @@ module _ (shape : Shape) (code : TokenedProgram) (functions : List Lines) (texts
   fits : AreShortLowered → FitsText functions texts
   fits are_short_lowered =
       let short =
-      are_short_lowered shape code.functions code.texts texts functions runnable.lowerable runnable.tokens runnable.narrow form in
+      are_short_lowered shape code texts functions runnable.lowerable runnable.tokens runnable.spends form runnable.narrow in
       let code_length = short.0 in
       let bytes = short.1 in
       let most_length = runnable.short.length in
