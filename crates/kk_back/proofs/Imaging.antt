@@ -1,10 +1,10 @@
 -- The image of a program with tokens does what its bare form does: its assembler code does, and the image does what that does.
-use Rattle.std.proofs.Common.{◌≡◌, ◌≢◌, ◌+◌, ◌*◌, ◌%◌, ◌<◌, ◌≤◌, ℕ, List, [], All, Some, length, map, slice_get, refl, sym, ap, subst, ◌∙◌, arith}
+use Rattle.std.proofs.Common.{◌≡◌, ◌≢◌, ◌+◌, ◌*◌, ◌%◌, ◌<◌, ◌≤◌, ℕ, List, [], All, Some, length, slice_get, refl, sym, ap, subst, ◌∙◌, arith}
 use Rattle.kk_base.specs.Agreements.{Agree}
 use Rattle.kk_base.specs.Machines.{state}
 use Rattle.kk_base.proofs.Agreements.{agree_through}
 use Rattle.kk_source.specs.State.{ended as well}
-use Rattle.kk_counted.specs.BareForms.{bare_function, bare_program}
+use Rattle.kk_counted.specs.BareForms.{bare_program}
 use Rattle.kk_counted.specs.CountedCodes.{CountedProgram}
 use Rattle.kk_counted.specs.CountedCosts.{roomy_cost}
 use Rattle.kk_counted.specs.CountedStates.{CountedSetting, stopped, counted_first_state}
