@@ -6,13 +6,13 @@ use Rattle.cell_runtime.specs.declared.layout.Layout.{Layout}
 abbrev pub next_page : ℕ → ℕ
 next_page n = (n + 4095) / 4096 * 4096
 
--- How far the stack pointer stands above the first word of its frame. A load reaches 2,048 bytes down and as many up, so it stands within
--- a frame that is larger than one half.
+-- How far the stack pointer stands above the first word of its frame. A load reaches 2,048 bytes down and almost as many up, so it
+-- stands at the first word where the frame is not larger than that, and else within the frame.
 abbrev pub below_pointer : ℕ → ℕ
 below_pointer frame_bytes = cond (nat_lt 2044 frame_bytes) 2048 0
 
--- The cells stand behind the buffer's 32 bytes. The stack pointer is at a page in the lowest frame: the first one behind the cells, a word,
--- and what of that frame is below it.
+-- The cells stand behind the buffer's 32 bytes. The stack pointer is at a page in the lowest frame: the first one behind the cells, a
+-- word, and what of that frame is below it.
 abbrev pub layout_of : ℕ → ℕ → ℕ → Layout
 layout_of cells depth frame_bytes = record {
   cells = 32;

@@ -27,9 +27,8 @@ routine_instructions m (Routine routine) (Some words) held shared = m.lasts rout
 routine_instructions m _ _ held shared = 0
 
 -- A far jump is two instructions, and a branch to a far label one over a jump. A call has its callee's entry: it compares the
--- stack with its bottom, takes a frame and saves the return address. A return loads it and gives the frame back, by two additions where
--- frames are wide. A token is held or
--- taken back by a call with the address of its slot.
+-- stack with its bottom, takes a frame and saves the return address. A return loads it and gives the frame back; a large frame is
+-- taken and given back in two parts. A token is held or taken back by a call with the address of its slot.
 abbrev pub action_instructions : Action → ℕ
 action_instructions (Compute operation) = operation_instructions operation
 action_instructions (Label l) = 0
@@ -42,8 +41,8 @@ action_instructions (Routine routine) = 2
 action_instructions Hold = 9
 action_instructions Unhold = 7
 
--- How many instructions an action is at most as it is written: a token is held or taken back by the address of its slot and a call, and what
--- is called stands elsewhere. All others are as many as they execute at most.
+-- How many instructions an action is at most as it is written. A token is held or taken back by the address of its slot and a call,
+-- and what is called stands elsewhere. All others are as many as they execute at most.
 abbrev pub action_length : Action → ℕ
 action_length Hold = 3
 action_length Unhold = 3

@@ -43,7 +43,7 @@ one_each going = omega arith
 one_each (exited number) = omega arith
 one_each (trapped cause pc word) = omega arith
 
--- A few silent instructions lead to a processor that agrees with another machine: so does the one before them, with as much more credit.
+-- a few silent instructions lead to a processor that agrees with another machine: so does the one before them, with more credit
 pub agree_after_instructions : {S : Type 0} (upper : Machine S Event Ending) (credit more k : ℕ) (up : ℕ → ℕ) (s : S) (p q : Processor)
     → k ≤ more → Leads k p q → q.trace ≡ p.trace → Agree upper (processor_machine rv32im) credit up s (goes q)
     → Agree upper (processor_machine rv32im) (credit + more) up s (goes p)

@@ -110,7 +110,7 @@ module _ {map_of : Map} {pool : Pool} {functions : List PlacedLines} {depth buff
         → Done pool.cells code n changed (with_number at 4 v s.memory) (s.pc + 4 * words_of_operation operation) s u → IsOutside 2 changed
         → NoneHanded changed
         → at + 4 ≤ end_of pool → can_store parts at 4 ≡ true → s.pc + 4 * words_of_operation operation < 2 ^ 32
-        → HoldsCells pool next (links_of map_of (running.base) (f ∷ fs)) u
+        → HoldsCells pool next (links_of map_of running.base (f ∷ fs)) u
         → 1 ≤ n → n ≤ most → Comes map_of pool functions depth stop code parts most old
         (placed_goes behind fs known (with_cells world next)) s
     changed_comes {n} most at v next u done outside none inside allowed fits holds some within =

@@ -184,23 +184,23 @@ module _ {map : Map} {pool : Pool} {functions : List PlacedLines} {depth buffer 
     (f : Frame PlacedLine) (fs : List (Frame PlacedLine)) (known : ℕ → Option ℕ) (world : World) (s : Processor)
     (running : Running map pool functions depth stop code parts (record { frames = f ∷ fs; registers = known; shared = world }) s) where
   base_sum : running.base + suc (length fs) * map.frame ≡ map.bottom + depth * map.frame
-  base_sum = frames_sum map code (most_lines functions) stop (stack_end map depth) s.memory s.pc (running.base) (f ∷ fs) running.frames
+  base_sum = frames_sum map code (most_lines functions) stop (stack_end map depth) s.memory s.pc running.base (f ∷ fs) running.frames
 
   pub sp_low : map.bottom ≤ running.base
-  sp_low = base_low (running.base) (suc (length fs)) map.frame map.bottom depth base_sum running.room
+  sp_low = base_low running.base (suc (length fs)) map.frame map.bottom depth base_sum running.room
 
   pub sp_word : running.base % 4 ≡ 0
-  sp_word = base_word (running.base) (suc (length fs)) map.frame map.bottom depth base_sum ground.frame_words ground.bottom_word
+  sp_word = base_word running.base (suc (length fs)) map.frame map.bottom depth base_sum ground.frame_words ground.bottom_word
 
   pub sp_high : running.base + map.frame ≤ stack_end map depth
   sp_high =
       let sum = base_sum in let more = suc-mul (length fs) map.frame in omega arith
 
   pub sp_room : suc (length (f ∷ fs)) ≤ depth → map.bottom + map.frame ≤ running.base
-  sp_room room = base_room (running.base) (suc (length fs)) map.frame map.bottom depth base_sum room
+  sp_room room = base_room running.base (suc (length fs)) map.frame map.bottom depth base_sum room
 
   pub sp_last : depth ≤ length (f ∷ fs) → running.base ≡ map.bottom
-  sp_last full = let room = running.room in base_full (running.base) (suc (length fs)) map.frame map.bottom depth base_sum (omega arith)
+  sp_last full = let room = running.room in base_full running.base (suc (length fs)) map.frame map.bottom depth base_sum (omega arith)
 
   -- a store to the stack leaves the constants alone
   pub constants_kept : (at v : ℕ) → can_store parts at 4 ≡ true → bytes_at (with_number at 4 v s.memory) map.constants.first (constant_bytes map) ≡ bytes_at s.memory map.constants.first (constant_bytes map)
@@ -213,5 +213,5 @@ module _ {map : Map} {pool : Pool} {functions : List PlacedLines} {depth buffer 
   stays most old {n = n} u behind known' done outside none is_in agrees some within =
       let stand = running.frames in
       comes_go map pool functions depth stop code parts most old (record { frames = record f { code = behind } ∷ fs; registers = known'; shared = world }) s u n (walks_done done)
-      (runs_on map pool functions depth stop code parts (record { frames = f ∷ fs; registers = known; shared = world }) world.cells s u (record f { code = behind } ∷ fs) known' (running.base) running done refl running.room
+      (runs_on map pool functions depth stop code parts (record { frames = f ∷ fs; registers = known; shared = world }) world.cells s u (record f { code = behind } ∷ fs) known' running.base running done refl running.room
       (done.kept 2 outside ∙ running.base_is) (is_in, stand.1, stand.2, stand.3) agrees (cells_done running.cells (roots_done done none) done.memory_is)) some within

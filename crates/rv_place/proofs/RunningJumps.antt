@@ -191,10 +191,10 @@ module _ {map_of : Map} {pool : Pool} {functions : List PlacedLines} {depth buff
       let gets = jump_to pool.cells ground.below running.rests.stands forms.jumps s.pc refl zero_register (function.0 + 4 * entry_words map_of.jumps) (here function.0 function.1) inside.at_word in
       subst (λ t. Comes map_of pool functions depth stop code parts 2 old t s) result.2
       (comes_go map_of pool functions depth stop code parts 2 old (record { frames = placed_entered result.0 ∷ fs; registers = passed 0 words; shared = world }) s gets.after (words_of_jump forms.jumps) (walks_done gets.done)
-      (runs_on map_of pool functions depth stop code parts (record { frames = f ∷ fs; registers = known; shared = world }) world.cells s gets.after (placed_entered result.0 ∷ fs) (passed 0 words) (running.base) running gets.done refl running.room
+      (runs_on map_of pool functions depth stop code parts (record { frames = f ∷ fs; registers = known; shared = world }) world.cells s gets.after (placed_entered result.0 ∷ fs) (passed 0 words) running.base running gets.done refl running.room
       (gets.done.kept 2 ((λ e. cc), ((λ e. cc), tt)) ∙ running.base_is) (inside, (λ k w none. cc), tt, stand.3)
       (agrees_done s gets.after (passed 0 words) gets.done (refl, (refl, tt)) (passed_agree (TailCall g) args words (λ k place is_one. is_one) fit.0 words_are))
-      (subst (λ links. HoldsCells pool world.cells links gets.after) (ap (λ held. links_in (running.base) f.cells held (links_of map_of (running.base + map_of.frame) fs)) free.0) (cells_done running.cells (roots_done gets.done refl) gets.done.memory_is))) (jump_some forms.jumps) (jump_most forms.jumps))
+      (subst (λ links. HoldsCells pool world.cells links gets.after) (ap (λ held. links_in running.base f.cells held (links_of map_of (running.base + map_of.frame) fs)) free.0) (cells_done running.cells (roots_done gets.done refl) gets.done.memory_is))) (jump_some forms.jumps) (jump_most forms.jumps))
 
   -- ---- a call that finds no frame left
 
@@ -211,7 +211,7 @@ module _ {map_of : Map} {pool : Pool} {functions : List PlacedLines} {depth buff
       let exits = full_at.2 goes.after (record { stands = stands_part ground.own_part done.stands; pc_is = done.pc_is }) in
       comes_ended map_of pool functions depth stop code parts 7 old (primitives map_of.constants pool).stack_full world s (words_of_jump forms.jumps + (1 + words_of_branch map_of.jumps Far) + 3) (record { processor = exits.last; ending = exited 102 }) (exit_runs s goes.after done.leads exits)
       (passes_to_exit ground done exits)
-      (refl, exits.trace ∙ (done.trace_is ∙ running.trace), (links_of map_of (running.base) (f ∷ fs), cells_ended (cells_done running.cells (roots_done done refl) (done.memory_is ∙ called.done.memory_is)) exits))
+      (refl, exits.trace ∙ (done.trace_is ∙ running.trace), (links_of map_of running.base (f ∷ fs), cells_ended (cells_done running.cells (roots_done done refl) (done.memory_is ∙ called.done.memory_is)) exits))
       (omega arith) (omega (arith, jump_most forms.jumps, jump_most map_of.jumps))
     where
       symbol_word : (target : ℕ) → IsSymbolAt map_of symbol.StackFull target → target % 4 ≡ 0
@@ -236,7 +236,7 @@ module _ {map_of : Map} {pool : Pool} {functions : List PlacedLines} {depth buff
       let some = ground.some_frame in
       subst (λ b. HoldsCells pool world.cells (links_of map_of b (f ∷ fs)) u) base_is
       (outside-holds running.cells roots (subst (λ m. SameInside pool s.memory m) (sym stored) (SameInside-store pool s.memory base way (inr (omega arith))))
-      (slots_below map_of (running.base) (f ∷ fs) s.memory u.memory (λ x above. ap (λ m. number_at m x 4) stored ∙ word-apart base way s.memory x (inr (omega arith)))))
+      (slots_below map_of running.base (f ∷ fs) s.memory u.memory (λ x above. ap (λ m. number_at m x 4) stored ∙ word-apart base way s.memory x (inr (omega arith)))))
 
   call_comes : (g : ℕ) (callee : PlacedLines) (entry : ℕ) (args : List Operand) (into : Option Operand) (words : List ℕ) → slice_get functions g ≡ Some callee → FunctionAt map_of code entry callee → CallsTo forms.jumps code s.pc entry
       → ((next : ℕ) → s.pc + 4 * words_of_jump forms.jumps ≡ next → next < 2 ^ 32 → IsIn map_of code (most_lines functions) next (record left_behind { into = awaited into }))
@@ -314,7 +314,7 @@ module _ {map_of : Map} {pool : Pool} {functions : List PlacedLines} {depth buff
   way_fits memory way base (g ∷ gs) stand = (stand.0.at_word, stand.0.below)
 
   back : (fs : List (Frame PlacedLine)) (running : Running map_of pool functions depth stop code parts (state_of fs) s)
-      → Shifts pool.cells code (1 + words_of_shift map_of.jumps + 1) (1 ∷ 2 ∷ 0 ∷ []) s.memory (running.base + map_of.frame + frame_bias map_of.jumps) (number_at s.memory (running.base) 4) s
+      → Shifts pool.cells code (1 + words_of_shift map_of.jumps + 1) (1 ∷ 2 ∷ 0 ∷ []) s.memory (running.base + map_of.frame + frame_bias map_of.jumps) (number_at s.memory running.base 4) s
   back fs running =
       let sp = running.base in
       let fits = way_fits s.memory (number_at s.memory sp 4) (sp + map_of.frame) fs running.frames.3 in
@@ -333,7 +333,7 @@ module _ {map_of : Map} {pool : Pool} {functions : List PlacedLines} {depth buff
       let exits = ground.ends goes.after (record { stands = stands_part ground.own_part goes.done.stands; pc_is = at_stop }) in
       comes_ended map_of pool functions depth stop code parts 4 old (primitives map_of.constants pool).finished world s (1 + words_of_shift map_of.jumps + 1 + 3) (record { processor = exits.last; ending = exited 0 }) (exit_runs s goes.after goes.done.leads exits)
       (passes_to_exit ground goes.done exits)
-      (refl, exits.trace ∙ (goes.done.trace_is ∙ running.trace), (links_of map_of (running.base) (f ∷ []), cells_ended (cells_done running.cells (roots_done goes.done refl) goes.done.memory_is) exits)) (omega arith) (omega (arith, shift_most map_of.jumps))
+      (refl, exits.trace ∙ (goes.done.trace_is ∙ running.trace), (links_of map_of running.base (f ∷ []), cells_ended (cells_done running.cells (roots_done goes.done refl) goes.done.memory_is) exits)) (omega arith) (omega (arith, shift_most map_of.jumps))
 
   return_to : f.held ≡ [] → (g : Frame PlacedLine) (gs : List (Frame PlacedLine)) (running : Running map_of pool functions depth stop code parts (state_of (g ∷ gs)) s) (known' : ℕ → Option ℕ)
       → ((u : Processor) → value u.registers 10 ≡ value s.registers 10 → Agrees known' u.registers) → Comes map_of pool functions depth stop code parts 4 old (placed_goes g gs known' world) s
@@ -343,7 +343,7 @@ module _ {map_of : Map} {pool : Pool} {functions : List PlacedLines} {depth buff
       comes_go map_of pool functions depth stop code parts 4 old (record { frames = g ∷ gs; registers = known'; shared = world }) s goes.after (1 + words_of_shift map_of.jumps + 1) (walks_done goes.done)
       (runs_on map_of pool functions depth stop code parts (state_of (g ∷ gs)) world.cells s goes.after (g ∷ gs) known' (running.base + map_of.frame) running goes.done refl room goes.base_is running.frames.3
       (agrees goes.after (goes.done.kept 10 ((λ e. cc), ((λ e. cc), ((λ e. cc), tt)))))
-      (subst (λ links. HoldsCells pool world.cells links goes.after) (ap (λ held. links_in (running.base) f.cells held (links_of map_of (running.base + map_of.frame) (g ∷ gs))) free) (cells_done running.cells (roots_done goes.done refl) goes.done.memory_is))) (omega arith) (omega (arith, shift_most map_of.jumps))
+      (subst (λ links. HoldsCells pool world.cells links goes.after) (ap (λ held. links_in running.base f.cells held (links_of map_of (running.base + map_of.frame) (g ∷ gs))) free) (cells_done running.cells (roots_done goes.done refl) goes.done.memory_is))) (omega arith) (omega (arith, shift_most map_of.jumps))
 
   -- what a frame gets is in the first register of arguments
   got_result : (waits : Option ℕ) (result : Option ℕ) (known' : ℕ → Option ℕ) → AwaitsFirst waits → ((w : ℕ) → result ≡ Some w → known 10 ≡ Some w) → Agrees known s.registers → received waits result empty ≡ Some known'

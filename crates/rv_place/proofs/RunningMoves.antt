@@ -121,14 +121,14 @@ module _ {map_of : Map} {pool : Pool} {functions : List PlacedLines} {depth buff
         let low = sp_low ground f fs known world s running in
         let high = sp_high ground f fs known world s running in
         let word = sp_word ground f fs known world s running in
-        rw running.rests.parts_are (ground.loads (running.base + slot_offset k) (omega arith) (omega arith) (slot_word (running.base) k word))
+        rw running.rests.parts_are (ground.loads (running.base + slot_offset k) (omega arith) (omega arith) (slot_word running.base k word))
 
     slot_stores : (k : ℕ) → slot_offset k + 4 ≤ map_of.frame → can_store parts (running.base + slot_offset k) 4 ≡ true
     slot_stores k inside =
         let low = sp_low ground f fs known world s running in
         let high = sp_high ground f fs known world s running in
         let word = sp_word ground f fs known world s running in
-        ground.stores (running.base + slot_offset k) (omega arith) (omega arith) (slot_word (running.base) k word)
+        ground.stores (running.base + slot_offset k) (omega arith) (omega arith) (slot_word running.base k word)
 
     -- it lies behind the cells
     slot_misses : (k : ℕ) → MissesFree pool.cells s (running.base + slot_offset k)
@@ -139,7 +139,7 @@ module _ {map_of : Map} {pool : Pool} {functions : List PlacedLines} {depth buff
 
     -- a word was stored in a slot that holds no held token
     slot_stored : (k : ℕ) (word : Option ℕ) (v : ℕ) → slot_offset k + 4 ≤ map_of.frame → is_among k f.held ≡ false → (u : Processor) → SameRoots s u → u.memory ≡ with_number (running.base + slot_offset k) 4 v s.memory
-        → HoldsCells pool world.cells (links_of map_of (running.base) (record behind { cells = put k word f.cells } ∷ fs)) u
+        → HoldsCells pool world.cells (links_of map_of running.base (record behind { cells = put k word f.cells } ∷ fs)) u
     slot_stored k word v inside unheld u roots stored =
         let base = running.base in
         let low = sp_low ground f fs known world s running in
@@ -163,14 +163,14 @@ module _ {map_of : Map} {pool : Pool} {functions : List PlacedLines} {depth buff
         (copied from.number imm.word none)
     follow_move (Load from to) (offset, offset_is, here) handed unheld =
         let address = slot_address from offset.word offset_is.0 offset_is.1 in
-        let word = slot_word (running.base) from (sp_word ground f fs known world s running) in
+        let word = slot_word running.base from (sp_word ground f fs known world s running) in
         let gets = load_gets pool.cells ground.below running.rests.stands refl {rd = to} {base = sp} {offset = offset} {address = running.base + slot_offset from} {word = number_at s.memory (running.base + slot_offset from) 4}
         here address word (slot_loads from offset_is.1) refl (slot_misses from) in
         got_stays to (f.cells from) (number_at s.memory (running.base + slot_offset from) 4) gets (ground.below s.pc (Instr.Lw to sp offset) here) handed
         (λ v is. let holds = running.frames.1 from v is in (holds.1, holds.2))
     follow_move (Store from to) (offset, offset_is, here) handed unheld =
         let address = slot_address to offset.word offset_is.0 offset_is.1 in
-        let word = slot_word (running.base) to (sp_word ground f fs known world s running) in
+        let word = slot_word running.base to (sp_word ground f fs known world s running) in
         let allowed = slot_stores to offset_is.1 in
         let base = running.base in
         let goes = store_goes pool.cells ground.below running.rests.stands refl {base = sp} {from = from} {offset = offset} {address = running.base + slot_offset to} {word = value s.registers from.number}

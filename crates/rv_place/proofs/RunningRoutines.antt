@@ -213,14 +213,14 @@ module _ {map_of : Map} {pool : Pool} {functions : List PlacedLines} {depth buff
   -- ---- the run goes on behind the call
 
   -- the buffer lies below the cells
-  cells_stay : (t : Processor) → SameRoots s t → KeepsOutside buffer buffer_bytes s t → HoldsCells pool world.cells (links_of map_of (running.base) (f ∷ fs)) t
+  cells_stay : (t : Processor) → SameRoots s t → KeepsOutside buffer buffer_bytes s t → HoldsCells pool world.cells (links_of map_of running.base (f ∷ fs)) t
   cells_stay t roots memory =
       let low = sp_low ground f fs known world s running in
       let under = ground.buffer_below in
       let cells = ground.cells_below in
       let size = pool_size in
       outside-holds running.cells roots (record { same = λ x from upto. word_kept buffer buffer_bytes s t x memory (inr (omega arith)) })
-      (slots_below map_of (running.base) (f ∷ fs) s.memory t.memory (λ x above. word_kept buffer buffer_bytes s t x memory (inr (omega arith))))
+      (slots_below map_of running.base (f ∷ fs) s.memory t.memory (λ x above. word_kept buffer buffer_bytes s t x memory (inr (omega arith))))
     where
       pool_size : pool.first ≤ end_of pool
       pool_size = omega arith
@@ -477,14 +477,14 @@ module _ {map_of : Map} {pool : Pool} {functions : List PlacedLines} {depth buff
 
     -- the run goes on with other cells, in frames of which one may have lost a token
     cells_come : (most : ℕ) {routine : Called} {count : ℕ} (next : Cells) (t : Processor) (frames : List (Frame PlacedLine)) (known' : ℕ → Option ℕ) → Back routine count t → is_spoilt_by routine 2 ≡ false → 2 + count ≤ most
-        → FramesAt map_of code (most_lines functions) stop (stack_end map_of depth) t.memory (s.pc + 4 * words_of_jump forms.jumps) (running.base) frames → length frames ≡ length (f ∷ fs)
+        → FramesAt map_of code (most_lines functions) stop (stack_end map_of depth) t.memory (s.pc + 4 * words_of_jump forms.jumps) running.base frames → length frames ≡ length (f ∷ fs)
         → bytes_at t.memory map_of.constants.first (constant_bytes map_of) ≡ bytes_at s.memory map_of.constants.first (constant_bytes map_of)
-        → t.trace ≡ s.trace → t.left ≡ s.left → Agrees known' t.registers → HoldsCells pool next (links_of map_of (running.base) frames) t
+        → t.trace ≡ s.trace → t.left ≡ s.left → Agrees known' t.registers → HoldsCells pool next (links_of map_of running.base frames) t
         → Comes map_of pool functions depth stop code parts most old (go (record { frames = frames; registers = known'; shared = with_cells world next })) s
     cells_come most {count = count} next t frames known' back keeps within stand size constants trace left agrees holds =
         let base_is = back.kept 2 (λ e. cc) refl keeps ∙ running.base_is in
         let room = running.room in
-        let at_pc = subst (λ a. FramesAt map_of code (most_lines functions) stop (stack_end map_of depth) t.memory a (running.base) frames) (sym back.pc_is) stand in
+        let at_pc = subst (λ a. FramesAt map_of code (most_lines functions) stop (stack_end map_of depth) t.memory a running.base frames) (sym back.pc_is) stand in
         comes_go map_of pool functions depth stop code parts most old (record { frames = frames; registers = known'; shared = with_cells world next }) s t (words_of_jump forms.jumps + count) back.walks (record {
           rests = record {
             stands = Stands-leads back.walks.leads running.rests.stands;
@@ -503,13 +503,13 @@ module _ {map_of : Map} {pool : Pool} {functions : List PlacedLines} {depth buff
         }) (omega (arith, jump_some forms.jumps)) (omega (arith, jump_most forms.jumps, within))
 
     abbrev links_here : List Link
-    links_here = links_of map_of (running.base) (f ∷ fs)
+    links_here = links_of map_of running.base (f ∷ fs)
 
     -- the cells where a routine begins
     cells_begin : {target : ℕ} (start : Begins target) → HoldsCells pool world.cells links_here start.called.after
     cells_begin start = cells_done running.cells (roots_done start.called.done refl) start.called.done.memory_is
 
-    waits_behind : s.pc + 4 * words_of_jump forms.jumps < 2 ^ 32 → FramesAt map_of code (most_lines functions) stop (stack_end map_of depth) s.memory (s.pc + 4 * words_of_jump forms.jumps) (running.base) (behind ∷ fs)
+    waits_behind : s.pc + 4 * words_of_jump forms.jumps < 2 ^ 32 → FramesAt map_of code (most_lines functions) stop (stack_end map_of depth) s.memory (s.pc + 4 * words_of_jump forms.jumps) running.base (behind ∷ fs)
     waits_behind fits = let stand = running.frames in (is_behind (s.pc + 4 * words_of_jump forms.jumps) refl fits, stand.1, stand.2, stand.3)
 
     -- ---- take
@@ -521,7 +521,7 @@ module _ {map_of : Map} {pool : Pool} {functions : List PlacedLines} {depth buff
     take_free cell count next start t back_at few fits word_is same trace left request_is holds gives is =
         let served_is : placed_gives into cell behind fs (kept_by (Routine Take) known) (with_cells world next) ≡ turn =
         ap (λ r. placed_served into (behind ∷ fs) (kept_by (Routine Take) known) (takes_cell r world)) (sym (request_is (top (f ∷ fs)))) ∙ is in
-        let stand = subst (λ m. FramesAt map_of code (most_lines functions) stop (stack_end map_of depth) m (s.pc + 4 * words_of_jump forms.jumps) (running.base) (behind ∷ fs)) (sym same) (waits_behind start.way_fits) in
+        let stand = subst (λ m. FramesAt map_of code (most_lines functions) stop (stack_end map_of depth) m (s.pc + 4 * words_of_jump forms.jumps) running.base (behind ∷ fs)) (sym same) (waits_behind start.way_fits) in
         given_word 10 cell behind fs (kept_by (Routine Take) known) (with_cells world next) t (kept_agree Take t back_at) word_is fits
         (λ known' agrees. cells_come 10 next t (behind ∷ fs) known' back_at refl (omega arith) stand refl (ap (λ m. bytes_at m map_of.constants.first (constant_bytes map_of)) same) trace left agrees holds) into gives served_is
 
@@ -532,7 +532,7 @@ module _ {map_of : Map} {pool : Pool} {functions : List PlacedLines} {depth buff
         → placed_served into (behind ∷ fs) (kept_by (Routine Take) known) (takes_cell (request pool (top (f ∷ fs)) world.cells) world) ≡ turn → Comes map_of pool functions depth stop code parts 10 old turn s
     take_held link left_links count next start t back_at few fits some word_is emptied keeps trace left newest request_is holds gives is =
         let chain = subst (IsHeldChain pool s.parts s.memory (seen_cells world.cells) (value s.registers 9)) newest running.cells.memory.held in
-        let taken = frames_taken map_of code (most_lines functions) stop (stack_end map_of depth) ground.some_frame s t link left_links some chain.3 emptied keeps (s.pc + 4 * words_of_jump forms.jumps) (running.base) (behind ∷ fs) newest (waits_behind start.way_fits) in
+        let taken = frames_taken map_of code (most_lines functions) stop (stack_end map_of depth) ground.some_frame s t link left_links some chain.3 emptied keeps (s.pc + 4 * words_of_jump forms.jumps) running.base (behind ∷ fs) newest (waits_behind start.way_fits) in
         let asked : request pool (top (f ∷ fs)) world.cells ≡ Some (link.cell, next, true) = ap (λ newest. request pool newest world.cells) taken.top_is ∙ request_is in
         let served_is : or_stuck (top_taken (behind ∷ fs)) (λ left. placed_answered into link.cell left (kept_by (Routine Take) known) (with_cells world next)) ≡ turn =
         ap (λ r. placed_served into (behind ∷ fs) (kept_by (Routine Take) known) (takes_cell r world)) (sym asked) ∙ is in
@@ -547,8 +547,8 @@ module _ {map_of : Map} {pool : Pool} {functions : List PlacedLines} {depth buff
           | inr after ↦ bytes_at-same t.memory s.memory map_of.constants.first (constant_bytes map_of) (λ x low high. keeps x (inr (omega arith)))
         ]
 
-        resume : (after : List (Frame PlacedLine)) → length after ≡ length (behind ∷ fs) → FramesAt map_of code (most_lines functions) stop (stack_end map_of depth) t.memory (s.pc + 4 * words_of_jump forms.jumps) (running.base) after
-            → HoldsCells pool next (links_of map_of (running.base) after) t
+        resume : (after : List (Frame PlacedLine)) → length after ≡ length (behind ∷ fs) → FramesAt map_of code (most_lines functions) stop (stack_end map_of depth) t.memory (s.pc + 4 * words_of_jump forms.jumps) running.base after
+            → HoldsCells pool next (links_of map_of running.base after) t
             → bytes_at t.memory map_of.constants.first (constant_bytes map_of) ≡ bytes_at s.memory map_of.constants.first (constant_bytes map_of)
             → placed_answered into link.cell after (kept_by (Routine Take) known) (with_cells world next) ≡ turn → Comes map_of pool functions depth stop code parts 10 old turn s
         resume [] size stand holds constants is = absurd (omega (arith, size))
@@ -561,7 +561,7 @@ module _ {map_of : Map} {pool : Pool} {functions : List PlacedLines} {depth buff
         → placed_served into (behind ∷ fs) (kept_by (Routine Take) known) (takes_cell (request pool (top (f ∷ fs)) world.cells) world) ≡ turn → Comes map_of pool functions depth stop code parts 10 old turn s
     take_full start full exits is =
         let done = start.called.done in
-        let none = top_none map_of (running.base) (f ∷ fs) full.held in
+        let none = top_none map_of running.base (f ∷ fs) full.held in
         let test : nat_lt world.cells.border (end_of pool) ≡ false = (let border = full.border in grind (arith, nat_tests)) in
         let asked : request pool (top (f ∷ fs)) world.cells ≡ None = ap (λ newest. request pool newest world.cells) none ∙ no_cell pool world.cells full.chain test in
         subst (λ t. Comes map_of pool functions depth stop code parts 10 old t s) (ap (λ r. placed_served into (behind ∷ fs) (kept_by (Routine Take) known) (takes_cell r world)) (sym asked) ∙ is)
@@ -630,7 +630,7 @@ module _ {map_of : Map} {pool : Pool} {functions : List PlacedLines} {depth buff
         let others : (x : ℕ) → IsNoCount (seen_cells world.cells) x → t.memory x ≡ s.memory x = λ x none. after.others x none ∙ ap (λ (m : ℕ → ℕ). m x) start.called.done.memory_is in
         let low = sp_low ground f fs known world s running in
         let under = ground.cells_below in
-        let stand = frames_kept map_of code (most_lines functions) stop (stack_end map_of depth) ground.some_frame s.memory t.memory (s.pc + 4 * words_of_jump forms.jumps) (running.base) (behind ∷ fs)
+        let stand = frames_kept map_of code (most_lines functions) stop (stack_end map_of depth) ground.some_frame s.memory t.memory (s.pc + 4 * words_of_jump forms.jumps) running.base (behind ∷ fs)
         (λ x above high. number_at-same t.memory s.memory x 4 (λ y from below. others y (behind_counts y (omega arith)))) (waits_behind start.way_fits) in
         cells_come (2 + (8 * work.gave + 52 * work.freed + 5)) (merged_cells work world.cells) t (behind ∷ fs) (kept_by (Routine Drop) known) back_at refl (omega (arith, after.bounded)) stand refl
         (bytes_at-same t.memory s.memory map_of.constants.first (constant_bytes map_of) (λ x low high. others x (constant_counts x low high)))

@@ -28,8 +28,8 @@ use Rattle.rv_place.specs.declared.reach.Reach.{Reach}
 use Rattle.rv_place.specs.declared.reach.Reach.TheVariants.{Near, Far, Wide}
 
 -- Where what code names stands.
--- jumps: how far jumps lead, and whether frames are wide; frame: the bytes of a frame; bottom: the address of the lowest frame that the stack
--- has room for
+-- jumps: how far jumps lead, and whether frames are wide; frame: the bytes of a frame
+-- bottom: the address of the lowest frame that the stack has room for
 -- entries: the addresses of the functions; runtime: that of the runtime, and its labels with the instructions before them
 -- constants: the constant bytes
 pub record Map : Type 0 where
@@ -139,7 +139,7 @@ LinesAt map forms code start whole at (line ∷ lines) =
 
 -- ---- the functions
 
--- the entry: where the stack pointer is at the lowest frame, no frame is left, and the runtime's stop for a full stack comes; else a frame is
+-- the entry: where the stack pointer is in the lowest frame, no frame is left, and the runtime's stop for a full stack comes; else a frame is
 -- taken, and the way back saved in its first word
 pub record EntersAt (map : Map) (code : Code) (at : ℕ) : Type 0 where
   pub bottom : UpperImmediate

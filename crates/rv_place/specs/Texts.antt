@@ -46,7 +46,7 @@ greatest_address = 2147483648
 abbrev pub greatest_bottom : ℕ
 greatest_bottom = 268435456
 
--- A runtime and a program that can be placed: the stack begins at a page, so that one LUI gives the address of its lowest frame;
+-- A runtime and a program that can be placed: the stack pointer is at a page in the lowest frame, so that one LUI gives it there;
 -- frames are at most 4,088 bytes, so that each slot is within reach of the stack pointer; and the text is small enough for a text part.
 pub record ArePlaceable (runtime program : Placed) : Type 0 where
   pub lines : AreWithin greatest_reach runtime.natives.items
@@ -60,8 +60,8 @@ pub record ArePlaceable (runtime program : Placed) : Type 0 where
 
 -- ---- the text
 
--- How far jumps lead. Where a frame is larger than a load reaches from its first word, they lead anywhere; else, where the text is few
--- instructions with near jumps, they are near.
+-- How far jumps lead. Where a frame is larger than a load reaches from its first word, they lead anywhere. Else, where the text is
+-- few instructions with near jumps, they are near.
 abbrev pub jumps_of : Placed → Placed → Reach
 jumps_of runtime program =
     cond (nat_lt 2044 (frame_size (placed_functions program))) Wide

@@ -305,7 +305,7 @@ fn emit_raising(code: &mut Vec<Instr>, jumps: Reach, frame: u32) -> Result<(), N
     }
 }
 
-/// A number, subtracted from 0.
+/// What takes so many bytes from the stack pointer.
 fn negative(number: u32) -> Immediate
     requires some { 1 ≤ number }
     requires few { number ≤ 2044 }
