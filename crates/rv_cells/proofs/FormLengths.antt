@@ -1,5 +1,5 @@
 -- The lines of forms are short: each is so many instructions at most.
-use Rattle.std.proofs.Common.{◌≡◌, ℕ, suc, ◌+◌, ◌*◌, ◌≤◌, Bool, true, false, not, List, [], ◌∷◌, ◌++◌, length}
+use Rattle.std.proofs.Common.{◌≡◌, ℕ, suc, ◌+◌, ◌*◌, ◌≤◌, Bool, true, false, List, [], ◌∷◌, ◌++◌, length}
 use Rattle.std.proofs.Common.{Some, refl, ap, arith}
 use Rattle.std.specs.Prelude.{filter, if◌then◌else◌}
 use Rattle.kk_syntax.specs.declared.operator.BinaryOperator.{BinaryOperator}
@@ -10,29 +10,32 @@ use Rattle.kk_syntax.specs.declared.program.Form.{Form}
 use Rattle.kk_syntax.specs.declared.program.Form.TheVariants.{Number, Unit as Nothing, ReadByte, PrintText}
 use Rattle.kk_syntax.specs.declared.program.Form.TheVariants.{Unary, Binary, Print, Construct, Call}
 use Rattle.kk_syntax.specs.Programs.{text_at}
-use Rattle.kk_syntax.specs.Shapes.{is_among}
 use Rattle.kk_source.specs.FormEffects.{piece_of}
 use Rattle.kk_counted.specs.Lowerable.{HasArity}
 use Rattle.kk_counted.specs.Marks.{CellMarks, field_marks, HaveMarks, IsFormMarked}
-use Rattle.rv_isa.specs.declared.asm.Action.TheVariants.{Compute, Label, TailCall, Call as Calls}
+use Rattle.rv_isa.specs.declared.asm.Action.TheVariants.{TailCall, Call as Calls}
 use Rattle.rv_isa.specs.declared.asm.ImmediateOperation.{ImmediateOperation}
-use Rattle.rv_isa.specs.declared.asm.ImmediateOperation.TheVariants.{Addi, Sltiu, Xori}
+use Rattle.rv_isa.specs.declared.asm.ImmediateOperation.TheVariants.{Sltiu, Xori}
 use Rattle.rv_isa.specs.declared.asm.Operation.TheVariants as Op
 use Rattle.rv_isa.specs.declared.asm.RegisterOperation.TheVariants as Register
 use Rattle.rv_isa.specs.AsmCode.{Line}
 use Rattle.rv_isa.specs.Costs.{line_length, code_length}
 use Rattle.rv_lower.specs.Lines.{computes, sets, acts, registers, copies, temporaries}
-use Rattle.rv_lower.specs.Lowered.{tail_lines}
+use Rattle.rv_lower.specs.Lowered.{Goal, returns, joins, goal_lines, tail_lines}
 use Rattle.rv_lower.specs.Lines.{MakesTruth, Compares, ComparesWithOne, BinaryLines, PrintLines, AppliedLines}
 use Rattle.rv_cells.specs.Layout.{header_of}
 use Rattle.rv_cells.specs.CellLines.{Loads, Stores, AllLoads, AllStores, dup_lines, drop_lines, dups_lines, drops_lines}
-use Rattle.rv_cells.specs.CellLines.{ConstructLines, OpenLines, UniqueLines}
+use Rattle.rv_cells.specs.CellLines.{ConstructLines}
 use Rattle.rv_cells.specs.CountedLines.{Setting, ComputeLines}
-use Rattle.rv_cells.specs.Written.{end_lines}
 
 pub lines_append : (first second : List Line) → code_length (first ++ second) ≡ code_length first + code_length second
 lines_append [] second = omega arith
 lines_append (line ∷ first) second = omega (arith, lines_append first second)
+
+-- where a value goes
+pub goal_length : (goal : Goal) (x : ℕ) → code_length (goal_lines goal x) ≤ 6
+goal_length returns x = omega arith
+goal_length (joins y label) x = omega arith
 
 -- ---- words of cells
 
@@ -96,65 +99,7 @@ module _ (holds : ℕ → Bool) where
       let one = drop_length base x in
       let more = drops_length base xs in omega (arith, whole, one, more)
 
-  -- ---- forms that touch cells
-
-  pub open_length : (base x : ℕ) (fields used : List ℕ) (lines : List Line) → OpenLines base holds x fields used lines
-      → length fields ≤ 6 → code_length lines ≤ 80
-  open_length base x fields used lines is few =
-      let dupped : List ℕ = filter (is_among used) fields in
-      let whole = ap code_length is.2 in
-      let apart = lines_append is.0 (dups_lines holds dupped ++ drop_lines base holds x) in
-      let behind = lines_append (dups_lines holds dupped) (drop_lines base holds x) in
-      let loads = loads_length x 2 fields is.0 is.1 in
-      let dups = dups_length dupped in
-      let drop = drop_length base x in
-      let fewer = filter_few (is_among used) fields in omega (arith, whole, apart, behind, loads, dups, drop, fewer, few)
-
-  -- both ways of an opening by the count of a cell
-  pub unique_length : (base shared behind x : ℕ) (fields used : List ℕ) (lines : List Line)
-      → UniqueLines base holds shared behind x fields used lines → length fields ≤ 6 → code_length lines ≤ 180
-  unique_length base shared behind x fields used lines is few =
-      let kept : List ℕ = filter (is_among used) fields in
-      let others : List ℕ = filter (λ y. not (is_among used y)) fields in
-      let dropped : List Line = drops_lines base holds others in
-      let dupped : List Line = dups_lines holds kept in
-      let freed : List Line = end_lines (acts (Compute Op.Free) (x ∷ [])) behind in
-      let lowered : List Line = is.2 ∷ computes (Op.Immediate Addi is.3) (base ∷ []) base ∷ is.4 ∷ dupped in
-      let alone : List Line = is.1 ++ (dropped ++ freed) in
-      let shares : List Line = acts (Label shared) [] ∷ (is.1 ++ lowered) in
-      let last : List Line = acts (Label behind) [] ∷ [] in
-      let whole = ap code_length is.10 in
-      let apart = lines_append alone (shares ++ last) in
-      let ending = lines_append shares last in
-      let first = lines_append is.1 (dropped ++ freed) in
-      let frees = lines_append dropped freed in
-      let second = lines_append is.1 lowered in
-      let test = load_length x 0 base is.0 is.5 in
-      let loads = loads_length x 2 fields is.1 is.6 in
-      let count = load_length x 0 base is.2 is.7 in
-      let store = store_length x 0 base is.4 is.9 in
-      let drops = drops_length base others in
-      let dups = dups_length kept in
-      let few_kept = filter_few (is_among used) fields in
-      let few_others = filter_few (λ y. not (is_among used y)) fields in
-      omega (
-        arith,
-        whole,
-        apart,
-        ending,
-        first,
-        frees,
-        second,
-        test,
-        loads,
-        count,
-        store,
-        drops,
-        dups,
-        few_kept,
-        few_others,
-        few,
-      )
+-- ---- forms that touch cells
 
 pub construct_length : (base x header : ℕ) (arguments : List ℕ) (lines : List Line) → ConstructLines base x header arguments lines
     → length arguments ≤ 6 → code_length lines ≤ 60
