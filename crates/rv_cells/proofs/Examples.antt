@@ -1,5 +1,5 @@
--- The assembler lines of a program of two functions, by hand: one adds 1 to each number of a list, in the cells that the list has
--- where they are its own; `main` makes a list of two cells and calls it.
+-- The assembler lines of a program of two functions with tokens, by hand: one adds 1 to each number of a list, in the cells that the
+-- list has where they are its own; `main` makes a list of two cells and calls it.
 use Rattle.std.proofs.Common.{Option, ◌≡◌, ℕ, zero, suc, ◌^◌, ◌-◌, pos, Bool, true, false, List, [], ◌∷◌, ◌++◌, Some, refl, subst, lit<, lit≤}
 use Rattle.std.specs.Prelude.{slice_index_or}
 use Rattle.cell_heap.specs.Pool.{Pool}
@@ -10,10 +10,11 @@ use Rattle.kk_base.specs.Trace.{Event}
 use Rattle.kk_syntax.specs.Shapes.{is_among}
 use Rattle.kk_syntax.specs.declared.program.Form.TheVariants as OfForm
 use Rattle.kk_syntax.specs.declared.operator.BinaryOperator.TheVariants.{Add}
-use Rattle.kk_counted.specs.CountedCodes.{give, compute}
-use Rattle.kk_counted.specs.CountedStates.{CountedState, counted_first_state}
+use Rattle.kk_counted.specs.BareForms.{bare_program}
+use Rattle.kk_counted.specs.CountedStates.{CountedSetting, CountedState, counted_first_state}
 use Rattle.kk_counted.specs.Marks.{CellMarks}
-use Rattle.kk_counted.proofs.Examples.{inc, by_count, two_cells, unique}
+use Rattle.kk_counted.specs.TokenedCodes.{Tokened, TokenedArms, TokenedFunction}
+use Rattle.kk_counted.proofs.Examples.{nil_or_cons}
 use Rattle.rv_isa.specs.declared.asm.Action.TheVariants.{Compute, Label, Jump, Branch, Call, Return, Routine as Calls, Hold, Unhold}
 use Rattle.rv_isa.specs.declared.asm.Condition.TheVariants.{Equal, NotEqual}
 use Rattle.rv_isa.specs.declared.asm.Operation.TheVariants as Op
@@ -28,10 +29,37 @@ use Rattle.rv_isa.specs.AsmCode.{Line, Lines}
 use Rattle.rv_lower.specs.Lines.{computes, sets, copies_to, acts}
 use Rattle.rv_lower.specs.Lowered.{returns}
 use Rattle.rv_cells.specs.Layout.{Layout}
-use Rattle.rv_cells.specs.CellLines.{ConstructLines, FillLines, AllLoads, UniqueLines, TokenUniqueLines}
-use Rattle.rv_cells.specs.CountedLines.{Setting, CodeLines}
-use Rattle.rv_cells.specs.Meaning.{counted_outside, setting_on}
-use Rattle.rv_cells.specs.Marked.{IsFunctionOf, AreFunctionsOf}
+use Rattle.rv_cells.specs.CellLines.{ConstructLines, FillLines, AllLoads, TokenUniqueLines}
+use Rattle.rv_cells.specs.CountedLines.{Setting}
+use Rattle.rv_cells.specs.Meaning.{setting_on}
+use Rattle.rv_cells.specs.TokenedLines.{CodeLines, HasSlots, IsFunctionOf, AreFunctionsOf}
+use Rattle.rv_cells.specs.TokenedMeaning.{roomy_outside}
+
+-- ---- the program
+
+-- fun inc(xs) { match xs { Nil -> Nil; Cons(x, xx) -> Cons(x + 1, inc(xx)) } }: the token of the cell is held over the call, and
+-- the new cell fills it
+abbrev inc : TokenedFunction
+inc = record {
+  parameters = 1;
+  body = Tokened.case 0 nil_or_cons
+      (TokenedArms.arm (Tokened.give 0)
+      (TokenedArms.arm
+      (Tokened.if_unique 0 3 (1 ∷ 2 ∷ []) (1 ∷ 2 ∷ []) 0
+      (Tokened.compute 3 (OfForm.Number (pos 1)) [] [] (Tokened.compute 4 (OfForm.Binary Add) (1 ∷ 3 ∷ []) []
+      (Tokened.hold 0 (Tokened.compute 5 (OfForm.Call 0) (2 ∷ []) [] (Tokened.unhold 0
+      (Tokened.fill 6 0 3 4 (5 ∷ []) [] [] (Tokened.give 6))))))))
+      TokenedArms.no_arm));
+}
+
+abbrev main : TokenedFunction
+main = record {
+  parameters = 0;
+  body = Tokened.compute 0 (OfForm.Construct 2) [] [] (Tokened.compute 1 (OfForm.Number (pos 7)) [] []
+      (Tokened.compute 2 (OfForm.Construct 3) (1 ∷ 0 ∷ []) [] (Tokened.compute 3 (OfForm.Number (pos 8)) [] []
+      (Tokened.compute 4 (OfForm.Construct 3) (3 ∷ 2 ∷ []) [] (Tokened.compute 5 (OfForm.Call 0) (4 ∷ []) []
+      (Tokened.drop 5 (Tokened.compute 6 OfForm.Unit [] [] (Tokened.give 6))))))));
+}
 
 -- `False`, `True`, `Nil` and `Cons`
 abbrev layout : Layout
@@ -72,35 +100,53 @@ loads offset cell into = computes (Op.Lw offset) (cell ∷ []) into
 abbrev stores : Immediate → ℕ → ℕ → Line
 stores offset cell from = acts (Compute (Op.Sw offset)) (cell ∷ from ∷ [])
 
--- a cell of Cons, whose header has tag 1 and says that the second field can hold cells
-abbrev makes_cons : ℕ → ℕ → ℕ → List Line
-makes_cons x head rest =
-    record { action = Calls Take; args = []; into = Some x } ∷ sets 513 7 ∷ stores immediate_4 x 7 ∷ stores immediate_8 x head
-    ∷ stores immediate_12 x rest ∷ sets 1 7 ∷ stores immediate_0 x 7 ∷ []
+-- the stores of a cell of Cons, whose header has tag 1 and says that the second field can hold cells
+abbrev stores_cons : ℕ → ℕ → ℕ → ℕ → List Line
+stores_cons base x head rest =
+    sets 513 base ∷ stores immediate_4 x base ∷ stores immediate_8 x head ∷ stores immediate_12 x rest ∷ sets 1 base
+    ∷ stores immediate_0 x base ∷ []
 
--- ---- the function that adds 1
+abbrev makes_cons : ℕ → ℕ → ℕ → ℕ → List Line
+makes_cons base x head rest = record { action = Calls Take; args = []; into = Some x } ∷ stores_cons base x head rest
+
+-- ---- the function that adds 1: its token is value 7, and its temporaries begin at 8
 
 abbrev tests_lines : List Line
 tests_lines =
-    acts (Label 2) [] ∷ copies_to 0 7
-    ∷ copies_to 7 8 ∷ sets 1 9 ∷ acts (Branch Equal 3) (8 ∷ 9 ∷ [])
-    ∷ loads immediate_4 7 8 ∷ computes (Op.Immediate Andi immediate_255) (8 ∷ []) 8
-    ∷ copies_to 8 9 ∷ sets 1 10 ∷ acts (Branch Equal 4) (9 ∷ 10 ∷ [])
+    acts (Label 2) [] ∷ copies_to 0 8
+    ∷ copies_to 8 9 ∷ sets 1 10 ∷ acts (Branch Equal 3) (9 ∷ 10 ∷ [])
+    ∷ loads immediate_4 8 9 ∷ computes (Op.Immediate Andi immediate_255) (9 ∷ []) 9
+    ∷ copies_to 9 10 ∷ sets 1 11 ∷ acts (Branch Equal 4) (10 ∷ 11 ∷ [])
     ∷ acts (Label 3) [] ∷ acts (Jump 0) []
     ∷ acts (Label 4) [] ∷ acts (Jump 1) [] ∷ []
 
+-- the token is the cell where it has no other reference, and else it is null
 abbrev opening_lines : List Line
 opening_lines =
-    loads immediate_0 0 7 ∷ sets 1 8 ∷ acts (Branch NotEqual 5) (7 ∷ 8 ∷ [])
-    ∷ loads immediate_8 0 1 ∷ loads immediate_12 0 2 ∷ acts (Compute Op.Free) (0 ∷ []) ∷ acts (Jump 6) []
-    ∷ acts (Label 5) [] ∷ loads immediate_8 0 1 ∷ loads immediate_12 0 2
-    ∷ loads immediate_0 0 7 ∷ computes (Op.Immediate Addi minus_one) (7 ∷ []) 7 ∷ stores immediate_0 0 7
+    loads immediate_0 0 8 ∷ sets 1 9 ∷ acts (Branch NotEqual 5) (8 ∷ 9 ∷ [])
+    ∷ loads immediate_8 0 1 ∷ loads immediate_12 0 2 ∷ copies_to 0 7 ∷ acts (Jump 6) []
+    ∷ acts (Label 5) [] ∷ sets 0 7 ∷ loads immediate_8 0 1 ∷ loads immediate_12 0 2
+    ∷ loads immediate_0 0 8 ∷ computes (Op.Immediate Addi minus_one) (8 ∷ []) 8 ∷ stores immediate_0 0 8
     ∷ acts (Compute Op.Dup) (2 ∷ []) ∷ acts (Label 6) [] ∷ []
 
+-- the new cell is that of the token, or one that is taken where the token is null
+abbrev filling_lines : List Line
+filling_lines =
+    copies_to 7 6 ∷ copies_to 6 8 ∷ acts (Branch NotEqual 7) (8 ∷ [])
+    ∷ record { action = Calls Take; args = []; into = Some 6 } ∷ acts (Label 7) [] ∷ stores_cons 8 6 4 5
+
+abbrev fills_and_returns : List Line
+fills_and_returns = filling_lines ++ acts Return (6 ∷ []) ∷ []
+
+-- the token is held over the call
+abbrev calls_line : Line
+calls_line = record { action = Call 0; args = 8 ∷ []; into = Some 5 }
+
+abbrev calls_lines : List Line
+calls_lines = copies_to 2 8 ∷ calls_line ∷ acts Unhold (7 ∷ []) ∷ fills_and_returns
+
 abbrev adds_lines : List Line
-adds_lines =
-    sets 1 3 ∷ computes (Op.Register Register.Add) (1 ∷ 3 ∷ []) 4 ∷ copies_to 2 7
-    ∷ record { action = Call 0; args = 7 ∷ []; into = Some 5 } ∷ (makes_cons 6 4 5 ++ acts Return (6 ∷ []) ∷ [])
+adds_lines = sets 1 3 ∷ computes (Op.Register Register.Add) (1 ∷ 3 ∷ []) 4 ∷ acts Hold (7 ∷ []) ∷ calls_lines
 
 abbrev inc_lines : Lines
 inc_lines = record {
@@ -108,18 +154,18 @@ inc_lines = record {
   code = tests_lines ++ (acts (Label 0) [] ∷ acts Return (0 ∷ []) ∷ acts (Label 1) [] ∷ (opening_lines ++ adds_lines));
 }
 
-abbrev setting : (ℕ → Bool) → Setting
-setting holds = record { layout = layout; holds = holds; base = 7; texts = record { literals = []; constants = [] } }
+abbrev setting : (ℕ → Bool) → ℕ → Setting
+setting holds base = record { layout = layout; holds = holds; base = base; texts = record { literals = []; constants = [] } }
 
 abbrev inc_holds : ℕ → Bool
 inc_holds x = is_among (0 ∷ 2 ∷ 5 ∷ 6 ∷ []) x
 
 -- a construction of a Cons
-makes : (x head rest : ℕ) → ConstructLines 7 x 513 (head ∷ rest ∷ []) (makes_cons x head rest)
-makes x head rest = (
-  stores immediate_4 x 7,
+makes : (base x head rest : ℕ) → ConstructLines base x 513 (head ∷ rest ∷ []) (makes_cons base x head rest)
+makes base x head rest = (
+  stores immediate_4 x base,
   stores immediate_8 x head ∷ stores immediate_12 x rest ∷ [],
-  stores immediate_0 x 7,
+  stores immediate_0 x base,
   (immediate_4, refl, refl),
   (
     stores immediate_8 x head,
@@ -144,13 +190,13 @@ two_loads_are = (
   refl,
 )
 
-opens : UniqueLines 7 inc_holds 5 6 0 (1 ∷ 2 ∷ []) (1 ∷ 2 ∷ []) opening_lines
+opens : TokenUniqueLines 8 inc_holds 5 6 0 (1 ∷ 2 ∷ []) (1 ∷ 2 ∷ []) 7 opening_lines
 opens = (
-  loads immediate_0 0 7,
+  loads immediate_0 0 8,
   two_loads,
-  loads immediate_0 0 7,
+  loads immediate_0 0 8,
   minus_one,
-  stores immediate_0 0 7,
+  stores immediate_0 0 8,
   (immediate_0, refl, refl),
   two_loads_are,
   (immediate_0, refl, refl),
@@ -159,90 +205,66 @@ opens = (
   refl,
 )
 
--- The same with a token, value 5 of a function whose temporaries begin at 7: the opening leaves it, and a construction fills its
--- cell, while the token of value 4 is held.
+fills : FillLines 8 6 7 [] 7 513 (4 ∷ 5 ∷ []) filling_lines
+fills = (stores_cons 8 6 4 5, makes 8 6 4 5, refl)
 
-abbrev keeping_lines : List Line
-keeping_lines =
-    loads immediate_0 0 7 ∷ sets 1 8 ∷ acts (Branch NotEqual 5) (7 ∷ 8 ∷ [])
-    ∷ loads immediate_8 0 1 ∷ loads immediate_12 0 2 ∷ copies_to 0 5 ∷ acts (Jump 6) []
-    ∷ acts (Label 5) [] ∷ sets 0 5 ∷ loads immediate_8 0 1 ∷ loads immediate_12 0 2
-    ∷ loads immediate_0 0 7 ∷ computes (Op.Immediate Addi minus_one) (7 ∷ []) 7 ∷ stores immediate_0 0 7
-    ∷ acts (Compute Op.Dup) (2 ∷ []) ∷ acts (Label 6) [] ∷ []
+-- the same of a construction around whose request the token of value 4 is held
+fills_held : FillLines 8 6 7 (4 ∷ []) 7 513 (1 ∷ 2 ∷ [])
+    (copies_to 7 6 ∷ copies_to 6 8 ∷ acts (Branch NotEqual 7) (8 ∷ []) ∷ acts Hold (4 ∷ [])
+    ∷ record { action = Calls Take; args = []; into = Some 6 } ∷ acts Unhold (4 ∷ []) ∷ acts (Label 7) [] ∷ stores_cons 8 6 1 2)
+fills_held = (stores_cons 8 6 1 2, makes 8 6 1 2, refl)
 
-keeps : TokenUniqueLines 7 inc_holds 5 6 0 (1 ∷ 2 ∷ []) (1 ∷ 2 ∷ []) 5 keeping_lines
-keeps = (
-  loads immediate_0 0 7,
-  two_loads,
-  loads immediate_0 0 7,
-  minus_one,
-  stores immediate_0 0 7,
-  (immediate_0, refl, refl),
-  two_loads_are,
-  (immediate_0, refl, refl),
-  refl,
-  (immediate_0, refl, refl),
+-- from the call on
+calls : CodeLines (setting inc_holds 8) 7 returns 7
+    (Tokened.compute 5 (OfForm.Call 0) (2 ∷ []) []
+    (Tokened.unhold 0 (Tokened.fill 6 0 3 4 (5 ∷ []) [] [] (Tokened.give 6)))) calls_lines 8
+calls = (
+  copies_to 2 8 ∷ calls_line ∷ [],
+  acts Unhold (7 ∷ []) ∷ fills_and_returns,
+  7,
+  (refl, refl),
+  (fills_and_returns, (filling_lines, acts Return (6 ∷ []) ∷ [], fills, (refl, refl), refl), refl),
   refl,
 )
 
-abbrev stores_cons : ℕ → ℕ → ℕ → List Line
-stores_cons x head rest =
-    sets 513 7 ∷ stores immediate_4 x 7 ∷ stores immediate_8 x head ∷ stores immediate_12 x rest ∷ sets 1 7
-    ∷ stores immediate_0 x 7 ∷ []
-
-fills : FillLines 7 6 5 (4 ∷ []) 7 513 (1 ∷ 2 ∷ [])
-    (copies_to 5 6 ∷ copies_to 6 7 ∷ acts (Branch NotEqual 7) (7 ∷ []) ∷ acts Hold (4 ∷ [])
-    ∷ record { action = Calls Take; args = []; into = Some 6 } ∷ acts Unhold (4 ∷ []) ∷ acts (Label 7) [] ∷ stores_cons 6 1 2)
-fills = (stores_cons 6 1 2, makes 6 1 2, refl)
-
-adds : CodeLines (setting inc_holds) returns 7
-    (compute 3 (OfForm.Number (pos 1)) []
-    (compute 4
-    (OfForm.Binary
-    Add) (1 ∷ 3 ∷ [])
-    (compute 5 (OfForm.Call 0) (2 ∷ [])
-    (compute 6 (OfForm.Construct 3)
-    (4 ∷ 5 ∷ []) (give 6)))))
-    adds_lines 7
+adds : CodeLines (setting inc_holds 8) 7 returns 7
+    (Tokened.compute 3 (OfForm.Number (pos 1)) [] [] (Tokened.compute 4 (OfForm.Binary Add) (1 ∷ 3 ∷ []) []
+    (Tokened.hold 0 (Tokened.compute 5 (OfForm.Call 0) (2 ∷ []) []
+    (Tokened.unhold 0 (Tokened.fill 6 0 3 4 (5 ∷ []) [] [] (Tokened.give 6))))))) adds_lines 8
 adds = (
   sets 1 3 ∷ [],
-  computes (Op.Register Register.Add) (1 ∷ 3 ∷ []) 4 ∷ copies_to 2 7
-      ∷ record { action = Call 0; args = 7 ∷ []; into = Some 5 } ∷ (makes_cons 6 4 5 ++ acts Return (6 ∷ []) ∷ []),
-  (1, refl, lit< tt, refl),
+  computes (Op.Register Register.Add) (1 ∷ 3 ∷ []) 4 ∷ acts Hold (7 ∷ []) ∷ calls_lines,
+  7,
+  ((1, refl, lit< tt, refl), refl),
   (
     computes (Op.Register Register.Add) (1 ∷ 3 ∷ []) 4 ∷ [],
-    copies_to 2 7 ∷ record { action = Call 0; args = 7 ∷ []; into = Some 5 } ∷ (makes_cons 6 4 5 ++ acts Return (6 ∷ []) ∷ []),
-    refl,
-    (
-      copies_to 2 7 ∷ record { action = Call 0; args = 7 ∷ []; into = Some 5 } ∷ [],
-      makes_cons 6 4 5 ++ acts Return (6 ∷ []) ∷ [],
-      refl,
-      (makes_cons 6 4 5, acts Return (6 ∷ []) ∷ [], makes 6 4 5, (refl, refl), refl),
-      refl,
-    ),
+    acts Hold (7 ∷ []) ∷ calls_lines,
+    7,
+    (refl, refl),
+    (calls_lines, calls, refl),
     refl,
   ),
   refl,
 )
 
-inc_code : CodeLines (setting inc_holds) returns 0 (inc by_count).body inc_lines.code 7
+inc_code : CodeLines (setting inc_holds 8) 7 returns 0 inc.body inc_lines.code 8
 inc_code = (
   tests_lines,
   acts (Label 0) [] ∷ acts Return (0 ∷ []) ∷ acts (Label 1) [] ∷ (opening_lines ++ adds_lines),
   2,
   refl,
   (
-    copies_to 0 7
-        ∷ copies_to 7 8 ∷ sets 1 9 ∷ acts (Branch Equal 3) (8 ∷ 9 ∷ [])
-        ∷ loads immediate_4 7 8 ∷ computes (Op.Immediate Andi immediate_255) (8 ∷ []) 8
-        ∷ copies_to 8 9 ∷ sets 1 10 ∷ acts (Branch Equal 4) (9 ∷ 10 ∷ []) ∷ [],
+    copies_to 0 8
+        ∷ copies_to 8 9 ∷ sets 1 10 ∷ acts (Branch Equal 3) (9 ∷ 10 ∷ [])
+        ∷ loads immediate_4 8 9 ∷ computes (Op.Immediate Andi immediate_255) (9 ∷ []) 9
+        ∷ copies_to 9 10 ∷ sets 1 11 ∷ acts (Branch Equal 4) (10 ∷ 11 ∷ []) ∷ [],
     acts (Label 3) [] ∷ acts (Jump 0) [] ∷ acts (Label 4) [] ∷ acts (Jump 1) [] ∷ [],
     (
       [],
-      loads immediate_4 7 8 ∷ computes (Op.Immediate Andi immediate_255) (8 ∷ []) 8
-          ∷ copies_to 8 9 ∷ sets 1 10 ∷ acts (Branch Equal 4) (9 ∷ 10 ∷ []) ∷ [],
+      loads immediate_4 8 9 ∷ computes (Op.Immediate Andi immediate_255) (9 ∷ []) 9
+          ∷ copies_to 9 10 ∷ sets 1 11 ∷ acts (Branch Equal 4) (10 ∷ 11 ∷ []) ∷ [],
       refl,
-      ([], loads immediate_4 7 8, immediate_255, refl, (immediate_4, refl, refl), refl, refl),
+      ([], loads immediate_4 8 9, immediate_255, refl, (immediate_4, refl, refl), refl, refl),
       refl,
     ),
     (
@@ -259,15 +281,18 @@ inc_code = (
     acts (Label 1) [] ∷ (opening_lines ++ adds_lines),
     5,
     (refl, refl),
-    (opening_lines ++ adds_lines, [], 7, (opening_lines, adds_lines, opens, adds, refl), (refl, refl), refl),
+    (opening_lines ++ adds_lines, [], 8, (opening_lines, adds_lines, opens, adds, refl), (refl, refl), refl),
     refl,
   ),
   refl,
 )
 
-pub inc_lowered : IsFunctionOf layout (record { literals = []; constants = [] }) marks 0 (inc by_count) inc_lines
+inc_slots : HasSlots 1 inc.body
+inc_slots = (tt, ((lit< tt, (tt, (tt, (lit< tt, (tt, (lit< tt, (lit< tt, (tt, tt)))))))), tt))
+
+pub inc_lowered : IsFunctionOf layout (record { literals = []; constants = [] }) marks 0 inc inc_lines
 inc_lowered = record {
-  lowered = record { holds = inc_holds; base = 7; params = refl; labels = 7; code = inc_code };
+  lowered = record { holds = inc_holds; variables = 7; slots = 1; params = refl; labels = 8; code = inc_code };
   marked = record {
     parameters_marked = (refl, tt);
     body_marked = (
@@ -335,6 +360,7 @@ inc_lowered = record {
       tt,
     ),
   );
+  has = inc_slots;
 }
 
 -- ---- `main`
@@ -349,39 +375,45 @@ abbrev main_call : List Line
 main_call = copies_to 4 7 ∷ record { action = Call 0; args = 7 ∷ []; into = Some 5 } ∷ main_end
 
 abbrev main_second : List Line
-main_second = sets 8 3 ∷ (makes_cons 4 3 2 ++ main_call)
+main_second = sets 8 3 ∷ (makes_cons 7 4 3 2 ++ main_call)
 
 abbrev main_lines : Lines
-main_lines = record { params = []; code = sets 1 0 ∷ sets 7 1 ∷ (makes_cons 2 1 0 ++ main_second) }
+main_lines = record { params = []; code = sets 1 0 ∷ sets 7 1 ∷ (makes_cons 7 2 1 0 ++ main_second) }
 
-main_code : CodeLines (setting main_holds) returns 0 (two_cells unique).body main_lines.code 0
+main_code : CodeLines (setting main_holds 7) 7 returns 0 main.body main_lines.code 0
 main_code = (
   sets 1 0 ∷ [],
-  sets 7 1 ∷ (makes_cons 2 1 0 ++ main_second),
-  refl,
+  sets 7 1 ∷ (makes_cons 7 2 1 0 ++ main_second),
+  0,
+  (refl, refl),
   (
     sets 7 1 ∷ [],
-    makes_cons 2 1 0 ++ main_second,
-    (7, refl, lit< tt, refl),
+    makes_cons 7 2 1 0 ++ main_second,
+    0,
+    ((7, refl, lit< tt, refl), refl),
     (
-      makes_cons 2 1 0,
+      makes_cons 7 2 1 0,
       main_second,
-      makes 2 1 0,
+      0,
+      (makes 7 2 1 0, refl),
       (
         sets 8 3 ∷ [],
-        makes_cons 4 3 2 ++ main_call,
-        (8, refl, lit< tt, refl),
+        makes_cons 7 4 3 2 ++ main_call,
+        0,
+        ((8, refl, lit< tt, refl), refl),
         (
-          makes_cons 4 3 2,
+          makes_cons 7 4 3 2,
           main_call,
-          makes 4 3 2,
+          0,
+          (makes 7 4 3 2, refl),
           (
             copies_to 4 7 ∷ record { action = Call 0; args = 7 ∷ []; into = Some 5 } ∷ [],
             main_end,
-            refl,
+            0,
+            (refl, refl),
             (
               sets 1 6 ∷ acts Return (6 ∷ []) ∷ [],
-              (sets 1 6 ∷ [], acts Return (6 ∷ []) ∷ [], refl, (refl, refl), refl),
+              (sets 1 6 ∷ [], acts Return (6 ∷ []) ∷ [], 0, (refl, refl), (refl, refl), refl),
               refl,
             ),
             refl,
@@ -397,9 +429,9 @@ main_code = (
   refl,
 )
 
-pub main_lowered : IsFunctionOf layout (record { literals = []; constants = [] }) marks 1 (two_cells unique) main_lines
+pub main_lowered : IsFunctionOf layout (record { literals = []; constants = [] }) marks 1 main main_lines
 main_lowered = record {
-  lowered = record { holds = main_holds; base = 7; params = refl; labels = 0; code = main_code };
+  lowered = record { holds = main_holds; variables = 7; slots = 0; params = refl; labels = 0; code = main_code };
   marked = record {
     parameters_marked = tt;
     body_marked = (
@@ -488,20 +520,21 @@ main_lowered = record {
       ),
     ),
   );
+  has = (tt, (tt, (tt, (tt, (tt, (tt, (tt, tt)))))));
 }
 
 -- both functions of the program are lowered
-pub both_lowered : AreFunctionsOf layout (record { literals = []; constants = [] }) marks (inc by_count ∷ two_cells unique ∷ [])
+pub both_lowered : AreFunctionsOf layout (record { literals = []; constants = [] }) marks (inc ∷ main ∷ [])
     (inc_lines ∷ main_lines ∷ [])
 both_lowered zero function is =
-    let same : inc by_count ≡ function = cc is in (
+    let same : inc ≡ function = cc is in (
       inc_lines,
       refl,
       subst (λ f. IsFunctionOf layout (record { literals = []; constants = [] }) marks 0 f inc_lines) same
           inc_lowered,
     )
 both_lowered (suc zero) function is =
-    let same : two_cells unique ≡ function = cc is in (
+    let same : main ≡ function = cc is in (
       main_lines,
       refl,
       subst (λ f. IsFunctionOf layout (record { literals = []; constants = [] }) marks 1 f main_lines) same
@@ -521,19 +554,16 @@ lower cells depth = asm_machine (primitives (record { first = 0; texts = [] }) (
 abbrev last : ℕ → ℕ → AsmTurn World Ending
 last cells depth = state (lower cells depth) 200 (asm_start main_lines (first_world (pool cells) []))
 
--- the counted machine
+-- the counted machine of the bare form, with room for one token
+abbrev bare_setting : ℕ → ℕ → CountedSetting
+bare_setting cells depth =
+    setting_on (bare_program (record { functions = inc ∷ main ∷ []; texts = []; main = 1 })) (pool cells) depth
+
 abbrev upper : ℕ → ℕ → Machine CountedState Event Ending
-upper cells depth = counted_outside (setting_on (record {
-  functions = inc by_count ∷ two_cells unique ∷ [];
-  texts = [];
-  main = 1;
-})
-    (pool cells) depth)
+upper cells depth = roomy_outside 36 (bare_setting cells depth)
 
 abbrev how : ℕ → ℕ → Option Ending
-how cells depth = ending_after (upper cells depth) 60
-    (counted_first_state (setting_on (record { functions = inc by_count ∷ two_cells unique ∷ []; texts = []; main = 1 })
-    (pool cells) depth) [])
+how cells depth = ending_after (upper cells depth) 60 (counted_first_state (bare_setting cells depth) [])
 
 -- with two cells and four frames it ends by itself
 ends_both : ((lower 2 4).ending (last 2 4) ≡ Some (exited 0)) × (how 2 4 ≡ Some (exited 0))

@@ -23,11 +23,11 @@ use Rattle.rv_isa.specs.declared.routine.Routine.TheVariants.{Take}
 use Rattle.rv_isa.specs.AsmCode.{Line}
 use Rattle.rv_isa.specs.Costs.{line_length, code_length}
 use Rattle.rv_lower.specs.Lines.{computes, sets, copies_to, acts, registers, copies, temporaries}
-use Rattle.rv_lower.specs.Lowered.{tail_lines}
+use Rattle.rv_lower.specs.Lowered.{Goal, returns, joins, goal_lines, tail_lines}
 use Rattle.rv_lower.specs.Lines.{MakesTruth, Compares, ComparesWithOne, BinaryLines, PrintLines, AppliedLines}
 use Rattle.rv_cells.specs.Layout.{header_of}
 use Rattle.rv_cells.specs.CellLines.{Loads, Stores, AllLoads, AllStores, dup_lines, drop_lines, dups_lines, drops_lines}
-use Rattle.rv_cells.specs.CellLines.{ConstructLines, FillLines, OpenLines, UniqueLines, TokenUniqueLines, CountLines}
+use Rattle.rv_cells.specs.CellLines.{ConstructLines, FillLines, TokenUniqueLines, CountLines}
 use Rattle.rv_cells.specs.CellLines.{hold_lines, unhold_lines}
 use Rattle.rv_cells.specs.CountedLines.{Setting, ComputeLines}
 use Rattle.rv_cells.specs.Written.{end_lines}
@@ -35,6 +35,11 @@ use Rattle.rv_cells.specs.Written.{end_lines}
 pub lines_append : (first second : List Line) → code_length (first ++ second) ≡ code_length first + code_length second
 lines_append [] second = omega arith
 lines_append (line ∷ first) second = omega (arith, lines_append first second)
+
+-- where a value goes
+pub goal_length : (goal : Goal) (x : ℕ) → code_length (goal_lines goal x) ≤ 6
+goal_length returns x = omega arith
+goal_length (joins y label) x = omega arith
 
 -- ---- words of cells
 
@@ -100,18 +105,6 @@ module _ (holds : ℕ → Bool) where
 
   -- ---- forms that touch cells
 
-  pub open_length : (base x : ℕ) (fields used : List ℕ) (lines : List Line) → OpenLines base holds x fields used lines
-      → length fields ≤ 6 → code_length lines ≤ 80
-  open_length base x fields used lines is few =
-      let dupped : List ℕ = filter (is_among used) fields in
-      let whole = ap code_length is.2 in
-      let apart = lines_append is.0 (dups_lines holds dupped ++ drop_lines base holds x) in
-      let behind = lines_append (dups_lines holds dupped) (drop_lines base holds x) in
-      let loads = loads_length x 2 fields is.0 is.1 in
-      let dups = dups_length dupped in
-      let drop = drop_length base x in
-      let fewer = filter_few (is_among used) fields in omega (arith, whole, apart, behind, loads, dups, drop, fewer, few)
-
   -- both ways of an opening by the count of a cell, but the lines at their ends
   pub count_length : (base shared behind x : ℕ) (fields used : List ℕ) (ends : Line) (begins lines : List Line)
       → CountLines base holds shared behind x fields used ends begins lines → length fields ≤ 6
@@ -160,12 +153,6 @@ module _ (holds : ℕ → Bool) where
         few_others,
         few,
       )
-
-  pub unique_length : (base shared behind x : ℕ) (fields used : List ℕ) (lines : List Line)
-      → UniqueLines base holds shared behind x fields used lines → length fields ≤ 6 → code_length lines ≤ 180
-  unique_length base shared behind x fields used lines is few =
-      let own = count_length base shared behind x fields used (acts (Compute Op.Free) (x ∷ [])) [] lines is few in
-      omega (arith, own)
 
   pub token_unique_length : (base shared behind x : ℕ) (fields used : List ℕ) (token : ℕ) (lines : List Line)
       → TokenUniqueLines base holds shared behind x fields used token lines → length fields ≤ 6 → code_length lines ≤ 182

@@ -20,11 +20,10 @@ use Rattle.rv_isa.specs.Frames.{Frame}
 use Rattle.rv_world.specs.World.{with_cells}
 use Rattle.rv_cells.specs.CellLines.{dup_lines, drop_lines}
 use Rattle.rv_cells.specs.TokenedLines.{CodeLines, HasSlots}
-use Rattle.rv_cells.proofs.Blocks.{within_itself}
+use Rattle.rv_cells.proofs.Bound.{AreWithin, within_itself}
 use Rattle.rv_cells.proofs.LineCosts.{most_moves}
 use Rattle.rv_cells.proofs.Runs.{turn_of}
 use Rattle.rv_cells.proofs.Spots.{Spot, Here, Did, dup_length, drop_length, dup_did, drop_did, did_aside}
-use Rattle.rv_cells.proofs.Standing.{AreWithin}
 use Rattle.rv_cells.proofs.Values.{Carries, carries_same}
 use Rattle.rv_cells.proofs.TokenCells.{token_aside, cells_stay}
 use Rattle.rv_cells.proofs.TokenFrames.{none_behind, slots_moved, all_carried}

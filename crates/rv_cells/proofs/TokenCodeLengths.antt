@@ -27,9 +27,8 @@ use Rattle.rv_cells.specs.Layout.{Layout, IsNarrow, header_of}
 use Rattle.rv_cells.specs.Tables.{table_of, layout_in}
 use Rattle.rv_cells.specs.TokenedLines.{values_of_slots, AskLines, CodeLines, ArmsLines, IsFunctionOf}
 use Rattle.rv_cells.specs.TokenedLowered.{IsTokenedForm}
-use Rattle.rv_cells.proofs.CodeLengths.{goal_length}
 use Rattle.rv_cells.proofs.FormLengths.{lines_append, loads_length, dup_length, drop_length, token_unique_length, fill_length}
-use Rattle.rv_cells.proofs.FormLengths.{tail_length, marks_many, form_short}
+use Rattle.rv_cells.proofs.FormLengths.{goal_length, tail_length, marks_many, form_short}
 use Rattle.rv_cells.proofs.TestLengths.{nodes_short}
 use Rattle.rv_cells.proofs.TokenFormedCodes.{ask_plain}
 use Rattle.rv_cells.proofs.TokenFormedFunctions.{bare_at}

@@ -38,8 +38,7 @@ use Rattle.rv_lower.proofs.Runs.{Target as NumberTarget, word_cost, most_cost}
 use Rattle.rv_lower.proofs.Runs as NumberRuns
 use Rattle.rv_cells.specs.Layout.{word_in, FitsField}
 use Rattle.rv_cells.specs.Follows.{Follows}
-use Rattle.rv_cells.proofs.Blocks.{within_one}
-use Rattle.rv_cells.proofs.Celled.{below_among}
+use Rattle.rv_cells.proofs.Bound.{within_one, below_among}
 use Rattle.rv_cells.proofs.FormWords.{has_same, number_word, word_follows, IsPlainForm, put_some, is_true_of, fits_constant, bytes_behind, turns_are}
 use Rattle.rv_cells.proofs.Runs.{turn_of}
 use Rattle.rv_cells.proofs.Spots.{Spot, saved}

@@ -33,8 +33,7 @@ use Rattle.rv_cells.specs.CellLines.{ConstructLines}
 use Rattle.rv_cells.specs.Layout.{FitFields, header_of}
 use Rattle.rv_cells.specs.Follows.{cell_of, kept_aside, is_aside, set_aside, with_owner, assign}
 use Rattle.rv_cells.proofs.Acting.{put_in}
-use Rattle.rv_cells.proofs.Blocks.{within_itself, within_one}
-use Rattle.rv_cells.proofs.Celled.{all_among, apart_above}
+use Rattle.rv_cells.proofs.Bound.{within_itself, within_one, all_among, apart_above}
 use Rattle.rv_cells.proofs.Constructing as Construct
 use Rattle.rv_cells.proofs.Constructing.{IsMaking, made_spot, construct_cost, args_words, construct_did, full_did}
 use Rattle.rv_cells.proofs.HeldTokens.{take_older_runs}

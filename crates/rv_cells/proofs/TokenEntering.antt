@@ -44,8 +44,7 @@ use Rattle.rv_cells.proofs.Calling.{temporaries_many, put_row, row_below, row_ha
 use Rattle.rv_cells.proofs.Spots.{Spot, saved}
 use Rattle.rv_cells.proofs.TokenStanding.{SlotIs, HaveSlotValues, HaveTokenCells, held_values, Shape, Lowering, target, texts, setting, upper, pace, continues_more, HasFrame, AllWait, At, by_lines, Follows_step}
 use Rattle.rv_cells.proofs.TokenFrames.{slots_moved, as_many_wait}
-use Rattle.rv_cells.proofs.Blocks.{within_one}
-use Rattle.rv_cells.proofs.Celled.{all_among}
+use Rattle.rv_cells.proofs.Bound.{within_one, all_among}
 use Rattle.rv_cells.proofs.TokenLanding.{token_at, CodeSteps, seen_action, does_by, kept_after}
 
 -- ---- arguments and parameters

@@ -29,7 +29,7 @@ use Rattle.rv_lower.proofs.Performing.{put_other}
 use Rattle.rv_cells.specs.Layout.{header_of}
 use Rattle.rv_cells.specs.Follows.{Owner, cell_of, in_hand, is_aside, with_owner, assign}
 use Rattle.rv_cells.specs.TokenedLines.{values_of_slots}
-use Rattle.rv_cells.proofs.Blocks.{within_itself, within_one}
+use Rattle.rv_cells.proofs.Bound.{within_itself, within_one}
 use Rattle.rv_cells.proofs.Constructing.{IsMaking, made_spot}
 use Rattle.rv_cells.proofs.Filling.{fill_cost, Fills}
 use Rattle.rv_cells.proofs.FillingHeld.{AllSame, AreApartFrom, both_same, puts_same, tokens1, row, fills_free, fills_newest, fills_held, fills_none}

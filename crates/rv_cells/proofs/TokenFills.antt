@@ -25,8 +25,7 @@ use Rattle.rv_lower.proofs.Performing.{put_other}
 use Rattle.rv_cells.specs.Layout.{FitFields, header_of}
 use Rattle.rv_cells.specs.Follows.{cell_of, is_aside, with_owner, assign}
 use Rattle.rv_cells.specs.CellLines.{hold_lines, unhold_lines}
-use Rattle.rv_cells.proofs.Celled.{all_among, apart_above}
-use Rattle.rv_cells.proofs.Blocks.{within_itself, within_one}
+use Rattle.rv_cells.proofs.Bound.{within_itself, within_one, all_among, apart_above}
 use Rattle.rv_cells.proofs.Constructing.{IsMaking, made_spot}
 use Rattle.rv_cells.proofs.Filling.{fill_cost, from_label, whole_lines, fills_own}
 use Rattle.rv_cells.proofs.LineCosts.{most_moves}

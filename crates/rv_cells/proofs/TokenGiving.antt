@@ -29,7 +29,7 @@ use Rattle.rv_cells.proofs.Runs.{turn_of, Runs, runs_then}
 use Rattle.rv_cells.proofs.Acting.{put_in, copy_runs, label_runs, jump_runs}
 use Rattle.rv_cells.proofs.Calling.{return_runs, last_return_runs}
 use Rattle.rv_cells.proofs.Spots.{Spot, saved}
-use Rattle.rv_cells.proofs.Standing.{AreWithin, has_fewer}
+use Rattle.rv_cells.proofs.Bound.{AreWithin, has_fewer}
 use Rattle.rv_cells.proofs.TokenCells.{none_by_number}
 use Rattle.rv_cells.proofs.TokenFrames.{slots_moved}
 use Rattle.rv_cells.proofs.TokenStanding.{HaveTokenCells, held_values, Shape, Lowering, target, setting, upper, Placed, Continues, HasFrame, Waits, AllWait, IsFitFrom, by_lines, finds, Follows_step}

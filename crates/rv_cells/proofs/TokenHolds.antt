@@ -22,7 +22,7 @@ use Rattle.rv_cells.proofs.Words.{hand_owned, aside_owned}
 use Rattle.rv_cells.proofs.HeldTokens.{holding_now, hold_runs, hold_null_runs, unhold_runs, unhold_null_runs}
 use Rattle.rv_cells.proofs.Runs.{turn_of}
 use Rattle.rv_cells.proofs.Spots.{Spot}
-use Rattle.rv_cells.proofs.Blocks.{within_itself}
+use Rattle.rv_cells.proofs.Bound.{within_itself}
 use Rattle.rv_cells.proofs.TokenCells.{cell_turns}
 use Rattle.rv_cells.proofs.TokenStanding.{SlotIs, IsTokenCell, HaveSlotValues, held_values, Lowering, AllWait, target, setting, Follows_step}
 use Rattle.rv_cells.proofs.TokenLanding.{token_at, machine_at, CodeSteps, silent_goes, seen_action, goes_on, kept_quiet}

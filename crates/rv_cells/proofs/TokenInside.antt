@@ -15,8 +15,7 @@ use Rattle.rv_isa.specs.AsmCode.{Line}
 use Rattle.rv_lower.specs.Lines.{acts}
 use Rattle.rv_lower.specs.Lowered.{joins}
 use Rattle.rv_lower.proofs.Orders.{split_at}
-use Rattle.rv_cells.proofs.Blocks.{within_itself, within_one}
-use Rattle.rv_cells.proofs.Celled.{marks_are}
+use Rattle.rv_cells.proofs.Bound.{within_itself, within_one, marks_are}
 use Rattle.rv_cells.proofs.LineCosts.{most_moves, row_cost}
 use Rattle.rv_cells.proofs.Rows.{IsReading, with_fields, read_did}
 use Rattle.rv_cells.proofs.Runs.{turn_of, runs_none}

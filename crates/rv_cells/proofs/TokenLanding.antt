@@ -29,7 +29,7 @@ use Rattle.rv_cells.specs.TokenedLines.{CodeLines, HasSlots}
 use Rattle.rv_cells.proofs.Runs.{turn_of, Runs}
 use Rattle.rv_cells.proofs.Spots.{Spot, Known, Here, Did, saved}
 use Rattle.rv_cells.proofs.TokenOpenings.{Leads}
-use Rattle.rv_cells.proofs.Standing.{AreWithin, has_fewer}
+use Rattle.rv_cells.proofs.Bound.{AreWithin, has_fewer}
 use Rattle.rv_cells.proofs.TokenLineCosts.{forms}
 use Rattle.rv_cells.proofs.TokenStanding.{HaveSlotValues, HaveTokenCells, held_values, Lowering, target, texts, setting, upper, known_of, Placed, Continues, continues_more, AllWait, At, IsFitFrom, Follow, by_lines, Follows_step}
 

@@ -19,10 +19,9 @@ use Rattle.rv_lower.specs.Written.{lines_written, texts_written}
 use Rattle.rv_lower.proofs.Grown.{all_bytes_append}
 use Rattle.rv_world.specs.Operations.{all_bytes}
 use Rattle.rv_cells.specs.Layout.{layout_of}
-use Rattle.rv_cells.specs.Lowered.{facts_for}
 use Rattle.rv_cells.specs.Marking.{function_marks}
 use Rattle.rv_cells.specs.Tables.{table_of, layout_in}
-use Rattle.rv_cells.specs.TokenedFunctions.{variables_for, IsTokenedWritten, LoweredTokened, LoweredTokenedFunctions}
+use Rattle.rv_cells.specs.TokenedFunctions.{facts_for, variables_for, IsTokenedWritten, LoweredTokened, LoweredTokenedFunctions}
 use Rattle.rv_cells.specs.TokenedLines.{CodeLines}
 use Rattle.rv_cells.specs.TokenedLowered.{IsTokenedForm}
 use Rattle.rv_cells.specs.TokenedWritten.{WroteTokened}

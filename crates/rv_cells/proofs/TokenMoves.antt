@@ -17,7 +17,7 @@ use Rattle.rv_isa.specs.Frames.{Frame}
 use Rattle.rv_lower.specs.Lines.{copies_to}
 use Rattle.rv_cells.specs.Follows.{Owner}
 use Rattle.rv_cells.proofs.Acting.{put_in}
-use Rattle.rv_cells.proofs.Blocks.{within_itself}
+use Rattle.rv_cells.proofs.Bound.{within_itself}
 use Rattle.rv_cells.proofs.Runs.{turn_of}
 use Rattle.rv_cells.proofs.Spots.{Spot, Here}
 use Rattle.rv_cells.proofs.TokenForms.{moves_token}

@@ -15,7 +15,7 @@ use Rattle.rv_lower.specs.Lines.{sets, acts}
 use Rattle.rv_world.specs.World.{with_cells}
 use Rattle.rv_cells.specs.Follows.{nobody, is_aside, with_owner}
 use Rattle.rv_cells.proofs.Acting.{put_in}
-use Rattle.rv_cells.proofs.Blocks.{within_itself}
+use Rattle.rv_cells.proofs.Bound.{within_itself}
 use Rattle.rv_cells.proofs.Owners.{chosen_same, chosen_other}
 use Rattle.rv_cells.proofs.Runs.{turn_of}
 use Rattle.rv_cells.proofs.Spots.{Spot, Here}

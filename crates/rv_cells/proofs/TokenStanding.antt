@@ -37,7 +37,7 @@ use Rattle.rv_cells.specs.Follows.{Owner, in_hand, kept_aside, Follows, NoneAsid
 use Rattle.rv_cells.specs.CountedLines.{Setting}
 use Rattle.rv_cells.specs.TokenedLines.{CodeLines, HasSlots, AreFunctionsOf}
 use Rattle.rv_cells.specs.Fitting.{IsFit}
-use Rattle.rv_cells.proofs.Standing.{AreWithin}
+use Rattle.rv_cells.proofs.Bound.{AreWithin}
 use Rattle.rv_cells.proofs.TokenLineCosts.{forms}
 use Rattle.rv_cells.proofs.Values.{HasValues}
 use Rattle.rv_cells.proofs.Runs.{Target, turn_of, Runs, machine}

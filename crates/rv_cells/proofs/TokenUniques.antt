@@ -31,7 +31,7 @@ use Rattle.rv_lower.specs.Lines.{acts}
 use Rattle.rv_cells.specs.Layout.{words_in}
 use Rattle.rv_cells.specs.Follows.{Owner, cell_of, in_hand, is_aside}
 use Rattle.rv_cells.proofs.Held.{some-is}
-use Rattle.rv_cells.proofs.Celled.{marks_are}
+use Rattle.rv_cells.proofs.Bound.{AreWithin, marks_are}
 use Rattle.rv_cells.proofs.Rooms.{named_cell}
 use Rattle.rv_cells.proofs.Rows.{then_some, IsReading}
 use Rattle.rv_cells.proofs.CountOpenings.{others_of}
@@ -39,7 +39,6 @@ use Rattle.rv_cells.proofs.LineCosts.{most_moves, row_cost}
 use Rattle.rv_cells.proofs.Openings.{bound_older, opened_spot}
 use Rattle.rv_cells.proofs.Runs.{turn_of}
 use Rattle.rv_cells.proofs.Spots.{Spot, Here}
-use Rattle.rv_cells.proofs.Standing.{AreWithin}
 use Rattle.rv_cells.proofs.Values.{among_by}
 use Rattle.rv_cells.proofs.TokenOpenings.{HasCell, IsNull, TokenIs, Leads, token_cost, for_shared, shared_lines, head_lines, whole_lines, opens_to_token}
 use Rattle.rv_cells.proofs.TokenCells.{token_aside, cells_stay, cell_comes}

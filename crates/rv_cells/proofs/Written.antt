@@ -30,7 +30,7 @@ use Rattle.std.proofs.lemmas.List.{length-take-le, take_more}
 use Rattle.kk_syntax.specs.Shapes.{is_among}
 use Rattle.kk_core.specs.Decisions.{NodeTree, tests}
 use Rattle.kk_core.specs.declared.decisions.Edge.{Edge}
-use Rattle.rv_isa.specs.declared.asm.Action.TheVariants.{Compute, Label, Branch}
+use Rattle.rv_isa.specs.declared.asm.Action.TheVariants.{Label, Branch}
 use Rattle.rv_isa.specs.declared.asm.Condition.TheVariants.{NotEqual}
 use Rattle.rv_isa.specs.declared.asm.Operation.TheVariants as Op
 use Rattle.rv_isa.specs.declared.asm.ImmediateOperation.TheVariants.{Andi}
@@ -56,7 +56,7 @@ use Rattle.rv_cells.specs.CountedLines.{
   NodesLines,
 }
 use Rattle.rv_cells.specs.TokenedWritten.{take_line, request_lines, StoreLines, WroteFill}
-use Rattle.rv_cells.specs.Written.{TestsCount, end_lines, LowersCount, LoadsTag, WroteCountOpening, WroteUnique}
+use Rattle.rv_cells.specs.Written.{TestsCount, end_lines, LowersCount, LoadsTag, WroteCountOpening}
 
 pub three_same : {a b c d e f : Line} → a ≡ b → c ≡ d → e ≡ f → a ∷ c ∷ e ∷ [] ≡ b ∷ d ∷ f ∷ []
 three_same {a} {b} {c} {d} {e} {f} first second third = cc (first, second, third)
@@ -198,17 +198,6 @@ module _ {holds : ℕ → Bool} {x : ℕ} {fields used : List ℕ} {ends : Line}
           (wrote_then (wrote_then one (wrote_then (subst (λ n. Wrote
           (drops_lines n holds (filter (λ y. not (is_among used y)) fields)) e f) at_e drops) end))
           (wrote_then (wrote_then label (wrote_then began (wrote_then again (wrote_then less.wrote dups)))) last))
-
--- one of a cell that is freed
-pub unique_written : {holds : ℕ → Bool} {x : ℕ} {fields used : List ℕ} {ends : Line} {a b : Lowering}
-    → ends ≡ acts (Compute Op.Free) (x ∷ []) → WroteCountOpening holds x fields used ends [] a b
-    → WroteUnique holds x fields used a b
-unique_written {holds} {x} {fields} {used} {ends} {a} is wrote = record {
-  lines = wrote.lines;
-  grows = wrote.grows;
-  label = wrote.label;
-  are = subst (λ line. CountLines a.base holds a.next_label (a.next_label + 1) x fields used line [] wrote.lines) is wrote.are;
-}
 
 -- ---- constructions
 

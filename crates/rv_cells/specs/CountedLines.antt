@@ -1,4 +1,4 @@
--- The assembler code of a program in counted form, without tokens.
+-- The lines of the tests of a case, and of forms on variables that name no token.
 use Rattle.std.specs.Prelude.{◌≡◌, ℕ, suc, ◌+◌, ◌*◌, Bool, true, not, List, [], ◌∷◌, ◌++◌, length, filter, Option, Some, None, nat_eq}
 use Rattle.kk_syntax.specs.declared.program.Form.{Form}
 use Rattle.kk_syntax.specs.declared.program.Form.TheVariants.{Construct}
@@ -6,19 +6,16 @@ use Rattle.kk_core.specs.Decisions.{NodeTree, chooses, tests}
 use Rattle.kk_core.specs.declared.decisions.Answer.{Answer}
 use Rattle.kk_core.specs.declared.decisions.Answer.TheVariants.{Number, Constructor}
 use Rattle.kk_core.specs.declared.decisions.Edge.{Edge}
-use Rattle.kk_counted.specs.Arms.{arm_count}
-use Rattle.kk_counted.specs.CountedCodes.{Counted, give, tail_call, branch, case, compute, inside, read, open_cell, if_unique, dup, drop, CountedArms, no_arm, arm, CountedFunction}
 use Rattle.rv_isa.specs.Arithmetic.{word_of}
-use Rattle.rv_isa.specs.declared.asm.Action.TheVariants.{Label, Jump, Branch, TailCall}
+use Rattle.rv_isa.specs.declared.asm.Action.TheVariants.{Label, Jump, Branch}
 use Rattle.rv_isa.specs.declared.asm.Condition.TheVariants.{NotEqual}
 use Rattle.rv_isa.specs.declared.asm.Operation.TheVariants as Op
 use Rattle.rv_isa.specs.declared.asm.ImmediateOperation.TheVariants.{Andi}
 use Rattle.rv_isa.specs.declared.immediate.Immediate.{Immediate}
-use Rattle.rv_isa.specs.AsmCode.{Line, Lines}
-use Rattle.rv_lower.specs.Lines.{computes, sets, copies_to, acts, copies, temporaries, Texts, FormLines}
-use Rattle.rv_lower.specs.Lowered.{Goal, returns, joins, goal_lines, test_lines, from_to}
+use Rattle.rv_isa.specs.AsmCode.{Line}
+use Rattle.rv_lower.specs.Lines.{computes, sets, copies_to, acts, Texts, FormLines}
 use Rattle.rv_cells.specs.Layout.{Layout, header_of}
-use Rattle.rv_cells.specs.CellLines.{Loads, ConstructLines, ReadLines, OpenLines, UniqueLines, dup_lines, drop_lines, Walks, equal_lines}
+use Rattle.rv_cells.specs.CellLines.{Loads, ConstructLines, Walks, equal_lines}
 
 -- ---- tests
 
@@ -80,7 +77,7 @@ NodesLines layout base nodes arms x k (node ∷ more) lines =
     (first : List Line) × (rest : List Line) × NodeLines layout base nodes arms x node first
     × NodesLines layout base nodes arms x (suc k) more rest × (lines ≡ acts (Label (nodes + k)) [] ∷ (first ++ rest))
 
--- ---- code
+-- ---- forms on variables
 
 -- which variables of a function are of types with cells, where its temporaries begin, how values look, and the texts
 pub record Setting : Type 0 where
@@ -94,53 +91,3 @@ abbrev pub ComputeLines : Setting → ℕ → Form → List ℕ → List Line �
 ComputeLines setting x (Construct c) [] lines = lines ≡ sets (2 * setting.layout.tag c + 1) x ∷ []
 ComputeLines setting x (Construct c) (a ∷ more) lines = ConstructLines setting.base x (header_of setting.layout c) (a ∷ more) lines
 ComputeLines setting x form arguments lines = FormLines setting.base setting.texts x form arguments lines
-
--- The lines of a code whose value goes to a goal. Its labels are numbers from `low` on, below `high`.
-abbrev mutual
-  pub CodeLines : Setting → Goal → ℕ → Counted → List Line → ℕ → Type 0
-  CodeLines setting goal low (give x) lines high = (lines ≡ goal_lines goal x) × (low ≡ high)
-  CodeLines setting goal low (tail_call f arguments) lines high =
-      (lines ≡ copies setting.base arguments ++ acts (TailCall f) (temporaries setting.base arguments) ∷ []) × (low ≡ high)
-  CodeLines setting goal low (branch x positive negative) lines high =
-      (yes : List Line) × (no : List Line) × (middle : ℕ) × CodeLines setting goal (low + 1) positive yes middle
-      × CodeLines setting goal middle negative no high
-      × (lines ≡ test_lines setting.base x low ++ (yes ++ (acts (Label low) [] ∷ no)))
-  CodeLines setting goal low (case x decisions arms) lines high =
-      (choice : List Line) × (bodies : List Line) × (nodes : ℕ) × (nodes ≡ low + arm_count arms)
-      × NodesLines setting.layout setting.base nodes low x 0 decisions choice
-      × ArmsLines setting goal low (nodes + length decisions) arms bodies high × (lines ≡ choice ++ bodies)
-  CodeLines setting goal low (compute x form arguments rest) lines high =
-      (own : List Line) × (more : List Line) × ComputeLines setting x form arguments own × CodeLines setting goal low rest more high
-      × (lines ≡ own ++ more)
-  CodeLines setting goal low (inside x block rest) lines high =
-      (part : List Line) × (more : List Line) × (middle : ℕ) × CodeLines setting (joins x low) (low + 1) block part middle
-      × CodeLines setting goal middle rest more high × (lines ≡ part ++ (acts (Label low) [] ∷ more))
-  CodeLines setting goal low (read x c fields rest) lines high =
-      (own : List Line) × (more : List Line) × ReadLines x fields own × CodeLines setting goal low rest more high
-      × (lines ≡ own ++ more)
-  CodeLines setting goal low (open_cell x c fields used rest) lines high =
-      (own : List Line) × (more : List Line) × OpenLines setting.base setting.holds x fields used own
-      × CodeLines setting goal low rest more high × (lines ≡ own ++ more)
-  CodeLines setting goal low (if_unique x c fields used rest) lines high =
-      (own : List Line) × (more : List Line) × UniqueLines setting.base setting.holds low (low + 1) x fields used own
-      × CodeLines setting goal (low + 2) rest more high × (lines ≡ own ++ more)
-  CodeLines setting goal low (dup x rest) lines high =
-      (more : List Line) × CodeLines setting goal low rest more high × (lines ≡ dup_lines setting.holds x ++ more)
-  CodeLines setting goal low (drop x rest) lines high =
-      (more : List Line) × CodeLines setting goal low rest more high × (lines ≡ drop_lines setting.base setting.holds x ++ more)
-
-  -- the arms, each behind its label
-  pub ArmsLines : Setting → Goal → ℕ → ℕ → CountedArms → List Line → ℕ → Type 0
-  ArmsLines setting goal label low no_arm lines high = (lines ≡ []) × (low ≡ high)
-  ArmsLines setting goal label low (arm body rest) lines high =
-      (first : List Line) × (more : List Line) × (middle : ℕ) × CodeLines setting goal low body first middle
-      × ArmsLines setting goal (label + 1) middle rest more high × (lines ≡ acts (Label label) [] ∷ (first ++ more))
-
--- a function's assembler code
-pub record IsFunctionLowered (layout : Layout) (texts : Texts) (function : CountedFunction) (lines : Lines) : Type 0 where
-  pub holds : ℕ → Bool
-  pub base : ℕ
-  pub params : lines.params ≡ from_to 0 function.parameters
-  pub labels : ℕ
-  pub code : CodeLines (record { layout = layout; holds = holds; base = base; texts = texts }) returns 0 function.body lines.code
-      labels

@@ -5,12 +5,10 @@ pub mod CellLines
 pub mod CountedLines
 pub mod TokenedLines
 pub mod Written
-pub mod Marked
 pub mod Fitting
 pub mod Meaning
 pub mod Marking
 pub mod Tables
-pub mod Lowered
 pub mod TokenedLowered
 pub mod TokenedMeaning
 pub mod TokenedMarking

@@ -21,7 +21,6 @@ use Rattle.kk_counted.specs.CountedCodes.{
   arm,
   CountedFunction,
 }
-use Rattle.kk_counted.specs.CountedForms.{Move, computes, runs, reads, opens, opens_unique, dups, drops}
 use Rattle.kk_counted.specs.Lowerable.{given_by}
 use Rattle.kk_counted.specs.Marks.{CellMarks, parameter_marks, result_mark, field_marks, made_mark}
 use Rattle.rv_cells.specs.Written.{holds_in}
@@ -69,20 +68,6 @@ module _ (table : CellMarks) where
     pub marks_behind_arms : CountedArms → List Bool → List Bool
     marks_behind_arms no_arm marks = marks
     marks_behind_arms (arm body rest) marks = marks_behind_arms rest (marks_behind body marks)
-
-  -- the marks behind a step, and behind steps
-  abbrev pub marks_after : Move → List Bool → List Bool
-  marks_after (computes x form arguments) marks = marked x (mark_of_form form arguments) marks
-  marks_after (runs x block) marks = marked x (mark_given (given_by block) (marks_behind block marks)) (marks_behind block marks)
-  marks_after (reads x c fields) marks = all_marked fields (field_marks table c) marks
-  marks_after (opens x c fields used) marks = all_marked fields (field_marks table c) marks
-  marks_after (opens_unique x c fields used) marks = all_marked fields (field_marks table c) marks
-  marks_after (dups x) marks = marks
-  marks_after (drops x) marks = marks
-
-  abbrev pub marks_after_all : List Move → List Bool → List Bool
-  marks_after_all [] marks = marks
-  marks_after_all (move ∷ moves) marks = marks_after_all moves (marks_after move marks)
 
   -- the marks of all variables of a function by its number
   abbrev pub function_marks : ℕ → CountedFunction → List Bool

@@ -1,6 +1,7 @@
 -- Functions of a program with tokens, as they are lowered one after the other.
 use Rattle.std.specs.Prelude.{◌≡◌, ℕ, ◌+◌, ◌*◌, ◌≤◌, List, ◌++◌, length, Some, slice_get}
 use Rattle.kk_counted.specs.BareForms.{bare_function}
+use Rattle.kk_counted.specs.CountedCodes.{CountedFunction}
 use Rattle.kk_counted.specs.TokenLengths.{tokened_computes, all_tokened_computes}
 use Rattle.kk_counted.specs.TokenLowerable.{slots_in}
 use Rattle.kk_counted.specs.TokenedCodes.{TokenedFunction}
@@ -8,11 +9,18 @@ use Rattle.kk_counted.specs.declared.shape.Shape.{Shape}
 use Rattle.rv_isa.specs.AsmCode.{Lines}
 use Rattle.rv_lower.specs.Lowered.{returns, from_to}
 use Rattle.rv_world.specs.Operations.{all_bytes}
-use Rattle.rv_cells.specs.Lowered.{facts_for}
 use Rattle.rv_cells.specs.Marking.{function_marks}
-use Rattle.rv_cells.specs.Tables.{table_of}
+use Rattle.rv_cells.specs.Tables.{table_of, layout_in}
 use Rattle.rv_cells.specs.TokenedLines.{CodeLines}
-use Rattle.rv_cells.specs.Written.{setting_in}
+use Rattle.rv_cells.specs.Written.{Facts, setting_in, holds_in}
+
+-- what is known of a function of this number
+abbrev pub facts_for : Shape → List (List ℕ) → ℕ → CountedFunction → Facts
+facts_for shape literals f function = record {
+  literals = literals;
+  layout = layout_in shape;
+  holds = holds_in (function_marks (table_of shape) f function);
+}
 
 -- how many variables the function of a number has
 abbrev pub variables_for : Shape → ℕ → TokenedFunction → ℕ

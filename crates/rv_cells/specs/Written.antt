@@ -1,9 +1,6 @@
 -- What was written of a function's assembler code, from its counted form.
 use Rattle.std.specs.Prelude.{◌≡◌, ℕ, ◌+◌, ◌-◌, ◌^◌, Bool, false, List, [], ◌∷◌, ◌++◌, slice_index_or}
 use Rattle.kk_syntax.specs.declared.program.Form.{Form}
-use Rattle.kk_counted.specs.CountedCodes.{Counted}
-use Rattle.kk_counted.specs.CountedForms.{Move, plug, arms_of}
-use Rattle.kk_counted.specs.Lengths as Lengths
 use Rattle.rv_isa.specs.declared.asm.Action.TheVariants.{Jump, Branch}
 use Rattle.rv_isa.specs.declared.asm.Condition.TheVariants.{NotEqual}
 use Rattle.rv_isa.specs.declared.asm.Operation.TheVariants as Op
@@ -12,13 +9,12 @@ use Rattle.rv_isa.specs.declared.immediate.Immediate.{Immediate}
 use Rattle.rv_isa.specs.AsmCode.{Line}
 use Rattle.rv_lower.specs.declared.lowering.Lowering.{Lowering}
 use Rattle.rv_lower.specs.Lines.{computes, sets, acts}
-use Rattle.rv_lower.specs.Lowered.{Goal}
 use Rattle.rv_lower.specs.Written.{lines_written, texts_written, texts_of, Grows}
 use Rattle.rv_cells.specs.declared.known.Known.{Known}
 use Rattle.rv_cells.specs.declared.decide.Targets.{Targets}
 use Rattle.rv_cells.specs.Layout.{Layout, layout_of}
-use Rattle.rv_cells.specs.CellLines.{Loads, Stores, CountLines, UniqueLines}
-use Rattle.rv_cells.specs.CountedLines.{Setting, ComputeLines, CodeLines, ArmsLines}
+use Rattle.rv_cells.specs.CellLines.{Loads, Stores, CountLines}
+use Rattle.rv_cells.specs.CountedLines.{Setting, ComputeLines}
 
 -- ---- what is known
 
@@ -99,42 +95,9 @@ pub record WroteCountOpening (holds : ℕ → Bool) (x : ℕ) (fields used : Lis
   pub label : new.next_label ≡ old.next_label + 2
   pub are : CountLines old.base holds old.next_label (old.next_label + 1) x fields used ends begins lines
 
--- the same of a cell that is freed
-pub record WroteUnique (holds : ℕ → Bool) (x : ℕ) (fields used : List ℕ) (old new : Lowering) : Type 0 where
-  pub lines : List Line
-  pub grows : Grows 0 lines old new
-  pub label : new.next_label ≡ old.next_label + 2
-  pub are : UniqueLines old.base holds old.next_label (old.next_label + 1) x fields used lines
-
 -- The lines of a form on variables were written. They are its lines however many texts come later.
 pub record WroteValue (facts : Facts) (x : ℕ) (form : Form) (arguments : List ℕ) (old new : Lowering) : Type 0 where
   pub lines : List Line
   pub grows : Grows 1 lines old new
   pub label : new.next_label ≡ old.next_label
   pub are : (later : List (List ℕ)) → ComputeLines (setting_in facts old.base (texts_written new ++ later)) x form arguments lines
-
--- the same of a code
-pub record WroteCode (facts : Facts) (goal : Goal) (code : Counted) (old new : Lowering) : Type 0 where
-  pub lines : List Line
-  pub grows : Grows (Lengths.computes code) lines old new
-  pub are : (later : List (List ℕ))
-      → CodeLines (setting_in facts old.base (texts_written new ++ later)) goal old.next_label code lines new.next_label
-
--- the same of the arms of a case, from a label on
-pub record WroteArms (facts : Facts) (goal : Goal) (label : ℕ) (arms : List Counted) (old new : Lowering) : Type 0 where
-  pub lines : List Line
-  pub grows : Grows (Lengths.arms_computes (arms_of arms)) lines old new
-  pub are : (later : List (List ℕ))
-      → ArmsLines (setting_in facts old.base (texts_written new ++ later)) goal label old.next_label (arms_of arms) lines
-      new.next_label
-
--- the lines of steps were written: those of any code that follows stand behind them
-pub record WroteSteps (facts : Facts) (moves : List Move) (old new : Lowering) : Type 0 where
-  pub lines : List Line
-  pub n : ℕ
-  pub grows : Grows n lines old new
-  pub counted : (rest : Counted) → Lengths.computes (plug moves rest) ≡ n + Lengths.computes rest
-  pub are : (later : List (List ℕ)) (goal : Goal) (rest : Counted) (more : List Line) (high : ℕ)
-      → CodeLines (setting_in facts old.base (texts_written new ++ later)) goal new.next_label rest more high
-      → CodeLines (setting_in facts old.base (texts_written new ++ later)) goal old.next_label (plug moves rest) (lines ++ more)
-      high

@@ -1,12 +1,12 @@
 // The lines of the forms that touch cells.
 
-ghost use Rattle.std.specs.Prelude.{◌≡◌, ◌*◌, [], ◌∷◌, map, not, filter, IfOk, OnOk};
+ghost use Rattle.std.specs.Prelude.{◌≡◌, ◌*◌, map, not, filter, IfOk, OnOk};
 ghost use Rattle.kk_syntax.specs.Shapes.{is_among};
 ghost use Rattle.rv_lower.specs.Written.{short_line, Wrote, WroteLines};
 ghost use Rattle.rv_cells.specs.CellLines.{Loads, Stores, AllLoads, AllStores, dup_lines, drop_lines, dups_lines, drops_lines};
-ghost use Rattle.rv_cells.specs.CellLines.{ConstructLines, ReadLines, OpenLines};
+ghost use Rattle.rv_cells.specs.CellLines.{ConstructLines, ReadLines};
 ghost use Rattle.rv_cells.specs.TokenedWritten.{StoreLines};
-ghost use Rattle.rv_cells.specs.Written.{holds_known, end_lines, TestsCount, LowersCount, WroteCountOpening, WroteUnique};
+ghost use Rattle.rv_cells.specs.Written.{holds_known, end_lines, TestsCount, LowersCount, WroteCountOpening};
 
 use crate::known::Known;
 use kk_base::NoMemory;
@@ -177,36 +177,6 @@ fn write_drops(
         }
     }
     Ok(())
-}
-
-/// An opening.
-pub fn write_opening(
-    lowering: &mut Lowering,
-    known: &Known<'_>,
-    cell: u32,
-    fields: &[u32],
-    used: &[u32],
-) -> Result<(), NoMemory>
-    ensures { OnOk result (WroteLines (OpenLines lowering.old.base (holds_known known.now) cell fields.now used.now) lowering.old
-        lowering.new) }
-{
-    write_reading(lowering, cell, fields)?;
-    write_dups(lowering, known, fields, used)?;
-    write_drop(lowering, known, cell)
-}
-
-/// An opening by the count of the cell: one that has no other reference is freed.
-pub fn write_unique(
-    lowering: &mut Lowering,
-    known: &Known<'_>,
-    cell: u32,
-    fields: &[u32],
-    used: &[u32],
-) -> Result<(), NoMemory>
-    ensures { OnOk result (WroteUnique (holds_known known.now) cell fields.now used.now lowering.old lowering.new) }
-{
-    let ends = act(Action::Compute(Operation::Free), Reads::One(cell));
-    write_count_opening(lowering, known, cell, fields, used, ends, &[])
 }
 
 /// An opening by the count of the cell, with a line for one that has no other reference, and with lines for one that has.

@@ -5,12 +5,9 @@ ghost use Rattle.cell_heap.specs.Blocks.{Cells, own, with_block, with_word, requ
 ghost use Rattle.kk_source.specs.State.{Value, Cell};
 ghost use Rattle.kk_source.specs.Sound.{AllWithin};
 ghost use Rattle.kk_counted.specs.BareForms.{bare_program};
-ghost use Rattle.kk_counted.specs.CountedCodes.{CountedFunction, CountedProgram};
 ghost use Rattle.kk_counted.specs.declared.shape.Shape.{Shape};
-ghost use Rattle.kk_counted.specs.Lengths.{all_computes, functions_length as counted_length};
 ghost use Rattle.kk_counted.specs.Lowerable.{AreLowerable};
 ghost use Rattle.kk_counted.specs.CountBounds.{AllSpendAtMost};
-ghost use Rattle.kk_counted.specs.TokenedCodes.{TokenedFunction, TokenedProgram};
 ghost use Rattle.kk_counted.specs.TokenLengths.{tokened_functions_length, all_tokened_computes};
 ghost use Rattle.kk_counted.specs.TokenLowerable.{AreTokensLowerable};
 ghost use Rattle.kk_counted.specs.TokenSpending.{AreTokensSpent};
@@ -23,22 +20,19 @@ ghost use Rattle.kk_syntax.specs.PositionsOf.{PositionTable};
 ghost use Rattle.kk_counted.specs.Marks.{CellMarks, field_marks, AreMarked};
 ghost use Rattle.kk_counted.specs.Heaps.{Heap, count_at, set_count, fields_held, busy, dup_value, drop_value};
 ghost use Rattle.rv_cells.specs.Layout.{Layout, IsNarrow, FitsField};
-ghost use Rattle.rv_cells.specs.Lowered.{IsLoweredForm};
-ghost use Rattle.rv_cells.specs.Tables.{table_of, layout_in};
 ghost use Rattle.rv_cells.specs.Follows.{IsBlockOf, Owner, nobody, cell_of, in_hand, kept_aside, Follows, with_owner, assign, set_aside};
 ghost use Rattle.rv_isa.specs.AsmCode.{Lines};
-ghost use Rattle.rv_isa.specs.Costs.{functions_length};
-ghost use Rattle.rv_world.specs.Operations.{all_bytes};
-ghost use Rattle.kk_counted.specs.BareForms.{bare_program};
-ghost use Rattle.kk_counted.specs.CountedCosts.{counted_cost, roomy_cost};
+ghost use Rattle.kk_counted.specs.CountedCosts.{roomy_cost};
 ghost use Rattle.kk_counted.specs.TokenCosts.{HasRoom};
-ghost use Rattle.kk_counted.specs.TokenedCodes.{TokenedProgram};
 ghost use Rattle.rv_cells.specs.Fitting.{AreTagged, count_of_fields, IsFit};
 ghost use Rattle.rv_cells.specs.TokenedLowered.{IsTokenedForm};
-ghost use Rattle.rv_cells.specs.TokenedMeaning.{IsTokenedLowered};
-ghost use Rattle.rv_cells.specs.Meaning.{setting_on, IsProgramLowered, RunsTheSame};
+ghost use Rattle.rv_cells.specs.Meaning.{setting_on};
 ghost use Rattle.rv_cells.specs.TokenedMeaning.{IsTokenedLowered, TokenedRunsTheSame};
 ghost use Rattle.rv_cells.specs.Steps.{Served, ServedByHeld, PutAside, TakenBack, Dupped, Dropped, IsPaid, Released};
+ghost use Rattle.kk_counted.specs.TokenedCodes.{TokenedFunction, TokenedProgram};
+ghost use Rattle.rv_cells.specs.Tables.{table_of, layout_in};
+ghost use Rattle.rv_isa.specs.Costs.{functions_length};
+ghost use Rattle.rv_world.specs.Operations.{all_bytes};
 
 /// At the start the cells of a pool hold the empty heap. It is a law, and does nothing.
 pub fn unused_cells_hold_no_heap()
@@ -140,26 +134,6 @@ pub fn cells_in_hand_are_released()
         → (at : ℕ) (words : ℕ → Option ℕ) → owners at ≡ in_hand words → Released pool layout address owners heap cells at }
 {}
 
-/// The assembler code of a program in counted form that can be lowered, and is so, is no longer than its counted form tells, and
-/// has at most 256 constant bytes for each form on values: where constructors have at most six fields. It is a law, and does
-/// nothing.
-pub fn lowered_programs_are_short()
-    ensures { (shape : Shape) (functions : List CountedFunction) (literals texts : List (List ℕ)) (each : List Lines)
-        → AreLowerable (table_of shape) functions → IsNarrow (layout_in shape) → IsLoweredForm shape literals functions each texts
-        → (functions_length each ≤ counted_length functions) × (length (all_bytes texts) ≤ 256 * all_computes functions) }
-{}
-
-/// A program in counted form that can be lowered, and is so, is one whose assembler code is well formed, and which runs the same by the
-/// next law: where its shape has tags of a byte, six fields a constructor at most, and `False` and `True` first, and `main`, which has no
-/// parameters, is there. It is a law, and does nothing.
-pub fn lowered_programs_are_well_formed()
-    ensures { (shape : Shape) (code : CountedProgram) (texts : List (List ℕ)) (each : List Lines)
-        → AreLowerable (table_of shape) code.functions → IsLoweredForm shape code.texts code.functions each texts
-        → IsNarrow (layout_in shape) → (layout_in shape).tag 0 ≡ 0 → (layout_in shape).tag 1 ≡ 1
-        → (main : CountedFunction) → slice_get code.functions code.main ≡ Some main → main.parameters ≡ 0
-        → IsProgramLowered (layout_in shape) (table_of shape) code texts each }
-{}
-
 /// A program with tokens whose bare form can be lowered, which spends its tokens and holds them around calls alone, and is lowered, is
 /// one whose assembler code is well formed: where its shape has tags of a byte, six fields a constructor at most, and `False` and
 /// `True` first, and `main`, which has no parameters, is there. It is a law, and does nothing.
@@ -181,19 +155,6 @@ pub fn lowered_tokened_programs_are_short()
         → IsTokenedForm shape code.texts code.functions each texts → IsNarrow (layout_in shape)
         → (functions_length each ≤ tokened_functions_length code.functions)
         × (length (all_bytes texts) ≤ 256 * all_tokened_computes code.functions) }
-{}
-
-/// A program in counted form whose functions are all lowered runs the same as its assembler code, where each state of its run is
-/// not stuck, has a sound heap with counts that are words, and takes values of the types of its code: the same events, the same
-/// end, no more instructions than its steps weigh by the table of costs, and all cells free where the heap is empty at the end.
-/// It is a law, and does nothing.
-pub fn lowered_counted_programs_run_the_same()
-    ensures { (layout : Layout) (marks : CellMarks) (code : CountedProgram) (constants : List (List ℕ)) (functions : List Lines)
-        → (lowered : IsProgramLowered layout marks code constants functions)
-        → (pool : Pool) (depth first : ℕ) (input : List ℕ) → pool.first % 32 ≡ 0 → 0 < pool.first
-        → All (λ byte. byte < 256) input
-        → ((n : ℕ) → IsFit layout (counted_after counted_cost (setting_on code pool depth) input n))
-        → RunsTheSame code constants functions lowered.main_lines pool depth first input }
 {}
 
 /// A program with tokens whose functions are all lowered runs the same as its assembler code, where its bare form has room for the

@@ -1,6 +1,6 @@
 //! The counted heap in a program's cells: which words stand for a value, when cells hold a heap, and what requests, loads,
-//! stores, duplications and drops do then. A program in counted form whose functions are all lowered runs the same as its
-//! assembler code.
+//! stores, duplications and drops do then. A program with tokens whose functions are all lowered runs the same as its assembler
+//! code.
 #![tactic(auto)]
 
 mod block;
@@ -9,7 +9,6 @@ mod decide;
 mod known;
 mod law;
 mod mark;
-mod program;
 mod token_block;
 mod token_cells;
 mod token_mark;
@@ -19,11 +18,9 @@ mod token_slots;
 pub use law::{
     cells_are_counted_or_set_aside, cells_in_hand_are_counted, cells_in_hand_are_held,
     cells_in_hand_are_released, counts_are_stored, judged_programs_are_fit,
-    lowered_counted_programs_run_the_same, lowered_programs_are_short,
-    lowered_programs_are_well_formed, lowered_tokened_programs_are_short,
-    lowered_tokened_programs_are_well_formed, lowered_tokened_programs_run_the_same,
-    references_are_dropped, references_are_duplicated, requests_find_free_cells,
-    unique_cells_are_opened, unused_cells_hold_no_heap, words_in_hand_are_stored,
+    lowered_tokened_programs_are_short, lowered_tokened_programs_are_well_formed,
+    lowered_tokened_programs_run_the_same, references_are_dropped, references_are_duplicated,
+    requests_find_free_cells, unique_cells_are_opened, unused_cells_hold_no_heap,
+    words_in_hand_are_stored,
 };
-pub use program::lower;
 pub use token_program::lower_tokened;

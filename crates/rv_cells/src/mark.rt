@@ -1,32 +1,14 @@
-// The marks of the variables of a function.
+// The marks of parameters, of fields, and of the values of forms.
 
-ghost use Rattle.std.specs.Prelude.{◌≡◌, [], ◌∷◌, map, OnOk, IfOk};
-ghost use Rattle.kk_counted.specs.CountedForms.{block_code, last_code, step_move, arms_of};
+ghost use Rattle.std.specs.Prelude.{◌≡◌, map, OnOk, IfOk};
 ghost use Rattle.kk_counted.specs.Marks.{parameter_marks, result_mark, field_marks, made_mark};
-ghost use Rattle.kk_counted.specs.Programs.{function_of};
-ghost use Rattle.kk_counted.specs.Lowerable.{given_by, given_by_arms};
-ghost use Rattle.rv_cells.specs.Marking.{marked, all_marked, mark_given};
-ghost use Rattle.rv_cells.specs.Marking.{mark_of_form, marks_behind, marks_behind_arms, marks_after, marks_after_all, function_marks};
+ghost use Rattle.rv_cells.specs.Marking.{marked, all_marked, mark_of_form};
 ghost use Rattle.rv_cells.specs.Tables.{table_of};
 
 use kk_base::NoMemory;
-use kk_counted::{Block, CountedFun, Last, Parameter, Shape, Step};
+use kk_counted::{Parameter, Shape};
 use kk_syntax::Form;
 use std::alloc::Global;
-
-/// The marks of the variables of a function, by their numbers: whether a variable's type has cells.
-pub fn marks_of(
-    alloc: Global,
-    shape: &Shape,
-    number: usize,
-    function: &CountedFun,
-) -> Result<Vec<bool>, NoMemory>
-    ensures { IfOk result (λ marks. marks.items ≡ function_marks (table_of shape.now) number (function_of function.now)) }
-{
-    let mut marks = parameters_of(alloc, shape, number)?;
-    mark_block(&mut marks, shape, function.body())?;
-    Ok(marks)
-}
 
 /// The marks of the parameters of an instance. Behind the last instance there are none.
 pub fn parameters_of(alloc: Global, shape: &Shape, number: usize) -> Result<Vec<bool>, NoMemory>
@@ -123,125 +105,4 @@ pub fn mark_of_form(shape: &Shape, form: Form, arguments: &[u32]) -> bool
         | Form::Binary(_)
         | Form::Print(_) => false,
     }
-}
-
-/// The variable whose value a block gives first.
-#[cycle(given)]
-fn given(block: &Block) -> Option<u32>
-    ensures { result ≡ given_by (block_code block.now) }
-{
-    given_at(&block.last)
-}
-
-#[cycle(given)]
-fn given_at(last: &Last) -> Option<u32>
-    ensures { result ≡ given_by (last_code last.now) }
-{
-    match last {
-        Last::Return(variable) => Some(*variable),
-        Last::TailCall(_, _) => None,
-        Last::If(_, positive, negative) => match given(positive) {
-            Some(variable) => Some(variable),
-            None => given(negative),
-        },
-        Last::Case(_, _, arms) => given_in(arms),
-    }
-}
-
-/// The variable whose value one of some arms gives first.
-#[cycle(given)]
-fn given_in(arms: &[Block]) -> Option<u32>
-    ensures { result ≡ given_by_arms (arms_of (map block_code arms.now)) }
-{
-    for arm in arms {
-        if let Some(variable) = given(arm) {
-            return Some(variable);
-        }
-    }
-    None
-}
-
-/// The mark of the value of a block whose variables are marked.
-fn mark_of_given(marks: &[bool], block: &Block) -> bool
-    ensures { result ≡ mark_given (given_by (block_code block.now)) marks.now }
-{
-    match given(block) {
-        Some(variable) => match marks.get(variable as usize) {
-            Some(mark) => *mark,
-            None => false,
-        },
-        None => false,
-    }
-}
-
-/// Gives the variables that a block binds their marks. The recursion is as deep as the block.
-#[cycle(mark)]
-fn mark_block(marks: &mut Vec<bool>, shape: &Shape, block: &Block) -> Result<(), NoMemory>
-    ensures { OnOk result (marks.new.items ≡ marks_behind (table_of shape.now) (block_code block.now) marks.old.items) }
-{
-    mark_steps(marks, shape, &block.steps)?;
-    mark_last(marks, shape, &block.last)
-}
-
-#[cycle(mark)]
-fn mark_steps(marks: &mut Vec<bool>, shape: &Shape, steps: &[Step]) -> Result<(), NoMemory>
-    ensures { OnOk result (marks.new.items ≡ marks_after_all (table_of shape.now) (map step_move steps.now) marks.old.items) }
-{
-    for step in steps {
-        mark_step(marks, shape, step)?;
-    }
-    Ok(())
-}
-
-#[cycle(mark)]
-fn mark_step(marks: &mut Vec<bool>, shape: &Shape, step: &Step) -> Result<(), NoMemory>
-    ensures { OnOk result (marks.new.items ≡ marks_after (table_of shape.now) (step_move step.now) marks.old.items) }
-{
-    match step {
-        Step::Let(variable, form, arguments) => {
-            set_mark(marks, *variable, mark_of_form(shape, *form, arguments))
-        }
-        Step::Inside(variable, block) => {
-            mark_block(marks, shape, block)?;
-            let mark = mark_of_given(marks, block);
-            set_mark(marks, *variable, mark)
-        }
-        Step::Read(_, constructor, fields) => {
-            mark_fields(marks, fields, fields_of(shape, *constructor))
-        }
-        Step::Open(_, constructor, fields, _) => {
-            mark_fields(marks, fields, fields_of(shape, *constructor))
-        }
-        Step::IfUnique(_, constructor, fields, _) => {
-            mark_fields(marks, fields, fields_of(shape, *constructor))
-        }
-        Step::Dup(_) => Ok(()),
-        Step::Drop(_) => Ok(()),
-    }
-}
-
-#[cycle(mark)]
-fn mark_last(marks: &mut Vec<bool>, shape: &Shape, last: &Last) -> Result<(), NoMemory>
-    ensures { OnOk result (marks.new.items ≡ marks_behind (table_of shape.now) (last_code last.now) marks.old.items) }
-{
-    match last {
-        Last::Return(_) => Ok(()),
-        Last::TailCall(_, _) => Ok(()),
-        Last::If(_, positive, negative) => {
-            mark_block(marks, shape, positive)?;
-            mark_block(marks, shape, negative)
-        }
-        Last::Case(_, _, arms) => mark_arms(marks, shape, arms),
-    }
-}
-
-#[cycle(mark)]
-fn mark_arms(marks: &mut Vec<bool>, shape: &Shape, arms: &[Block]) -> Result<(), NoMemory>
-    ensures { OnOk result (marks.new.items ≡ marks_behind_arms (table_of shape.now) (arms_of (map block_code arms.now))
-        marks.old.items) }
-{
-    for arm in arms {
-        mark_block(marks, shape, arm)?;
-    }
-    Ok(())
 }

@@ -1,8 +1,0 @@
-use Rattle.std.proofs.Common.{◌≡◌, map, drop}
-use Rattle.kk_counted.specs.CountedForms.{block_code, arms_of}
-use Rattle.kk_counted.specs.Lowerable.{given_by_arms}
-use Rattle.rv_cells.proofs.mark.+given.Given as goal
-
-abbrev pub invariant-given_in-loop-arm : goal.invariant-given_in-loop-arm
-invariant-given_in-loop-arm l =
-    given_by_arms (arms_of (map block_code (drop l.arm-index l.arms))) ≡ given_by_arms (arms_of (map block_code l.arms))
