@@ -20,6 +20,7 @@ use Rattle.kk_counted.specs.TokenedCodes.{TokenedFunction, TokenedProgram}
 use Rattle.kk_counted.specs.declared.shape.Shape.{Shape}
 use Rattle.cell_heap.specs.Pool.{Pool}
 use Rattle.elf_image.specs.Parts.{memory_of}
+use Rattle.elf_image.specs.Program.{IsProgramImage}
 use Rattle.elf_image.specs.declared.part.Part.{Part}
 use Rattle.rv_isa.specs.AsmCode.{Lines}
 use Rattle.rv_isa.specs.AsmMachine.{asm_machine, asm_start}
@@ -117,68 +118,71 @@ module _ (shape : Shape) (code : TokenedProgram) (functions : List Lines) (texts
         main_params = sym (ap (λ (lines : Lines). lines.params) same) ∙ params;
       }
 
-  module _ (run_the_same : RunTheSame) (entry : ℕ) (parts : List Part)
-      (of_asm : IsImageOfAsm functions texts cells depth entry parts) (room : ℕ) (enough : HasRoom room code) where
+  module _ (entry : ℕ) (parts : List Part) (of_asm : IsImageOfAsm functions texts cells depth entry parts) where
     image : IsAsmImage functions texts lowered.main_lines cells depth entry parts
     image = of_asm lowered.main_lines main_there
 
-    abbrev constants : Constants
-    constants = record { first = image.first; texts = texts }
+    -- a text, and memory
+    pub is_program : IsProgramImage entry parts
+    is_program = image.program
 
-    -- the program without its tokens
-    abbrev bare_code : CountedProgram
-    bare_code = bare_program code
+    module _ (run_the_same : RunTheSame) (room : ℕ) (enough : HasRoom room code) where
+      abbrev constants : Constants
+      constants = record { first = image.first; texts = texts }
 
-    abbrev setting : CountedSetting
-    setting = counted_setting bare_code cells depth
+      -- the program without its tokens
+      abbrev bare_code : CountedProgram
+      bare_code = bare_program code
 
-    same_setting : setting_on bare_code image.pool depth ≡ setting
-    same_setting = ap (λ n. counted_setting bare_code n depth) image.cells_are
+      abbrev setting : CountedSetting
+      setting = counted_setting bare_code cells depth
 
-    runs : (input : List ℕ) → All (λ byte. byte < 256) input
-        → TokenedRunsTheSame code room texts functions lowered.main_lines image.pool depth image.first input
-    runs input bytes =
-        run_the_same (layout_in shape) (table_of shape) code texts functions lowered room enough image.pool depth image.first input
-        image.aligned image.behind bytes
-        (λ n. subst (λ (s : CountedSetting). IsFit (layout_in shape) (counted_after (roomy_cost room) s input n))
-        (sym same_setting) (runnable.fit (roomy_cost room) input bytes n))
+      same_setting : setting_on bare_code image.pool depth ≡ setting
+      same_setting = ap (λ n. counted_setting bare_code n depth) image.cells_are
 
-    never : (input : List ℕ) → All (λ byte. byte < 256) input → (n : ℕ)
-        → state (asm_machine (primitives constants image.pool) depth functions) n (asm_start lowered.main_lines (first_world image.pool input))
-        ≢ stuck
-    never input bytes n = (runs input bytes).never_stuck n
+      runs : (input : List ℕ) → All (λ byte. byte < 256) input
+          → TokenedRunsTheSame code room texts functions lowered.main_lines image.pool depth image.first input
+      runs input bytes =
+          run_the_same (layout_in shape) (table_of shape) code texts functions lowered room enough image.pool depth image.first input
+          image.aligned image.behind bytes
+          (λ n. subst (λ (s : CountedSetting). IsFit (layout_in shape) (counted_after (roomy_cost room) s input n))
+          (sym same_setting) (runnable.fit (roomy_cost room) input bytes n))
 
-    -- the image does what the program does without its tokens
-    pub image_is : IsImageOf bare_code room cells depth entry parts
-    image_is = record {
-      program = image.program;
-      does = λ input bytes.
-          let upper = (runs input bytes).agrees in
-          let low = image.does input bytes (never input bytes) in (
-            (λ m. upper.0 (low.0 m)),
-            subst (λ (s : CountedSetting). Agree (roomy_outside room s) (processor_machine rv32im) (room + outside_lines)
-                (λ m. upper.0 (low.0 m)) (counted_first_state s input) (goes (start (memory_of parts) entry input))) same_setting
-                (agree_through (roomy_outside room (setting_on bare_code image.pool depth))
-                (asm_machine (primitives constants image.pool) depth functions) (processor_machine rv32im) room
-                outside_lines upper.0 low.0
-                (counted_first_state (setting_on bare_code image.pool depth) input)
-                (asm_start lowered.main_lines (first_world image.pool input))
-                (goes (start (memory_of parts) entry input)) upper.1 low.1),
-          );
-      leaves_cells = λ input bytes n stops empty.
-          let ends = (runs input bytes).ends n well
-          (subst (λ (s : CountedSetting). (counted_after (roomy_cost room) s input n).control ≡ stopped well) (sym same_setting)
-          stops) in
-          let last = image.ends input bytes (never input bytes) ends.0 _ ends.1 ends.2 in
-          let all = ends.3 refl (subst (λ (s : CountedSetting). busy (counted_after (roomy_cost room) s input n).heap ≡ 0)
-          (sym same_setting) empty) in (
-            last.0,
-            (
-              last.1.ending,
-              subst (λ n. AreAllFree n (run last.0 (start (memory_of parts) entry input)).processor) image.cells_are
-                  (all_are_free image.pool ends.1.cells (run last.0 (start (memory_of parts) entry input)).processor all
-                  last.1.memory),
-            ),
-          );
-      touches_no_free = λ input bytes. image.touches_no_free input bytes (never input bytes);
-    }
+      never : (input : List ℕ) → All (λ byte. byte < 256) input → (n : ℕ)
+          → state (asm_machine (primitives constants image.pool) depth functions) n (asm_start lowered.main_lines (first_world image.pool input))
+          ≢ stuck
+      never input bytes n = (runs input bytes).never_stuck n
+
+      -- the image does what the program does without its tokens
+      pub image_is : IsImageOf bare_code room cells depth entry parts
+      image_is = record {
+        does = λ input bytes.
+            let upper = (runs input bytes).agrees in
+            let low = image.does input bytes (never input bytes) in (
+              (λ m. upper.0 (low.0 m)),
+              subst (λ (s : CountedSetting). Agree (roomy_outside room s) (processor_machine rv32im) (room + outside_lines)
+                  (λ m. upper.0 (low.0 m)) (counted_first_state s input) (goes (start (memory_of parts) entry input))) same_setting
+                  (agree_through (roomy_outside room (setting_on bare_code image.pool depth))
+                  (asm_machine (primitives constants image.pool) depth functions) (processor_machine rv32im) room
+                  outside_lines upper.0 low.0
+                  (counted_first_state (setting_on bare_code image.pool depth) input)
+                  (asm_start lowered.main_lines (first_world image.pool input))
+                  (goes (start (memory_of parts) entry input)) upper.1 low.1),
+            );
+        leaves_cells = λ input bytes n stops empty.
+            let ends = (runs input bytes).ends n well
+            (subst (λ (s : CountedSetting). (counted_after (roomy_cost room) s input n).control ≡ stopped well) (sym same_setting)
+            stops) in
+            let last = image.ends input bytes (never input bytes) ends.0 _ ends.1 ends.2 in
+            let all = ends.3 refl (subst (λ (s : CountedSetting). busy (counted_after (roomy_cost room) s input n).heap ≡ 0)
+            (sym same_setting) empty) in (
+              last.0,
+              (
+                last.1.ending,
+                subst (λ n. AreAllFree n (run last.0 (start (memory_of parts) entry input)).processor) image.cells_are
+                    (all_are_free image.pool ends.1.cells (run last.0 (start (memory_of parts) entry input)).processor all
+                    last.1.memory),
+              ),
+            );
+        touches_no_free = λ input bytes. image.touches_no_free input bytes (never input bytes);
+      }

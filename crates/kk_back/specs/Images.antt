@@ -18,7 +18,6 @@ use Rattle.kk_counted.specs.TokenedCodes.{TokenedFunction, TokenedProgram}
 use Rattle.kk_counted.specs.declared.shape.Shape.{Shape}
 use Rattle.cell_runtime.specs.declared.start.TheConstants.{TEXT_WORDS}
 use Rattle.elf_image.specs.Parts.{memory_of}
-use Rattle.elf_image.specs.Program.{IsProgramImage}
 use Rattle.elf_image.specs.declared.part.Part.{Part}
 use Rattle.rv_cells.specs.Fitting.{IsFit}
 use Rattle.rv_cells.specs.Layout.{IsNarrow}
@@ -65,7 +64,6 @@ LeavesAll cells how last = (ended last.ending ≡ Some how) × AreAllFree cells 
 -- more. Where the program ends by itself and no cell is counted then, all cells are free at its exit. Outside of the runtime's
 -- words, which stand at the entry, it touches no free cell.
 pub record IsImageOf (code : CountedProgram) (room cells depth entry : ℕ) (parts : List Part) : Type 0 where
-  pub program : IsProgramImage entry parts
   pub does : (input : List ℕ) → All (λ byte. byte < 256) input
       → (up : ℕ → ℕ) × Agree (roomy_outside room (counted_setting code cells depth)) (processor_machine rv32im)
       (room + outside_lines) up

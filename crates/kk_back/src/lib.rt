@@ -6,6 +6,7 @@ mod assembled;
 ghost use Rattle.std.specs.Prelude.{IfOk};
 ghost use Rattle.kk_base.specs.Sizes.{AreSizes};
 ghost use Rattle.kk_counted.specs.TokenedForms.{tokened_program};
+ghost use Rattle.elf_image.specs.Program.{IsProgramImage};
 ghost use Rattle.kk_back.specs.Images.{IsRunnable, IsImageOfTokened};
 
 use assembled::assembled;
@@ -34,7 +35,8 @@ pub fn image(
 ) -> Result<Image, NoMemory>
     requires runnable { IsRunnable tokened.now.shape (tokened_program tokened.now.functions.items texts.now) cells depth }
     requires sizes { AreSizes cells depth }
-    ensures { IfOk result (λ image. IsImageOfTokened (tokened_program tokened.now.functions.items texts.now) cells depth
+    ensures program { IfOk result (λ image. IsProgramImage image.entry image.parts) }
+    ensures does { IfOk result (λ image. IsImageOfTokened (tokened_program tokened.now.functions.items texts.now) cells depth
         image.entry image.parts) }
 {
     let asm = lower_tokened(alloc, tokened, texts)?;

@@ -61,14 +61,20 @@ returns c =
     let image : IsImageOf code room cells depth entry parts =
     subst (λ (bare : CountedProgram). IsImageOf bare room cells depth entry parts) tokens.form
     (subst (λ (texts : List (List ℕ)). IsImageOfTokened (tokened_program made.functions.items texts) cells depth entry parts)
-    c.deref.ensures.value c.in_ok-image.ensures room tokens.room) in
+    c.deref.ensures.value c.in_ok-image.ensures.does room tokens.room) in
     let positions = instance_positions given compiled.table in
     let up = store_steps (ground_program given) in
     let keeps = c.compiled_programs_keep_meaning.ensures typed given counted c.requires.checked c.requires.given compiled
     (c.requires.lent compiled.table) cells depth in
     let loaded = c.in_ok-file.ensures.read_again in
     record {
-      is_image = record { entry = entry; parts = parts; program = image.program; written = c.in_ok-file.ensures.written; loads = loaded };
+      is_image = record {
+        entry = entry;
+        parts = parts;
+        program = c.in_ok-image.ensures.program;
+        written = c.in_ok-file.ensures.written;
+        loads = loaded;
+      };
       setting = setting_of program compiled.table cells depth;
       is_run = record { positions = compiled.table; least = compiled.least; is = refl };
       agrees = file_agrees program compiled.table positions code greatest room up (omega arith) cells depth entry parts image keeps
