@@ -52,8 +52,8 @@ pub record IsCompiled (typed : Typed) (given : Ground) (made : Counted) : Type 0
   pub nodes : made.nodes ≡ given.summed_nodes
   pub numbers : AllHaveInt32 (map function_of made.functions.items)
 
--- A program with tokens is that of a counted form: each construction takes the newest token of its function. Its shape and its two
--- numbers of nodes are the same.
+-- A program with tokens is that of a counted form: a construction with fields takes the newest token that its function has left, if
+-- there is one. Its shape and its two numbers of nodes are the same.
 pub record IsTokenedOf (counted : Counted) (made : Tokened) : Type 0 where
   pub shape : made.shape ≡ counted.shape
   pub program : (texts : List (List ℕ))

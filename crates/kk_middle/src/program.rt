@@ -24,8 +24,8 @@ use kk_syntax::Accepted;
 use std::alloc::Global;
 
 /// The counted form of an accepted program with its tokens: the core form of its instances, in which each variable that owns a
-/// reference is used up once on each path, each opening of a cell goes by the cell's count, and each construction uses the newest
-/// cell again that its function has opened.
+/// reference is used up once on each path, and each opening of a cell goes by the cell's count. A construction with fields takes the
+/// newest token that its function has left, if there is one: so it uses that cell again, where the cell had no other reference.
 ///
 /// The recursion is as deep as the deepest expression.
 pub fn compile(alloc: Global, accepted: &Accepted) -> Result<Tokened, NoMemory>

@@ -59,15 +59,16 @@ pub fn paired_code_costs_what_it_has_room_for()
     tokens_cost_what_they_have_room_for();
 }
 
-/// Paired code can be lowered where the code has few openings on a path, each by the count of the cell: a function has no more slots
-/// than that, and tokens are held around calls alone. It is a law, and does nothing.
+/// Paired code can be lowered where the code has few openings on a path, each by the count of the cell: a function has few slots,
+/// and tokens are held around calls alone. It is a law, and does nothing.
 pub fn paired_code_can_be_lowered()
     ensures { (most : ℕ) (program : CountedProgram) → OpenAtMost most program → most ≤ most_slots
         → AllOpenByCount program.functions → AreTokensLowerable (paired_program program).functions }
 {}
 
-/// Paired code is short where the code is that it is made of, which has few openings on a path: at each form but a dup and a drop
-/// its tokens add no more than eight instructions for each slot. It has no more forms on values. It is a law, and does nothing.
+/// Paired code is short where the code is that it is made of, which has few openings on a path: in all, its tokens add no more than
+/// the limits make of eight instructions for each slot at each form but a dup and a drop. It has no more forms on values. It is a
+/// law, and does nothing.
 pub fn paired_code_is_short()
     ensures { (most : ℕ) (program : CountedProgram) → OpenAtMost most program → most ≤ most_slots
         → AreShort program.functions → AreTokensShort (paired_program program).functions }
