@@ -8,7 +8,7 @@ use Rattle.kk_counted.specs.declared.tokened.TokenedStep.{TokenedStep}
 use Rattle.kk_counted.specs.declared.tokened.TokenedStep.TheVariants as OfStep
 use Rattle.kk_counted.specs.CountedForms.{decisions_of}
 use Rattle.kk_counted.specs.TokenedCodes.{Tokened}
-use Rattle.kk_counted.specs.TokenedForms.{TokenedMove, put_tokened, plug_tokened, put_steps, tokened_block_step, tokened_last_step, tokened_step_step, tokened_arms, tokened_move, tokened_code, tokened_last_code}
+use Rattle.kk_counted.specs.TokenedForms.{TokenedMove, put_tokened, put_steps, tokened_block_step, tokened_last_step, tokened_step_step, tokened_arms, tokened_move, tokened_code, tokened_last_code}
 
 pub tokened_block_is : (block : TokenedBlock) → tokened_code block ≡ put_steps block.steps.items (tokened_last_code block.last)
 tokened_block_is block = fold_out-TokenedBlock Tokened TokenedMove Tokened tokened_last_step tokened_step_step tokened_block_step block

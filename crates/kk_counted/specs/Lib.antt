@@ -1,5 +1,6 @@
 pub mod Arms
 pub mod BareForms
+pub mod CodePlaces
 pub mod Cost
 pub mod CountedCosts
 pub mod CountBounds
@@ -13,6 +14,7 @@ pub mod Emitting
 pub mod Heaps
 pub mod Int32
 pub mod Keeping
+pub mod KeptFields
 pub mod Kinds
 pub mod Lengths
 pub mod Lowerable

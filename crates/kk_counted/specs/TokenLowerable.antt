@@ -1,9 +1,10 @@
 -- What code with tokens owes to be lowered to assembler code, beside what its bare form owes (Lowerable): its slots are few, openings go
--- by counts, and tokens are held around calls alone.
+-- by counts, tokens are held around calls alone, and a construction leaves only fields that its cell has already.
 use Rattle.std.specs.Prelude.{◌≡◌, ℕ, suc, ◌≤◌, false, List, [], ◌∷◌, max, Some, slice_get}
 use Rattle.kk_syntax.specs.Shapes.{is_among}
 use Rattle.kk_syntax.specs.declared.program.Form.TheVariants.{Call}
 use Rattle.kk_core.specs.Sizes.{most_nodes}
+use Rattle.kk_counted.specs.KeptFields.{LeavesKnown}
 use Rattle.kk_counted.specs.TokenedCodes.{Tokened, TokenedArms, TokenedFunction}
 
 -- ---- slots
@@ -107,6 +108,7 @@ pub record IsTokenLowerable (function : TokenedFunction) : Type 0 where
   pub slots : slots_in function.body ≤ most_slots
   pub plain : HasPlainForms function.body
   pub straight : HoldsAtCalls [] function.body
+  pub leaves : LeavesKnown [] function.body
 
 abbrev pub AreTokensLowerable : List TokenedFunction → Type 0
 AreTokensLowerable functions =
