@@ -183,7 +183,7 @@ module _ (target : Target) (f : Frame Line) (fs : List (Frame Line)) (world : Wo
       (reads : all_of (map f.cells args) ≡ Some words) (there : slice_get target.functions g ≡ Some callee)
       (enters : bound callee.params words ≡ Some entry_values) where
     abbrev entered : Frame Line
-    entered = asm_entered callee entry_values
+    entered = asm_entered g callee entry_values
 
     -- a call, by whether the stack is full
     called : (x : ℕ) (full : Bool) → nat_le target.depth (length (f ∷ fs)) ≡ full
@@ -193,10 +193,10 @@ module _ (target : Target) (f : Frame Line) (fs : List (Frame Line)) (world : Wo
     called x full is =
         ap (λ o. or_stuck o (λ (c : Lines). or_stuck (bound c.params words) (λ values.
         cond (nat_le target.depth (length (f ∷ fs))) (ended (exited (number_of OfEnding.StackFull)) world)
-        (asm_goes (asm_entered c values) (record (left_at rest f) { into = Some x } ∷ fs) world)))) there
+        (asm_goes (asm_entered g c values) (record (left_at rest f) { into = Some x } ∷ fs) world)))) there
         ∙ ap (λ o. or_stuck o (λ values.
         cond (nat_le target.depth (length (f ∷ fs))) (ended (exited (number_of OfEnding.StackFull)) world)
-        (asm_goes (asm_entered callee values) (record (left_at rest f) { into = Some x } ∷ fs) world))) enters
+        (asm_goes (asm_entered g callee values) (record (left_at rest f) { into = Some x } ∷ fs) world))) enters
         ∙ ap (λ b. cond b (ended (exited (number_of OfEnding.StackFull)) world)
         (asm_goes entered (record (left_at rest f) { into = Some x } ∷ fs) world)) is
 
@@ -225,10 +225,10 @@ module _ (target : Target) (f : Frame Line) (fs : List (Frame Line)) (world : Wo
         line_runs target (2 * length args + 2) (acts (TailCall g) args) rest f fs world words
         (turn_of callee.code entered fs world) reads
         (ap (λ h. unless_held h (or_stuck (slice_get target.functions g) (λ (c : Lines). or_stuck (bound c.params words)
-        (λ values. asm_goes (asm_entered c values) fs world)))) none
-        ∙ ap (λ o. or_stuck o (λ (c : Lines). or_stuck (bound c.params words) (λ values. asm_goes (asm_entered c values) fs world)))
+        (λ values. asm_goes (asm_entered g c values) fs world)))) none
+        ∙ ap (λ o. or_stuck o (λ (c : Lines). or_stuck (bound c.params words) (λ values. asm_goes (asm_entered g c values) fs world)))
         there
-        ∙ ap (λ o. or_stuck o (λ values. asm_goes (asm_entered callee values) fs world)) enters)
+        ∙ ap (λ o. or_stuck o (λ values. asm_goes (asm_entered g callee values) fs world)) enters)
         (λ held. omega arith) (silent target world)
 
 -- a frame that holds no token gives a value to the one that waits, and the last frame ends the run

@@ -123,12 +123,12 @@ bytes_behind target (byte ∷ rest) bytes = All-tail (λ b. b < 256) byte rest b
 
 -- a turn of a frame that holds no token
 pub turns_are : (lines : List Line) (f : Frame Line) (fs : List (Frame Line)) (world : World) → f.held ≡ []
-    → turn_at f.whole lines f.cells f.into fs world ≡ turn_of lines f fs world
+    → turn_at (f.function, f.whole) lines f.cells f.into fs world ≡ turn_of lines f fs world
 turns_are lines f fs world none =
     ap (λ (held : List ℕ). turn_held held) (sym none)
   where
     turn_held : List ℕ → AsmTurn World Ending
     turn_held held = go (record {
-      frames = record { whole = f.whole; code = lines; cells = f.cells; held = held; into = f.into } ∷ fs;
+      frames = record { function = f.function; whole = f.whole; code = lines; cells = f.cells; held = held; into = f.into } ∷ fs;
       shared = world;
     })

@@ -124,8 +124,8 @@ module _ (program : Lowering) where
     pub at_value : (v : Value) (n : ℕ) (events : List Event) (cells : ℕ → Option ℕ) (world : World) (input_left : List ℕ)
         (cost : ℕ) → cost ≤ most_cost
         → NumberRuns.Runs numbers_target cost n events
-        (turn_at s.frame.whole (form_own ++ form_rest) s.frame.cells s.frame.into fs s.world)
-        (turn_at s.frame.whole form_rest cells s.frame.into fs world)
+        (turn_at (s.frame.function, s.frame.whole) (form_own ++ form_rest) s.frame.cells s.frame.into fs s.world)
+        (turn_at (s.frame.function, s.frame.whole) form_rest cells s.frame.into fs world)
         → ((z : ℕ) → z < at.shape.variables + at.shape.slots → z ≢ x → cells z ≡ s.frame.cells z)
         → cells x ≡ Some (word_in program.layout s.address v)
         → FitsField (at.shape.holds x) v → Within (length s.heap) v → IsKept v
@@ -144,14 +144,14 @@ module _ (program : Lowering) where
         (holds_none form arguments others at.lists.unspent at.lists.held is_plain at.judged.spends.0) in
         let parts : left ≡ form_own ++ form_rest
         = p.left_is ∙ ap (λ own. own ++ p.after) p.lines.5 ∙ append_assoc p.lines.0 p.lines.1 p.after in
-        let first : turn_at s.frame.whole (form_own ++ form_rest) s.frame.cells s.frame.into fs s.world
+        let first : turn_at (s.frame.function, s.frame.whole) (form_own ++ form_rest) s.frame.cells s.frame.into fs s.world
         ≡ turn_of left s.frame fs s.world
         = turns_are (form_own ++ form_rest) s.frame fs s.world none ∙ ap (λ ls. turn_of ls s.frame fs s.world) (sym parts) in
-        let last : turn_at s.frame.whole form_rest cells s.frame.into fs world ≡ turn_of form_rest f fs world
+        let last : turn_at (s.frame.function, s.frame.whole) form_rest cells s.frame.into fs world ≡ turn_of form_rest f fs world
         = turns_are form_rest f fs world none in
         let ran : NumberRuns.Runs numbers_target cost n events (turn_of left s.frame fs s.world) (turn_of form_rest f fs world)
         = subst (λ u. NumberRuns.Runs numbers_target cost n events (turn_of left s.frame fs s.world) u) last
-        (subst (λ t. NumberRuns.Runs numbers_target cost n events t (turn_at s.frame.whole form_rest cells s.frame.into fs world))
+        (subst (λ t. NumberRuns.Runs numbers_target cost n events t (turn_at (s.frame.function, s.frame.whole) form_rest cells s.frame.into fs world))
         first run) in
         let place : s.frame.whole ≡ (p.before ++ form_own) ++ form_rest
         = p.place ∙ ap (λ ls. p.before ++ ls) parts ∙ sym (append_assoc p.before form_own form_rest) in
@@ -408,8 +408,8 @@ module _ (program : Lowering) where
       at_value x (Construct c) [] others rest plain idle inner frames tokens input s fs left idle_is at fit (constant c) 1 []
       (put x (Some word) s.frame.cells) s.world input word_cost (omega arith)
       (subst (λ own. NumberRuns.Runs numbers_target word_cost 1 []
-      (turn_at s.frame.whole (own ++ (p.lines.1 ++ p.after)) s.frame.cells s.frame.into fs s.world)
-      (turn_at s.frame.whole (p.lines.1 ++ p.after) (put x (Some word) s.frame.cells) s.frame.into fs s.world)) (sym p.lines.3.0)
+      (turn_at (s.frame.function, s.frame.whole) (own ++ (p.lines.1 ++ p.after)) s.frame.cells s.frame.into fs s.world)
+      (turn_at (s.frame.function, s.frame.whole) (p.lines.1 ++ p.after) (put x (Some word) s.frame.cells) s.frame.into fs s.world)) (sym p.lines.3.0)
       (NumberRuns.compute_runs numbers_target s.frame.whole (Op.Li word) [] x
       (p.lines.1 ++ p.after) s.frame.cells s.frame.into fs s.world [] word (omega arith) refl refl))
       (λ z less other. put_other x z word s.frame.cells other) (put_same x word s.frame.cells)

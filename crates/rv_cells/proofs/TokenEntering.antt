@@ -217,7 +217,7 @@ module _ (program : Lowering) where
     entered_spot values = record s {
       bound = numbers_from 0 function.parameters;
       environment = bind_parameters 0 (values_of s.environment xs) [];
-      frame = asm_entered lines values;
+      frame = asm_entered f lines values;
     }
 
     -- its body is at its lines, without tokens

@@ -201,7 +201,7 @@ module _ (program : Lowering) (main : TokenedFunction) (main_is : slice_get prog
     heap = [];
     bound = numbers_from 0 main.parameters;
     environment = [];
-    frame = asm_entered lines empty;
+    frame = asm_entered 0 lines empty;
     world = first_world program.pool input;
   }
 

@@ -27,8 +27,10 @@ bound [] (word ∷ words) = None
 bound (param ∷ params) [] = None
 bound (param ∷ params) (word ∷ words) = option_map (put param (Some word)) (bound params words)
 
-abbrev pub asm_entered : Lines → (ℕ → Option ℕ) → Frame Line
-asm_entered function cells = record { whole = function.code; code = function.code; cells = cells; held = []; into = None }
+-- the frame of a function of a number as it begins
+abbrev pub asm_entered : ℕ → Lines → (ℕ → Option ℕ) → Frame Line
+asm_entered g function cells =
+    record { function = g; whole = function.code; code = function.code; cells = cells; held = []; into = None }
 
 -- what follows in the running frame, whose code is already past the line
 abbrev pub asm_goes : {H W : Type 0} → Frame Line → List (Frame Line) → H → AsmTurn H W
@@ -65,9 +67,9 @@ asm_acts m depth q f fs shared (Branch condition l) args into words =
     or_stuck (m.holds condition words) (λ taken. cond taken (asm_jumps l f fs shared) (asm_goes f fs shared))
 asm_acts m depth q f fs shared (Call g) args into words =
     or_stuck (slice_get q g) (λ callee. or_stuck (bound callee.params words) (λ cells.
-    cond (nat_le depth (length (f ∷ fs))) (ended m.stack_full shared) (asm_goes (asm_entered callee cells) (record f { into = into } ∷ fs) shared)))
+    cond (nat_le depth (length (f ∷ fs))) (ended m.stack_full shared) (asm_goes (asm_entered g callee cells) (record f { into = into } ∷ fs) shared)))
 asm_acts m depth q f fs shared (TailCall g) args into words =
-    unless_held f.held (or_stuck (slice_get q g) (λ callee. or_stuck (bound callee.params words) (λ cells. asm_goes (asm_entered callee cells) fs shared)))
+    unless_held f.held (or_stuck (slice_get q g) (λ callee. or_stuck (bound callee.params words) (λ cells. asm_goes (asm_entered g callee cells) fs shared)))
 asm_acts m depth q f fs shared Return args into words =
     unless_held f.held (or_stuck (result_of words) (λ result. asm_returns m fs shared result))
 asm_acts m depth q f fs shared (Routine routine) args into words =
@@ -121,6 +123,6 @@ abbrev pub asm_machine : {H E W : Type 0} → Primitives H E W → ℕ → List 
 asm_machine m depth q =
     weighing (asm_weight m) end_of (λ t. (drop (length (asm_told m t)) (asm_told m (asm_next m depth q t)), asm_next m depth q t))
 
--- the start of a function without parameters
+-- the start of the first function, which has no parameters
 abbrev pub asm_start : {H W : Type 0} → Lines → H → AsmTurn H W
-asm_start main shared = asm_goes (asm_entered main empty) [] shared
+asm_start main shared = asm_goes (asm_entered 0 main empty) [] shared

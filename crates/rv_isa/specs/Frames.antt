@@ -2,12 +2,14 @@
 use Rattle.std.specs.Prelude.{◌==◌, ℕ, List, [], ◌∷◌, Option, Some, None, Bool, cond, option_map}
 use Rattle.std.specs.List.{list_any}
 
+-- function: the number of its function
 -- whole: the code of its function, with its labels
 -- code: the code that is left
 -- cells: the word of each cell that was written
 -- held: the cells that hold a held token, the newest first
 -- into: where the result goes of the call that the frame waits for
 pub record Frame (C : Type 0) : Type 0 where
+  pub function : ℕ
   pub whole : List C
   pub code : List C
   pub cells : ℕ → Option ℕ

@@ -28,3 +28,4 @@ pub mod Costs
 pub mod AsmMachine
 pub mod PlacedMachine
 pub mod WellFormed
+pub mod LinePlaces

@@ -66,8 +66,10 @@ only_slot [] = None
 only_slot (arg ∷ []) = slot_of arg.place
 only_slot (arg ∷ other ∷ more) = None
 
-abbrev pub placed_entered : PlacedLines → Frame PlacedLine
-placed_entered function = record { whole = function.code; code = function.code; cells = empty; held = []; into = None }
+-- the frame of a function of a number as it begins
+abbrev pub placed_entered : ℕ → PlacedLines → Frame PlacedLine
+placed_entered g function =
+    record { function = g; whole = function.code; code = function.code; cells = empty; held = []; into = None }
 
 abbrev pub placed_goes : {H W : Type 0} → Frame PlacedLine → List (Frame PlacedLine) → (ℕ → Option ℕ) → H → PlacedTurn H W
 placed_goes f fs registers shared = go (record { frames = f ∷ fs; registers = registers; shared = shared })
@@ -108,9 +110,9 @@ placed_acts m depth q f fs registers shared (Branch condition l) args into words
     or_stuck (m.holds condition words) (λ taken. cond taken (placed_jumps l f fs registers shared) (placed_goes f fs registers shared))
 placed_acts m depth q f fs registers shared (Call g) args into words =
     or_stuck (slice_get q g) (λ callee.
-    cond (nat_le depth (length (f ∷ fs))) (ended m.stack_full shared) (placed_goes (placed_entered callee) (record f { into = awaited into } ∷ fs) (passed 0 words) shared))
+    cond (nat_le depth (length (f ∷ fs))) (ended m.stack_full shared) (placed_goes (placed_entered g callee) (record f { into = awaited into } ∷ fs) (passed 0 words) shared))
 placed_acts m depth q f fs registers shared (TailCall g) args into words =
-    unless_held f.held (or_stuck (slice_get q g) (λ callee. placed_goes (placed_entered callee) fs (passed 0 words) shared))
+    unless_held f.held (or_stuck (slice_get q g) (λ callee. placed_goes (placed_entered g callee) fs (passed 0 words) shared))
 placed_acts m depth q f fs registers shared Return args into words =
     unless_held f.held (or_stuck (result_of words) (λ result. placed_returns m fs shared result))
 placed_acts m depth q f fs registers shared (Routine routine) args into words =
@@ -175,6 +177,6 @@ abbrev pub placed_machine : {H E W : Type 0} → Primitives H E W → ℕ → Li
 placed_machine m depth q =
     weighing (placed_weight m) end_of (λ t. (drop (length (placed_told m t)) (placed_told m (placed_next m depth q t)), placed_next m depth q t))
 
--- the start of a function without parameters
+-- the start of the first function, which has no parameters
 abbrev pub placed_start : {H W : Type 0} → PlacedLines → H → PlacedTurn H W
-placed_start main shared = placed_goes (placed_entered main) [] empty shared
+placed_start main shared = placed_goes (placed_entered 0 main) [] empty shared

@@ -20,9 +20,14 @@ IsWordOf unit_type v word = (v ≡ unit) × (word ≡ unit_word)
 IsWordOf (type_variable of) v word = ⊥
 IsWordOf (named by arguments) v word = (b : Bool) × (v ≡ truth b) × (word ≡ truth_word b)
 
--- a frame that holds no tokens
-abbrev pub frame_at : List Line → List Line → (ℕ → Option ℕ) → Option ℕ → Frame Line
-frame_at whole left cells into = record { whole = whole; code = left; cells = cells; held = []; into = into }
+-- a function by its number and its code
+abbrev pub Function : Type 0
+Function = ℕ × List Line
 
-abbrev pub turn_at : List Line → List Line → (ℕ → Option ℕ) → Option ℕ → List (Frame Line) → World → AsmTurn World Ending
+-- a frame that holds no tokens
+abbrev pub frame_at : Function → List Line → (ℕ → Option ℕ) → Option ℕ → Frame Line
+frame_at whole left cells into =
+    record { function = whole.0; whole = whole.1; code = left; cells = cells; held = []; into = into }
+
+abbrev pub turn_at : Function → List Line → (ℕ → Option ℕ) → Option ℕ → List (Frame Line) → World → AsmTurn World Ending
 turn_at whole left cells into fs world = go (record { frames = frame_at whole left cells into ∷ fs; shared = world })

@@ -37,7 +37,7 @@ use Rattle.rv_world.specs.World.{World, told_more, print_bytes, read_next}
 use Rattle.rv_lower.specs.Lines.{computes, sets, copies_to, acts, registers, unit_word, MakesTruth, Compares, ComparesNot, BinaryLines, choice_of, PrintLines}
 use Rattle.rv_lower.proofs.Words.{truth_word, divided, sum_follows, difference_follows, product_follows, negation_follows, quotient_follows, remainder_follows, remainder_fits, sum_fits, difference_fits, product_fits, truth_follows, not_follows, opposite_follows, equal_follows, unequal_follows, at_most_follows}
 use Rattle.rv_lower.proofs.Printing.{int_printed, few_steps_of, text_found}
-use Rattle.rv_lower.proofs.Following.{IsWordOf, frame_at, turn_at}
+use Rattle.rv_lower.proofs.Following.{Function, IsWordOf, frame_at, turn_at}
 use Rattle.rv_lower.proofs.Runs.{Target, word_cost, print_cost, most_cost}
 use Rattle.rv_lower.proofs.Runs as Runs
 
@@ -63,7 +63,7 @@ module _ (target : Target) where
   -- lines that compute words change the words of cells, wherever they stand
   abbrev pub Changes : ℕ → List Line → (ℕ → Option ℕ) → (ℕ → Option ℕ) → Type 0
   Changes n own cells cells' =
-      (whole rest : List Line) (into : Option ℕ) (fs : List (Frame Line)) (world : World) → Run (n * word_cost) n [] (turn_at whole (own ++ rest) cells into fs world) (turn_at whole rest cells' into fs world)
+      (whole : Function) (rest : List Line) (into : Option ℕ) (fs : List (Frame Line)) (world : World) → Run (n * word_cost) n [] (turn_at whole (own ++ rest) cells into fs world) (turn_at whole rest cells' into fs world)
 
   pub changes_none : (cells : ℕ → Option ℕ) → Changes 0 [] cells cells
   changes_none cells = λ whole rest into fs world. Runs.runs_none target (turn_at whole rest cells into fs world)
@@ -123,7 +123,7 @@ module _ (target : Target) where
     pub kept : (z : ℕ) → z < base → z ≢ x → cells' z ≡ cells z
     pub there : cells' x ≡ Some word
     pub is : IsWordOf t v word
-    pub runs : (whole rest : List Line) (into : Option ℕ) (fs : List (Frame Line)) → Run cost steps events (turn_at whole (own ++ rest) cells into fs world) (turn_at whole rest cells' into fs world')
+    pub runs : (whole : Function) (rest : List Line) (into : Option ℕ) (fs : List (Frame Line)) → Run cost steps events (turn_at whole (own ++ rest) cells into fs world) (turn_at whole rest cells' into fs world')
 
   pub performs : (n : ℕ) (own : List Line) (base x : ℕ) (t : TypeTree) (v : Value) (cells : ℕ → Option ℕ) (world : World) (word : ℕ) → n ≤ 8 → Gives n own base x word cells → IsWordOf t v word
       → Performs own base x t v cells world world []
@@ -308,7 +308,7 @@ module _ (target : Target) where
   -- ---- routines
 
   -- a routine that leaves the values as they are
-  routine_runs : (routine : Routine) (a b first second : ℕ) (whole rest : List Line) (cells : ℕ → Option ℕ) (into : Option ℕ) (fs : List (Frame Line)) (world : World) (events : List Event) → cells a ≡ Some first → cells b ≡ Some second
+  routine_runs : (routine : Routine) (a b first second : ℕ) (whole : Function) (rest : List Line) (cells : ℕ → Option ℕ) (into : Option ℕ) (fs : List (Frame Line)) (world : World) (events : List Event) → cells a ≡ Some first → cells b ≡ Some second
       → ((held : Option ℕ) → (Runs.world_primitives target).serve routine (first ∷ second ∷ []) held world ≡ answers 0 (told_more events world) false)
       → ((held : Option ℕ) → (Runs.world_primitives target).lasts routine (first ∷ second ∷ []) held world ≤ 78)
       → Run print_cost 1 events (turn_at whole (acts (Action.Routine routine) (a ∷ b ∷ []) ∷ rest) cells into fs world) (turn_at whole rest cells into fs (told_more events world))

@@ -18,7 +18,7 @@ use Rattle.cell_heap.specs.Pool.{Pool}
 use Rattle.rv_world.specs.Operations.{Constants, computed}
 use Rattle.rv_world.specs.World.{World, primitives, computed_in}
 use Rattle.rv_lower.specs.Lines.{computes}
-use Rattle.rv_lower.proofs.Following.{frame_at, turn_at}
+use Rattle.rv_lower.proofs.Following.{Function, frame_at, turn_at}
 
 -- The most that a line weighs that computes a word: that of two words has five moves and one instruction.
 abbrev pub word_cost : ℕ
@@ -85,11 +85,11 @@ module _ (target : Target) where
       let whole : 1 + n ≡ suc n = omega arith in
       subst (λ m. Runs (cost + more) m (first ++ second) t v) whole (runs_then cost more 1 n first second t u v before behind)
 
-  goes_not : (s : AsmTurn World Ending) (whole left : List Line) (cells : ℕ → Option ℕ) (into : Option ℕ) (fs : List (Frame Line)) (world : World) → s ≡ turn_at whole left cells into fs world → s ≢ stuck
+  goes_not : (s : AsmTurn World Ending) (whole : Function) (left : List Line) (cells : ℕ → Option ℕ) (into : Option ℕ) (fs : List (Frame Line)) (world : World) → s ≡ turn_at whole left cells into fs world → s ≢ stuck
   goes_not s whole left cells into fs world is at = subst (λ (t : AsmTurn World Ending). elim t as (λ _. Type 0) [ go u ↦ Unit {0} | ended how shared ↦ Unit {0} | stuck ↦ ⊥ ]) (sym is ∙ at) tt
 
   -- a line whose arguments have words
-  pub line_runs : (cost : ℕ) (whole : List Line) (line : Line) (rest : List Line) (cells : ℕ → Option ℕ) (into : Option ℕ) (fs : List (Frame Line)) (world : World) (words : List ℕ) (events : List Event) (u : AsmTurn World Ending)
+  pub line_runs : (cost : ℕ) (whole : Function) (line : Line) (rest : List Line) (cells : ℕ → Option ℕ) (into : Option ℕ) (fs : List (Frame Line)) (world : World) (words : List ℕ) (events : List Event) (u : AsmTurn World Ending)
       → all_of (map cells line.args) ≡ Some words
       → asm_acts world_primitives target.depth target.functions (frame_at whole rest cells into) fs world line.action line.args line.into words ≡ u
       → ((held : Option ℕ) → line_moves line + instructions_of world_primitives line.action (Some words) held world ≤ cost)
@@ -155,11 +155,11 @@ module _ (target : Target) where
   on_words Op.Free words word world is = cc is
 
   -- an operation on words
-  pub compute_runs : (whole : List Line) (operation : Operation) (args : List ℕ) (x : ℕ) (rest : List Line) (cells : ℕ → Option ℕ) (into : Option ℕ) (fs : List (Frame Line)) (world : World) (words : List ℕ) (word : ℕ)
+  pub compute_runs : (whole : Function) (operation : Operation) (args : List ℕ) (x : ℕ) (rest : List Line) (cells : ℕ → Option ℕ) (into : Option ℕ) (fs : List (Frame Line)) (world : World) (words : List ℕ) (word : ℕ)
       → 2 * length args + operation_instructions operation ≤ 5 → all_of (map cells args) ≡ Some words
       → computed target.constants operation words ≡ Some word
       → Runs word_cost 1 [] (turn_at whole (computes operation args x ∷ rest) cells into fs world) (turn_at whole rest (put x (Some word) cells) into fs world)
   compute_runs whole operation args x rest cells into fs world words word two words_are computed_is =
       line_runs word_cost whole (computes operation args x) rest cells into fs world words [] (turn_at whole rest (put x (Some word) cells) into fs world) words_are
-      (ap (λ o. or_stuck o (λ (r : ℕ × World). asm_goes (record { whole = whole; code = rest; cells = put_into (Some x) r.0 cells; held = []; into = into }) fs r.1)) (on_words operation words word world computed_is))
+      (ap (λ o. or_stuck o (λ (r : ℕ × World). asm_goes (record { function = whole.0; whole = whole.1; code = rest; cells = put_into (Some x) r.0 cells; held = []; into = into }) fs r.1)) (on_words operation words word world computed_is))
       (λ held. omega (arith, two)) (silent world)

@@ -38,7 +38,7 @@ first_frame (suc depth) frame some = rw (suc-mul depth frame) (omega arith)
 
 -- the first state of a function without parameters, with what is left of the input
 abbrev pub first_state : PlacedLines → Pool → List ℕ → PlacedState World
-first_state main pool input = record { frames = placed_entered main ∷ []; registers = empty; shared = first_world pool input }
+first_state main pool input = record { frames = placed_entered 0 main ∷ []; registers = empty; shared = first_world pool input }
 
 -- so many silent instructions lead to a processor that stands for the first state
 pub record Begins (map : Map) (pool : Pool) (functions : List PlacedLines) (depth stop : ℕ) (code : Code) (parts : List Part) (main : PlacedLines) (input : List ℕ) (steps : ℕ) (s : Processor) : Type 0 where
@@ -83,10 +83,10 @@ module _ {map : Map} {pool : Pool} {functions : List PlacedLines} {depth buffer 
       ∙ bytes_at-with_number_apart base 4 stop s.memory map.constants.first (constant_bytes map) (ground.constants_kept base 4 allowed (omega arith))
       ∙ before.rests.constants
 
-  frames_stand : FramesAt map code (most_lines functions) stop (stack_end map depth) (with_number base 4 stop s.memory) (entry + 4 * entry_words map.jumps) base (placed_entered main ∷ [])
+  frames_stand : FramesAt map code (most_lines functions) stop (stack_end map depth) (with_number base 4 stop s.memory) (entry + 4 * entry_words map.jumps) base (placed_entered 0 main ∷ [])
   frames_stand =
-      frames_pushed map code (most_lines functions) stop (stack_end map depth) ground.some_frame s.memory base stop (entry + 4 * entry_words map.jumps) (placed_entered main) [] ground.stop_below
-      (entered_in (most_lines functions) entry main before.rests.stands ground.below main_at (plain_found functions plain 0 main first) (few_found functions 0 main first))
+      frames_pushed map code (most_lines functions) stop (stack_end map depth) ground.some_frame s.memory base stop (entry + 4 * entry_words map.jumps) (placed_entered 0 main) [] ground.stop_below
+      (entered_in (most_lines functions) 0 entry main before.rests.stands ground.below main_at (plain_found functions plain 0 main first) (few_found functions 0 main first))
       (λ k w e. cc) refl (refl, base_is)
 
   pub entry-begins : Begins map pool functions depth stop code parts main input (2 + words_of_shift map.jumps + 1) s

@@ -169,9 +169,9 @@ module _ {map_of : Map} {pool : Pool} {functions : List PlacedLines} {depth buff
   left_behind = record f { code = rest }
 
   -- a callee, and where it stands
-  callee_in : (g : ℕ) (callee : PlacedLines) (entry : ℕ) → slice_get functions g ≡ Some callee → FunctionAt map_of code entry callee → IsIn map_of code (most_lines functions) (entry + 4 * entry_words map_of.jumps) (placed_entered callee)
+  callee_in : (g : ℕ) (callee : PlacedLines) (entry : ℕ) → slice_get functions g ≡ Some callee → FunctionAt map_of code entry callee → IsIn map_of code (most_lines functions) (entry + 4 * entry_words map_of.jumps) (placed_entered g callee)
   callee_in g callee entry callee_is function =
-      entered_in (most_lines functions) entry callee running.rests.stands ground.below function (plain_found functions plain g callee callee_is) (few_found functions g callee callee_is)
+      entered_in (most_lines functions) g entry callee running.rests.stands ground.below function (plain_found functions plain g callee callee_is) (few_found functions g callee callee_is)
 
   -- the registers that a callee knows
   passed_agree : (action : Action) (args : List Operand) (words : List ℕ) → ((k : ℕ) (place : Place) → takes_at action k place ≡ true → is_in (argument k) place ≡ true) → take_from action 0 args ≡ true
@@ -184,14 +184,14 @@ module _ {map_of : Map} {pool : Pool} {functions : List PlacedLines} {depth buff
   follow_tail_call g args into words start turn here conform words_are is good =
       let fit = and_parts (take_from (TailCall g) 0 args) (gives_into (TailCall g) into) conform in
       let stand = running.frames in
-      let free = none_held f.held (or_stuck (slice_get functions g) (λ callee. placed_goes (placed_entered callee) fs (passed 0 words) world)) turn is good in
-      let result = or_stuck_some (slice_get functions g) (λ callee. placed_goes (placed_entered callee) fs (passed 0 words) world) turn free.1 good in
+      let free = none_held f.held (or_stuck (slice_get functions g) (λ callee. placed_goes (placed_entered g callee) fs (passed 0 words) world)) turn is good in
+      let result = or_stuck_some (slice_get functions g) (λ callee. placed_goes (placed_entered g callee) fs (passed 0 words) world) turn free.1 good in
       let function = function_found map_of code map_of.entries functions ground.functions_at g result.0 result.1 in
       let inside = callee_in g result.0 function.0 result.1 function.2 in
       let gets = jump_to pool.cells ground.below running.rests.stands forms.jumps s.pc refl zero_register (function.0 + 4 * entry_words map_of.jumps) (here function.0 function.1) inside.at_word in
       subst (λ t. Comes map_of pool functions depth stop code parts 2 old t s) result.2
-      (comes_go map_of pool functions depth stop code parts 2 old (record { frames = placed_entered result.0 ∷ fs; registers = passed 0 words; shared = world }) s gets.after (words_of_jump forms.jumps) (walks_done gets.done)
-      (runs_on map_of pool functions depth stop code parts (record { frames = f ∷ fs; registers = known; shared = world }) world.cells s gets.after (placed_entered result.0 ∷ fs) (passed 0 words) running.base running gets.done refl running.room
+      (comes_go map_of pool functions depth stop code parts 2 old (record { frames = placed_entered g result.0 ∷ fs; registers = passed 0 words; shared = world }) s gets.after (words_of_jump forms.jumps) (walks_done gets.done)
+      (runs_on map_of pool functions depth stop code parts (record { frames = f ∷ fs; registers = known; shared = world }) world.cells s gets.after (placed_entered g result.0 ∷ fs) (passed 0 words) running.base running gets.done refl running.room
       (gets.done.kept 2 ((λ e. cc), ((λ e. cc), tt)) ∙ running.base_is) (inside, (λ k w none. cc), tt, stand.3)
       (agrees_done s gets.after (passed 0 words) gets.done (refl, (refl, tt)) (passed_agree (TailCall g) args words (λ k place is_one. is_one) fit.0 words_are))
       (subst (λ links. HoldsCells pool world.cells links gets.after) (ap (λ held. links_in running.base f.cells held (links_of map_of (running.base + map_of.frame) fs)) free.0) (cells_done running.cells (roots_done gets.done refl) gets.done.memory_is))) (jump_some forms.jumps) (jump_most forms.jumps))
@@ -241,7 +241,7 @@ module _ {map_of : Map} {pool : Pool} {functions : List PlacedLines} {depth buff
   call_comes : (g : ℕ) (callee : PlacedLines) (entry : ℕ) (args : List Operand) (into : Option Operand) (words : List ℕ) → slice_get functions g ≡ Some callee → FunctionAt map_of code entry callee → CallsTo forms.jumps code s.pc entry
       → ((next : ℕ) → s.pc + 4 * words_of_jump forms.jumps ≡ next → next < 2 ^ 32 → IsIn map_of code (most_lines functions) next (record left_behind { into = awaited into }))
       → gives_into (Call g) into ≡ true → Agrees (passed 0 words) s.registers → suc (length (f ∷ fs)) ≤ depth
-      → Comes map_of pool functions depth stop code parts 7 old (placed_goes (placed_entered callee) (record left_behind { into = awaited into } ∷ fs) (passed 0 words) world) s
+      → Comes map_of pool functions depth stop code parts 7 old (placed_goes (placed_entered g callee) (record left_behind { into = awaited into } ∷ fs) (passed 0 words) world) s
   call_comes g callee entry args into words callee_is function calls is_behind gives agrees room =
       let stand = running.frames in
       let word = running.rests.stands.aligned entry _ function.entry.sets in
@@ -263,26 +263,26 @@ module _ {map_of : Map} {pool : Pool} {functions : List PlacedLines} {depth buff
       (rw (called.done.parts_are, running.rests.parts_are) allowed)
       (misses_done base called.done ((λ e. cc), ((λ e. cc), tt)) ((λ e. cc), ((λ e. cc), tt)) ((λ e. cc), ((λ e. cc), tt)) (behind_misses running.cells base (let under = ground.cells_below in omega arith))) in
       let done = done_as {changed' = 1 ∷ 1 ∷ 5 ∷ 2 ∷ []} (done_then called.done takes.done) (ap (λ m. with_number base 4 (s.pc + 4 * words_of_jump forms.jumps) m) called.done.memory_is) refl (λ x out. out) in
-      let after : PlacedState World = record { frames = placed_entered callee ∷ record left_behind { into = awaited into } ∷ fs; registers = passed 0 words; shared = world } in
+      let after : PlacedState World = record { frames = placed_entered g callee ∷ record left_behind { into = awaited into } ∷ fs; registers = passed 0 words; shared = world } in
       let waiting : FramesAt map_of code (most_lines functions) stop (stack_end map_of depth) s.memory (s.pc + 4 * words_of_jump forms.jumps) (base + map_of.frame) (record left_behind { into = awaited into } ∷ fs) =
       subst (λ b. FramesAt map_of code (most_lines functions) stop (stack_end map_of depth) s.memory (s.pc + 4 * words_of_jump forms.jumps) b (record left_behind { into = awaited into } ∷ fs)) base_is
       (is_behind (s.pc + 4 * words_of_jump forms.jumps) refl (omega arith), stand.1, awaits_first g into gives, stand.3) in
       comes_go map_of pool functions depth stop code parts 7 old after s takes.after (words_of_jump forms.jumps + (2 + words_of_shift map_of.jumps + 1)) (walks_done done)
       (runs_on map_of pool functions depth stop code parts (record { frames = f ∷ fs; registers = known; shared = world }) world.cells s takes.after after.frames (passed 0 words) base running done
       (constants_kept ground f fs known world s running base (s.pc + 4 * words_of_jump forms.jumps) allowed) room takes.base_is
-      (frames_pushed map_of code (most_lines functions) stop (stack_end map_of depth) ground.some_frame s.memory base (s.pc + 4 * words_of_jump forms.jumps) (entry + 4 * entry_words map_of.jumps) (placed_entered callee) (record left_behind { into = awaited into } ∷ fs) (omega arith)
+      (frames_pushed map_of code (most_lines functions) stop (stack_end map_of depth) ground.some_frame s.memory base (s.pc + 4 * words_of_jump forms.jumps) (entry + 4 * entry_words map_of.jumps) (placed_entered g callee) (record left_behind { into = awaited into } ∷ fs) (omega arith)
       (callee_in g callee entry callee_is function) (λ k w none. cc) refl waiting)
       (agrees_same (passed 0 words) s.registers takes.after.registers agrees (λ x w is. done.kept x (outside_entry x (passed_high 0 words x w is))))
       (pushed_cells base base_is takes.after (roots_done done refl) done.memory_is (omega arith))) (omega arith) (omega (arith, jump_most forms.jumps, shift_most map_of.jumps))
 
   -- what a call comes to, by whether the stack is full
-  abbrev called : Option Operand → List ℕ → Bool → PlacedLines → PlacedTurn World Ending
-  called into words full callee = cond full (ended (primitives map_of.constants pool).stack_full world) (placed_goes (placed_entered callee) (record left_behind { into = awaited into } ∷ fs) (passed 0 words) world)
+  abbrev called : ℕ → Option Operand → List ℕ → Bool → PlacedLines → PlacedTurn World Ending
+  called g into words full callee = cond full (ended (primitives map_of.constants pool).stack_full world) (placed_goes (placed_entered g callee) (record left_behind { into = awaited into } ∷ fs) (passed 0 words) world)
 
   call_by : (full : Bool) (g : ℕ) (callee : PlacedLines) (args : List Operand) (into : Option Operand) (words : List ℕ) → nat_le depth (length (f ∷ fs)) ≡ full → slice_get functions g ≡ Some callee
       → ((entry : ℕ) → slice_get map_of.entries g ≡ Some entry → CallsTo forms.jumps code s.pc entry)
       → ((next : ℕ) → s.pc + 4 * words_of_jump forms.jumps ≡ next → next < 2 ^ 32 → IsIn map_of code (most_lines functions) next (record left_behind { into = awaited into }))
-      → gives_into (Call g) into ≡ true → Agrees (passed 0 words) s.registers → Comes map_of pool functions depth stop code parts 7 old (called into words full callee) s
+      → gives_into (Call g) into ≡ true → Agrees (passed 0 words) s.registers → Comes map_of pool functions depth stop code parts 7 old (called g into words full callee) s
   call_by true g callee args into words test callee_is here is_behind gives agrees =
       let function = function_found map_of code map_of.entries functions ground.functions_at g callee callee_is in
       full_comes g callee function.0 function.2 (here function.0 function.1) (is_full depth (length (f ∷ fs)) test)
@@ -298,7 +298,7 @@ module _ {map_of : Map} {pool : Pool} {functions : List PlacedLines} {depth buff
   follow_call g args into words start turn is_behind here conform words_are is good =
       let fit = and_parts (take_from (Call g) 0 args) (gives_into (Call g) into) conform in
       let full = nat_le depth (length (f ∷ fs)) in
-      let result = or_stuck_some (slice_get functions g) (called into words full) turn is good in
+      let result = or_stuck_some (slice_get functions g) (called g into words full) turn is good in
       subst (λ t. Comes map_of pool functions depth stop code parts 7 old t s) result.2
       (call_by full g result.0 args into words refl result.1 here is_behind fit.1 (passed_agree (Call g) args words (λ k place is_one. is_one) fit.0 words_are))
 

@@ -123,9 +123,9 @@ few_found (function ∷ functions) (suc g) callee is =
     let rest = few_found functions g callee is in let less = max_right (length function.code) (most_lines functions) in omega arith
 
 -- a function behind its entry
-pub entered_in : {map : Map} {code : Code} {s : Processor} (most entry : ℕ) (callee : PlacedLines) → Stands code s → ((at : ℕ) (i : Instr) → code at ≡ Some i → at + 4 < 2 ^ 32)
-    → FunctionAt map code entry callee → ArePlain callee.code callee.code → length callee.code ≤ most → IsIn map code most (entry + 4 * entry_words map.jumps) (placed_entered callee)
-entered_in {map} most entry callee stands below function plain few =
+pub entered_in : {map : Map} {code : Code} {s : Processor} (most g entry : ℕ) (callee : PlacedLines) → Stands code s → ((at : ℕ) (i : Instr) → code at ≡ Some i → at + 4 < 2 ^ 32)
+    → FunctionAt map code entry callee → ArePlain callee.code callee.code → length callee.code ≤ most → IsIn map code most (entry + 4 * entry_words map.jumps) (placed_entered g callee)
+entered_in {map} most g entry callee stands below function plain few =
     let first = stands.aligned entry _ function.entry.sets in
     let last = below (entry + 8 + 4 * words_of_jump map.jumps + 4 * words_of_shift map.jumps) _ function.entry.saves in
     record {

@@ -41,9 +41,11 @@ lands alive action args into nexts values registers slots registers' f g fits ho
       held = held;
     }
 
-same_code : (f f' : Frame Line) (g g' : Frame PlacedLine) → SameCode f g → f'.code ≡ f.code → f'.whole ≡ f.whole → g'.code ≡ g.code → g'.whole ≡ g.whole → SameCode f' g'
-same_code f f' g g' same fc fw gc gw =
+same_code : (f f' : Frame Line) (g g' : Frame PlacedLine) → SameCode f g → f'.function ≡ f.function → f'.code ≡ f.code → f'.whole ≡ f.whole
+    → g'.function ≡ g.function → g'.code ≡ g.code → g'.whole ≡ g.whole → SameCode f' g'
+same_code f f' g g' same fn fc fw gn gc gw =
     record {
+      function = gn ∙ same.function ∙ sym fn;
       code = ap without_moves gc ∙ same.code ∙ sym fc;
       whole = ap without_moves gw ∙ same.whole ∙ sym fw;
       code_fits = subst (λ c. AllFit g'.whole c) (sym gc) (subst (λ w. AllFit w g.code) (sym gw) same.code_fits);
@@ -65,7 +67,7 @@ jumps W l alive action args into nexts registers registers' shared f fs g gs fit
     (λ k e.
     let there = found_both l g.whole g.whole stands.same.whole_fits k (ap (found (λ (x : Line). is_label l x.action)) stands.same.whole ∙ e) in
     let next = at_label there.0 there.1 in
-    let same : SameCode (record f { code = k }) (record g { code = there.0 }) = record { code = there.2.0; whole = stands.same.whole; code_fits = there.2.1; whole_fits = stands.same.whole_fits } in (
+    let same : SameCode (record f { code = k }) (record g { code = there.0 }) = record { function = stands.same.function; code = there.2.0; whole = stands.same.whole; code_fits = there.2.1; whole_fits = stands.same.whole_fits } in (
       there.0,
       there.1,
       ((lands alive action args into nexts f.cells registers g.cells registers' (record f { code = k }) (record g { code = there.0 }) fits stands.holds same next.0 changes next.1, waits), refl),
@@ -136,7 +138,7 @@ gives W alive action args (Some o) nexts registers shared w f fs g gs fits stand
     let f' : Frame Line = record f { cells = put o.value (Some w) f.cells } in
     let g' : Frame PlacedLine = record g { cells = slots_with o.place (Some w) g.cells } in (
       (
-        lands alive action args (Some o) nexts f.cells registers g.cells (registers_with o.place (Some w) left) f' g' fits stands.holds (same_code f f' g g' stands.same refl refl refl refl) is
+        lands alive action args (Some o) nexts f.cells registers g.cells (registers_with o.place (Some w) left) f' g' fits stands.holds (same_code f f' g g' stands.same refl refl refl refl refl refl) is
             (change_one o (Some w) (spoils_by (Some action)) f.cells registers g.cells)
             (held_next alive (first_alive g.code) nexts (Some action) args is fits.held f.held g.held (λ v k among. marked v k) stands.held),
         waits,
@@ -209,41 +211,41 @@ module _ {H E W : Type 0} (m : Primitives H E W) (depth : ℕ) (asm : List Lines
   calls : (n : ℕ) (into : Option Operand) → Follows (Call n) into
   calls n into ok fits =
       both_go (slice_get asm n) (slice_get placed n)
-      (λ callee. or_stuck (bound callee.params words) (λ cells. cond (nat_le depth (length (f ∷ fs))) (ended m.stack_full shared) (asm_goes (asm_entered callee cells) (record f { into = option_map value_of into } ∷ fs) shared)))
-      (λ callee. cond (nat_le depth (length (g ∷ gs))) (ended m.stack_full shared) (placed_goes (placed_entered callee) (record g { into = awaited into } ∷ gs) (passed 0 words) shared))
+      (λ callee. or_stuck (bound callee.params words) (λ cells. cond (nat_le depth (length (f ∷ fs))) (ended m.stack_full shared) (asm_goes (asm_entered n callee cells) (record f { into = option_map value_of into } ∷ fs) shared)))
+      (λ callee. cond (nat_le depth (length (g ∷ gs))) (ended m.stack_full shared) (placed_goes (placed_entered n callee) (record g { into = awaited into } ∷ gs) (passed 0 words) shared))
       (λ callee e. let there = callee_both asm placed all n callee e in (there.0, there.1, entered callee there.0 there.2))
     where
       waiting : Waits (record f { into = option_map value_of into }) (record g { into = awaited into })
       waiting = record {
-        same = same_code f (record f { into = option_map value_of into }) g (record g { into = awaited into }) stands.same refl refl refl refl;
+        same = same_code f (record f { into = option_map value_of into }) g (record g { into = awaited into }) stands.same refl refl refl refl refl refl;
         awaits = awaits_call alive (Some (Call n)) args into f.cells registers g.cells (first_alive g.code) stands.holds (λ o is. given_at (Call n) args into o ok is) fits.kept.0;
         held = held_next alive (first_alive g.code) (first_alive g.code ∷ []) (Some (Call n)) args (inl refl) fits.held f.held g.held (λ v j among. refl) stands.held;
       }
 
       entered : (callee : Lines) (callee' : PlacedLines) → IsPlacing callee callee'
-          → StandsFor (or_stuck (bound callee.params words) (λ cells. cond (nat_le depth (length (f ∷ fs))) (ended m.stack_full shared) (asm_goes (asm_entered callee cells) (record f { into = option_map value_of into } ∷ fs) shared)))
-          (cond (nat_le depth (length (g ∷ gs))) (ended m.stack_full shared) (placed_goes (placed_entered callee') (record g { into = awaited into } ∷ gs) (passed 0 words) shared))
+          → StandsFor (or_stuck (bound callee.params words) (λ cells. cond (nat_le depth (length (f ∷ fs))) (ended m.stack_full shared) (asm_goes (asm_entered n callee cells) (record f { into = option_map value_of into } ∷ fs) shared)))
+          (cond (nat_le depth (length (g ∷ gs))) (ended m.stack_full shared) (placed_goes (placed_entered n callee') (record g { into = awaited into } ∷ gs) (passed 0 words) shared))
       entered callee callee' placing =
-          only_go (bound callee.params words) (λ cells. cond (nat_le depth (length (f ∷ fs))) (ended m.stack_full shared) (asm_goes (asm_entered callee cells) (record f { into = option_map value_of into } ∷ fs) shared))
-          (cond (nat_le depth (length (g ∷ gs))) (ended m.stack_full shared) (placed_goes (placed_entered callee') (record g { into = awaited into } ∷ gs) (passed 0 words) shared))
+          only_go (bound callee.params words) (λ cells. cond (nat_le depth (length (f ∷ fs))) (ended m.stack_full shared) (asm_goes (asm_entered n callee cells) (record f { into = option_map value_of into } ∷ fs) shared))
+          (cond (nat_le depth (length (g ∷ gs))) (ended m.stack_full shared) (placed_goes (placed_entered n callee') (record g { into = awaited into } ∷ gs) (passed 0 words) shared))
           (λ cells e.
-          subst (λ n. StandsFor (cond (nat_le depth (suc (length fs))) (ended m.stack_full shared) (asm_goes (asm_entered callee cells) (record f { into = option_map value_of into } ∷ fs) shared))
-          (cond (nat_le depth (suc n)) (ended m.stack_full shared) (placed_goes (placed_entered callee') (record g { into = awaited into } ∷ gs) (passed 0 words) shared))) (as_many_wait fs gs waits)
-          (cond_go (nat_le depth (suc (length fs))) (ended m.stack_full shared) (asm_goes (asm_entered callee cells) (record f { into = option_map value_of into } ∷ fs) shared)
-          (ended m.stack_full shared) (placed_goes (placed_entered callee') (record g { into = awaited into } ∷ gs) (passed 0 words) shared)
-          (refl, refl) ((enters callee callee' words cells placing e, (waiting, waits)), refl)))
+          subst (λ many. StandsFor (cond (nat_le depth (suc (length fs))) (ended m.stack_full shared) (asm_goes (asm_entered n callee cells) (record f { into = option_map value_of into } ∷ fs) shared))
+          (cond (nat_le depth (suc many)) (ended m.stack_full shared) (placed_goes (placed_entered n callee') (record g { into = awaited into } ∷ gs) (passed 0 words) shared))) (as_many_wait fs gs waits)
+          (cond_go (nat_le depth (suc (length fs))) (ended m.stack_full shared) (asm_goes (asm_entered n callee cells) (record f { into = option_map value_of into } ∷ fs) shared)
+          (ended m.stack_full shared) (placed_goes (placed_entered n callee') (record g { into = awaited into } ∷ gs) (passed 0 words) shared)
+          (refl, refl) ((enters n callee callee' words cells placing e, (waiting, waits)), refl)))
 
   tail_calls : (n : ℕ) (into : Option Operand) → Follows (TailCall n) into
   tail_calls n into ok fits =
-      held_go alive f.held g.held (or_stuck (slice_get asm n) (λ callee. or_stuck (bound callee.params words) (λ cells. asm_goes (asm_entered callee cells) fs shared)))
-      (or_stuck (slice_get placed n) (λ callee. placed_goes (placed_entered callee) gs (passed 0 words) shared)) stands.held
-      (both_go (slice_get asm n) (slice_get placed n) (λ callee. or_stuck (bound callee.params words) (λ cells. asm_goes (asm_entered callee cells) fs shared))
-      (λ callee. placed_goes (placed_entered callee) gs (passed 0 words) shared)
+      held_go alive f.held g.held (or_stuck (slice_get asm n) (λ callee. or_stuck (bound callee.params words) (λ cells. asm_goes (asm_entered n callee cells) fs shared)))
+      (or_stuck (slice_get placed n) (λ callee. placed_goes (placed_entered n callee) gs (passed 0 words) shared)) stands.held
+      (both_go (slice_get asm n) (slice_get placed n) (λ callee. or_stuck (bound callee.params words) (λ cells. asm_goes (asm_entered n callee cells) fs shared))
+      (λ callee. placed_goes (placed_entered n callee) gs (passed 0 words) shared)
       (λ callee e. let there = callee_both asm placed all n callee e in (
         there.0,
         there.1,
-        only_go (bound callee.params words) (λ cells. asm_goes (asm_entered callee cells) fs shared) (placed_goes (placed_entered there.0) gs (passed 0 words) shared)
-            (λ cells e'. ((enters callee there.0 words cells there.2 e', waits), refl)),
+        only_go (bound callee.params words) (λ cells. asm_goes (asm_entered n callee cells) fs shared) (placed_goes (placed_entered n there.0) gs (passed 0 words) shared)
+            (λ cells e'. ((enters n callee there.0 words cells there.2 e', waits), refl)),
       )))
 
   goes_back : (result : Option ℕ) (ms : List (Frame Line)) (ns : List (Frame PlacedLine)) → AllWait ms ns → StandsFor (asm_returns m ms shared result) (placed_returns m ns shared result)
@@ -255,7 +257,7 @@ module _ {H E W : Type 0} (m : Primitives H E W) (depth : ℕ) (asm : List Lines
       (λ cells e.
       let got = received_both (first_alive n.code) l.into n.into result l.cells n.cells wait.0.awaits cells e in
       let there : Stands (first_alive n.code) got.0 (record l { cells = cells }) n = record {
-        same = same_code l (record l { cells = cells }) n n wait.0.same refl refl refl refl;
+        same = same_code l (record l { cells = cells }) n n wait.0.same refl refl refl refl refl refl;
         apart = apart_first n.whole n.code wait.0.same.code_fits;
         holds = got.2;
         held = wait.0.held;
@@ -317,7 +319,7 @@ chained : {H : Type 0} (W : Type 0) (alive : List Listed) (action : Action) (arg
 chained W alive action arg registers shared f fs g gs fits stands waits held held' chain = (
   (
     lands alive action (arg ∷ []) None (first_alive g.code ∷ []) f.cells registers g.cells (λ x. cond (spoils_by (Some action) x) None (registers x)) (record f { held = held }) (record g { held = held' }) fits stands.holds
-        (same_code f (record f { held = held }) g (record g { held = held' }) stands.same refl refl refl refl) (inl refl)
+        (same_code f (record f { held = held }) g (record g { held = held' }) stands.same refl refl refl refl refl refl) (inl refl)
         (change_nothing (spoils_by (Some action)) f.cells registers g.cells) chain,
     waits,
   ),

@@ -65,10 +65,10 @@ module _ {H E W : Type 0} (m : Primitives H E W) (depth : ℕ) (asm : List Lines
   acts_fit : (action : Action) (f : Frame Line) (fs : List (Frame Line)) (shared : H) (args : List ℕ) (into : Option ℕ) (words : List ℕ) → asm_acts m depth asm f fs shared action args into words ≢ stuck
       → CallFits placed action (length words)
   acts_fit (Call n) f fs shared args into words goes =
-      callee_fits n words (λ callee cells. cond (nat_le depth (length (f ∷ fs))) (ended m.stack_full shared) (asm_goes (asm_entered callee cells) (record f { into = into } ∷ fs) shared)) goes
+      callee_fits n words (λ callee cells. cond (nat_le depth (length (f ∷ fs))) (ended m.stack_full shared) (asm_goes (asm_entered n callee cells) (record f { into = into } ∷ fs) shared)) goes
   acts_fit (TailCall n) f fs shared args into words goes =
-      callee_fits n words (λ callee cells. asm_goes (asm_entered callee cells) fs shared)
-      (goes_unheld f.held (or_stuck (slice_get asm n) (λ callee. or_stuck (bound callee.params words) (λ cells. asm_goes (asm_entered callee cells) fs shared))) goes)
+      callee_fits n words (λ callee cells. asm_goes (asm_entered n callee cells) fs shared)
+      (goes_unheld f.held (or_stuck (slice_get asm n) (λ callee. or_stuck (bound callee.params words) (λ cells. asm_goes (asm_entered n callee cells) fs shared))) goes)
   acts_fit action f fs shared args into words goes = tt
 
   -- a statement that goes on passes as many words as its callee has parameters

@@ -145,7 +145,7 @@ module _ {H E W : Type 0} (m : Primitives H E W) (depth credit : ℕ) (placed : 
 
   -- a callee with its frame on others
   enters_few : (n : ℕ) (callee : PlacedLines) (gs : List (Frame PlacedLine)) (registers : ℕ → Option ℕ) (shared : H) → slice_get placed n ≡ Some callee → FramesFewMoves gs
-      → (length callee.params + stores_before gs) * move_instructions ≤ credit → HasFewMoves {W = W} credit (placed_goes (placed_entered callee) gs registers shared)
+      → (length callee.params + stores_before gs) * move_instructions ≤ credit → HasFewMoves {W = W} credit (placed_goes (placed_entered n callee) gs registers shared)
   enters_few n callee gs registers shared e few paid =
       let function = function_few placed n callee all e in (((function.1, function.1), few), omega (arith, paid, function.0))
 
@@ -157,14 +157,14 @@ module _ {H E W : Type 0} (m : Primitives H E W) (depth credit : ℕ) (placed : 
 
   calls_few : (n : ℕ) → Acts (Call n)
   calls_few n g gs registers shared args into words few here fits paid =
-      some_few credit (slice_get placed n) (λ callee. cond (nat_le depth (length (g ∷ gs))) (ended m.stack_full shared) (placed_goes (placed_entered callee) (record g { into = awaited into } ∷ gs) (passed 0 words) shared))
-      (λ callee e. cond_few credit (nat_le depth (length (g ∷ gs))) (ended m.stack_full shared) (placed_goes (placed_entered callee) (record g { into = awaited into } ∷ gs) (passed 0 words) shared) tt
+      some_few credit (slice_get placed n) (λ callee. cond (nat_le depth (length (g ∷ gs))) (ended m.stack_full shared) (placed_goes (placed_entered n callee) (record g { into = awaited into } ∷ gs) (passed 0 words) shared))
+      (λ callee e. cond_few credit (nat_le depth (length (g ∷ gs))) (ended m.stack_full shared) (placed_goes (placed_entered n callee) (record g { into = awaited into } ∷ gs) (passed 0 words) shared) tt
       (enters_few n callee (record g { into = awaited into } ∷ gs) (passed 0 words) shared e few (omega (arith, here, paid, fits callee e))))
 
   tail_calls_few : (n : ℕ) → Acts (TailCall n)
   tail_calls_few n g gs registers shared args into words few here fits paid =
-      unless_few credit g.held (or_stuck (slice_get placed n) (λ callee. placed_goes (placed_entered callee) gs (passed 0 words) shared))
-      (some_few credit (slice_get placed n) (λ callee. placed_goes (placed_entered callee) gs (passed 0 words) shared)
+      unless_few credit g.held (or_stuck (slice_get placed n) (λ callee. placed_goes (placed_entered n callee) gs (passed 0 words) shared))
+      (some_few credit (slice_get placed n) (λ callee. placed_goes (placed_entered n callee) gs (passed 0 words) shared)
       (λ callee e. enters_few n callee gs (passed 0 words) shared e few.1 (omega (arith, paid, fits callee e))))
 
   holds_few : Acts Hold

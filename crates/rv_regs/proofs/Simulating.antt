@@ -46,6 +46,7 @@ moved alive value way rest registers f g at stands =
     let word : f.cells value ≡ read_at registers g.cells (from_of way) = word_at alive f.cells registers g.cells read stands'.holds (All-head (IsAtPlace alive) read [] fit.0.stand) in
     record {
       same = record {
+        function = stands.same.function;
         code = ap without_moves (sym at) ∙ stands.same.code;
         whole = stands.same.whole;
         code_fits = fit.1;
@@ -93,7 +94,7 @@ module _ {H E W : Type 0} (m : Primitives H E W) (depth : ℕ) (asm : List Lines
       let f' : Frame Line = record f { code = without_moves rest } in
       let g' : Frame PlacedLine = record g { code = rest } in
       let on : Stands alive registers f' g' = record {
-        same = record { code = refl; whole = stands.same.whole; code_fits = fit.1; whole_fits = stands.same.whole_fits };
+        same = record { function = stands.same.function; code = refl; whole = stands.same.whole; code_fits = fit.1; whole_fits = stands.same.whole_fits };
         apart = stands'.apart;
         holds = stands'.holds;
         held = stands'.held;
@@ -296,7 +297,7 @@ module _ {H E W : Type 0} (m : Primitives H E W) (depth : ℕ) (asm : List Lines
       let bound_is : bound main.params [] ≡ Some empty = ap (λ (params : List ℕ). bound params []) none in
       let few : FunctionFewMoves there.0 = function_few placed n there.0 all_few there.1 in
       let no_params : length there.0.params ≡ 0 = ap (λ (params : List ℕ). length params) (there.2.params ∙ none) in
-      (there.0, there.1, (never, (((enters main there.0 [] empty there.2 bound_is, tt), refl), (((few.1, few.1), tt), omega (arith, few.0, no_params)))))
+      (there.0, there.1, (never, (((enters 0 main there.0 [] empty there.2 bound_is, tt), refl), (((few.1, few.1), tt), omega (arith, few.0, no_params)))))
 
   pub agrees : (n : ℕ) (main : Lines) (shared : H) → AllFewMoves placed → slice_get asm n ≡ Some main → main.params ≡ [] → NeverStuck m depth asm (asm_start main shared)
       → (placed_main : PlacedLines) × (slice_get placed n ≡ Some placed_main) × Agree (asm_machine m depth asm) (placed_machine m depth placed) 0 (λ steps. steps * 1 + 0 + 1) (asm_start main shared) (placed_start placed_main shared)

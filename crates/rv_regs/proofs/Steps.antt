@@ -132,11 +132,11 @@ start_at params words cells v l e passes same =
     ap cells (sym same) ∙ (bound_at params words cells l.value n.0 0 e n.1).1 ∙ sym (passed_at (passed 0 words) empty (argument n.0) l.place n.2.0)
 
 -- a function begins alike
-pub enters : (function : Lines) (placed : PlacedLines) (words : List ℕ) (cells : ℕ → Option ℕ) → IsPlacing function placed → bound function.params words ≡ Some cells
-    → Stands (first_alive placed.code) (passed 0 words) (asm_entered function cells) (placed_entered placed)
-enters function placed words cells placing e =
+pub enters : (n : ℕ) (function : Lines) (placed : PlacedLines) (words : List ℕ) (cells : ℕ → Option ℕ) → IsPlacing function placed → bound function.params words ≡ Some cells
+    → Stands (first_alive placed.code) (passed 0 words) (asm_entered n function cells) (placed_entered n placed)
+enters n function placed words cells placing e =
     record {
-      same = record { code = placing.code; whole = placing.code; code_fits = placing.fit; whole_fits = placing.fit };
+      same = record { function = refl; code = placing.code; whole = placing.code; code_fits = placing.fit; whole_fits = placing.fit };
       apart = apart_first placed.code placed.code placing.fit;
       holds = λ v l listed. let has = listed_has (IsPassed function.params) (first_alive placed.code) v l placing.start listed in start_at function.params words cells v l e has.0 has.1;
       held = tt;

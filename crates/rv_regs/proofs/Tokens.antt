@@ -46,7 +46,7 @@ wait_taken : (f : Frame Line) (g : Frame PlacedLine) (v k : ℕ) (vs ks : List �
     → Waits (record f { cells = put v (Some 0) f.cells; held = vs }) (record g { cells = put k (Some 0) g.cells; held = ks })
 wait_taken f g v k vs ks waits held =
     record {
-      same = record { code = waits.same.code; whole = waits.same.whole; code_fits = waits.same.code_fits; whole_fits = waits.same.whole_fits };
+      same = record { function = waits.same.function; code = waits.same.code; whole = waits.same.whole; code_fits = waits.same.code_fits; whole_fits = waits.same.whole_fits };
       awaits = zero_waits (first_alive g.code) f.into g.into f.cells g.cells v k (apart_first g.whole g.code waits.same.code_fits) held.0 waits.awaits;
       held = held.1.1;
     }
@@ -99,7 +99,7 @@ stand_taken : (alive : List Listed) (registers : ℕ → Option ℕ) (f : Frame 
     → Stands alive registers (record f { cells = put v (Some 0) f.cells; held = vs }) (record g { cells = put k (Some 0) g.cells; held = ks })
 stand_taken alive registers f g v k vs ks stands held =
     record {
-      same = record { code = stands.same.code; whole = stands.same.whole; code_fits = stands.same.code_fits; whole_fits = stands.same.whole_fits };
+      same = record { function = stands.same.function; code = stands.same.code; whole = stands.same.whole; code_fits = stands.same.code_fits; whole_fits = stands.same.whole_fits };
       apart = stands.apart;
       holds = zero_holds alive f.cells registers g.cells v k stands.apart held.0 stands.holds;
       held = held.1.1;

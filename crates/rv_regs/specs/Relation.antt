@@ -29,8 +29,9 @@ HeldAs alive [] (k ∷ ks) = ⊥
 HeldAs alive (v ∷ vs) [] = ⊥
 HeldAs alive (v ∷ vs) (k ∷ ks) = (listed_as v alive ≡ Some (record { value = v; place = slot k; held = true })) × ((is_among v vs ≡ false) × HeldAs alive vs ks)
 
--- the code that is left, and its function's, are the same but for the moves, and fit
+-- the function is the same; the code that is left, and its function's, are the same but for the moves, and fit
 pub record SameCode (f : Frame Line) (g : Frame PlacedLine) : Type 0 where
+  pub function : g.function ≡ f.function
   pub code : without_moves g.code ≡ f.code
   pub whole : without_moves g.whole ≡ f.whole
   pub code_fits : AllFit g.whole g.code

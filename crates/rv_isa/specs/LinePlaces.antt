@@ -1,0 +1,51 @@
+-- Where a machine of assembler code or of placed code is in its program: in a function, behind so many of its lines.
+use Rattle.std.specs.Prelude.{◌≡◌, ℕ, Bool, true, false, List, ◌∷◌, Some, drop, slice_get}
+use Rattle.rv_isa.specs.declared.asm.Action.{Action}
+use Rattle.rv_isa.specs.declared.asm.Action.TheVariants.{Label}
+use Rattle.rv_isa.specs.AsmCode.{Line, Lines}
+use Rattle.rv_isa.specs.AsmMachine.{AsmTurn}
+use Rattle.rv_isa.specs.Frames.{Frame}
+use Rattle.rv_isa.specs.PlacedCode.{PlacedLine, does, moves, PlacedLines}
+use Rattle.rv_isa.specs.PlacedMachine.{PlacedTurn}
+use Rattle.rv_isa.specs.Primitives.{go, ended, stuck}
+
+-- a frame is in a function of a number, behind so many lines of its code
+pub record IsBehindLines {C : Type 0} (f k : ℕ) (code : List C) (frame : Frame C) : Type 0 where
+  pub function : frame.function ≡ f
+  pub whole : frame.whole ≡ code
+  pub left : frame.code ≡ drop k code
+
+-- the running frame is
+abbrev pub IsAtFrame : {C : Type 0} → ℕ → ℕ → List C → List (Frame C) → Type 0
+IsAtFrame f k code frames = (frame : Frame _) × ((older : List (Frame _)) × ((frames ≡ frame ∷ older) × IsBehindLines f k code frame))
+
+-- the machine is in the function f, and goes on with its k-th line, counted from 0
+abbrev pub AsmIsAt : {H W : Type 0} → List Lines → ℕ → ℕ → AsmTurn H W → Type 0
+AsmIsAt functions f k (go s) = (lines : Lines) × ((slice_get functions f ≡ Some lines) × IsAtFrame f k lines.code s.frames)
+AsmIsAt functions f k (ended how shared) = ⊥
+AsmIsAt functions f k stuck = ⊥
+
+abbrev pub PlacedIsAt : {H W : Type 0} → List PlacedLines → ℕ → ℕ → PlacedTurn H W → Type 0
+PlacedIsAt functions f k (go s) = (lines : PlacedLines) × ((slice_get functions f ≡ Some lines) × IsAtFrame f k lines.code s.frames)
+PlacedIsAt functions f k (ended how shared) = ⊥
+PlacedIsAt functions f k stuck = ⊥
+
+-- a label is no instruction
+abbrev pub is_no_label : Action → Bool
+is_no_label (Label l) = false
+is_no_label _ = true
+
+abbrev pub is_instruction : PlacedLine → Bool
+is_instruction (does alive action args into) = is_no_label action
+is_instruction (moves alive value way) = true
+
+-- the k-th line of the function f is there, and is no label
+abbrev pub AsmHasLine : List Lines → ℕ → ℕ → Type 0
+AsmHasLine functions f k =
+    (lines : Lines) × ((slice_get functions f ≡ Some lines)
+    × ((line : Line) × ((slice_get lines.code k ≡ Some line) × (is_no_label line.action ≡ true))))
+
+abbrev pub PlacedHasLine : List PlacedLines → ℕ → ℕ → Type 0
+PlacedHasLine functions f k =
+    (lines : PlacedLines) × ((slice_get functions f ≡ Some lines)
+    × ((line : PlacedLine) × ((slice_get lines.code k ≡ Some line) × (is_instruction line ≡ true))))
