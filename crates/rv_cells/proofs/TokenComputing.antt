@@ -236,7 +236,7 @@ module _ (program : Lowering) where
         let shown = word_follows program.layout program.falsity program.truth_is s.address (length s.heap) t v performs.word
         performs.is in
         at_value v performs.steps events performs.cells' world input_left performs.cost performs.cheap
-        (performs.runs s.frame.whole form_rest s.frame.into fs) performs.kept (performs.there ∙ ap (λ w. Some w) (sym shown.0))
+        (performs.runs (s.frame.function, s.frame.whole) form_rest s.frame.into fs) performs.kept (performs.there ∙ ap (λ w. Some w) (sym shown.0))
         (subst (λ b. FitsField b v) (sym plain) shown.1) shown.2 after is left_is cells_are bytes
 
   print_is : (piece : List ℕ) (to : TokenConfiguration) (input : List ℕ)
@@ -410,7 +410,7 @@ module _ (program : Lowering) where
       (subst (λ own. NumberRuns.Runs numbers_target word_cost 1 []
       (turn_at (s.frame.function, s.frame.whole) (own ++ (p.lines.1 ++ p.after)) s.frame.cells s.frame.into fs s.world)
       (turn_at (s.frame.function, s.frame.whole) (p.lines.1 ++ p.after) (put x (Some word) s.frame.cells) s.frame.into fs s.world)) (sym p.lines.3.0)
-      (NumberRuns.compute_runs numbers_target s.frame.whole (Op.Li word) [] x
+      (NumberRuns.compute_runs numbers_target (s.frame.function, s.frame.whole) (Op.Li word) [] x
       (p.lines.1 ++ p.after) s.frame.cells s.frame.into fs s.world [] word (omega arith) refl refl))
       (λ z less other. put_other x z word s.frame.cells other) (put_same x word s.frame.cells)
       (fits_constant (at.shape.holds x) c) tt
