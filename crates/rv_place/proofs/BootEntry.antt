@@ -58,7 +58,7 @@ pub record IsBefore (map : Map) (pool : Pool) (depth stop entry : ℕ) (code : C
   pub cells : HoldsCells pool (unused_cells pool) [] s
 
 module _ {map : Map} {pool : Pool} {functions : List PlacedLines} {depth buffer stop : ℕ} {code : Code} {parts : List Part} (ground : Ground map pool functions depth buffer stop code parts) (plain : AllPlain functions)
-    {main : PlacedLines} {entry : ℕ} (first : slice_get functions 0 ≡ Some main) (main_at : FunctionAt map code entry main)
+    {main : PlacedLines} {entry : ℕ} (first : slice_get functions 0 ≡ Some main) (entry_is : slice_get map.entries 0 ≡ Some entry) (main_at : FunctionAt map code entry main)
     {input : List ℕ} (input_bytes : All (λ byte. byte < 256) input) {s : Processor} (before : IsBefore map pool depth stop entry code parts input s) (base : ℕ) (base_is : base + map.frame ≡ stack_end map depth) where
   above : map.bottom ≤ base
   above = omega (arith, base_is, first_frame depth map.frame ground.some_depth)
@@ -86,7 +86,7 @@ module _ {map : Map} {pool : Pool} {functions : List PlacedLines} {depth buffer 
   frames_stand : FramesAt map code (most_lines functions) stop (stack_end map depth) (with_number base 4 stop s.memory) (entry + 4 * entry_words map.jumps) base (placed_entered 0 main ∷ [])
   frames_stand =
       frames_pushed map code (most_lines functions) stop (stack_end map depth) ground.some_frame s.memory base stop (entry + 4 * entry_words map.jumps) (placed_entered 0 main) [] ground.stop_below
-      (entered_in (most_lines functions) 0 entry main before.rests.stands ground.below main_at (plain_found functions plain 0 main first) (few_found functions 0 main first))
+      (entered_in (most_lines functions) 0 entry main before.rests.stands ground.below entry_is main_at (plain_found functions plain 0 main first) (few_found functions 0 main first))
       (λ k w e. cc) refl (refl, base_is)
 
   pub entry-begins : Begins map pool functions depth stop code parts main input (2 + words_of_shift map.jumps + 1) s

@@ -64,12 +64,12 @@ module _ {cells depth : ℕ} {runtime program : Placed} {words : Words} {text : 
       has-ground image.runtime_is image.words_are (length text) (memory_start (length text)) runtime.memory.size bytes_are (ap memory_start bytes_are) image.sizes.some_depth image.placeable room
 
   -- main stands behind the runtime
-  main-at : FunctionAt (map_of runtime program) (code_in words) main_entry main
+  main-at : (slice_get (map_of runtime program).entries 0 ≡ Some main_entry) × FunctionAt (map_of runtime program) (code_in words) main_entry main
   main-at =
       let found = function_found (map_of runtime program) (code_in words) (map_of runtime program).entries (placed_functions program) image.words_are.functions 0 main image.first in
       let entry_is : found.0 ≡ main_entry =
       first_entry (jumps_of runtime program) (text_start + 4 * words_of runtime.natives.items) (placed_functions program) found.0 found.1 ∙ ap (λ n. text_start + 4 * n) image.runtime_is.words in
-      subst (λ entry. FunctionAt (map_of runtime program) (code_in words) entry main) entry_is found.2
+      subst (λ entry. (slice_get (map_of runtime program).entries 0 ≡ Some entry) × FunctionAt (map_of runtime program) (code_in words) entry main) entry_is (found.1, found.2)
 
   -- the stack pointer begins at the end of the memory
   stack_ends : memory_start (length text) + (layout_of cells depth (frame_size (placed_functions program))).stack_end
@@ -123,7 +123,7 @@ module _ {cells depth : ℕ} {runtime program : Placed} {words : Words} {text : 
         let frame : ℕ = frame_size (placed_functions program) in
         let base : ℕ = stack_end (map_of runtime program) depth - frame in
         let base_is : base + frame ≡ stack_end (map_of runtime program) depth = omega (arith, first_frame depth frame image.sizes.some_depth) in
-        let behind = entry-begins image-ground image.plain image.first main-at input_bytes before-main base base_is in
+        let behind = entry-begins image-ground image.plain image.first main-at.0 main-at.1 input_bytes before-main base base_is in
         record { after = behind.after; walks = walks_then (start_walks (map_of runtime program) (pool_in cells runtime program) (own_code image.runtime_is image.words_are) (own-inside image.runtime_is image.words_are) started.1) behind.walks; told = behind.told ∙ started.1.trace; running = behind.running }
 
     -- and where the processor simulates the machine, they agree

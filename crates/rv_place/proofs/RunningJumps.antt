@@ -31,7 +31,7 @@ use Rattle.rv_world.specs.Operations.{holds}
 use Rattle.cell_heap.specs.Pool.{Pool}
 use Rattle.rv_world.specs.World.{World, primitives}
 use Rattle.rv_place.specs.Registers.{zero_register, ra}
-use Rattle.rv_place.specs.Addresses.{words_of_shift, label_address, entry_words, frame_bias}
+use Rattle.rv_place.specs.Addresses.{words_of_shift, words_of_lines, label_address, entry_words, frame_bias}
 use Rattle.rv_place.specs.Instructions.{words_of_jump, JumpsTo, CallsTo, words_of_branch}
 use Rattle.rv_place.specs.declared.reach.Forms.{Forms}
 use Rattle.rv_place.specs.declared.reach.Reach.{Reach}
@@ -97,15 +97,15 @@ module _ {map_of : Map} {pool : Pool} {functions : List PlacedLines} {depth buff
   abbrev stands_in : IsIn map_of code (most_lines functions) s.pc f
   stands_in = running.frames.0
 
-  labelled : (l : ℕ) (lines : List PlacedLine) → found (is_label_line l) f.whole ≡ Some lines → Labelled map_of stands_in.forms code stands_in.start f.whole (most_lines functions) (label_address stands_in.forms l stands_in.start f.whole) lines
-  labelled l lines found_is = label_found map_of stands_in.forms code stands_in.start f.whole (most_lines functions) l stands_in.start f.whole lines stands_in.start_word stands_in.whole stands_in.whole_plain stands_in.few_whole found_is
+  labelled : (l : ℕ) (lines : List PlacedLine) → found (is_label_line l) f.whole ≡ Some lines → Labelled map_of stands_in.forms code stands_in.start f.whole (most_lines functions) (stands_in.start + 4 * words_of_lines stands_in.forms f.whole) (label_address stands_in.forms l stands_in.start f.whole) lines
+  labelled l lines found_is = label_found map_of stands_in.forms code stands_in.start f.whole (most_lines functions) (stands_in.start + 4 * words_of_lines stands_in.forms f.whole) l stands_in.start f.whole lines stands_in.start_word stands_in.whole stands_in.whole_plain stands_in.few_whole refl found_is
 
   -- instructions that lead to a label
-  to_label : (most : ℕ) {n : ℕ} (l : ℕ) (lines : List PlacedLine) (label : Labelled map_of stands_in.forms code stands_in.start f.whole (most_lines functions) (label_address stands_in.forms l stands_in.start f.whole) lines) → label.target < 2 ^ 32
+  to_label : (most : ℕ) {n : ℕ} (l : ℕ) (lines : List PlacedLine) (label : Labelled map_of stands_in.forms code stands_in.start f.whole (most_lines functions) (stands_in.start + 4 * words_of_lines stands_in.forms f.whole) (label_address stands_in.forms l stands_in.start f.whole) lines) → label.target < 2 ^ 32
       → Goes pool.cells code n (1 ∷ 0 ∷ []) s.memory label.target s → 1 ≤ n → n ≤ most → Comes map_of pool functions depth stop code parts most old (placed_goes (record f { code = lines }) fs known world) s
   to_label most l lines label fits goes some within =
       stays ground f fs known world s running most old goes.after lines known goes.done ((λ e. cc), ((λ e. cc), tt)) refl
-      (goes_to_label stands_in l lines (record f { code = lines }) refl refl label fits) (agrees_done s goes.after known goes.done (refl, (refl, tt)) running.registers) some within
+      (goes_to_label stands_in l lines (record f { code = lines }) refl refl refl label fits) (agrees_done s goes.after known goes.done (refl, (refl, tt)) running.registers) some within
 
   pub follow_jump : (l : ℕ) (args : List Operand) (into : Option Operand) (words : List ℕ) (turn : PlacedTurn World Ending) → ActsAt map_of stands_in.forms code stands_in.start f.whole s.pc (Jump l) args into
       → placed_acts (primitives map_of.constants pool) depth functions behind fs known world (Jump l) args into words ≡ turn → turn ≢ stuck → Comes map_of pool functions depth stop code parts 2 old turn s
@@ -134,7 +134,7 @@ module _ {map_of : Map} {pool : Pool} {functions : List PlacedLines} {depth buff
 
   module _ (is_behind : (next : ℕ) → s.pc + 4 * words_of_branch stands_in.forms.jumps stands_in.forms.branches ≡ next → next < 2 ^ 32 → IsIn map_of code (most_lines functions) next behind) (condition : Condition) (l : ℕ) where
     branch_by : (taken : Bool) (rs : List Register) (turn : PlacedTurn World Ending) (lines : List PlacedLine) → found (is_label_line l) f.whole ≡ Some lines → holds condition (words_in s.registers rs) ≡ Some taken
-        → (label : Labelled map_of stands_in.forms code stands_in.start f.whole (most_lines functions) (label_address stands_in.forms l stands_in.start f.whole) lines) → BranchesTo stands_in.forms code s.pc condition rs label.target
+        → (label : Labelled map_of stands_in.forms code stands_in.start f.whole (most_lines functions) (stands_in.start + 4 * words_of_lines stands_in.forms f.whole) (label_address stands_in.forms l stands_in.start f.whole) lines) → BranchesTo stands_in.forms code s.pc condition rs label.target
         → cond taken (placed_jumps l behind fs known world) (placed_goes behind fs known world) ≡ turn → turn ≢ stuck → Comes map_of pool functions depth stop code parts 3 old turn s
     branch_by true rs turn lines there holds_is label branch is good =
         let result = or_stuck_some (found (is_label_line l) f.whole) (λ lines. placed_goes (record behind { code = lines }) fs known world) turn is good in
@@ -169,9 +169,9 @@ module _ {map_of : Map} {pool : Pool} {functions : List PlacedLines} {depth buff
   left_behind = record f { code = rest }
 
   -- a callee, and where it stands
-  callee_in : (g : ℕ) (callee : PlacedLines) (entry : ℕ) → slice_get functions g ≡ Some callee → FunctionAt map_of code entry callee → IsIn map_of code (most_lines functions) (entry + 4 * entry_words map_of.jumps) (placed_entered g callee)
-  callee_in g callee entry callee_is function =
-      entered_in (most_lines functions) g entry callee running.rests.stands ground.below function (plain_found functions plain g callee callee_is) (few_found functions g callee callee_is)
+  callee_in : (g : ℕ) (callee : PlacedLines) (entry : ℕ) → slice_get functions g ≡ Some callee → slice_get map_of.entries g ≡ Some entry → FunctionAt map_of code entry callee → IsIn map_of code (most_lines functions) (entry + 4 * entry_words map_of.jumps) (placed_entered g callee)
+  callee_in g callee entry callee_is entry_is function =
+      entered_in (most_lines functions) g entry callee running.rests.stands ground.below entry_is function (plain_found functions plain g callee callee_is) (few_found functions g callee callee_is)
 
   -- the registers that a callee knows
   passed_agree : (action : Action) (args : List Operand) (words : List ℕ) → ((k : ℕ) (place : Place) → takes_at action k place ≡ true → is_in (argument k) place ≡ true) → take_from action 0 args ≡ true
@@ -187,7 +187,7 @@ module _ {map_of : Map} {pool : Pool} {functions : List PlacedLines} {depth buff
       let free = none_held f.held (or_stuck (slice_get functions g) (λ callee. placed_goes (placed_entered g callee) fs (passed 0 words) world)) turn is good in
       let result = or_stuck_some (slice_get functions g) (λ callee. placed_goes (placed_entered g callee) fs (passed 0 words) world) turn free.1 good in
       let function = function_found map_of code map_of.entries functions ground.functions_at g result.0 result.1 in
-      let inside = callee_in g result.0 function.0 result.1 function.2 in
+      let inside = callee_in g result.0 function.0 result.1 function.1 function.2 in
       let gets = jump_to pool.cells ground.below running.rests.stands forms.jumps s.pc refl zero_register (function.0 + 4 * entry_words map_of.jumps) (here function.0 function.1) inside.at_word in
       subst (λ t. Comes map_of pool functions depth stop code parts 2 old t s) result.2
       (comes_go map_of pool functions depth stop code parts 2 old (record { frames = placed_entered g result.0 ∷ fs; registers = passed 0 words; shared = world }) s gets.after (words_of_jump forms.jumps) (walks_done gets.done)
@@ -238,11 +238,11 @@ module _ {map_of : Map} {pool : Pool} {functions : List PlacedLines} {depth buff
       (outside-holds running.cells roots (subst (λ m. SameInside pool s.memory m) (sym stored) (SameInside-store pool s.memory base way (inr (omega arith))))
       (slots_below map_of running.base (f ∷ fs) s.memory u.memory (λ x above. ap (λ m. number_at m x 4) stored ∙ word-apart base way s.memory x (inr (omega arith)))))
 
-  call_comes : (g : ℕ) (callee : PlacedLines) (entry : ℕ) (args : List Operand) (into : Option Operand) (words : List ℕ) → slice_get functions g ≡ Some callee → FunctionAt map_of code entry callee → CallsTo forms.jumps code s.pc entry
+  call_comes : (g : ℕ) (callee : PlacedLines) (entry : ℕ) (args : List Operand) (into : Option Operand) (words : List ℕ) → slice_get functions g ≡ Some callee → slice_get map_of.entries g ≡ Some entry → FunctionAt map_of code entry callee → CallsTo forms.jumps code s.pc entry
       → ((next : ℕ) → s.pc + 4 * words_of_jump forms.jumps ≡ next → next < 2 ^ 32 → IsIn map_of code (most_lines functions) next (record left_behind { into = awaited into }))
       → gives_into (Call g) into ≡ true → Agrees (passed 0 words) s.registers → suc (length (f ∷ fs)) ≤ depth
       → Comes map_of pool functions depth stop code parts 7 old (placed_goes (placed_entered g callee) (record left_behind { into = awaited into } ∷ fs) (passed 0 words) world) s
-  call_comes g callee entry args into words callee_is function calls is_behind gives agrees room =
+  call_comes g callee entry args into words callee_is entry_is function calls is_behind gives agrees room =
       let stand = running.frames in
       let word = running.rests.stands.aligned entry _ function.entry.sets in
       let full_at = ground.stack_full in
@@ -271,7 +271,7 @@ module _ {map_of : Map} {pool : Pool} {functions : List PlacedLines} {depth buff
       (runs_on map_of pool functions depth stop code parts (record { frames = f ∷ fs; registers = known; shared = world }) world.cells s takes.after after.frames (passed 0 words) base running done
       (constants_kept ground f fs known world s running base (s.pc + 4 * words_of_jump forms.jumps) allowed) room takes.base_is
       (frames_pushed map_of code (most_lines functions) stop (stack_end map_of depth) ground.some_frame s.memory base (s.pc + 4 * words_of_jump forms.jumps) (entry + 4 * entry_words map_of.jumps) (placed_entered g callee) (record left_behind { into = awaited into } ∷ fs) (omega arith)
-      (callee_in g callee entry callee_is function) (λ k w none. cc) refl waiting)
+      (callee_in g callee entry callee_is entry_is function) (λ k w none. cc) refl waiting)
       (agrees_same (passed 0 words) s.registers takes.after.registers agrees (λ x w is. done.kept x (outside_entry x (passed_high 0 words x w is))))
       (pushed_cells base base_is takes.after (roots_done done refl) done.memory_is (omega arith))) (omega arith) (omega (arith, jump_most forms.jumps, shift_most map_of.jumps))
 
@@ -288,7 +288,7 @@ module _ {map_of : Map} {pool : Pool} {functions : List PlacedLines} {depth buff
       full_comes g callee function.0 function.2 (here function.0 function.1) (is_full depth (length (f ∷ fs)) test)
   call_by false g callee args into words test callee_is here is_behind gives agrees =
       let function = function_found map_of code map_of.entries functions ground.functions_at g callee callee_is in
-      call_comes g callee function.0 args into words callee_is function.2 (here function.0 function.1) is_behind gives agrees
+      call_comes g callee function.0 args into words callee_is function.1 function.2 (here function.0 function.1) is_behind gives agrees
       (has_room depth (length (f ∷ fs)) test)
 
   pub follow_call : (g : ℕ) (args : List Operand) (into : Option Operand) (words : List ℕ) (start : ℕ) (turn : PlacedTurn World Ending)

@@ -8,7 +8,7 @@ use Rattle.rv_isa.specs.Frames.{Frame, found}
 use Rattle.rv_isa.specs.PlacedMachine.{is_label_line, placed_entered}
 use Rattle.rv_isa.specs.Processor.{Processor}
 use Rattle.rv_isa.specs.Standing.{Code, Stands}
-use Rattle.rv_place.specs.Addresses.{words_of_shift, words_of_line, label_address, forms_of, entry_words}
+use Rattle.rv_place.specs.Addresses.{words_of_shift, words_of_line, words_of_lines, label_address, forms_of, entry_words}
 use Rattle.rv_place.specs.Instructions.{words_of_jump, JumpsBy, words_of_branch, BranchesOn}
 use Rattle.rv_place.specs.Registers.{zero_register}
 use Rattle.rv_place.specs.declared.reach.Forms.{Forms}
@@ -19,19 +19,20 @@ use Rattle.rv_place.specs.Running.{IsPlain, ArePlain, AllPlain, most_lines, IsIn
 
 -- ---- labels
 
--- the lines from a label on, which stand at its address
-pub record Labelled (map : Map) (forms : Forms) (code : Code) (start : ℕ) (whole : List PlacedLine) (most : ℕ) (address : Option ℕ) (lines : List PlacedLine) : Type 0 where
+-- the lines from a label on, which stand at its address, and end at another
+pub record Labelled (map : Map) (forms : Forms) (code : Code) (start : ℕ) (whole : List PlacedLine) (most end : ℕ) (address : Option ℕ) (lines : List PlacedLine) : Type 0 where
   pub target : ℕ
   pub target_is : address ≡ Some target
   pub word : target % 4 ≡ 0
   pub stand : LinesAt map forms code start whole target lines
   pub plain : ArePlain whole lines
   pub few : length lines ≤ most
+  pub place : target + 4 * words_of_lines forms lines ≡ end
 
-module _ (map : Map) (forms : Forms) (code : Code) (start : ℕ) (whole : List PlacedLine) (most l : ℕ) where
+module _ (map : Map) (forms : Forms) (code : Code) (start : ℕ) (whole : List PlacedLine) (most end l : ℕ) where
   label_step : (b : Bool) (at : ℕ) (lines later behind : List PlacedLine) (address : Option ℕ) (rest : Option (List PlacedLine)) → at % 4 ≡ 0 → LinesAt map forms code start whole at lines → ArePlain whole lines → length lines ≤ most
-      → (rest ≡ Some behind → Labelled map forms code start whole most address behind) → cond b (Some lines) rest ≡ Some behind → Labelled map forms code start whole most (cond b (Some at) address) behind
-  label_step true at lines later behind address rest word stand plain few further is =
+      → at + 4 * words_of_lines forms lines ≡ end → (rest ≡ Some behind → Labelled map forms code start whole most end address behind) → cond b (Some lines) rest ≡ Some behind → Labelled map forms code start whole most end (cond b (Some at) address) behind
+  label_step true at lines later behind address rest word stand plain few place further is =
       let same : lines ≡ behind = cc in
       record {
         target = at;
@@ -40,15 +41,16 @@ module _ (map : Map) (forms : Forms) (code : Code) (start : ℕ) (whole : List P
         stand = subst (λ c. LinesAt map forms code start whole at c) same stand;
         plain = subst (ArePlain whole) same plain;
         few = subst (λ (c : List PlacedLine). length c ≤ most) same few;
+        place = subst (λ c. at + 4 * words_of_lines forms c ≡ end) same place;
       }
-  label_step false at lines later behind address rest word stand plain few further is = further is
+  label_step false at lines later behind address rest word stand plain few place further is = further is
 
   pub label_found : (at : ℕ) (lines behind : List PlacedLine) → at % 4 ≡ 0 → LinesAt map forms code start whole at lines → ArePlain whole lines → length lines ≤ most
-      → found (is_label_line l) lines ≡ Some behind → Labelled map forms code start whole most (label_address forms l at lines) behind
-  label_found at [] behind word stand plain few is = cc
-  label_found at (line ∷ lines) behind word stand plain few is =
-      label_step (is_label_line l line) at (line ∷ lines) lines behind (label_address forms l (at + 4 * words_of_line forms line) lines) (found (is_label_line l) lines) word stand plain few
-      (λ later. label_found (at + 4 * words_of_line forms line) lines behind (omega arith) stand.1 plain.1 (omega arith) later) is
+      → at + 4 * words_of_lines forms lines ≡ end → found (is_label_line l) lines ≡ Some behind → Labelled map forms code start whole most end (label_address forms l at lines) behind
+  label_found at [] behind word stand plain few place is = cc
+  label_found at (line ∷ lines) behind word stand plain few place is =
+      label_step (is_label_line l line) at (line ∷ lines) lines behind (label_address forms l (at + 4 * words_of_line forms line) lines) (found (is_label_line l) lines) word stand plain few place
+      (λ later. label_found (at + 4 * words_of_line forms line) lines behind (omega arith) stand.1 plain.1 (omega arith) (omega arith) later) is
 
 -- a label that is there
 pub label_there : {A : Type 0} (o : Option A) → IsSome o → (a : A) × (o ≡ Some a)
@@ -124,8 +126,8 @@ few_found (function ∷ functions) (suc g) callee is =
 
 -- a function behind its entry
 pub entered_in : {map : Map} {code : Code} {s : Processor} (most g entry : ℕ) (callee : PlacedLines) → Stands code s → ((at : ℕ) (i : Instr) → code at ≡ Some i → at + 4 < 2 ^ 32)
-    → FunctionAt map code entry callee → ArePlain callee.code callee.code → length callee.code ≤ most → IsIn map code most (entry + 4 * entry_words map.jumps) (placed_entered g callee)
-entered_in {map} most g entry callee stands below function plain few =
+    → slice_get map.entries g ≡ Some entry → FunctionAt map code entry callee → ArePlain callee.code callee.code → length callee.code ≤ most → IsIn map code most (entry + 4 * entry_words map.jumps) (placed_entered g callee)
+entered_in {map} most g entry callee stands below entry_is function plain few =
     let first = stands.aligned entry _ function.entry.sets in
     let last = below (entry + 8 + 4 * words_of_jump map.jumps + 4 * words_of_shift map.jumps) _ function.entry.saves in
     record {
@@ -140,15 +142,20 @@ entered_in {map} most g entry callee stands below function plain few =
       plain = plain;
       few_whole = few;
       few = few;
+      entry = entry;
+      entry_is = entry_is;
+      start_is = refl;
+      forms_are = refl;
+      place = refl;
     }
 
 -- ---- the lines behind
 
 module _ {map : Map} {code : Code} {most at : ℕ} {f : Frame PlacedLine} (is_in : IsIn map code most at f) where
   -- other lines of the same function
-  moves_to : (next : ℕ) (lines : List PlacedLine) (g : Frame PlacedLine) → g.whole ≡ f.whole → g.code ≡ lines → LinesAt map is_in.forms code is_in.start f.whole next lines → next % 4 ≡ 0 → next < 2 ^ 32 → ArePlain f.whole lines → length lines ≤ most
-      → IsIn map code most next g
-  moves_to next lines g whole_is code_is stand word below plain few = record {
+  moves_to : (next : ℕ) (lines : List PlacedLine) (g : Frame PlacedLine) → g.function ≡ f.function → g.whole ≡ f.whole → g.code ≡ lines → LinesAt map is_in.forms code is_in.start f.whole next lines → next % 4 ≡ 0 → next < 2 ^ 32 → ArePlain f.whole lines → length lines ≤ most
+      → next + 4 * words_of_lines is_in.forms lines ≡ is_in.start + 4 * words_of_lines is_in.forms f.whole → IsIn map code most next g
+  moves_to next lines g function_is whole_is code_is stand word below plain few place = record {
     forms = is_in.forms;
     start = is_in.start;
     start_word = is_in.start_word;
@@ -160,12 +167,19 @@ module _ {map : Map} {code : Code} {most at : ℕ} {f : Frame PlacedLine} (is_in
     plain = subst (ArePlain g.whole) (sym code_is) (subst (λ w. ArePlain w lines) (sym whole_is) plain);
     few_whole = subst (λ (c : List PlacedLine). length c ≤ most) (sym whole_is) is_in.few_whole;
     few = subst (λ (c : List PlacedLine). length c ≤ most) (sym code_is) few;
+    entry = is_in.entry;
+    entry_is = subst (λ n. slice_get map.entries n ≡ Some is_in.entry) (sym function_is) is_in.entry_is;
+    start_is = is_in.start_is;
+    forms_are = subst (λ w. is_in.forms ≡ forms_of map.jumps w) (sym whole_is) is_in.forms_are;
+    place = subst (λ c. next + 4 * words_of_lines is_in.forms c ≡ is_in.start + 4 * words_of_lines is_in.forms g.whole) (sym code_is)
+    (subst (λ w. next + 4 * words_of_lines is_in.forms lines ≡ is_in.start + 4 * words_of_lines is_in.forms w) (sym whole_is) place);
   }
 
   -- the lines from a label on
-  pub goes_to_label : (l : ℕ) (lines : List PlacedLine) (g : Frame PlacedLine) → g.whole ≡ f.whole → g.code ≡ lines
-      → (labelled : Labelled map is_in.forms code is_in.start f.whole most (label_address is_in.forms l is_in.start f.whole) lines) → labelled.target < 2 ^ 32 → IsIn map code most labelled.target g
-  goes_to_label l lines g whole_is code_is labelled below = moves_to labelled.target lines g whole_is code_is labelled.stand labelled.word below labelled.plain labelled.few
+  pub goes_to_label : (l : ℕ) (lines : List PlacedLine) (g : Frame PlacedLine) → g.function ≡ f.function → g.whole ≡ f.whole → g.code ≡ lines
+      → (labelled : Labelled map is_in.forms code is_in.start f.whole most (is_in.start + 4 * words_of_lines is_in.forms f.whole) (label_address is_in.forms l is_in.start f.whole) lines) → labelled.target < 2 ^ 32 → IsIn map code most labelled.target g
+  goes_to_label l lines g function_is whole_is code_is labelled below =
+      moves_to labelled.target lines g function_is whole_is code_is labelled.stand labelled.word below labelled.plain labelled.few labelled.place
 
   module _ (line : PlacedLine) (rest : List PlacedLine) (code_is : f.code ≡ line ∷ rest) where
     lines_at : LinesAt map is_in.forms code is_in.start f.whole at (line ∷ rest)
@@ -184,7 +198,9 @@ module _ {map : Map} {code : Code} {most at : ℕ} {f : Frame PlacedLine} (is_in
     rest_few = let all = is_in.few in let size : length f.code ≡ suc (length rest) = ap length code_is in omega arith
 
     -- the next line
-    pub goes_behind : (next : ℕ) (g : Frame PlacedLine) → g.whole ≡ f.whole → g.code ≡ rest → at + 4 * words_of_line is_in.forms line ≡ next → next < 2 ^ 32 → IsIn map code most next g
-    goes_behind next g whole_is rest_is next_is below =
+    pub goes_behind : (next : ℕ) (g : Frame PlacedLine) → g.function ≡ f.function → g.whole ≡ f.whole → g.code ≡ rest → at + 4 * words_of_line is_in.forms line ≡ next → next < 2 ^ 32 → IsIn map code most next g
+    goes_behind next g function_is whole_is rest_is next_is below =
         let word = is_in.at_word in
-        moves_to next rest g whole_is rest_is (subst (λ a. LinesAt map is_in.forms code is_in.start f.whole a rest) next_is lines_at.1) (omega arith) below lines_plain.1 rest_few
+        let size : words_of_lines is_in.forms f.code ≡ words_of_line is_in.forms line + words_of_lines is_in.forms rest = ap (words_of_lines is_in.forms) code_is in
+        let here = is_in.place in
+        moves_to next rest g function_is whole_is rest_is (subst (λ a. LinesAt map is_in.forms code is_in.start f.whole a rest) next_is lines_at.1) (omega arith) below lines_plain.1 rest_few (omega arith)

@@ -148,6 +148,11 @@ is_in_again i cells held = record {
   plain = i.plain;
   few_whole = i.few_whole;
   few = i.few;
+  entry = i.entry;
+  entry_is = i.entry_is;
+  start_is = i.start_is;
+  forms_are = i.forms_are;
+  place = i.place;
 }
 
 known_word : (o : Option ℕ) → word_of o ≢ 0 → o ≡ Some (word_of o)

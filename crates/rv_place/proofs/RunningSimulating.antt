@@ -66,39 +66,39 @@ module _ {map_of : Map} {pool : Pool} {functions : List PlacedLines} {depth buff
           let line = does alive (Compute operation) args into in
           let writes = line_plain running.frames.0 line rest code_is in
           comes_within (operation_instructions operation + 0) (omega arith)
-          (follow_compute ground f fs known world s running rest (suc (length rest)) operation (λ next next_is below. goes_behind running.frames.0 line rest code_is next (record f { code = rest }) refl refl next_is below)
+          (follow_compute ground f fs known world s running rest (suc (length rest)) operation (λ next next_is below. goes_behind running.frames.0 line rest code_is next (record f { code = rest }) refl refl refl next_is below)
           running.frames.0.forms running.frames.0.start args into words turn (line_at running.frames.0 line rest code_is) conform writes.0 words_are is good)
       follow_action (Label l) code_is conform is =
           let line = does alive (Label l) args into in
           let here : s.pc + 4 * words_of_line running.frames.0.forms line ≡ s.pc = omega arith in
           subst (λ t. Comes map_of pool functions depth stop code parts 0 (suc (length rest)) t s) is
-          (follow_label ground f fs known world s running rest (suc (length rest)) (goes_behind running.frames.0 line rest code_is s.pc (record f { code = rest }) refl refl here running.frames.0.below) (omega arith))
+          (follow_label ground f fs known world s running rest (suc (length rest)) (goes_behind running.frames.0 line rest code_is s.pc (record f { code = rest }) refl refl refl here running.frames.0.below) (omega arith))
       follow_action (Jump l) code_is conform is =
           follow_jump ground f fs known world s running rest (suc (length rest)) l args into words turn (line_at running.frames.0 (does alive (Jump l) args into) rest code_is) is good
       follow_action (Branch condition l) code_is conform is =
           let line = does alive (Branch condition l) args into in
           let writes = line_plain running.frames.0 line rest code_is in
-          follow_branch ground f fs known world s running rest (suc (length rest)) (λ next next_is below. goes_behind running.frames.0 line rest code_is next (record f { code = rest }) refl refl next_is below) condition l
+          follow_branch ground f fs known world s running rest (suc (length rest)) (λ next next_is below. goes_behind running.frames.0 line rest code_is next (record f { code = rest }) refl refl refl next_is below) condition l
           args into words turn (line_at running.frames.0 line rest code_is) writes.1 conform words_are is good
       follow_action (Call g) code_is conform is =
           let line = does alive (Call g) args into in
           follow_call ground plain f fs known world s running rest (suc (length rest)) running.frames.0.forms g args into words running.frames.0.start turn
-          (λ next next_is below. goes_behind running.frames.0 line rest code_is next (record f { code = rest; into = awaited into }) refl refl next_is below) (line_at running.frames.0 line rest code_is) conform words_are is good
+          (λ next next_is below. goes_behind running.frames.0 line rest code_is next (record f { code = rest; into = awaited into }) refl refl refl next_is below) (line_at running.frames.0 line rest code_is) conform words_are is good
       follow_action (TailCall g) code_is conform is =
           follow_tail_call ground plain f fs known world s running rest (suc (length rest)) running.frames.0.forms g args into words running.frames.0.start turn (line_at running.frames.0 (does alive (TailCall g) args into) rest code_is) conform words_are is good
       follow_action Return code_is conform is =
           follow_return ground f known world s (suc (length rest)) (line_at running.frames.0 (does alive Return args into) rest code_is) fs rest args into words turn running conform words_are is good
       follow_action (Routine routine) code_is conform is =
           let line = does alive (Routine routine) args into in
-          follow_routine ground f fs known world s running rest (suc (length rest)) running.frames.0.forms (λ next next_is below. goes_behind running.frames.0 line rest code_is next (record f { code = rest }) refl refl next_is below) into turn good
+          follow_routine ground f fs known world s running rest (suc (length rest)) running.frames.0.forms (λ next next_is below. goes_behind running.frames.0 line rest code_is next (record f { code = rest }) refl refl refl next_is below) into turn good
           routine running.frames.0.start args words (line_at running.frames.0 line rest code_is) conform words_are is
       follow_action Hold code_is conform is =
           let line = does alive Hold args into in
-          follow_hold ground f fs known world s running rest (suc (length rest)) running.frames.0.forms (λ next next_is below. goes_behind running.frames.0 line rest code_is next (record f { code = rest }) refl refl next_is below) args into words turn good words_are
+          follow_hold ground f fs known world s running rest (suc (length rest)) running.frames.0.forms (λ next next_is below. goes_behind running.frames.0 line rest code_is next (record f { code = rest }) refl refl refl next_is below) args into words turn good words_are
           (line_at running.frames.0 line rest code_is) is
       follow_action Unhold code_is conform is =
           let line = does alive Unhold args into in
-          follow_unhold ground f fs known world s running rest (suc (length rest)) running.frames.0.forms (λ next next_is below. goes_behind running.frames.0 line rest code_is next (record f { code = rest }) refl refl next_is below) args into words turn good words_are
+          follow_unhold ground f fs known world s running rest (suc (length rest)) running.frames.0.forms (λ next next_is below. goes_behind running.frames.0 line rest code_is next (record f { code = rest }) refl refl refl next_is below) args into words turn good words_are
           (line_at running.frames.0 line rest code_is) is
 
     follow_line : (line : PlacedLine) (turn : PlacedTurn World Ending) → f.code ≡ line ∷ rest → placed_line (primitives map_of.constants pool) depth functions f fs known world (line ∷ rest) ≡ turn → turn ≢ stuck
@@ -113,7 +113,7 @@ module _ {map_of : Map} {pool : Pool} {functions : List PlacedLines} {depth buff
         let line = moves alive value way in
         let next = cond_false (is_held f.held (to_of way)) (placed_writes (to_of way) (read_at known f.cells (from_of way)) (record f { code = rest }) fs known world) turn is good in
         subst (λ t. Comes map_of pool functions depth stop code parts 1 (suc (length rest)) t s) next.1
-        (follow_move ground f fs known world s running rest (suc (length rest)) (λ cells next next_is below. goes_behind running.frames.0 line rest code_is next (record f { code = rest; cells = cells }) refl refl next_is below)
+        (follow_move ground f fs known world s running rest (suc (length rest)) (λ cells next next_is below. goes_behind running.frames.0 line rest code_is next (record f { code = rest; cells = cells }) refl refl refl next_is below)
         way (line_at running.frames.0 line rest code_is) (line_plain running.frames.0 line rest code_is) next.0)
 
   -- ---- one step

@@ -1,5 +1,5 @@
 -- When a processor stands for a state of the machine of the placed form: where it is in the code, its registers and the frames of its stack.
-use Rattle.std.specs.Prelude.{◌≡◌, ◌≢◌, ℕ, ◌+◌, ◌%◌, ◌^◌, ◌≤◌, ◌<◌, max, List, [], ◌∷◌, length, Option, Some, None, true, All, IsSome}
+use Rattle.std.specs.Prelude.{◌≡◌, ◌≢◌, ℕ, ◌+◌, ◌*◌, ◌%◌, ◌^◌, ◌≤◌, ◌<◌, max, List, [], ◌∷◌, length, Option, Some, None, true, All, IsSome, slice_get}
 use Rattle.kk_base.specs.Memory.{Part}
 use Rattle.kk_base.specs.Machines.{state}
 use Rattle.rv_isa.specs.declared.asm.Action.{Action}
@@ -23,7 +23,7 @@ use Rattle.cell_heap.specs.Blocks.{Cells}
 use Rattle.cell_heap.specs.Known.{HoldsCells}
 use Rattle.cell_runtime.specs.declared.start.TheConstants.{TEXT_WORDS}
 use Rattle.rv_world.specs.World.{World, primitives}
-use Rattle.rv_place.specs.Addresses.{frame_bias, slot_offset}
+use Rattle.rv_place.specs.Addresses.{words_of_lines, forms_of, entry_words, frame_bias, slot_offset}
 use Rattle.rv_place.specs.Lines.{Map, LinesAt}
 use Rattle.rv_place.specs.Grounds.{stack_end, Rests}
 use Rattle.rv_place.specs.declared.reach.Forms.{Forms}
@@ -64,7 +64,7 @@ most_lines (function ∷ functions) = max (length function.code) (most_lines fun
 
 -- ---- states
 
--- the code that is left of a frame stands at an address, and the whole of its function stands somewhere
+-- the code that is left of a frame stands at an address, and the whole of its function behind the entry of the function
 pub record IsIn (map : Map) (code : Code) (most at : ℕ) (frame : Frame PlacedLine) : Type 0 where
   pub forms : Forms
   pub start : ℕ
@@ -77,6 +77,11 @@ pub record IsIn (map : Map) (code : Code) (most at : ℕ) (frame : Frame PlacedL
   pub plain : ArePlain frame.whole frame.code
   pub few_whole : length frame.whole ≤ most
   pub few : length frame.code ≤ most
+  pub entry : ℕ
+  pub entry_is : slice_get map.entries frame.function ≡ Some entry
+  pub start_is : start ≡ entry + 4 * entry_words map.jumps
+  pub forms_are : forms ≡ forms_of map.jumps frame.whole
+  pub place : at + 4 * words_of_lines forms frame.code ≡ start + 4 * words_of_lines forms frame.whole
 
 -- the words of the slots of a frame
 abbrev pub Slots : Map → (ℕ → ℕ) → ℕ → (ℕ → Option ℕ) → Type 0
