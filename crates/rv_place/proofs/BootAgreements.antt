@@ -43,6 +43,12 @@ one_each going = omega arith
 one_each (exited number) = omega arith
 one_each (trapped cause pc word) = omega arith
 
+-- instructions that leave the trace as it was have no events
+pub silent_instructions : {k : ℕ} {p q : Processor} → Leads k p q → q.trace ≡ p.trace → trace (processor_machine rv32im) k (goes p) ≡ []
+silent_instructions {k} {p} {q} leads told =
+    append_cancel_left p.trace (trace (processor_machine rv32im) k (goes p)) []
+    (sym (trace-run rv32im k p) ∙ ap (λ (progress : Progress). progress.processor.trace) (Leads-run leads) ∙ told ∙ sym (append-nil p.trace))
+
 -- a few silent instructions lead to a processor that agrees with another machine: so does the one before them, with more credit
 pub agree_after_instructions : {S : Type 0} (upper : Machine S Event Ending) (credit more k : ℕ) (up : ℕ → ℕ) (s : S) (p q : Processor)
     → k ≤ more → Leads k p q → q.trace ≡ p.trace → Agree upper (processor_machine rv32im) credit up s (goes q)
@@ -50,7 +56,6 @@ pub agree_after_instructions : {S : Type 0} (upper : Machine S Event Ending) (cr
 agree_after_instructions upper credit more k up s p q few leads told agree =
     let machine : Machine Progress Event Ending = processor_machine rv32im in
     let comes : state machine k (goes p) ≡ goes q = state-run rv32im k p ∙ Leads-run leads in
-    let silent : trace machine k (goes p) ≡ [] =
-    append_cancel_left p.trace (trace machine k (goes p)) [] (sym (trace-run rv32im k p) ∙ ap (λ (progress : Progress). progress.processor.trace) (Leads-run leads) ∙ told ∙ sym (append-nil p.trace)) in
+    let silent : trace machine k (goes p) ≡ [] = silent_instructions leads told in
     let weighs : weight_of machine k (goes p) ≤ 1 * k = weight_of-at_most machine 1 (λ progress. one_each progress.ending) k (goes p) in
     agree_after upper machine credit more k up s (goes p) silent (omega arith) (subst (λ then. Agree upper machine credit up s then) (sym comes) agree)

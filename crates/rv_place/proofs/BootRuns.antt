@@ -112,7 +112,7 @@ module _ {cells depth : ℕ} {runtime program : Placed} {words : Words} {text : 
     }
 
     -- how many silent instructions lead to the begin of main's lines: those of the start, and of main's entry
-    abbrev first_steps : ℕ
+    abbrev pub first_steps : ℕ
     first_steps = 9 + (2 + words_of_shift (jumps_of runtime program) + 1)
 
     few_first : first_steps ≤ 14

@@ -23,6 +23,8 @@ pub mod BootFirst
 pub mod BootEntry
 pub mod BootRuns
 pub mod BootFits
+pub mod LineRanges
+pub mod BootArrivals
 pub mod Emitting
 pub mod Rests
 pub mod Symbolic

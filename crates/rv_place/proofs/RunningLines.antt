@@ -172,7 +172,7 @@ module _ {map : Map} {code : Code} {most at : ℕ} {f : Frame PlacedLine} (is_in
     start_is = is_in.start_is;
     forms_are = subst (λ w. is_in.forms ≡ forms_of map.jumps w) (sym whole_is) is_in.forms_are;
     place = subst (λ c. next + 4 * words_of_lines is_in.forms c ≡ is_in.start + 4 * words_of_lines is_in.forms g.whole) (sym code_is)
-    (subst (λ w. next + 4 * words_of_lines is_in.forms lines ≡ is_in.start + 4 * words_of_lines is_in.forms w) (sym whole_is) place);
+        (subst (λ w. next + 4 * words_of_lines is_in.forms lines ≡ is_in.start + 4 * words_of_lines is_in.forms w) (sym whole_is) place);
   }
 
   -- the lines from a label on

@@ -64,7 +64,7 @@ computes_register OfOperation.Dup place is = cc
 computes_register OfOperation.Free place is = cc
 
 -- an operation is as many instructions as it weighs
-operation_weighs : (operation : Operation) → (1 ≤ words_of_operation operation) × (words_of_operation operation ≤ operation_instructions operation)
+pub operation_weighs : (operation : Operation) → (1 ≤ words_of_operation operation) × (words_of_operation operation ≤ operation_instructions operation)
 operation_weighs (OfOperation.Register operation) = (omega arith, omega arith)
 operation_weighs (OfOperation.Immediate operation imm) = (omega arith, omega arith)
 operation_weighs (OfOperation.Shift operation amount) = (omega arith, omega arith)

@@ -2,6 +2,7 @@ pub mod Registers
 pub mod Instructions
 pub mod Addresses
 pub mod Lines
+pub mod LineAddresses
 pub mod Texts
 pub mod Bytes
 pub mod Grounds

@@ -1,6 +1,7 @@
 //! Placed code as instructions: every line, label, function and routine of the runtime has its address.
 #![tactic(auto)]
 
+mod arrivals;
 mod boot;
 mod bytes;
 mod cells;
@@ -16,6 +17,7 @@ mod symbols;
 mod text;
 mod words;
 
+pub use arrivals::placed_text_comes_to_its_lines;
 pub use boot::{
     placed_text_agrees, placed_text_ends_with_its_cells, placed_text_touches_no_free_cell,
 };
