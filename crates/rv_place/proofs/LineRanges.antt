@@ -1,13 +1,16 @@
--- Lines have addresses of their own: functions stand one behind the other behind the runtime, and each line that is no label is some
--- instructions of its function.
-use Rattle.std.proofs.Common.{◌≡◌, ◌≤◌, ◌<◌, inl, inr, ℕ, zero, suc, ◌+◌, ◌*◌, List, [], ◌∷◌, Some, true, take, drop, slice_get, refl, sym, ap, ◌∙◌, subst, arith}
+-- Lines have addresses of their own: functions stand one behind the other behind the runtime, and each line that is no label
+-- is some instructions of its function.
+use Rattle.std.proofs.Common.{◌≡◌, ◌≤◌, ◌<◌, inl, inr, ℕ, zero, suc, ◌+◌, ◌*◌, List, [], ◌∷◌, Some, true, take, drop, slice_get}
+use Rattle.std.proofs.Common.{refl, sym, ap, ◌∙◌, subst, arith}
 use Rattle.std.proofs.lemmas.Bool.{cases_lt}
 use Rattle.rv_isa.specs.declared.asm.Action.{Action}
-use Rattle.rv_isa.specs.declared.asm.Action.TheVariants.{Compute, Label, Jump, Branch, Call, TailCall, Return, Routine, Hold, Unhold}
+use Rattle.rv_isa.specs.declared.asm.Action.TheVariants.{Compute, Label, Jump, Branch, Call, TailCall}
+use Rattle.rv_isa.specs.declared.asm.Action.TheVariants.{Return, Routine, Hold, Unhold}
 use Rattle.rv_isa.specs.PlacedCode.{PlacedLine, does, moves, PlacedLines}
 use Rattle.rv_isa.specs.LinePlaces.{is_no_label, is_instruction, PlacedHasLine}
 use Rattle.rv_isa.specs.Standing.{Code}
-use Rattle.rv_place.specs.Addresses.{words_of_action, words_of_line, words_of_lines, forms_of, entry_words, words_of_function, entries_from}
+use Rattle.rv_place.specs.Addresses.{words_of_action, words_of_line, words_of_lines, forms_of, entry_words, words_of_function}
+use Rattle.rv_place.specs.Addresses.{entries_from}
 use Rattle.rv_place.specs.LineAddresses.{address_in, line_address}
 use Rattle.rv_place.specs.Lines.{Map, FunctionsAt}
 use Rattle.rv_place.specs.declared.reach.Forms.{Forms}
@@ -17,8 +20,9 @@ use Rattle.rv_place.proofs.RunningMoves.{operation_weighs}
 
 -- ---- the lines of a function
 
--- the instructions of lines are those of the first and those of the rest
-pub words_split : (forms : Forms) (j : ℕ) (lines : List PlacedLine) → words_of_lines forms (take j lines) + words_of_lines forms (drop j lines) ≡ words_of_lines forms lines
+-- the instructions of lines are those of the first ones and those of the others
+pub words_split : (forms : Forms) (j : ℕ) (lines : List PlacedLine)
+    → words_of_lines forms (take j lines) + words_of_lines forms (drop j lines) ≡ words_of_lines forms lines
 words_split forms zero lines = omega arith
 words_split forms (suc j) [] = refl
 words_split forms (suc j) (line ∷ lines) = let rest = words_split forms j lines in omega arith
@@ -36,12 +40,14 @@ action_some forms (Routine routine) some = jump_some forms.jumps
 action_some forms Hold some = omega arith
 action_some forms Unhold some = omega arith
 
+-- and so is such a line
 line_some : (forms : Forms) (line : PlacedLine) → is_instruction line ≡ true → 1 ≤ words_of_line forms line
 line_some forms (does alive action args into) some = action_some forms action some
 line_some forms (moves alive value way) some = omega arith
 
 -- a line that is no label ends at the end of the lines at most
-line_ends : (forms : Forms) (j : ℕ) (lines : List PlacedLine) (line : PlacedLine) → slice_get lines j ≡ Some line → is_instruction line ≡ true
+line_ends : (forms : Forms) (j : ℕ) (lines : List PlacedLine) (line : PlacedLine)
+    → slice_get lines j ≡ Some line → is_instruction line ≡ true
     → words_of_lines forms (take j lines) + 1 ≤ words_of_lines forms lines
 line_ends forms j [] line is some = cc
 line_ends forms zero (first ∷ lines) line is some =
@@ -49,56 +55,66 @@ line_ends forms zero (first ∷ lines) line is some =
 line_ends forms (suc j) (first ∷ lines) line is some = omega (arith, line_ends forms j lines line is some)
 
 -- and a later one stands behind it
-lines_apart : (forms : Forms) (j i : ℕ) (lines : List PlacedLine) (line : PlacedLine) → slice_get lines j ≡ Some line → is_instruction line ≡ true
+lines_apart : (forms : Forms) (j i : ℕ) (lines : List PlacedLine) (line : PlacedLine)
+    → slice_get lines j ≡ Some line → is_instruction line ≡ true
     → j < i → words_of_lines forms (take j lines) + 1 ≤ words_of_lines forms (take i lines)
 lines_apart forms j i [] line is some less = cc
 lines_apart forms j zero (first ∷ lines) line is some less = absurd (omega arith)
 lines_apart forms zero (suc i) (first ∷ lines) line is some less =
     let same : first ≡ line = cc in omega (arith, line_some forms first (ap is_instruction same ∙ some))
-lines_apart forms (suc j) (suc i) (first ∷ lines) line is some less = omega (arith, lines_apart forms j i lines line is some (omega arith))
+lines_apart forms (suc j) (suc i) (first ∷ lines) line is some less =
+    omega (arith, lines_apart forms j i lines line is some (omega arith))
 
 -- ---- the functions
 
 -- a function stands behind where the functions begin
-entry_low : (jumps : Reach) (at : ℕ) (functions : List PlacedLines) (g entry : ℕ) → slice_get (entries_from jumps at functions) g ≡ Some entry → at ≤ entry
+entry_low : (jumps : Reach) (at : ℕ) (functions : List PlacedLines) (g entry : ℕ)
+    → slice_get (entries_from jumps at functions) g ≡ Some entry → at ≤ entry
 entry_low jumps at [] g entry is = cc
 entry_low jumps at (function ∷ functions) zero entry is = let same : at ≡ entry = cc in omega arith
-entry_low jumps at (function ∷ functions) (suc g) entry is = omega (arith, entry_low jumps (at + 4 * words_of_function jumps function) functions g entry is)
+entry_low jumps at (function ∷ functions) (suc g) entry is =
+    omega (arith, entry_low jumps (at + 4 * words_of_function jumps function) functions g entry is)
 
 -- and behind each function before it
-entries_apart : (jumps : Reach) (at : ℕ) (functions : List PlacedLines) (f g first second : ℕ) (function : PlacedLines) → slice_get functions f ≡ Some function
-    → slice_get (entries_from jumps at functions) f ≡ Some first → slice_get (entries_from jumps at functions) g ≡ Some second → f < g
+entries_apart : (jumps : Reach) (at : ℕ) (functions : List PlacedLines) (f g first second : ℕ) (function : PlacedLines)
+    → slice_get functions f ≡ Some function → slice_get (entries_from jumps at functions) f ≡ Some first
+    → slice_get (entries_from jumps at functions) g ≡ Some second → f < g
     → first + 4 * words_of_function jumps function ≤ second
 entries_apart jumps at [] f g first second function function_is first_is second_is less = cc
 entries_apart jumps at (head ∷ functions) f zero first second function function_is first_is second_is less = absurd (omega arith)
 entries_apart jumps at (head ∷ functions) zero (suc g) first second function function_is first_is second_is less =
     let same : at ≡ first = cc in
     let alike : head ≡ function = cc in
-    let behind : at + 4 * words_of_function jumps head ≤ second = entry_low jumps (at + 4 * words_of_function jumps head) functions g second second_is in
-    subst (λ (k : PlacedLines). first + 4 * words_of_function jumps k ≤ second) alike (subst (λ a. a + 4 * words_of_function jumps head ≤ second) same behind)
+    let behind : at + 4 * words_of_function jumps head ≤ second
+    = entry_low jumps (at + 4 * words_of_function jumps head) functions g second second_is in
+    subst (λ (k : PlacedLines). first + 4 * words_of_function jumps k ≤ second) alike
+    (subst (λ a. a + 4 * words_of_function jumps head ≤ second) same behind)
 entries_apart jumps at (head ∷ functions) (suc f) (suc g) first second function function_is first_is second_is less =
-    entries_apart jumps (at + 4 * words_of_function jumps head) functions f g first second function function_is first_is second_is (omega arith)
+    let next : ℕ = at + 4 * words_of_function jumps head in
+    entries_apart jumps next functions f g first second function function_is first_is second_is (omega arith)
 
 -- ---- the addresses
 
--- a line that is no label, and where it stands
-pub record LineThere (map : Map) (functions : List PlacedLines) (f j : ℕ) : Type 0 where
-  pub function : PlacedLines
-  pub function_is : slice_get functions f ≡ Some function
-  pub entry : ℕ
-  pub entry_is : slice_get map.entries f ≡ Some entry
-  pub line : PlacedLine
-  pub line_is : slice_get function.code j ≡ Some line
-  pub some : is_instruction line ≡ true
-  pub address_is : line_address map functions f j ≡ entry + 4 * entry_words map.jumps + 4 * words_of_lines (forms_of map.jumps function.code) (take j function.code)
-
 -- the address of a line of a function that is there
-pub address_of : (map : Map) (functions : List PlacedLines) (f j entry : ℕ) (function : PlacedLines) → slice_get map.entries f ≡ Some entry → slice_get functions f ≡ Some function
-    → line_address map functions f j ≡ entry + 4 * entry_words map.jumps + 4 * words_of_lines (forms_of map.jumps function.code) (take j function.code)
-address_of map functions f j entry function entry_is function_is = ap (λ o. address_in map j o (slice_get functions f)) entry_is ∙ ap (address_in map j (Some entry)) function_is
+pub address_of : (map : Map) (functions : List PlacedLines) (f j entry : ℕ) (function : PlacedLines)
+    → slice_get map.entries f ≡ Some entry → slice_get functions f ≡ Some function
+    → line_address map functions f j
+    ≡ entry + 4 * entry_words map.jumps + 4 * words_of_lines (forms_of map.jumps function.code) (take j function.code)
+address_of map functions f j entry function entry_is function_is =
+    ap (λ o. address_in map j o (slice_get functions f)) entry_is ∙ ap (address_in map j (Some entry)) function_is
+
+-- a line that is no label, and its function
+record LineThere (map : Map) (functions : List PlacedLines) (f j : ℕ) : Type 0 where
+  function : PlacedLines
+  function_is : slice_get functions f ≡ Some function
+  entry : ℕ
+  entry_is : slice_get map.entries f ≡ Some entry
+  line : PlacedLine
+  line_is : slice_get function.code j ≡ Some line
+  some : is_instruction line ≡ true
 
 module _ (map : Map) (code : Code) (functions : List PlacedLines) (stand : FunctionsAt map code map.entries functions) where
-  pub line_there : (f j : ℕ) → PlacedHasLine functions f j → LineThere map functions f j
+  line_there : (f j : ℕ) → PlacedHasLine functions f j → LineThere map functions f j
   line_there f j has =
       let found = function_found map code map.entries functions stand f has.0 has.1.0 in
       record {
@@ -109,44 +125,58 @@ module _ (map : Map) (code : Code) (functions : List PlacedLines) (stand : Funct
         line = has.1.1.0;
         line_is = has.1.1.1.0;
         some = has.1.1.1.1;
-        address_is = address_of map functions f j found.0 has.0 found.1 has.1.0;
       }
 
   module _ (at : ℕ) (entries_are : map.entries ≡ entries_from map.jumps at functions) where
+    entry_there : (f entry : ℕ) → slice_get map.entries f ≡ Some entry
+        → slice_get (entries_from map.jumps at functions) f ≡ Some entry
+    entry_there f entry is = subst (λ (entries : List ℕ). slice_get entries f ≡ Some entry) entries_are is
+
     -- no line stands before where the functions begin
     pub line_behind : (f j : ℕ) → PlacedHasLine functions f j → at ≤ line_address map functions f j
     line_behind f j has =
         let there = line_there f j has in
-        let low = entry_low map.jumps at functions f there.entry (subst (λ (entries : List ℕ). slice_get entries f ≡ Some there.entry) entries_are there.entry_is) in
-        rw there.address_is (omega arith)
+        let low = entry_low map.jumps at functions f there.entry (entry_there f there.entry there.entry_is) in
+        rw (address_of map functions f j there.entry there.function there.entry_is there.function_is) (omega arith)
 
     -- lines of a function before another stand before those of the other
-    functions_order : (f j g i : ℕ) → LineThere map functions f j → LineThere map functions g i → f < g → line_address map functions f j < line_address map functions g i
+    functions_order : (f j g i : ℕ) → LineThere map functions f j → LineThere map functions g i → f < g
+        → line_address map functions f j < line_address map functions g i
     functions_order f j g i first second less =
-        let forms = forms_of map.jumps first.function.code in
-        let inside = line_ends forms j first.function.code first.line first.line_is first.some in
+        let inside = line_ends (forms_of map.jumps first.function.code) j first.function.code first.line first.line_is first.some in
         let apart = entries_apart map.jumps at functions f g first.entry second.entry first.function first.function_is
-        (subst (λ (entries : List ℕ). slice_get entries f ≡ Some first.entry) entries_are first.entry_is)
-        (subst (λ (entries : List ℕ). slice_get entries g ≡ Some second.entry) entries_are second.entry_is) less in
-        rw (first.address_is, second.address_is) (omega arith)
+        (entry_there f first.entry first.entry_is) (entry_there g second.entry second.entry_is) less in
+        rw (
+          address_of map functions f j first.entry first.function first.entry_is first.function_is,
+          address_of map functions g i second.entry second.function second.entry_is second.function_is,
+        ) (omega arith)
 
     -- and those of one function in their order
-    lines_order : (f j i : ℕ) → LineThere map functions f j → LineThere map functions f i → j < i → line_address map functions f j < line_address map functions f i
-    lines_order f j i first second less =
-        let apart = lines_apart (forms_of map.jumps first.function.code) j i first.function.code first.line first.line_is first.some less in
-        rw (first.address_is, address_of map functions f i first.entry first.function first.entry_is first.function_is) (omega arith)
+    lines_order : (f j i : ℕ) → LineThere map functions f j → j < i
+        → line_address map functions f j < line_address map functions f i
+    lines_order f j i first less =
+        let code = first.function.code in
+        let apart = lines_apart (forms_of map.jumps code) j i code first.line first.line_is first.some less in
+        rw (
+          address_of map functions f j first.entry first.function first.entry_is first.function_is,
+          address_of map functions f i first.entry first.function first.entry_is first.function_is,
+        ) (omega arith)
 
-    one_line : (f j i : ℕ) → LineThere map functions f j → LineThere map functions f i → line_address map functions f j ≡ line_address map functions f i → j ≡ i
+    -- lines at one address are one line of a function
+    one_line : (f j i : ℕ) → LineThere map functions f j → LineThere map functions f i
+        → line_address map functions f j ≡ line_address map functions f i → j ≡ i
     one_line f j i first second same =
         elim (cases_lt j i) as (λ _. j ≡ i) [
-          | inl less ↦ (let order = lines_order f j i first second less in absurd (omega arith))
+          | inl less ↦ (let order = lines_order f j i first less in absurd (omega arith))
           | inr most ↦ elim (cases_lt i j) as (λ _. j ≡ i) [
-            | inl less ↦ (let order = lines_order f i j second first less in absurd (omega arith))
+            | inl less ↦ (let order = lines_order f i j second less in absurd (omega arith))
             | inr least ↦ omega arith
           ]
         ]
 
-    one_function : (f j g i : ℕ) → LineThere map functions f j → LineThere map functions g i → line_address map functions f j ≡ line_address map functions g i → f ≡ g
+    -- and they are in one function
+    one_function : (f j g i : ℕ) → LineThere map functions f j → LineThere map functions g i
+        → line_address map functions f j ≡ line_address map functions g i → f ≡ g
     one_function f j g i first second same =
         elim (cases_lt f g) as (λ _. f ≡ g) [
           | inl less ↦ (let order = functions_order f j g i first second less in absurd (omega arith))
@@ -156,9 +186,13 @@ module _ (map : Map) (code : Code) (functions : List PlacedLines) (stand : Funct
           ]
         ]
 
-    -- lines at one address are one line
-    pub line_alone : (f j g i : ℕ) → PlacedHasLine functions f j → PlacedHasLine functions g i → line_address map functions f j ≡ line_address map functions g i → (f ≡ g) × (j ≡ i)
+    -- so each line has an address of its own
+    pub line_alone : (f j g i : ℕ) → PlacedHasLine functions f j → PlacedHasLine functions g i
+        → line_address map functions f j ≡ line_address map functions g i → (f ≡ g) × (j ≡ i)
     line_alone f j g i has other same =
-        let alike = one_function f j g i (line_there f j has) (line_there g i other) same in
-        let back : line_address map functions f j ≡ line_address map functions f i = same ∙ ap (λ h. line_address map functions h i) (sym alike) in
-        (alike, one_line f j i (line_there f j has) (subst (λ h. LineThere map functions h i) (sym alike) (line_there g i other)) back)
+        let first = line_there f j has in
+        let second = line_there g i other in
+        let alike = one_function f j g i first second same in
+        let back : line_address map functions f j ≡ line_address map functions f i
+        = same ∙ ap (λ h. line_address map functions h i) (sym alike) in
+        (alike, one_line f j i first (subst (λ h. LineThere map functions h i) (sym alike) second) back)

@@ -27,16 +27,24 @@ ghost use Rattle.rv_place.specs.Texts.{pool_in, constants_of, map_of};
 pub fn placed_text_comes_to_its_lines()
     ensures comes { (cells depth : ℕ) (runtime program : Placed) (words : Words) (text input : List ℕ) (main : PlacedLines)
         → IsPlacedImage cells depth runtime program words text main → All (λ byte. byte < 256) input
-        → NeverStuck (map_of runtime program) (pool_in cells runtime program) (placed_functions program) depth (placed_start main (first_world (pool_in cells runtime program) input))
+        → NeverStuck (map_of runtime program) (pool_in cells runtime program) (placed_functions program) depth
+        (placed_start main (first_world (pool_in cells runtime program) input))
         → (n f j : ℕ) → PlacedHasLine (placed_functions program) f j
-        → PlacedIsAt (placed_functions program) f j (state (placed_machine (primitives (constants_of runtime program) (pool_in cells runtime program)) depth (placed_functions program)) n (placed_start main (first_world (pool_in cells runtime program) input)))
-        → (count : ℕ) × (((run count (first_processor text runtime.memory.size input)).processor.pc ≡ line_address (map_of runtime program) (placed_functions program) f j)
-        × (trace (processor_machine rv32im) count (goes (first_processor text runtime.memory.size input)) ≡ trace (placed_machine (primitives (constants_of runtime program) (pool_in cells runtime program)) depth (placed_functions program)) n (placed_start main (first_world (pool_in cells runtime program) input)))) }
+        → PlacedIsAt (placed_functions program) f j
+        (state (placed_machine (primitives (constants_of runtime program) (pool_in cells runtime program)) depth
+        (placed_functions program)) n (placed_start main (first_world (pool_in cells runtime program) input)))
+        → (count : ℕ) × (((run count (first_processor text runtime.memory.size input)).processor.pc
+        ≡ line_address (map_of runtime program) (placed_functions program) f j)
+        × (trace (processor_machine rv32im) count (goes (first_processor text runtime.memory.size input))
+        ≡ trace (placed_machine (primitives (constants_of runtime program) (pool_in cells runtime program)) depth
+        (placed_functions program)) n (placed_start main (first_world (pool_in cells runtime program) input)))) }
     ensures apart { (cells depth : ℕ) (runtime program : Placed) (words : Words) (text : List ℕ) (main : PlacedLines)
         → IsPlacedImage cells depth runtime program words text main
         → (f j g i : ℕ) → PlacedHasLine (placed_functions program) f j → PlacedHasLine (placed_functions program) g i
-        → line_address (map_of runtime program) (placed_functions program) f j ≡ line_address (map_of runtime program) (placed_functions program) g i → (f ≡ g) × (j ≡ i) }
+        → line_address (map_of runtime program) (placed_functions program) f j
+        ≡ line_address (map_of runtime program) (placed_functions program) g i → (f ≡ g) × (j ≡ i) }
     ensures outside { (cells depth : ℕ) (runtime program : Placed) (words : Words) (text : List ℕ) (main : PlacedLines)
         → IsPlacedImage cells depth runtime program words text main
-        → (f j : ℕ) → PlacedHasLine (placed_functions program) f j → text_start + 4 * TEXT_WORDS ≤ line_address (map_of runtime program) (placed_functions program) f j }
+        → (f j : ℕ) → PlacedHasLine (placed_functions program) f j
+        → text_start + 4 * TEXT_WORDS ≤ line_address (map_of runtime program) (placed_functions program) f j }
 {}

@@ -9,10 +9,12 @@ use Rattle.rv_place.proofs.arrivals.placed_text_comes_to_its_lines.Goals as goal
 
 pub returns-clause-comes : goal.returns-clause-comes
 returns-clause-comes c = λ cells depth runtime program words text input main image bytes never n f j has at_line.
-    image-arrives image input bytes (suc (most_lines (placed_functions program))) (simulates (image-ground image) image.plain) never n f j at_line
+    image-arrives image input bytes (suc (most_lines (placed_functions program))) (simulates (image-ground image) image.plain) never
+    n f j at_line
 
 pub returns-clause-apart : goal.returns-clause-apart
-returns-clause-apart c = λ cells depth runtime program words text main image f j g i has other same. image-apart image f j g i has other same
+returns-clause-apart c = λ cells depth runtime program words text main image f j g i has other same.
+    image-apart image f j g i has other same
 
 pub returns-clause-outside : goal.returns-clause-outside
 returns-clause-outside c = λ cells depth runtime program words text main image f j has. image-outside image f j has
