@@ -17,3 +17,6 @@ pub mod Acting
 pub mod Plain
 pub mod Shapes
 pub mod Walking
+pub mod LinesReached
+pub mod InCode
+pub mod Reaching

@@ -9,3 +9,4 @@ pub mod Shape
 pub mod Tables
 pub mod Backwards
 pub mod Walks
+pub mod LinesReached

@@ -12,9 +12,11 @@ mod lines;
 mod liveness;
 mod needs;
 mod places;
+mod reached;
 mod slots;
 mod walk;
 
 pub use assigning::assign;
 pub use checking::valid;
 pub use keeps::{Execution, valid_forms_keep_meaning};
+pub use reached::placed_forms_come_to_each_line;
