@@ -1,8 +1,9 @@
 -- The image of assembler code does what that code does, layer by layer: the placed code and the processor.
-use Rattle.std.proofs.Common.{◌≡◌, ◌+◌, ◌*◌, ◌%◌, ◌^◌, ◌<◌, ◌≤◌, ◌≢◌, ℕ, List, [], ◌∷◌, All, Some, length, slice_get, refl, sym, ap, subst, ◌∙◌, arith}
+use Rattle.std.proofs.Common.{◌≡◌, ◌+◌, ◌*◌, ◌%◌, ◌^◌, ◌<◌, ◌≤◌, ◌≢◌, ℕ, List, All, Some, length, slice_get, refl, sym, ap, subst, ◌∙◌, arith}
 use Rattle.kk_base.specs.Agreements.{Agree}
-use Rattle.kk_base.specs.Machines.{state}
+use Rattle.kk_base.specs.Machines.{Machine, state, trace}
 use Rattle.kk_base.specs.Sizes.{AreSizes}
+use Rattle.kk_base.specs.Trace.{Event}
 use Rattle.kk_base.proofs.Agreements.{agree_through}
 use Rattle.kk_base.proofs.Simulations.{simulates_many}
 use Rattle.rv_isa.specs.declared.asm.Asm.{Asm}
@@ -13,6 +14,7 @@ use Rattle.rv_isa.specs.AsmMachine.{AsmTurn, asm_machine, asm_start}
 use Rattle.rv_isa.specs.PlacedCode.{PlacedLines, placed_functions, placed_constants}
 use Rattle.rv_isa.specs.PlacedMachine.{PlacedTurn, placed_machine, placed_start}
 use Rattle.rv_isa.specs.FreeTouches.{TouchesNoFreeCell}
+use Rattle.rv_isa.specs.LinePlaces.{AsmIsAt, PlacedIsAt, AsmHasLine, PlacedHasLine}
 use Rattle.rv_isa.specs.Primitives.{go, ended, stuck}
 use Rattle.rv_isa.specs.Processor.{Ending, start, goes}
 use Rattle.rv_isa.specs.Execution.{rv32im, run}
@@ -31,10 +33,15 @@ use Rattle.rv_world.specs.World.{World, first_world, primitives}
 use Rattle.rv_regs.specs.Valid.{IsValid}
 use Rattle.rv_regs.specs.Shape.{IsPlainlyPlaced}
 use Rattle.rv_regs.specs.Relation.{NeverStuck as RegsNeverStuck, StandsFor as RegsStandsFor, Related as RegsRelated, IsNotStuck}
+use Rattle.rv_regs.specs.LinesReached.{line_of}
+use Rattle.rv_regs.proofs.LinesReached.{lines_there, lines_apart}
+use Rattle.rv_regs.proofs.Reaching.{comes_to_lines}
+use Rattle.rv_regs.proofs.Steps.{callee_both}
 use Rattle.rv_regs.proofs.Simulating.{agrees, starts, simulates, never_stuck}
 use Rattle.rv_place.specs.Addresses.{frame_size}
 use Rattle.rv_place.specs.Bytes.{IsTextOf}
 use Rattle.rv_place.specs.Images.{IsPlacedImage, EndsWithCells, first_processor, outside_lines}
+use Rattle.rv_place.specs.LineAddresses.{line_address}
 use Rattle.rv_place.specs.Running.{NeverStuck}
 use Rattle.rv_place.specs.Texts.{ArePlaceable, ArePlacedWords, map_of, pool_in, constants_of, text_bytes, most_text_words, most_constant_bytes}
 use Rattle.rv_place.proofs.BootFits.{FitsImage, fits-image}
@@ -104,6 +111,37 @@ PlacedTextTouchesNone =
     → NeverStuck (map_of runtime program) (pool_in cells runtime program) (placed_functions program) depth (placed_start main (first_world (pool_in cells runtime program) input))
     → (count : ℕ) → TouchesNoFreeCell text_start TEXT_WORDS cells (run count (first_processor text runtime.memory.size input))
 
+-- the machine of a program behind a runtime, and its start on an input
+abbrev machine_of : ℕ → ℕ → Placed → Placed → Machine (PlacedTurn World Ending) Event Ending
+machine_of cells depth runtime program =
+    placed_machine (primitives (constants_of runtime program) (pool_in cells runtime program)) depth (placed_functions program)
+
+abbrev start_of : ℕ → Placed → Placed → PlacedLines → List ℕ → PlacedTurn World Ending
+start_of cells runtime program main input = placed_start main (first_world (pool_in cells runtime program) input)
+
+abbrev address_of : Placed → Placed → ℕ → ℕ → ℕ
+address_of runtime program f j = line_address (map_of runtime program) (placed_functions program) f j
+
+-- and of the lines of its program
+pub record PlacedTextComes : Type 0 where
+  pub comes : (cells depth : ℕ) (runtime program : Placed) (words : Words) (text input : List ℕ) (main : PlacedLines)
+      → IsPlacedImage cells depth runtime program words text main → All (λ byte. byte < 256) input
+      → NeverStuck (map_of runtime program) (pool_in cells runtime program) (placed_functions program) depth
+      (start_of cells runtime program main input)
+      → (n f j : ℕ) → PlacedHasLine (placed_functions program) f j
+      → PlacedIsAt (placed_functions program) f j
+      (state (machine_of cells depth runtime program) n (start_of cells runtime program main input))
+      → (count : ℕ) × (((run count (first_processor text runtime.memory.size input)).processor.pc ≡ address_of runtime program f j)
+      × (trace (processor_machine rv32im) count (goes (first_processor text runtime.memory.size input))
+      ≡ trace (machine_of cells depth runtime program) n (start_of cells runtime program main input)))
+  pub apart : (cells depth : ℕ) (runtime program : Placed) (words : Words) (text : List ℕ) (main : PlacedLines)
+      → IsPlacedImage cells depth runtime program words text main
+      → (f j g i : ℕ) → PlacedHasLine (placed_functions program) f j → PlacedHasLine (placed_functions program) g i
+      → address_of runtime program f j ≡ address_of runtime program g i → (f ≡ g) × (j ≡ i)
+  pub outside : (cells depth : ℕ) (runtime program : Placed) (words : Words) (text : List ℕ) (main : PlacedLines)
+      → IsPlacedImage cells depth runtime program words text main
+      → (f j : ℕ) → PlacedHasLine (placed_functions program) f j → text_start + 4 * TEXT_WORDS ≤ address_of runtime program f j
+
 -- Assembler code, its runtime and the text that is made of both.
 pub record Makes (cells depth : ℕ) (asm : Asm) (placed runtime : Placed) (words : Words) (text : List ℕ) : Type 0 where
   pub sizes : AreSizes cells depth
@@ -165,6 +203,53 @@ module _ {cells depth : ℕ} {asm : Asm} {placed runtime : Placed} {words : Word
       let bytes : length (all_bytes (placed_constants placed)) ≡ length (all_bytes (asm_constants asm)) = ap (λ (texts : List (List ℕ)). length (all_bytes texts)) makes.valid.constants in
       omega (arith, most, bytes)
 
+  -- the placed image, by its first function
+  image_by : (placed_main : PlacedLines) → slice_get (placed_functions placed) 0 ≡ Some placed_main
+      → IsPlacedImage cells depth runtime placed words text placed_main
+  image_by placed_main first_is = record {
+    sizes = makes.sizes;
+    runtime_is = makes.runtime_is;
+    placeable = can_be_placed;
+    plain = placed_is_plain asm placed makes.valid makes.made.formed;
+    words_are = makes.words_are;
+    text_is = makes.text_is;
+    first = first_is;
+  }
+
+  -- ---- the addresses of lines
+
+  -- a line's index in the placed code, and the address of that
+  abbrev line : ℕ → ℕ → ℕ
+  line f k = line_of (placed_functions placed) f k
+
+  abbrev address : ℕ → ℕ → ℕ
+  address f k = address_of runtime placed f (line f k)
+
+  is_there : (f k : ℕ) → AsmHasLine (asm_functions asm) f k → PlacedHasLine (placed_functions placed) f (line f k)
+  is_there = lines_there (asm_functions asm) (placed_functions placed) makes.valid.functions
+
+  some_image : (placed_main : PlacedLines) × IsPlacedImage cells depth runtime placed words text placed_main
+  some_image =
+      let there = callee_both (asm_functions asm) (placed_functions placed) makes.valid.functions 0 main makes.made.main_is in
+      (there.0, image_by there.0 there.1)
+
+  pub lines_are_apart : PlacedTextComes → (f k g j : ℕ) → AsmHasLine (asm_functions asm) f k → AsmHasLine (asm_functions asm) g j
+      → address f k ≡ address g j → (f ≡ g) × (k ≡ j)
+  lines_are_apart text_comes f k g j has other same =
+      let both : (f ≡ g) × (line f k ≡ line g j)
+      = text_comes.apart cells depth runtime placed words text some_image.0 some_image.1 f (line f k) g (line g j)
+      (is_there f k has) (is_there g j other) same in
+      let in_one : AsmHasLine (asm_functions asm) f j = subst (λ (h : ℕ). AsmHasLine (asm_functions asm) h j) (sym both.0) other in
+      let one_line : line f k ≡ line f j = both.1 ∙ ap (λ (h : ℕ). line h j) (sym both.0) in
+      (both.0, lines_apart (asm_functions asm) (placed_functions placed) makes.valid.functions f k j has in_one one_line)
+
+  pub lines_are_outside : PlacedTextComes → (f k : ℕ) → AsmHasLine (asm_functions asm) f k
+      → text_start + 4 * TEXT_WORDS ≤ address f k
+  lines_are_outside text_comes f k has =
+      text_comes.outside cells depth runtime placed words text some_image.0 some_image.1 f (line f k) (is_there f k has)
+
+  -- ---- runs
+
   module _ (input : List ℕ) (bytes : All (λ byte. byte < 256) input)
       (never : RegsNeverStuck (primitives constants pool) depth (asm_functions asm) (asm_start main (first_world pool input))) where
     -- the assembler code agrees with the placed code from its first function on, which never is at a loss
@@ -176,31 +261,49 @@ module _ {cells depth : ℕ} {asm : Asm} {placed runtime : Placed} {words : Word
         × ((steps : ℕ) → state (placed_machine (primitives constants pool) depth (placed_functions placed)) steps (placed_start placed_main (first_world pool input)) ≢ stuck)
     goes_on = never_stuck (primitives constants pool) depth (asm_functions asm) (placed_functions placed) makes.valid.functions 0 main (first_world pool input) makes.plain.few_moves makes.made.main_is makes.made.main_params never
 
-    same_main : placed_agrees.0 ≡ goes_on.0
-    same_main = same_some placed_agrees.0 goes_on.0 (sym placed_agrees.1 ∙ goes_on.1)
-
-    -- the placed image
     placed_image : IsPlacedImage cells depth runtime placed words text placed_agrees.0
-    placed_image = record {
-      sizes = makes.sizes;
-      runtime_is = makes.runtime_is;
-      placeable = can_be_placed;
-      plain = placed_is_plain asm placed makes.valid makes.made.formed;
-      words_are = makes.words_are;
-      text_is = makes.text_is;
-      first = placed_agrees.1;
-    }
+    placed_image = image_by placed_agrees.0 placed_agrees.1
 
-    placed_never : NeverStuck (map_of runtime placed) pool (placed_functions placed) depth (placed_start placed_agrees.0 (first_world pool input))
-    placed_never =
-        subst (λ (c : Constants). (steps : ℕ) → state (placed_machine (primitives c pool) depth (placed_functions placed)) steps (placed_start placed_agrees.0 (first_world pool input)) ≢ stuck) (sym same_constants)
-        (subst (λ (placed_main : PlacedLines). (steps : ℕ) → state (placed_machine (primitives constants pool) depth (placed_functions placed)) steps (placed_start placed_main (first_world pool input)) ≢ stuck) (sym same_main) goes_on.2)
+    -- from any first function of the placed code, which is that one
+    placed_never : (placed_main : PlacedLines) → slice_get (placed_functions placed) 0 ≡ Some placed_main
+        → NeverStuck (map_of runtime placed) pool (placed_functions placed) depth (start_of cells runtime placed placed_main input)
+    placed_never placed_main first_is =
+        let same : goes_on.0 ≡ placed_main = same_some goes_on.0 placed_main (sym goes_on.1 ∙ first_is) in
+        subst (λ (c : Constants). (steps : ℕ) → state (placed_machine (primitives c pool) depth (placed_functions placed)) steps
+        (start_of cells runtime placed placed_main input) ≢ stuck) (sym same_constants)
+        (subst (λ (p : PlacedLines). (steps : ℕ) → state (placed_machine (primitives constants pool) depth (placed_functions placed)) steps
+        (start_of cells runtime placed p input) ≢ stuck) same goes_on.2)
+
+    -- the machine of the assembler code
+    abbrev asm_runs : Machine (AsmTurn World Ending) Event Ending
+    asm_runs = asm_machine (primitives constants pool) depth (asm_functions asm)
+
+    abbrev asm_begins : AsmTurn World Ending
+    asm_begins = asm_start main (first_world pool input)
+
+    -- where it is at a line, there is a number of instructions behind which pc is at the line's address
+    pub comes : PlacedTextComes → (n f k : ℕ) → AsmHasLine (asm_functions asm) f k
+        → AsmIsAt (asm_functions asm) f k (state asm_runs n asm_begins)
+        → (count : ℕ) × (((run count (first_processor text runtime.memory.size input)).processor.pc ≡ address f k)
+        × (trace (processor_machine rv32im) count (goes (first_processor text runtime.memory.size input)) ≡ trace asm_runs n asm_begins))
+    comes text_comes n f k has is =
+        let high = comes_to_lines (primitives constants pool) depth (asm_functions asm) (placed_functions placed) main
+        (first_world pool input) makes.valid.functions makes.plain.few_moves makes.made.main_is makes.made.main_params never in
+        let begins : PlacedTurn World Ending = start_of cells runtime placed high.0 input in
+        let there = high.1.1 n f k has is in
+        let on_constants = subst (λ (c : Constants).
+        (trace (placed_machine (primitives c pool) depth (placed_functions placed)) there.0 begins ≡ trace asm_runs n asm_begins)
+        × PlacedIsAt (placed_functions placed) f (line f k)
+        (state (placed_machine (primitives c pool) depth (placed_functions placed)) there.0 begins)) (sym same_constants) there.1 in
+        let low = text_comes.comes cells depth runtime placed words text input high.0 (image_by high.0 high.1.0) bytes
+        (placed_never high.0 high.1.0) there.0 f (line f k) (is_there f k has) on_constants.1 in
+        (low.0, (low.1.0, low.1.1 ∙ on_constants.0))
 
     pub does : PlacedTextAgrees
         → (up : ℕ → ℕ) × Agree (asm_machine (primitives constants pool) depth (asm_functions asm)) (processor_machine rv32im) outside_lines up
         (asm_start main (first_world pool input)) (goes (first_processor text runtime.memory.size input))
     does text_agrees =
-        let image = text_agrees cells depth runtime placed words text input placed_agrees.0 placed_image bytes placed_never in
+        let image = text_agrees cells depth runtime placed words text input placed_agrees.0 placed_image bytes (placed_never placed_agrees.0 placed_agrees.1) in
         let whole : PlacedTurn World Ending = placed_start placed_agrees.0 (first_world pool input) in
         let low = subst (λ (c : Constants). Agree (placed_machine (primitives c pool) depth (placed_functions placed)) (processor_machine rv32im) outside_lines image.0 whole (goes (first_processor text runtime.memory.size input))) same_constants image.1 in (
           (λ m. image.0 m * 1 + 0 + 1),
@@ -230,20 +333,20 @@ module _ {cells depth : ℕ} {asm : Asm} {placed runtime : Placed} {words : Word
     ends text_ends n how world is =
         let there = placed_ends n how world is in
         let on_constants = subst (λ (c : Constants). state (placed_machine (primitives c pool) depth (placed_functions placed)) there.0 (placed_start placed_agrees.0 (first_world pool input)) ≡ ended how world) (sym same_constants) there.1 in
-        text_ends cells depth runtime placed words text input placed_agrees.0 placed_image bytes placed_never there.0 how world on_constants
+        text_ends cells depth runtime placed words text input placed_agrees.0 placed_image bytes (placed_never placed_agrees.0 placed_agrees.1) there.0 how world on_constants
 
     pub touches : PlacedTextTouchesNone → (count : ℕ) → TouchesNoFreeCell text_start TEXT_WORDS cells (run count (first_processor text runtime.memory.size input))
-    touches text_touches = text_touches cells depth runtime placed words text input placed_agrees.0 placed_image bytes placed_never
+    touches text_touches = text_touches cells depth runtime placed words text input placed_agrees.0 placed_image bytes (placed_never placed_agrees.0 placed_agrees.1)
 
 memory_aligned : (text : ℕ) → (memory_start text + 32) % 32 ≡ 0
 memory_aligned text = omega arith
 
 -- The image of the text, with the memory that the runtime asks for, is an image of the assembler code.
 pub image_of : {cells depth : ℕ} {asm : Asm} {placed runtime : Placed} {words : Words} {text : List ℕ}
-    (makes : Makes cells depth asm placed runtime words text) → PlacedTextAgrees → PlacedTextEnds → PlacedTextTouchesNone
+    (makes : Makes cells depth asm placed runtime words text) → PlacedTextAgrees → PlacedTextEnds → PlacedTextTouchesNone → PlacedTextComes
     → (entry : ℕ) (parts : List Part) → IsProgramImage entry parts → entry ≡ text_start → parts ≡ program_parts text runtime.memory.size
     → IsAsmImage (asm_functions asm) (asm_constants asm) makes.made.main cells depth entry parts
-image_of {cells} {depth} {asm} {placed} {runtime} {words} {text} makes text_agrees text_ends text_touches entry parts program entry_is parts_are =
+image_of {cells} {depth} {asm} {placed} {runtime} {words} {text} makes text_agrees text_ends text_touches text_comes entry parts program entry_is parts_are =
     let there : start (memory_of parts) entry ≡ start (memory_of (program_parts text runtime.memory.size)) text_start
     = ap (λ (p : List Part). start (memory_of p) entry) parts_are ∙ ap (λ e. start (memory_of (program_parts text runtime.memory.size)) e) entry_is in
     record {
@@ -269,15 +372,28 @@ image_of {cells} {depth} {asm} {placed} {runtime} {words} {text} makes text_agre
           let on_text = subst (λ (s : _). TouchesNoFreeCell text_start TEXT_WORDS cells (run count (s input))) (sym there)
           (touches makes input bytes never text_touches count) in
           subst (λ (e : ℕ). TouchesNoFreeCell e TEXT_WORDS cells (run count (start (memory_of parts) entry input))) (sym entry_is) on_text;
+      lines = record {
+        address = address makes;
+        apart = lines_are_apart makes text_comes;
+        outside = λ f k has.
+            subst (λ (e : ℕ). e + 4 * TEXT_WORDS ≤ address makes f k) (sym entry_is) (lines_are_outside makes text_comes f k has);
+        comes = λ input bytes never n f k has is.
+            let whole = comes makes input bytes never text_comes n f k has is in (
+              whole.0,
+              subst (λ (s : _). ((run whole.0 (s input)).processor.pc ≡ address makes f k)
+                  × (trace (processor_machine rv32im) whole.0 (goes (s input))
+                  ≡ trace (asm_runs makes input bytes never) n (asm_begins makes input bytes never))) (sym there) whole.1,
+            );
+      };
     }
 
 pub image_made : {cells depth frame : ℕ} {asm : Asm} {placed runtime : Placed} {words : Words} {text : List ℕ} → AreSizes cells depth
     → (made : IsPlaceable (asm_functions asm) (asm_constants asm)) → IsValid asm placed → IsPlainlyPlaced (asm_functions asm) placed
     → frame ≡ frame_size (placed_functions placed) → IsText cells depth frame runtime → ArePlacedWords runtime placed words
-    → IsTextOf words text → PlacedTextAgrees → PlacedTextEnds → PlacedTextTouchesNone
+    → IsTextOf words text → PlacedTextAgrees → PlacedTextEnds → PlacedTextTouchesNone → PlacedTextComes
     → (entry : ℕ) (parts : List Part) → IsProgramImage entry parts → entry ≡ text_start → parts ≡ program_parts text runtime.memory.size
     → IsAsmImage (asm_functions asm) (asm_constants asm) made.main cells depth entry parts
 unfolding makes_of
-image_made {asm = asm} sizes made valid plain frame_is runtime_is words_are text_is text_agrees text_ends text_touches entry parts program entry_is parts_are =
-    image_of (makes_of {asm = asm} sizes made valid plain frame_is runtime_is words_are text_is) text_agrees text_ends text_touches entry parts program
+image_made {asm = asm} sizes made valid plain frame_is runtime_is words_are text_is text_agrees text_ends text_touches text_comes entry parts program entry_is parts_are =
+    image_of (makes_of {asm = asm} sizes made valid plain frame_is runtime_is words_are text_is) text_agrees text_ends text_touches text_comes entry parts program
     entry_is parts_are

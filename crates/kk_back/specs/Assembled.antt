@@ -1,7 +1,7 @@
 -- The image of assembler code: the loaded image does what the machine of assembler code does. Only private functions speak of it.
-use Rattle.std.specs.Prelude.{◌≡◌, ◌≢◌, ℕ, ◌+◌, ◌%◌, ◌^◌, ◌<◌, List, [], All, Some, length, slice_get}
+use Rattle.std.specs.Prelude.{◌≡◌, ◌≢◌, ℕ, ◌+◌, ◌*◌, ◌%◌, ◌^◌, ◌<◌, ◌≤◌, List, [], All, Some, length, slice_get}
 use Rattle.kk_base.specs.Agreements.{Agree}
-use Rattle.kk_base.specs.Machines.{state}
+use Rattle.kk_base.specs.Machines.{state, trace}
 use Rattle.cell_heap.specs.Pool.{Pool}
 use Rattle.cell_runtime.specs.declared.start.TheConstants.{TEXT_WORDS}
 use Rattle.elf_image.specs.Parts.{memory_of}
@@ -11,12 +11,13 @@ use Rattle.rv_isa.specs.AsmCode.{Lines}
 use Rattle.rv_isa.specs.AsmMachine.{asm_machine, asm_start}
 use Rattle.rv_isa.specs.Execution.{rv32im, run}
 use Rattle.rv_isa.specs.FreeTouches.{TouchesNoFreeCell}
+use Rattle.rv_isa.specs.LinePlaces.{AsmIsAt, AsmHasLine}
 use Rattle.rv_isa.specs.Primitives.{ended, stuck}
 use Rattle.rv_isa.specs.Processor.{Ending, start, goes}
 use Rattle.rv_isa.specs.ProcessorMachine.{processor_machine}
 use Rattle.rv_isa.specs.WellFormed.{AreWellFormed}
 use Rattle.rv_place.specs.Images.{EndsWithCells, outside_lines}
-use Rattle.rv_world.specs.Operations.{all_bytes}
+use Rattle.rv_world.specs.Operations.{Constants, all_bytes}
 use Rattle.rv_world.specs.World.{World, first_world, primitives}
 use Rattle.kk_back.specs.Sizes.{FitsText}
 
@@ -29,9 +30,28 @@ pub record IsPlaceable (functions : List Lines) (texts : List (List ℕ)) : Type
   pub main_is : slice_get functions 0 ≡ Some main
   pub main_params : main.params ≡ []
 
+-- The lines of assembler code in its image. Each line that is no label has an address of its own, behind the runtime's words, which
+-- stand at the entry. On each input on which that code never is at a loss, where its machine is at such a line, there is a number of
+-- instructions behind which the program counter is at the line's address, and the same events are told.
+pub record HasLineAddresses (functions : List Lines) (main : Lines) (constants : Constants) (pool : Pool) (depth entry : ℕ)
+    (parts : List Part) : Type 0 where
+  pub address : ℕ → ℕ → ℕ
+  pub apart : (f k g j : ℕ) → AsmHasLine functions f k → AsmHasLine functions g j → address f k ≡ address g j
+      → (f ≡ g) × (k ≡ j)
+  pub outside : (f k : ℕ) → AsmHasLine functions f k → entry + 4 * TEXT_WORDS ≤ address f k
+  pub comes : (input : List ℕ) → All (λ byte. byte < 256) input
+      → ((n : ℕ) → state (asm_machine (primitives constants pool) depth functions) n (asm_start main (first_world pool input)) ≢ stuck)
+      → (n f k : ℕ) → AsmHasLine functions f k
+      → AsmIsAt functions f k (state (asm_machine (primitives constants pool) depth functions) n
+      (asm_start main (first_world pool input)))
+      → (count : ℕ) × (((run count (start (memory_of parts) entry input)).processor.pc ≡ address f k)
+      × (trace (processor_machine rv32im) count (goes (start (memory_of parts) entry input))
+      ≡ trace (asm_machine (primitives constants pool) depth functions) n (asm_start main (first_world pool input))))
+
 -- An image of assembler code, for so many cells and such a depth, by where its cells and its constants stand. On each input on which
 -- that code never is at a loss, the processor's machine agrees with the code's; where the code ends, so does the processor, whose
--- memory has the cells of the world then; and outside of the runtime's words, which stand at the entry, no free cell is touched.
+-- memory has the cells of the world then; outside of the runtime's words, which stand at the entry, no free cell is touched; and
+-- the code's lines have their addresses.
 pub record IsAsmImage (functions : List Lines) (texts : List (List ℕ)) (main : Lines) (cells depth entry : ℕ) (parts : List Part)
     : Type 0 where
   pub program : IsProgramImage entry parts
@@ -58,6 +78,7 @@ pub record IsAsmImage (functions : List Lines) (texts : List (List ℕ)) (main :
       → ((n : ℕ) → state (asm_machine (primitives (record { first = first; texts = texts }) pool) depth functions) n
       (asm_start main (first_world pool input)) ≢ stuck)
       → (count : ℕ) → TouchesNoFreeCell entry TEXT_WORDS cells (run count (start (memory_of parts) entry input))
+  pub lines : HasLineAddresses functions main (record { first = first; texts = texts }) pool depth entry parts
 
 -- an image of assembler code, by its first function
 abbrev pub IsImageOfAsm : List Lines → List (List ℕ) → ℕ → ℕ → ℕ → List Part → Type 0

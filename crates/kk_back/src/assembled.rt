@@ -10,14 +10,15 @@ use elf_image::Image;
 use kk_base::{Bytes, NoMemory};
 use rv_isa::Asm;
 use rv_place::{
-    frame_bytes, place, placed_text_agrees, placed_text_ends_with_its_cells,
-    placed_text_touches_no_free_cell,
+    frame_bytes, place, placed_text_agrees, placed_text_comes_to_its_lines,
+    placed_text_ends_with_its_cells, placed_text_touches_no_free_cell,
 };
 use rv_regs::assign;
 use std::alloc::Global;
 
 /// The image of assembler code, with a heap of `cells` cells, of whose calls at most `depth` are open at a time. The loaded image
-/// does what the code does, and touches no free cell outside of the runtime's words.
+/// does what the code does, and touches no free cell outside of the runtime's words. Each line of the code that is no label has an
+/// address of its own behind these, to which the program counter comes where the code comes to the line.
 pub fn assembled(alloc: Global, asm: &Asm, cells: u32, depth: u32) -> Result<Image, NoMemory>
     requires placeable { IsPlaceable (asm_functions asm.now) (asm_constants asm.now) }
     requires sizes { AreSizes cells depth }
@@ -30,6 +31,7 @@ pub fn assembled(alloc: Global, asm: &Asm, cells: u32, depth: u32) -> Result<Ima
     placed_text_agrees();
     placed_text_ends_with_its_cells();
     placed_text_touches_no_free_cell();
+    placed_text_comes_to_its_lines();
     let image = Image::program(alloc, Bytes::from_vec(bytes), runtime.memory.size)?;
     Ok(image)
 }

@@ -45,5 +45,10 @@ returns c main there =
     (same_some c.requires.placeable.main main (sym c.requires.placeable.main_is ∙ there))
     (image_made {frame = c.frame_bytes.result} {asm = c.args.asm.now} c.requires.sizes c.requires.placeable c.in_ok-program.ensures.valid c.in_ok-program.ensures.shape c.frame_bytes.ensures c.in_ok-runtime.ensures c.in_ok-words.ensures c.in_ok-bytes.ensures
     c.placed_text_agrees.ensures c.placed_text_ends_with_its_cells.ensures c.placed_text_touches_no_free_cell.ensures
+    (record {
+      comes = c.placed_text_comes_to_its_lines.ensures.comes;
+      apart = c.placed_text_comes_to_its_lines.ensures.apart;
+      outside = c.placed_text_comes_to_its_lines.ensures.outside;
+    })
     c.in_ok-image.image.entry c.in_ok-image.image.parts c.in_ok-image.ensures.is_program c.in_ok-image.ensures.entry
     (c.in_ok-image.ensures.parts ∙ ap (λ (text : List ℕ). program_parts text c.in_ok-runtime.runtime.memory.size) c.from_vec.ensures))
