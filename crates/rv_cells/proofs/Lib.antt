@@ -57,6 +57,7 @@ pub mod TokenCodeLengths
 pub mod TokenFrames
 pub mod TokenTaken
 pub mod TokenCells
+pub mod TokenFields
 pub mod TokenLanding
 pub mod TokenGiving
 pub mod TokenEntering

@@ -227,7 +227,7 @@ module _ (program : Lowering) where
         → IsJudged program.pool.cells [] [] [] helds function.body [] frames s.heap tokens
         → ((y : ℕ) → tokens.slots (length helds) y ≡ spent)
         → Follows program.pool program.layout s.address s.owners s.heap s.world.cells
-        → HaveTokenCells program.pool s.address s.owners s.heap tokens
+        → HaveTokenCells program.pool program.layout s.address s.owners s.heap tokens
         → AllWait program s.address (length s.heap) tokens.slots helds frames fs (result_mark program.marks f)
         → s.world.left ≡ input → All (λ byte. byte < 256) input
         → At program function.body [] frames tokens input (entered_spot entry.values) fs lines.code

@@ -37,10 +37,11 @@ use Rattle.rv_cells.proofs.Words.{hand_owned}
 use Rattle.rv_cells.specs.TokenedLines.{values_of_slots}
 use Rattle.rv_cells.proofs.TokenCells.{cell_goes}
 use Rattle.rv_cells.proofs.TokenEntering.{arguments_fit}
+use Rattle.rv_cells.proofs.TokenFields.{grown_words}
 use Rattle.rv_cells.proofs.TokenFrames.{slots_moved, all_carried, all_wait_at}
 use Rattle.rv_cells.proofs.TokenLineCosts.{forms}
 use Rattle.rv_cells.proofs.TokenLanding.{lands_leads, token_at, machine_at, seen_action, silent_builds, goes_on, kept_after}
-use Rattle.rv_cells.proofs.TokenStanding.{SlotIs, IsTokenCell, finds, held_values, Lowering, setting, upper, known_of, At, IsFitFrom, Follows_step}
+use Rattle.rv_cells.proofs.TokenStanding.{SlotIs, IsTokenCell, token_words, finds, held_values, Lowering, setting, upper, known_of, At, IsFitFrom, Follows_step}
 use Rattle.rv_cells.proofs.TokenUniques.{slots_set, another, row_times}
 
 abbrev takes_into : ℕ → Line
@@ -127,7 +128,8 @@ module _ (program : Lowering) (x y c first : ℕ) (arguments kept_at others : Li
       let nothing = at.judged.spends.0 in
       let free : is_linked n y tokens.chain ≡ false = ap (is_linked n y) at.judged.are.chain
       ∙ not_linked tokens.slots at.lists.held at.lists.older y (ap (λ (ys : List ℕ). is_among ys y) nothing) in
-      let hand = subst (λ b. IsTokenCell b (s.owners address)) free (at.cells.are n y q mark) in
+      let hand = subst (λ b. IsTokenCell b (token_words program.layout s.address s.heap q) (s.owners address)) free
+      (at.cells.are n y q mark) in
       let value : s.frame.cells (v + y) ≡ Some address = subst (λ slot. SlotIs s.address slot (s.frame.cells (v + y))) has
       (at.has.tokens.are y) in
       let vs = values_of s.environment (first ∷ arguments) in
@@ -199,8 +201,10 @@ module _ (program : Lowering) (x y c first : ℕ) (arguments kept_at others : Li
         cells = cell_goes at.cells program.aligned n y q later (with_owner address (cell_of size) s.owners) to.heap after
             (hand_owned at.follows address hand.0 hand.1).0 below mark refl
             (λ g z r differ is. stays r (pooled.there g z r is))
+            (λ g z r is. grown_words program.layout s.address s.heap (record { count = 1; cell = record { made_by = c; fields = vs } })
+            address r making.older (pooled.there g z r is))
             (λ g z r differ is. refl)
-            (λ one linked differ is. subst (IsTokenCell linked) (sym (chosen_other one address (cell_of size) s.owners differ)) is)
+            (λ one linked ws differ is. subst (IsTokenCell linked ws) (sym (chosen_other one address (cell_of size) s.owners differ)) is)
             (ap is_aside (chosen_same address address (cell_of size) s.owners refl))
             (λ one differ. ap is_aside (chosen_other one address (cell_of size) s.owners differ))
             (ap (λ k. k + marked after.marks size) fresh ∙ none_more (marked after.marks size));

@@ -152,7 +152,7 @@ module _ (program : Lowering) where
       let row = row_times fields (most_moves + 2) in
       goes_did program code inner frames tokens input s fs left at idle fit rest p.lines.0 p.lines.1 to (fields ++ s.bound)
       (row_cost fields (most_moves + 2)) goes
-      (read_did known (p.lines.1 ++ p.after) fs s x c fields p.lines.0 named.0 here reads p.lines.2) refl refl p.lines.4 p.low
+      (read_did known (p.lines.1 ++ p.after) fs s x c fields p.lines.0 named.0 here reads p.lines.2) refl refl refl p.lines.4 p.low
       p.lines.3 (within_fields fields s.bound) (within_front fields s.bound)
       (below_list v fields s.bound p.numbered.0.0 at.has.below) p.marked.1 p.numbered.1 p.has p.plain
       (subst (λ (l : Lists). IsJudged program.pool.cells l.left l.unspent l.held l.older rest inner frames s.heap tokens) kept.1.0

@@ -157,7 +157,7 @@ module _ (program : Lowering) where
       pub has : HasSlots at.shape.slots rest
       pub plain : HasPlainForms rest
       pub judged : IsJudged program.pool.cells next.left next.unspent next.held next.older rest inner frames to.heap after
-      pub cells : HaveTokenCells program.pool to.address to.owners to.heap after
+      pub cells : HaveTokenCells program.pool program.layout to.address to.owners to.heap after
       pub slots_are : HaveSlotValues to.address (after.slots (length next.older)) at.shape.variables at.shape.slots to.frame.cells
       pub held_is : to.frame.held ≡ held_values (after.slots (length next.older)) at.shape.variables next.held
       pub waits : AllWait program to.address (length to.heap) after.slots next.older frames gs at.shape.result
