@@ -183,7 +183,7 @@ left_known environment next kept (field ∷ fields) (argument ∷ arguments) kee
     by_test false equal = refl
 
 -- what is known of a slot is nothing, or it is true
-known_true : (slots : ℕ → Slot) (heap : Heap) (environment : Environment) (y p : ℕ) (known : List KnownFields)
+pub known_true : (slots : ℕ → Slot) (heap : Heap) (environment : Environment) (y p : ℕ) (known : List KnownFields)
     → AreTrue slots heap environment known → slots y ≡ token p
     → (fields_in known y ≡ []) ⊎ (fields_held heap p ≡ map (value_of environment) (fields_in known y))
 known_true slots heap environment y p [] are has = inl refl

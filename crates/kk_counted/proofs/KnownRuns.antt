@@ -29,9 +29,9 @@ AllLeaveKnown functions =
 
 module _ (weight : TokenState → ℕ) (setting : TokenSetting) (spends : AreTokensSpent setting.program)
     (leaves : AllLeaveKnown setting.program.functions) where
-  record IsGood (c : TokenConfiguration) : Type 0 where
+  pub record IsGood (c : TokenConfiguration) : Type 0 where
     kept : AreKept setting.cells c
-    known : IsKnownIn c
+    pub known : IsKnownIn c
 
   there : (c : TokenConfiguration) → AreKept setting.cells c → AreThere c.heap c.tokens
   there c kept f y p is =
@@ -107,7 +107,7 @@ module _ (weight : TokenState → ℕ) (setting : TokenSetting) (spends : AreTok
       main_leaves (function ∷ functions) zero each = each zero function refl
       main_leaves (function ∷ functions) (suc n) each = main_leaves functions n (λ f other is. each (suc f) other is)
 
-  good_after : (input : List ℕ) (n : ℕ) → IsGood (token_after weight setting input n)
+  pub good_after : (input : List ℕ) (n : ℕ) → IsGood (token_after weight setting input n)
   good_after input n = run_good n (token_first_state setting input) start_good
 
   pub known_may_be_left : (input : List ℕ) → FillsAlways weight setting input

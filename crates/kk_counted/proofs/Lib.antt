@@ -54,3 +54,4 @@ pub mod TokenedViews
 pub mod Knowing
 pub mod KnownSteps
 pub mod KnownRuns
+pub mod KnownKept
