@@ -20,6 +20,7 @@ pub mod Constructing
 pub mod CountOpenings
 pub mod TokenOpenings
 pub mod TokenForms
+pub mod KeptStores
 pub mod Filling
 pub mod FillingHeld
 pub mod Walking

@@ -270,7 +270,7 @@ module _ (program : Lowering) where
 
   pub at_branch : (x : ℕ) (positive negative : Tokened) → CodeSteps program (Tokened.branch x positive negative)
   at_branch x positive negative idle inner frames tokens input s fs left idle_is at fit =
-      by_truth x positive negative idle inner frames tokens input s fs left idle_is at fit (fit 0).fits.0 (fit 0).fits.1
+      by_truth x positive negative idle inner frames tokens input s fs left idle_is at fit (fit 0).bare.fits.0 (fit 0).bare.fits.1
 
   -- ---- tests of tokens
 

@@ -103,8 +103,8 @@ module _ (program : Lowering) where
       let from = machine_at program code s.environment inner frames s.heap tokens in
       let there = at_code rest s.environment inner from in
       let here : Here (known_of program at.shape) s = record { follows = at.follows; values = at.has.values } in
-      let counts = (fit 0).counts (bare code) s.environment (map bare_join inner) refl in
-      let next = heap_there (dup_value (value_of s.environment x) s.heap) from there (fit 1).going in
+      let counts = (fit 0).bare.counts (bare code) s.environment (map bare_join inner) refl in
+      let next = heap_there (dup_value (value_of s.environment x) s.heap) from there (fit 1).bare.going in
       let done = dup_did (known_of program at.shape) (p.lines.0 ++ p.after) fs s here x p.marked.0 next.0 next.1
       (λ name. let small = counts name in omega arith) in
       let step : token_code_step (setting program) code s.environment inner from
@@ -129,7 +129,7 @@ module _ (program : Lowering) where
       let from = machine_at program code s.environment inner frames s.heap tokens in
       let there = at_code rest s.environment inner from in
       let here : Here (known_of program at.shape) s = record { follows = at.follows; values = at.has.values } in
-      let next = heap_there (drop_value (value_of s.environment x) s.heap) from there (fit 1).going in
+      let next = heap_there (drop_value (value_of s.environment x) s.heap) from there (fit 1).bare.going in
       let done = drop_did (known_of program at.shape) (p.lines.0 ++ p.after) fs s here x p.marked.0 next.0 next.1 in
       let step : token_code_step (setting program) code s.environment inner from
       ≡ goes (machine_at program rest s.environment inner frames next.0 tokens) = ap (λ o. goes (to_heap o from there)) next.1 in

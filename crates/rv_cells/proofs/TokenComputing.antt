@@ -305,13 +305,13 @@ module _ (program : Lowering) where
       (print_leads (AreKeptBy program.pool.cells (ListsAfter code inner at.lists)) piece to
       (kept_after program code inner frames tokens input s fs left at refl))
       (print_is piece to input) at.input_is refl at.bytes
-  at_plain x (Unary Negate) [] others rest plain idle inner frames tokens input s fs left idle_is at fit = absurd (fit 0).fits
+  at_plain x (Unary Negate) [] others rest plain idle inner frames tokens input s fs left idle_is at fit = absurd (fit 0).bare.fits
   at_plain x (Unary Negate) (a ∷ b ∷ more) others rest plain idle inner frames tokens input s fs left idle_is at fit =
-      absurd (fit 0).fits
+      absurd (fit 0).bare.fits
   at_plain x (Unary Negate) (a ∷ []) others rest plain idle inner frames tokens input s fs left idle_is at fit =
       let p = at.does.placed in
       let base = at.shape.variables + at.shape.slots in
-      let number = (fit 0).fits in
+      let number = (fit 0).bare.fits in
       let bound = p.marked.0.0 in
       let low = p.numbered.0 in
       performed_value x (Unary Negate) (a ∷ []) others rest plain idle inner frames tokens input s fs left idle_is at fit int32
@@ -323,14 +323,14 @@ module _ (program : Lowering) where
       p.marked.1.0.1
       (kept_after program (Tokened.compute x (Unary Negate) (a ∷ []) others rest) inner frames tokens input s fs left at refl)
       refl at.input_is refl at.bytes
-  at_plain x (Unary Not) [] others rest plain idle inner frames tokens input s fs left idle_is at fit = absurd (fit 0).fits
+  at_plain x (Unary Not) [] others rest plain idle inner frames tokens input s fs left idle_is at fit = absurd (fit 0).bare.fits
   at_plain x (Unary Not) (a ∷ b ∷ more) others rest plain idle inner frames tokens input s fs left idle_is at fit =
-      absurd (fit 0).fits
+      absurd (fit 0).bare.fits
   at_plain x (Unary Not) (a ∷ []) others rest plain idle inner frames tokens input s fs left idle_is at fit =
       let p = at.does.placed in
       let base = at.shape.variables + at.shape.slots in
       let lines = p.lines.3.0 in
-      let truth_at = (fit 0).fits in
+      let truth_at = (fit 0).bare.fits in
       let b : Bool = truth_at.0 in
       let bound = p.marked.0.0 in
       let shown = word_follows program.layout program.falsity program.truth_is s.address (length s.heap) bool (truth b)
@@ -346,16 +346,16 @@ module _ (program : Lowering) where
       p.marked.1.0.1
       (kept_after program (Tokened.compute x (Unary Not) (a ∷ []) others rest) inner frames tokens input s fs left at refl)
       refl at.input_is refl at.bytes
-  at_plain x (Binary operator) [] others rest plain idle inner frames tokens input s fs left idle_is at fit = absurd (fit 0).fits
+  at_plain x (Binary operator) [] others rest plain idle inner frames tokens input s fs left idle_is at fit = absurd (fit 0).bare.fits
   at_plain x (Binary operator) (a ∷ []) others rest plain idle inner frames tokens input s fs left idle_is at fit =
-      absurd (fit 0).fits
+      absurd (fit 0).bare.fits
   at_plain x (Binary operator) (a ∷ b ∷ c ∷ more) others rest plain idle inner frames tokens input s fs left idle_is at fit =
-      absurd (fit 0).fits
+      absurd (fit 0).bare.fits
   at_plain x (Binary operator) (a ∷ b ∷ []) others rest plain idle inner frames tokens input s fs left idle_is at fit =
       let p = at.does.placed in
       let base = at.shape.variables + at.shape.slots in
-      let first = (fit 0).fits.0 in
-      let second = (fit 0).fits.1 in
+      let first = (fit 0).bare.fits.0 in
+      let second = (fit 0).bare.fits.1 in
       let bound_a = p.marked.0.0 in
       let bound_b = p.marked.0.1.0 in
       let low = p.numbered.0 in
@@ -374,14 +374,14 @@ module _ (program : Lowering) where
       (kept_after program (Tokened.compute x (Binary operator) (a ∷ b ∷ []) others rest) inner frames tokens input s fs left at
       refl)
       refl at.input_is refl at.bytes
-  at_plain x (Print how) [] others rest plain idle inner frames tokens input s fs left idle_is at fit = absurd (fit 0).fits
+  at_plain x (Print how) [] others rest plain idle inner frames tokens input s fs left idle_is at fit = absurd (fit 0).bare.fits
   at_plain x (Print how) (a ∷ b ∷ more) others rest plain idle inner frames tokens input s fs left idle_is at fit =
-      absurd (fit 0).fits
+      absurd (fit 0).bare.fits
   at_plain x (Print how) (a ∷ []) others rest plain idle inner frames tokens input s fs left idle_is at fit =
       let p = at.does.placed in
       let base = at.shape.variables + at.shape.slots in
       let code = Tokened.compute x (Print how) (a ∷ []) others rest in
-      let number = (fit 0).fits in
+      let number = (fit 0).bare.fits in
       let bound = p.marked.0.0 in
       let low = p.numbered.0 in
       let piece : List ℕ = piece_of how (signed_decimal (signed number.0)) in

@@ -185,7 +185,7 @@ module _ (program : Lowering) (x c a : ℕ) (more : List ℕ) (rest : Tokened) (
         holds = p.marked.1.0.1;
         fits = subst (λ marks. FitFields marks (values_of s.environment (a ∷ more))) (sym (program.fields_are c))
             (arguments_fit at.has.values (a ∷ more) (field_marks program.marks c) all p.marked.1.0.0);
-        older = (fit 0).sound.older;
+        older = (fit 0).bare.sound.older;
       }
 
   asked : (room : Room) → Serves room → token_code_step (setting program) code s.environment inner from

@@ -295,7 +295,7 @@ module _ (program : Lowering) where
           let start : TokenState = token_at program code s.environment inner frames s.heap tokens input in
           let waiting : TokenFrame = record { variable = x; rest = rest; joins = inner; environment = s.environment } in
           let all = all_among arguments s.bound p.marked.0 in
-          let there = call_there program (slice_get program.code.functions f) args waiting start.machine input (fit 1).going in
+          let there = call_there program (slice_get program.code.functions f) args waiting start.machine input (fit 1).bare.going in
           let function = there.0 in
           let low = program.lowered f function there.1 in
           let lines = low.0 in
@@ -449,7 +449,7 @@ module _ (program : Lowering) where
       let code = Tokened.tail_call f arguments in
       let start : TokenState = token_at program code s.environment inner frames s.heap tokens input in
       let all = all_among arguments s.bound p.marked.0 in
-      let there = tail_there (slice_get program.code.functions f) vs start.machine input (fit 1).going in
+      let there = tail_there (slice_get program.code.functions f) vs start.machine input (fit 1).bare.going in
       let function = there.0 in
       let low = program.lowered f function there.1 in
       let lines = low.0 in

@@ -4,7 +4,7 @@ use Rattle.std.proofs.lemmas.List.{length-map}
 use Rattle.kk_syntax.specs.Shapes.{is_among, without}
 use Rattle.kk_source.specs.State.{Value}
 use Rattle.kk_source.specs.Actions.{goes, builds}
-use Rattle.kk_counted.specs.Heaps.{Heap, busy}
+use Rattle.kk_counted.specs.Heaps.{Heap, busy, fields_held}
 use Rattle.kk_counted.specs.Keeping.{values_of}
 use Rattle.kk_counted.specs.Marks.{field_marks}
 use Rattle.kk_counted.specs.TokenKeeping.{ArePooled, Lists, IsJudged, ListsAfter, AreKeptBy}
@@ -28,6 +28,7 @@ use Rattle.rv_cells.specs.CellLines.{hold_lines, unhold_lines}
 use Rattle.rv_cells.proofs.Bound.{within_itself, within_one, all_among, apart_above}
 use Rattle.rv_cells.proofs.Constructing.{IsMaking, made_spot}
 use Rattle.rv_cells.proofs.Filling.{fill_cost, from_label, whole_lines, fills_own}
+use Rattle.rv_cells.proofs.KeptStores.{kept_words}
 use Rattle.rv_cells.proofs.LineCosts.{most_moves}
 use Rattle.rv_cells.proofs.Owners.{chosen_same, chosen_other}
 use Rattle.rv_cells.proofs.Runs.{turn_of}
@@ -47,12 +48,14 @@ use Rattle.rv_cells.proofs.TokenUniques.{slots_set, another, row_times}
 abbrev takes_into : ℕ → Line
 takes_into x = record { action = Calls Take; args = []; into = Some x }
 
--- a label behind the row of tokens that are held and taken back
-label_split : (before hs us label : List Line) (a b c t : Line) → before ++ (a ∷ b ∷ c ∷ (hs ++ (t ∷ (us ++ label))))
-    ≡ (before ++ (a ∷ b ∷ c ∷ (hs ++ (t ∷ us)))) ++ label
-label_split before hs us label a b c t =
-    ap (λ ls. before ++ (a ∷ b ∷ c ∷ ls)) (sym (append_assoc hs (t ∷ us) label))
-    ∙ sym (append_assoc before (a ∷ b ∷ c ∷ (hs ++ (t ∷ us))) label)
+-- a label behind the row of tokens that are held and taken back, and behind stores
+label_split : (before hs us stores label : List Line) (a b c t : Line)
+    → before ++ (a ∷ b ∷ c ∷ (hs ++ (t ∷ (us ++ (stores ++ label)))))
+    ≡ (before ++ (a ∷ b ∷ c ∷ (hs ++ (t ∷ (us ++ stores))))) ++ label
+label_split before hs us stores label a b c t =
+    ap (λ ls. before ++ (a ∷ b ∷ c ∷ (hs ++ (t ∷ ls)))) (sym (append_assoc us stores label))
+    ∙ ap (λ ls. before ++ (a ∷ b ∷ c ∷ ls)) (sym (append_assoc hs (t ∷ (us ++ stores)) label))
+    ∙ sym (append_assoc before (a ∷ b ∷ c ∷ (hs ++ (t ∷ (us ++ stores)))) label)
 
 -- the next name is no token's
 pub beyond_plain : (cells : ℕ) (heap : Heap) (tokens : Tokens) → ArePooled cells heap tokens → tokens.marks (length heap) ≡ plain
@@ -90,7 +93,7 @@ module _ (program : Lowering) (x y c first : ℕ) (arguments kept_at others : Li
         holds = p.marked.1.0.1;
         fits = subst (λ marks. FitFields marks (values_of s.environment (first ∷ arguments))) (sym (program.fields_are c))
             (arguments_fit at.has.values (first ∷ arguments) (field_marks program.marks c) all p.marked.1.0.0);
-        older = (fit 0).sound.older;
+        older = (fit 0).bare.sound.older;
       }
 
   -- the lines weigh no more than the table of costs says
@@ -122,7 +125,7 @@ module _ (program : Lowering) (x y c first : ℕ) (arguments kept_at others : Li
       let here : Here known s = record { follows = at.follows; values = at.has.values } in
       let values_are = values_of_slots v others in
       let rest_lines = p.lines.1 ++ p.after in
-      let whole_is = whole_lines known rest_lines fs s x (v + y) c values_are p.low (first ∷ arguments) p.lines.0 here making
+      let whole_is = whole_lines known rest_lines fs s x (v + y) c values_are p.low (first ∷ arguments) kept_at p.lines.0 here making
       p.lines.2 in
       let mark = pooled.marks n y q has in
       let nothing = at.judged.spends.0 in
@@ -136,15 +139,17 @@ module _ (program : Lowering) (x y c first : ℕ) (arguments kept_at others : Li
       let after : Tokens = released n y q spent tokens in
       let found_at = finds p.low s.frame.whole
       (p.before ++ (copies_to (v + y) x ∷ copies_to x base ∷ acts (Branch NotEqual p.low) (base ∷ [])
-      ∷ (hold_lines values_are ++ (takes_into x ∷ unhold_lines values_are))))
-      (p.lines.2.0 ++ rest_lines) at.has.formed
+      ∷ (hold_lines values_are ++ (takes_into x ∷ (unhold_lines values_are ++ p.lines.2.0)))))
+      (p.lines.2.1 ++ rest_lines) at.has.formed
       (p.place ∙ ap (λ ls. p.before ++ ls) (p.left_is ∙ ap (λ own. own ++ p.after) p.lines.4
       ∙ append_assoc p.lines.0 p.lines.1 p.after ∙ whole_is)
-      ∙ label_split p.before (hold_lines values_are) (unhold_lines values_are)
-      (from_label known rest_lines fs s x (v + y) c values_are p.low (first ∷ arguments) p.lines.0 here making p.lines.2)
+      ∙ label_split p.before (hold_lines values_are) (unhold_lines values_are) p.lines.2.0
+      (from_label known rest_lines fs s x (v + y) c values_are p.low (first ∷ arguments) kept_at p.lines.0 here making p.lines.2)
       (copies_to (v + y) x) (copies_to x base) (acts (Branch NotEqual p.low) (base ∷ [])) (takes_into x)) in
-      let done = fills_own known rest_lines fs s x (v + y) c values_are p.low (first ∷ arguments) p.lines.0 here making p.lines.2
-      address hand.0 value hand.1 program.some found_at in
+      let keeps = (fit 0).keeps q (subst (λ m. tokens.slots m y ≡ token q) (sym many) has) in
+      let known_ones = kept_words program.layout s.address kept_at hand.0 2 0 (fields_held s.heap q) vs keeps hand.2 in
+      let done = fills_own known rest_lines fs s x (v + y) c values_are p.low (first ∷ arguments) kept_at p.lines.0 here making p.lines.2
+      address hand.0 value hand.1 known_ones program.some found_at in
       let later = assign size address s.address in
       let f : Frame Line = record s.frame {
         cells = put base (Some 1) (put base (Some (header_of program.layout c))

@@ -133,14 +133,14 @@ module _ (program : Lowering) where
       let from = machine_at program code s.environment inner frames s.heap tokens in
       let here : Here known s = record { follows = at.follows; values = at.has.values } in
       let named = read_there (cell_named c (length fields) s.heap (value_of s.environment x)) fields rest s.environment inner from
-      input (fit 1).going in
+      input (fit 1).bare.going in
       let reads : IsReading known s x c fields named.0 = record {
         bound = p.marked.0.0;
         is = named.1;
         below = below_more v (at.shape.variables + at.shape.slots) fields (omega arith) p.numbered.0.0;
         apart = p.numbered.0.1.0;
         kinds = marks_are at.shape.holds fields (field_marks program.marks c) p.marked.0.1.1 ∙ sym (program.fields_are c);
-        older = (fit 0).sound.older;
+        older = (fit 0).bare.sound.older;
       } in
       let to = with_fields program.layout s fields named.0.fields in
       let step : token_code_step (setting program) code s.environment inner from

@@ -22,6 +22,7 @@ use Rattle.kk_counted.specs.TokenKeeping.{FillsAt, FillsAlways, token_after}
 use Rattle.kk_counted.specs.TokenMachine.{token_machine}
 use Rattle.kk_counted.specs.TokenStates.{TokenControl, TokenConfiguration, TokenState, token_first_state, token_end_at, bare_control, bare_configuration, bare_setting}
 use Rattle.kk_counted.specs.TokenedCodes.{Tokened, TokenedFunction, TokenedProgram}
+use Rattle.kk_counted.proofs.KnownKept.{keeps_always}
 use Rattle.kk_counted.proofs.TokenRoom.{costs_within, states_kept}
 use Rattle.rv_isa.specs.Processor.{Ending, exited}
 use Rattle.rv_isa.specs.AsmCode.{Lines}
@@ -35,7 +36,7 @@ use Rattle.rv_cells.specs.Meaning.{setting_on, AreFree}
 use Rattle.rv_cells.specs.TokenedMeaning.{roomy_outside, IsTokenedLowered, TokenedRunsTheSame}
 use Rattle.rv_cells.proofs.Programs.{all_free, lines_formed}
 use Rattle.rv_cells.proofs.TokenLineCosts.{forms}
-use Rattle.rv_cells.proofs.TokenStanding.{Lowering, setting, upper, lower, pace, Passing, HasEnded, StandsFor, IsFitFrom, Related}
+use Rattle.rv_cells.proofs.TokenStanding.{Lowering, setting, upper, lower, pace, Passing, HasEnded, StandsFor, IsFitWith, IsFitFrom, Related}
 use Rattle.rv_cells.proofs.TokenSimulating.{simulates, starts}
 
 -- ---- machines
@@ -157,12 +158,15 @@ module _ (layout : Layout) (marks : CellMarks) (code : TokenedProgram) (constant
   seen_states : (n : ℕ) → state (upper lowering) n start ≡ state tokened n start
   seen_states n = state_mapped events_of (λ end. exited (exit_of end)) tokened n start
 
-  -- each state with tokens is fit, since it is so without them
+  -- each state with tokens is fit, since it is so without them, and it keeps only fields that are the new ones
   fit_from : IsFitFrom lowering start
   fit_from n =
       let bare_is = states.states n in
-      subst (λ (s : TokenState). IsFit layout (bare_configuration s.machine)) (sym (seen_states n))
-      (subst (λ c. IsFit layout c) (sym bare_is.1) (fits bare_is.0))
+      subst (λ (s : TokenState). IsFitWith lowering s.machine) (sym (seen_states n))
+      (record {
+        bare = subst (λ c. IsFit layout c) (sym bare_is.1) (fits bare_is.0);
+        keeps = keeps_always token_cost (setting lowering) lowered.spends lowered.leaves input n;
+      })
 
   -- the assembler's machine begins where the machine with tokens does
   related : Related lowering 0 idle start turn

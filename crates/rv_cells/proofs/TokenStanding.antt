@@ -19,6 +19,7 @@ use Rattle.kk_counted.specs.TokenMachine.{token_machine}
 use Rattle.kk_counted.specs.TokenSpending.{AreTokensSpent}
 use Rattle.kk_counted.specs.TokenStates.{TokenSetting, TokenJoin, TokenFrame, TokenControl, TokenConfiguration, TokenState, bare_configuration}
 use Rattle.kk_counted.specs.TokenedCodes.{Tokened, TokenedFunction, TokenedProgram}
+use Rattle.kk_counted.proofs.KnownKept.{KeepsAt}
 use Rattle.kk_counted.specs.Tokens.{Slot, spent, null, token, is_unspent, is_token, token_of, Tokens, is_linked, marked}
 use Rattle.rv_isa.specs.declared.asm.Action.TheVariants.{Label}
 use Rattle.rv_isa.specs.Processor.{Ending, exited}
@@ -309,9 +310,14 @@ module _ (program : Lowering) where
   idle_of (TokenControl.stopped by) = 0
   idle_of TokenControl.stuck = 0
 
-  -- what is asked of a state, and of all states of the run that come later: that it is fit without its tokens
+  -- What is asked of a state: that it is fit without its tokens, and that a construction keeps only fields that are the new ones.
+  pub record IsFitWith (c : TokenConfiguration) : Type 0 where
+    pub bare : IsFit program.layout (bare_configuration c)
+    pub keeps : KeepsAt c c.control
+
+  -- the same of all states of the run that come later
   abbrev pub IsFitFrom : TokenState → Type 0
-  IsFitFrom s = (n : ℕ) → IsFit program.layout (bare_configuration (state upper n s).machine)
+  IsFitFrom s = (n : ℕ) → IsFitWith (state upper n s).machine
 
   -- What the heap has saved for drops is saved.
   pub record Related (credit idle : ℕ) (s : TokenState) (turn : AsmTurn World Ending) : Type 0 where

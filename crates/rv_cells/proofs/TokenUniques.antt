@@ -360,14 +360,14 @@ module _ (program : Lowering) (x c : ℕ) (fields used : List ℕ) (y : ℕ) (re
       let p = at.does.placed in
       let code = Tokened.if_unique x c fields used y rest in
       let known = known_of program at.shape in
-      let counts = (fit 0).counts (bare code) s.environment (map bare_join inner) refl in
+      let counts = (fit 0).bare.counts (bare code) s.environment (map bare_join inner) refl in
       let opens = λ (m : Named). unique_heap (count_at s.heap m.at) m.at (used_values used fields m.fields)
       (other_values used fields m.fields) s.heap in
       let named = named_there (cell_named c (length fields) s.heap (value_of s.environment x)) opens fields y rest s.environment inner
-      from input (fit 1).going in
+      from input (fit 1).bare.going in
       let to = at_code rest (bind_fields fields named.0.fields s.environment) inner from in
       let going = subst (λ o. NotStuck (bare_configuration (performed (token_open_step o opens fields y rest s.environment inner from)
-      input).1.machine).control) named.1 (fit 1).going in
+      input).1.machine).control) named.1 (fit 1).bare.going in
       let next = opened_there (opens named.0) named.0.at y from to going in
       let step = ap (λ o. token_open_step o opens fields y rest s.environment inner from) named.1
       ∙ ap (λ o. goes (to_opened o named.0.at y from to)) next.1 in
@@ -378,7 +378,7 @@ module _ (program : Lowering) (x c : ℕ) (fields used : List ℕ) (y : ℕ) (re
         below = below_more v (at.shape.variables + at.shape.slots) fields (omega arith) p.numbered.0.0;
         apart = p.numbered.0.1.0;
         kinds = marks_are at.shape.holds fields (field_marks program.marks c) p.marked.0.1.1 ∙ sym (program.fields_are c);
-        older = (fit 0).sound.older;
+        older = (fit 0).bare.sound.older;
       } in
       let few_used = filter_length (is_among used) fields in
       let most = few_fields at.shape.holds c fields p.marked.0.1.1 in
