@@ -9,9 +9,9 @@ use Rattle.kk_counted.specs.KeptFields.{KnownFields, fields_in, KeepsKnown, Leav
 use Rattle.kk_counted.specs.TokenedCodes.{Tokened, TokenedFunction}
 use Rattle.kk_counted.specs.Tokens.{Slot, token}
 use Rattle.kk_counted.specs.TokenStates.{TokenSetting, TokenControl, TokenConfiguration, TokenState}
-use Rattle.kk_counted.specs.TokenMachine.{left_in}
+use Rattle.kk_counted.specs.TokenMachine.{left_in, filled}
 use Rattle.kk_counted.specs.TokenSpending.{AreTokensSpent}
-use Rattle.kk_counted.specs.TokenKeeping.{token_after}
+use Rattle.kk_counted.specs.TokenKeeping.{FillsAt, token_after}
 use Rattle.kk_counted.proofs.Knowing.{AreTrue, known_true}
 use Rattle.kk_counted.proofs.KnownSteps.{IsKnownAt}
 use Rattle.kk_counted.proofs.KnownRuns.{good_after}
@@ -42,6 +42,22 @@ KeepsAt c (TokenControl.running (Tokened.fill x y k first arguments kept others 
     (p : ℕ) → c.tokens.slots (length c.frames) y ≡ token p
     → AreKeptFields 0 kept (fields_held c.heap p) (map (value_of environment) (first ∷ arguments))
 KeepsAt c _ = Unit {0}
+
+-- so a construction that leaves them writes all
+pub keeps_fills : (leaves : Bool) (c : TokenConfiguration) (control : TokenControl) → KeepsAt c control → FillsAt leaves c control
+keeps_fills leaves c (TokenControl.running code environment joins) keeps = at code keeps
+  where
+    by : (left : Bool) (kept : List ℕ) (olds news : List Value) → AreKeptFields 0 kept olds news → filled left kept olds news ≡ news
+    by true kept olds news are = kept_left 0 kept olds news are
+    by false kept olds news are = refl
+
+    at : (code : Tokened) → KeepsAt c (TokenControl.running code environment joins)
+        → FillsAt leaves c (TokenControl.running code environment joins)
+    at (Tokened.fill x y k first arguments kept others rest) given =
+        λ p is. by leaves kept (fields_held c.heap p) (map (value_of environment) (first ∷ arguments)) (given p is)
+    at _ given = tt
+keeps_fills leaves c (TokenControl.stopped by) keeps = tt
+keeps_fills leaves c TokenControl.stuck keeps = tt
 
 none_kept : (environment : Environment) (next : ℕ) (kept : List ℕ) (olds : List Value) (arguments : List ℕ)
     → KeepsKnown next kept [] arguments → AreKeptFields next kept olds (map (value_of environment) arguments)

@@ -195,7 +195,7 @@ module _ (program : Lowering) where
         = ap (λ (v : Value). goes (machine_at program (if is_true v then positive else negative) s.environment inner frames s.heap
         tokens)) is in
         let kept = subst (AllLead (AreKeptBy program.pool.cells (ListsAfter code inner at.lists))) step
-        (kept_after program code inner frames tokens input s fs left at refl) in
+        (kept_after program code inner frames tokens input s fs left at (fit 0).keeps refl) in
         let lines_are : left ≡ test ++ behind = left_parts ∙ append_assoc test (yes ++ (label ∷ no)) at.does.placed.after in
         turns_to code inner frames tokens input s fs left at idle fit next there tested.cells n cost same_below placed
         (subst (λ (l : Lists). IsJudged program.pool.cells l.left l.unspent l.held l.older next inner frames s.heap tokens)

@@ -110,7 +110,7 @@ module _ (program : Lowering) where
       let step : token_code_step (setting program) code s.environment inner from
       ≡ goes (machine_at program rest s.environment inner frames next.0 tokens) = ap (λ o. goes (to_heap o from there)) next.1 in
       let kept = subst (AllLead (AreKeptBy program.pool.cells (ListsAfter code inner at.lists))) step
-      (kept_after program code inner frames tokens input s fs left at refl) in
+      (kept_after program code inner frames tokens input s fs left at (fit 0).keeps refl) in
       let few = p.short in
       goes_did code inner frames tokens input s fs left at idle fit rest (dup_lines at.shape.holds x) p.lines.0
       (record s { heap = next.0; owners = done.0; world = with_cells s.world done.1 }) s.bound (most_moves + 5) goes done.2 refl
@@ -134,7 +134,7 @@ module _ (program : Lowering) where
       let step : token_code_step (setting program) code s.environment inner from
       ≡ goes (machine_at program rest s.environment inner frames next.0 tokens) = ap (λ o. goes (to_heap o from there)) next.1 in
       let kept = subst (AllLead (AreKeptBy program.pool.cells (ListsAfter code inner at.lists))) step
-      (kept_after program code inner frames tokens input s fs left at refl) in
+      (kept_after program code inner frames tokens input s fs left at (fit 0).keeps refl) in
       let few = p.short in
       goes_did code inner frames tokens input s fs left at idle fit rest (drop_lines (at.shape.variables + at.shape.slots) at.shape.holds x) p.lines.0
       (record s { heap = next.0; frame = done.0; owners = done.1; world = with_cells s.world done.2 }) s.bound (2 * most_moves + 16)

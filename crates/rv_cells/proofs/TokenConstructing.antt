@@ -220,7 +220,7 @@ module _ (program : Lowering) (x c a : ℕ) (more : List ℕ) (rest : Tokened) (
       let step : token_code_step (setting program) code s.environment inner from
       ≡ builds (busy s.heap) (machine_at program rest to.environment inner frames to.heap after) = asked (has_room after) served in
       let kept = subst (AllLead (AreKeptBy program.pool.cells (ListsAfter code inner at.lists))) step
-      (kept_after program code inner frames tokens input s fs left at refl) in
+      (kept_after program code inner frames tokens input s fs left at (fit 0).keeps refl) in
       let judged : IsJudged program.pool.cells at.lists.left at.lists.unspent at.lists.held at.lists.older rest inner frames
       to.heap after
       = subst (λ (l : Lists). IsJudged program.pool.cells l.left l.unspent l.held l.older rest inner frames to.heap after) kept.1.0

@@ -409,7 +409,7 @@ module _ (program : Lowering) (x : ℕ) (decisions : List NodeTree) (arms : Toke
       ≡ goes (machine_at program body s.environment inner frames s.heap tokens)
       = ap (λ o. token_case_step o s.environment inner from) there.1 in
       let kept = subst (AllLead (AreKeptBy program.pool.cells (ListsAfter code inner at.lists))) step
-      (kept_after program code inner frames tokens input s fs left at refl) in
+      (kept_after program code inner frames tokens input s fs left at (fit 0).keeps refl) in
       let seen = mul-le-mul_right (looks_taken (cell_at s.heap) v decisions) look_within in
       turns_to program code inner frames tokens input s fs left at idle fit body behind leads.later (leads.steps + 1)
       (cost + (m + 0))

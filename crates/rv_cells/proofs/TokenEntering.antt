@@ -377,7 +377,7 @@ module _ (program : Lowering) where
           let step_is : (b : Bool) → nat_le program.depth (suc (length frames)) ≡ b
           → (upper program).step start ≡ seen_action program (tell b) input
           = λ b e. ap (λ action. seen_action program action input) (action_is b e) in
-          let kept = kept_after program code inner frames tokens input s fs left at refl in
+          let kept = kept_after program code inner frames tokens input s fs left at (fit 0).keeps refl in
           let handed = temporaries_many base arguments in
           let last_cost = 2 * length (temporaries base arguments) + 8 in
           let cost = row_cost arguments (m + 2) + last_cost in
@@ -486,7 +486,7 @@ module _ (program : Lowering) where
       let action_is : token_code_step (setting program) code s.environment inner start.machine
       ≡ goes (in_body function vs start.machine) = ap (λ o. token_tail_step o vs start.machine) there.1 in
       let lists = subst (AllLead (AreKeptBy program.pool.cells (ListsAfter code inner at.lists))) action_is
-      (kept_after program code inner frames tokens input s fs left at refl) in
+      (kept_after program code inner frames tokens input s fs left at (fit 0).keeps refl) in
       let judged : IsJudged program.pool.cells [] [] [] at.lists.older function.body [] frames s.heap tokens
       = subst (λ (l : Lists). IsJudged program.pool.cells l.left l.unspent l.held l.older function.body [] frames s.heap tokens)
       lists.1.0 lists.1.1 in

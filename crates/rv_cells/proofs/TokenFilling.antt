@@ -5,10 +5,10 @@ use Rattle.std.proofs.lemmas.List.{length-map}
 use Rattle.kk_syntax.specs.Shapes.{is_among, without}
 use Rattle.kk_source.specs.State.{Value, heap_full}
 use Rattle.kk_source.specs.Actions.{goes, builds}
-use Rattle.kk_counted.specs.Heaps.{Heap, busy}
+use Rattle.kk_counted.specs.Heaps.{Heap, busy, fields_held}
 use Rattle.kk_counted.specs.Keeping.{values_of}
 use Rattle.kk_counted.specs.TokenKeeping.{AreTokens, chain_of, Lists, IsJudged, ListsAfter, AreKeptBy}
-use Rattle.kk_counted.specs.TokenMachine.{token_code_step, make_step, bound_to, token_at_end, token_at_stuck}
+use Rattle.kk_counted.specs.TokenMachine.{token_code_step, make_step, filled, bound_to, token_at_end, token_at_stuck}
 use Rattle.kk_counted.specs.TokenRuns.{AllLead}
 use Rattle.kk_counted.specs.TokenStates.{TokenJoin, TokenFrame, TokenConfiguration, TokenState}
 use Rattle.kk_counted.specs.TokenedCodes.{Tokened}
@@ -171,10 +171,12 @@ module _ (program : Lowering) (x y c first : ℕ) (arguments kept_at others : Li
       let puts : Value → TokenConfiguration = λ w. bound_to x w rest s.environment inner from in
       ap (λ g. by_token (goes (token_at_stuck from))
       (make_step (request program.pool.cells others g s.heap (blanked g y spent tokens)) c vs puts from)
-      (λ r. make_step (has_room (released g y r spent tokens)) c vs puts from) g y tokens) many
+      (λ r. make_step (has_room (released g y r spent tokens)) c (filled true kept_at (fields_held s.heap r) vs) puts from) g y
+      tokens) many
       ∙ by_null program.pool.cells (goes (token_at_stuck from))
       (make_step (request program.pool.cells others n s.heap asking) c vs puts from)
-      (λ r. make_step (has_room (released n y r spent tokens)) c vs puts from) n y tokens empty
+      (λ r. make_step (has_room (released n y r spent tokens)) c (filled true kept_at (fields_held s.heap r) vs) puts from) n y
+      tokens empty
       ∙ ap (λ o. make_step o c vs puts from) is
 
   -- ---- what the lines do, by what the request gets
@@ -227,7 +229,7 @@ module _ (program : Lowering) (x y c first : ℕ) (arguments kept_at others : Li
       let step : token_code_step (setting program) code s.environment inner from
       ≡ builds (busy s.heap) (machine_at program rest to.environment inner frames to.heap after) = asked (has_room after) served in
       let kept = subst (AllLead (AreKeptBy program.pool.cells (ListsAfter code inner at.lists))) step
-      (kept_after program code inner frames tokens input s fs left at refl) in
+      (kept_after program code inner frames tokens input s fs left at (fit 0).keeps refl) in
       let judged : IsJudged program.pool.cells at.lists.left (without (y ∷ []) at.lists.unspent) at.lists.held at.lists.older rest
       inner frames to.heap after
       = subst (λ (l : Lists). IsJudged program.pool.cells l.left l.unspent l.held l.older rest inner frames to.heap after) kept.1.0

@@ -1,5 +1,5 @@
 -- The lines of a construction in the cell of a token do the step of the machine with tokens.
-use Rattle.std.proofs.Common.{◌≡◌, ℕ, suc, ◌+◌, ◌<◌, ◌≤◌, inl, inr, false, List, [], ◌∷◌, ◌++◌, length, Some, refl, sym, ◌∙◌, ap, subst, arith, ne_eqb, append_assoc}
+use Rattle.std.proofs.Common.{◌≡◌, ℕ, suc, ◌+◌, ◌<◌, ◌≤◌, inl, inr, true, false, List, [], ◌∷◌, ◌++◌, length, Some, refl, sym, ◌∙◌, ap, subst, arith, ne_eqb, append_assoc}
 use Rattle.std.proofs.lemmas.List.{length-map}
 use Rattle.kk_syntax.specs.Shapes.{is_among, without}
 use Rattle.kk_source.specs.State.{Value}
@@ -8,12 +8,13 @@ use Rattle.kk_counted.specs.Heaps.{Heap, busy, fields_held}
 use Rattle.kk_counted.specs.Keeping.{values_of}
 use Rattle.kk_counted.specs.Marks.{field_marks}
 use Rattle.kk_counted.specs.TokenKeeping.{ArePooled, Lists, IsJudged, ListsAfter, AreKeptBy}
-use Rattle.kk_counted.specs.TokenMachine.{token_code_step, make_step, bound_to, token_at_stuck}
+use Rattle.kk_counted.specs.TokenMachine.{token_code_step, make_step, filled, bound_to, token_at_stuck}
 use Rattle.kk_counted.specs.TokenRuns.{AllLead}
 use Rattle.kk_counted.specs.TokenStates.{TokenJoin, TokenFrame, TokenConfiguration}
 use Rattle.kk_counted.specs.TokenedCodes.{Tokened}
 use Rattle.kk_counted.specs.Tokens.{spent, token, Mark, plain, token_of, one_if_token, Tokens, is_linked, by_token, marked, blanked, released, has_room, request}
 use Rattle.kk_counted.proofs.Chaining.{equal_one, frames_many, not_linked}
+use Rattle.kk_counted.proofs.KnownKept.{kept_left}
 use Rattle.kk_counted.proofs.Pooling.{slot_here, slot_there, mark_there, by_cell}
 use Rattle.rv_isa.specs.declared.asm.Action.TheVariants.{Branch, Routine as Calls}
 use Rattle.rv_isa.specs.declared.asm.Condition.TheVariants.{NotEqual}
@@ -162,12 +163,15 @@ module _ (program : Lowering) (x y c first : ℕ) (arguments kept_at others : Li
       ≡ builds (busy s.heap) (machine_at program rest to.environment inner frames to.heap after)
       = ap (λ g. by_token (goes (token_at_stuck from))
       (make_step (request program.pool.cells others g s.heap (blanked g y spent tokens)) c vs puts from)
-      (λ r. make_step (has_room (released g y r spent tokens)) c vs puts from) g y tokens) many
+      (λ r. make_step (has_room (released g y r spent tokens)) c (filled true kept_at (fields_held s.heap r) vs) puts from) g y
+      tokens) many
       ∙ by_cell program.pool.cells (goes (token_at_stuck from))
       (make_step (request program.pool.cells others n s.heap (blanked n y spent tokens)) c vs puts from)
-      (λ r. make_step (has_room (released n y r spent tokens)) c vs puts from) n y q s.heap tokens pooled has in
+      (λ r. make_step (has_room (released n y r spent tokens)) c (filled true kept_at (fields_held s.heap r) vs) puts from) n y q
+      s.heap tokens pooled has
+      ∙ ap (λ fields. make_step (has_room after) c fields puts from) (kept_left 0 kept_at (fields_held s.heap q) vs keeps) in
       let kept = subst (AllLead (AreKeptBy program.pool.cells (ListsAfter code inner at.lists))) step
-      (kept_after program code inner frames tokens input s fs left at refl) in
+      (kept_after program code inner frames tokens input s fs left at (fit 0).keeps refl) in
       let stays : (r : ℕ) → r < size → later r ≡ s.address r
       = λ r less. chosen_other r size address s.address (λ e. omega (arith, e, less)) in
       let below = pooled.there n y q mark in

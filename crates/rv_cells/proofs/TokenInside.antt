@@ -45,7 +45,7 @@ module _ (program : Lowering) where
       = split_at s.frame.whole p.before left part (label ∷ more) p.after p.place is in
       let few = p.short in
       let join : TokenJoin = record { variable = x; rest = rest } in
-      let next = kept_after program code inner frames tokens input s fs left at refl in
+      let next = kept_after program code inner frames tokens input s fs left at (fit 0).keeps refl in
       let nothing = at.judged.spends.1.0 in
       by_lines program 0 0 ((upper program).weight (token_at program code s.environment inner frames s.heap tokens input)) (saved s.heap)
       idle (token_at program block s.environment (join ∷ inner) frames s.heap tokens input)
@@ -147,7 +147,7 @@ module _ (program : Lowering) where
       ≡ goes (machine_at program rest to.environment inner frames to.heap tokens)
       = ap (λ o. token_read_step o fields rest s.environment inner from) named.1 in
       let kept = subst (AllLead (AreKeptBy program.pool.cells (ListsAfter code inner at.lists))) step
-      (kept_after program code inner frames tokens input s fs left at refl) in
+      (kept_after program code inner frames tokens input s fs left at (fit 0).keeps refl) in
       let few = p.short in
       let row = row_times fields (most_moves + 2) in
       goes_did program code inner frames tokens input s fs left at idle fit rest p.lines.0 p.lines.1 to (fields ++ s.bound)

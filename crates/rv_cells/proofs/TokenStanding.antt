@@ -131,7 +131,7 @@ module _ (program : Lowering) where
   texts = record { literals = program.code.texts; constants = program.constants }
 
   abbrev pub setting : TokenSetting
-  setting = record { program = program.code; cells = program.pool.cells; depth = program.depth; leaves = false }
+  setting = record { program = program.code; cells = program.pool.cells; depth = program.depth; leaves = true }
 
   -- the machine with tokens as an image tells it
   abbrev pub upper : Machine TokenState Event Ending

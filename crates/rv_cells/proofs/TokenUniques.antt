@@ -239,7 +239,7 @@ module _ (program : Lowering) (x c : ℕ) (fields used : List ℕ) (y : ℕ) (re
       let code = Tokened.if_unique x c fields used y rest in
       let to = opened_to named next frame owners cells in
       let kept = subst (AllLead (AreKeptBy program.pool.cells (ListsAfter code inner at.lists))) step
-      (kept_after program code inner frames tokens input s fs left at refl) in
+      (kept_after program code inner frames tokens input s fs left at (fit 0).keeps refl) in
       let few = p.short in
       let one = row_times fields (most_moves + 2) in
       let two = row_times (filter (is_among used) fields) (most_moves + 5) in
