@@ -14,7 +14,7 @@ use Rattle.kk_syntax.specs.Shapes.{is_among}
 use Rattle.kk_source.specs.FormEffects.{piece_of}
 use Rattle.kk_counted.specs.Lowerable.{HasArity}
 use Rattle.kk_counted.specs.Marks.{CellMarks, field_marks, HaveMarks, IsFormMarked}
-use Rattle.rv_isa.specs.declared.asm.Action.TheVariants.{Compute, Label, TailCall, Call as CallOf, Routine as Calls, Hold, Unhold}
+use Rattle.rv_isa.specs.declared.asm.Action.TheVariants.{Label, TailCall, Call as CallOf, Routine as Calls, Hold}
 use Rattle.rv_isa.specs.declared.asm.ImmediateOperation.{ImmediateOperation}
 use Rattle.rv_isa.specs.declared.asm.ImmediateOperation.TheVariants.{Addi, Sltiu, Xori}
 use Rattle.rv_isa.specs.declared.asm.Operation.TheVariants as Op

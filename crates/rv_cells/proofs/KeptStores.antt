@@ -1,5 +1,5 @@
 -- Some fields of a cell in hand are stored: the kept ones, and the others.
-use Rattle.std.proofs.Common.{◌≡◌, ◌≢◌, ◌<◌, ◌≤◌, ℕ, suc, ◌+◌, Bool, true, false, not, List, [], ◌∷◌, ◌++◌, length, Option, Some, refl, sym, ◌∙◌, ap, subst, arith, append_assoc}
+use Rattle.std.proofs.Common.{◌≡◌, ◌≢◌, ◌<◌, ◌≤◌, ℕ, suc, ◌+◌, Bool, true, false, not, List, [], ◌∷◌, ◌++◌, length, Option, Some, refl, sym, ◌∙◌, ap, subst, arith}
 use Rattle.std.specs.Prelude.{if◌then◌else◌}
 use Rattle.kk_syntax.specs.Shapes.{is_among}
 use Rattle.kk_source.specs.State.{Value}
@@ -96,8 +96,8 @@ pub some_written : (takes : ℕ → Bool) (i position : ℕ) (ws : List ℕ) (wo
 some_written takes i position [] words = tt
 some_written takes i position (w ∷ ws) words = (
   λ is.
-  some_below takes (suc i) (suc position) i ws (word_if (takes position) i w words) (omega arith)
-  ∙ ap (λ b. word_if b i w words i) is ∙ chosen_same i i (Some w) words refl,
+      some_below takes (suc i) (suc position) i ws (word_if (takes position) i w words) (omega arith)
+      ∙ ap (λ b. word_if b i w words i) is ∙ chosen_same i i (Some w) words refl,
   some_written takes (suc i) (suc position) ws (word_if (takes position) i w words),
 )
 

@@ -1,5 +1,5 @@
 -- The words of the fields of tokens' cells: they stay where counts change, where a cell is made, and where cells are held.
-use Rattle.std.proofs.Common.{◌≡◌, ◌<◌, ◌≤◌, ℕ, suc, List, [], ◌∷◌, length, Option, Some, None, refl, sym, ◌∙◌, ap, subst, arith, ne_eqb, nat_lt, cond, false}
+use Rattle.std.proofs.Common.{◌≡◌, ◌<◌, ◌≤◌, ℕ, suc, List, [], ◌∷◌, length, Option, Some, None, sym, ◌∙◌, ap, subst, arith, ne_eqb, nat_lt, cond, false}
 use Rattle.std.proofs.lemmas.Bool.Decides.{nat_tests}
 use Rattle.kk_source.specs.State.{Value}
 use Rattle.kk_source.specs.Sound.{AllWithin}
@@ -46,7 +46,7 @@ pub grown_words : (layout : Layout) (address : ℕ → ℕ) (heap : Heap) (made 
 grown_words layout address heap made at p older low =
     ap (words_in layout (assign (length heap) at address))
     (fields_below made heap p (ne_eqb (length heap) p (λ e. omega (arith, e, low))))
-    ∙ words_older layout (length heap) at address (fields_held heap p) 
+    ∙ words_older layout (length heap) at address (fields_held heap p)
     (all_within_more p (length heap) (fields_held heap p) (omega (arith, low)) (older p))
 
 -- the fields of a cell that a value names are held at its name

@@ -1,6 +1,6 @@
 -- A program with tokens whose functions are lowered runs the same as its assembler code: its bare form has room for the work on
 -- tokens, and the assembler's machine does the steps of the machine with tokens.
-use Rattle.std.proofs.Common.{◌≡◌, ℕ, zero, suc, ◌+◌, ◌*◌, ◌%◌, ◌<◌, ◌≤◌, false, List, [], ◌∷◌, Some, All, refl, sym, ◌∙◌, ap, subst, arith}
+use Rattle.std.proofs.Common.{◌≡◌, ℕ, zero, suc, ◌+◌, ◌*◌, ◌%◌, ◌<◌, ◌≤◌, List, [], ◌∷◌, Some, All, refl, sym, ◌∙◌, ap, subst, arith}
 use Rattle.std.specs.Prelude.{slice_get}
 use Rattle.kk_base.specs.Agreements.{Agree}
 use Rattle.kk_base.specs.Machines.{Machine, mapped, state, ending_after}
@@ -20,8 +20,8 @@ use Rattle.kk_counted.specs.Marks.{CellMarks}
 use Rattle.kk_counted.specs.TokenCosts.{token_cost, HasRoom, AreStatesKept}
 use Rattle.kk_counted.specs.TokenKeeping.{FillsAlways, token_after}
 use Rattle.kk_counted.specs.TokenMachine.{token_machine}
-use Rattle.kk_counted.specs.TokenStates.{TokenControl, TokenConfiguration, TokenState, token_first_state, token_end_at, bare_control, bare_configuration, bare_setting}
-use Rattle.kk_counted.specs.TokenedCodes.{Tokened, TokenedFunction, TokenedProgram}
+use Rattle.kk_counted.specs.TokenStates.{TokenControl, TokenState, token_first_state, token_end_at, bare_control, bare_setting}
+use Rattle.kk_counted.specs.TokenedCodes.{TokenedFunction, TokenedProgram}
 use Rattle.kk_counted.proofs.KnownKept.{keeps_always}
 use Rattle.kk_counted.proofs.KnownRuns.{known_may_be_left}
 use Rattle.kk_counted.proofs.TokenRoom.{costs_within, states_kept}

@@ -317,8 +317,11 @@ module _ (program : Lowering) (x c : ℕ) (fields used : List ℕ) (y : ℕ) (re
           (counted_within s.heap named.at 0 once) (plain_mark (tokens.marks named.at) refl) refl refl long
           (λ q. recounted_words program.layout s.address s.heap next q recounted)
           (subst (λ b. IsTokenCell b (token_words program.layout s.address s.heap named.at) (owners (s.address named.at)))
-          (sym free_slot) (has.words, has.hand, subst (AreFrom has.words 2) (ap (words_in program.layout s.address) (sym fields_are))
-          has.fields_are))
+          (sym free_slot) (
+            has.words,
+            has.hand,
+            subst (AreFrom has.words 2) (ap (words_in program.layout s.address) (sym fields_are)) has.fields_are,
+          ))
           (ap is_aside owns)
           (λ z linked ws differ is. subst (IsTokenCell linked ws) (sym (has.aside z differ (token_aside linked ws (s.owners z) is))) is)
           (λ z differ. same_bools (is_aside (owners z)) (is_aside (s.owners z))

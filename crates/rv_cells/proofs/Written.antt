@@ -7,7 +7,6 @@ use Rattle.std.proofs.Common.{
   ◌<◌,
   Bool,
   true,
-  false,
   not,
   List,
   [],

@@ -159,7 +159,13 @@ fn some_stores(
     let mut index = FIELDS;
     let mut position = 0;
     for field in fields {
-        push_store(&mut lines, is_taken(left, kept, position), cell, index, *field)?;
+        push_store(
+            &mut lines,
+            is_taken(left, kept, position),
+            cell,
+            index,
+            *field,
+        )?;
         index = next(index)?;
         position = next(position)?;
     }

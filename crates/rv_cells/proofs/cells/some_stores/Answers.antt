@@ -1,4 +1,4 @@
-use Rattle.std.proofs.Common.{Bool, List, ◌+◌, take, map, get_or, arith, sym, subst, ap, ◌∙◌}
+use Rattle.std.proofs.Common.{Bool, List, ◌+◌, take, map, get_or, arith, sym, subst}
 use Rattle.rv_isa.specs.AsmCode.{Line}
 use Rattle.rv_lower.specs.Written.{short_line}
 use Rattle.rv_cells.specs.CellLines.{StoresIf, SomeStores, is_kept}
