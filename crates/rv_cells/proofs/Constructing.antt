@@ -56,8 +56,8 @@ from_words i (w ∷ ws) words = (
       (with_word i w words),
 )
 
-pub twice_owner : (at : ℕ) (first second : Owner) (owners : ℕ → Owner) → with_owner at second (with_owner at first owners) ≡ with_owner
-    at second owners
+pub twice_owner : (at : ℕ) (first second : Owner) (owners : ℕ → Owner)
+    → with_owner at second (with_owner at first owners) ≡ with_owner at second owners
 twice_owner at first second owners =
     fun_ext (λ x. chosen_by (λ o. o ≡ with_owner at second owners x) x at second (with_owner at first owners)
     (λ e. sym (chosen_same x at second owners e))
@@ -219,8 +219,8 @@ names_made known s x c arguments here making at =
 pub counts_made : (known : Known) (s : Spot) (x c : ℕ) (arguments : List ℕ) → Here known s → IsMaking known s x c arguments
     → (f : Frame Line) (at : ℕ) (words : ℕ → Option ℕ) (cells : Cells)
     → Hands known.target.pool known.layout s.address s.owners s.heap at words cells
-    → IsBlockOf known.layout s.address (record { count = 1; cell = record { made_by = c; fields = values_of s.environment arguments } })
-    words
+    → IsBlockOf known.layout s.address
+    (record { count = 1; cell = record { made_by = c; fields = values_of s.environment arguments } }) words
     → HasValues known.layout (assign (length s.heap) at s.address) known.holds known.base (suc (length s.heap)) (x ∷ s.bound)
     (record { variable = x; value = place (length s.heap) } ∷ s.environment) f.cells
     → Here known (made_spot s x c (values_of s.environment arguments) at
@@ -231,8 +231,8 @@ counts_made known s x c arguments here making f at words cells whole shows value
     let counted = built whole at words cell (chosen_same at at (in_hand words) s.owners refl)
     making.older (args_older known s here arguments making.bound) shows in
     record {
-      follows = subst (λ o. Follows known.target.pool known.layout (assign n at s.address) o (record { count = 1; cell = cell } ∷ s.heap)
-          cells) (twice_owner at (in_hand words) (cell_of n) s.owners) counted;
+      follows = subst (λ o. Follows known.target.pool known.layout (assign n at s.address) o
+          (record { count = 1; cell = cell } ∷ s.heap) cells) (twice_owner at (in_hand words) (cell_of n) s.owners) counted;
       values = has_temporary (has_temporary values known.base (header_of known.layout c) (omega arith)) known.base 1 (omega arith);
     }
 

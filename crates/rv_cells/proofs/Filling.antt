@@ -309,7 +309,8 @@ module _ (known : Known) (rest : List Line) (fs : List (Frame Line)) (s : Spot) 
   have_words : (owners : ℕ → Owner) (values : ℕ → Option ℕ) (word at : ℕ) (words : ℕ → Option ℕ) (next : Cells)
       → Here known (there owners values at words next) → HaveWords (named values word at) arguments words_are
   have_words owners values word at words next here_there =
-      below_words known (there owners values at words next) here_there word (put x (Some at) values) arguments words_are making.bound
+      below_words known (there owners values at words next) here_there word (put x (Some at) values) arguments words_are
+      making.bound
       (args_words known (there owners values at words next) here_there x at arguments making.bound making.apart)
 
   -- from the label on

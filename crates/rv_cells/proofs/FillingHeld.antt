@@ -360,7 +360,8 @@ module _ (known : Known) (rest : List Line) (fs : List (Frame Line)) (s : Spot) 
       let t2 = turn_of back_lines f gs (with_cells s.world next) in
       let t3 = turn_of label last gs (with_cells s.world back.0) in
       let behind = runs_then known.target (most_moves + 10) unholds 1 (length others) t1 t2 t3 took back.1 in
-      ends_taken known rest fs s x token c others filled arguments kept lines here making are gs (all_back (names values at) others owners)
+      ends_taken known rest fs s x token c others filled arguments kept lines here making are gs
+      (all_back (names values at) others owners)
       values 0 at ((before + holds) + ((most_moves + 10) + unholds))
       ((((1 + 1) + 1) + length others) + (1 + length others)) words back.0
       (runs_then known.target (before + holds) ((most_moves + 10) + unholds) (((1 + 1) + 1) + length others) (1 + length others)

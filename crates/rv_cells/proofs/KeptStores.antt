@@ -35,7 +35,8 @@ picked_all kept position (x ∷ xs) cost = by (is_among kept position) (picked_a
   where
     by : (b : Bool) → row_cost (picked (is_kept true kept) (suc position) xs) cost
         + row_cost (picked (is_kept false kept) (suc position) xs) cost ≡ row_cost xs cost
-        → row_cost (if b then x ∷ picked (is_kept true kept) (suc position) xs else picked (is_kept true kept) (suc position) xs) cost
+        → row_cost (if b then x ∷ picked (is_kept true kept) (suc position) xs
+        else picked (is_kept true kept) (suc position) xs) cost
         + row_cost (if not b then x ∷ picked (is_kept false kept) (suc position) xs
         else picked (is_kept false kept) (suc position) xs) cost
         ≡ cost + row_cost xs cost
@@ -160,7 +161,8 @@ module _ (target : Target) (layout : Layout) (address : ℕ → ℕ) (owners : �
   some_run rest (y ∷ ys) (w ∷ ws) i position lines words world stores has few holds =
       subst (λ ls. SomeRun rest (y ∷ ys) (w ∷ ws) i position ls words world) (sym stores.4)
       (by (takes position) stores.2
-      (λ next there hands. some_run rest ys ws (suc i) (suc position) stores.1 next there stores.3 has.1 (omega (arith, few)) hands))
+      (λ next there hands. some_run rest ys ws (suc i) (suc position) stores.1 next there stores.3 has.1 (omega (arith, few))
+      hands))
     where
       by : (b : Bool) → StoresIf b x i y stores.0
           → ((next : ℕ → Option ℕ) (there : World) → Hands target.pool layout address owners heap at next there.cells

@@ -62,8 +62,8 @@ module _ (program : Lowering) where
         → suc (forms rest) ≤ idle → forms rest ≤ program.most
         → Follows_step program idle (token_at program code s.environment inner frames s.heap tokens input)
         (turn_of left s.frame fs s.world)
-    goes_did idle fit rest own more to later most tells did address_is long recounted parts low lines within older below marked_is numbered has
-        plain judged silent cheap is less short =
+    goes_did idle fit rest own more to later most tells did address_is long recounted parts low lines within older below marked_is
+        numbered has plain judged silent cheap is less short =
         let v = at.shape.variables in
         let same : (p : ℕ) → to.address p ≡ s.address p = λ p. ap (λ (g : ℕ → ℕ). g p) (sym address_is) in
         let carries : Carries program.layout s.address (length s.heap) to.address (length to.heap)

@@ -346,7 +346,8 @@ module _ (program : Lowering) where
       p.marked.1.0.1
       (kept_after program (Tokened.compute x (Unary Not) (a ∷ []) others rest) inner frames tokens input s fs left at tt refl)
       refl at.input_is refl at.bytes
-  at_plain x (Binary operator) [] others rest plain idle inner frames tokens input s fs left idle_is at fit = absurd (fit 0).bare.fits
+  at_plain x (Binary operator) [] others rest plain idle inner frames tokens input s fs left idle_is at fit =
+      absurd (fit 0).bare.fits
   at_plain x (Binary operator) (a ∷ []) others rest plain idle inner frames tokens input s fs left idle_is at fit =
       absurd (fit 0).bare.fits
   at_plain x (Binary operator) (a ∷ b ∷ c ∷ more) others rest plain idle inner frames tokens input s fs left idle_is at fit =

@@ -198,8 +198,8 @@ module _ (program : Lowering) (x y c first : ℕ) (arguments kept_at others : Li
 
   abbrev MadeBy : List (Frame Line) → (ℕ → Owner) → (ℕ → Option ℕ) → ℕ → Type 0
   MadeBy gs owners values one =
-      Fills known rest_lines fs s x (v + y) c zs at.does.placed.low (first ∷ arguments) kept_at at.does.placed.lines.0 here making_it
-      at.does.placed.lines.2 gs owners values 0 one
+      Fills known rest_lines fs s x (v + y) c zs at.does.placed.low (first ∷ arguments) kept_at at.does.placed.lines.0 here
+      making_it at.does.placed.lines.2 gs owners values 0 one
 
   abbrev later : ℕ → ℕ → ℕ
   later one = assign size one s.address
@@ -298,8 +298,8 @@ module _ (program : Lowering) (x y c first : ℕ) (arguments kept_at others : Li
 
   tokens_asked : AreTokensIn in_hand s.owners asked_values zs
   tokens_asked =
-      tokens1 known rest_lines fs s x (v + y) c zs at.does.placed.low (first ∷ arguments) kept_at at.does.placed.lines.0 here making_it
-      at.does.placed.lines.2 value tokens_are out apart program.some
+      tokens1 known rest_lines fs s x (v + y) c zs at.does.placed.low (first ∷ arguments) kept_at at.does.placed.lines.0 here
+      making_it at.does.placed.lines.2 value tokens_are out apart program.some
 
   same_asked : AllSame s.frame.cells asked_values zs
   same_asked = puts_same base x 0 0 s.frame.cells zs apart
@@ -337,8 +337,8 @@ module _ (program : Lowering) (x y c first : ℕ) (arguments kept_at others : Li
   steps_free : busy s.heap + marked asking.marks size < program.pool.cells → Serves (has_room asking) → Steps_on
   steps_free room served =
       let number = have.number in
-      let done = fills_free known rest_lines fs s x (v + y) c zs at.does.placed.low (first ∷ arguments) kept_at at.does.placed.lines.0 here
-      making_it at.does.placed.lines.2 value tokens_are out apart program.some (omega (arith, room, number)) in
+      let done = fills_free known rest_lines fs s x (v + y) c zs at.does.placed.low (first ∷ arguments) kept_at
+      at.does.placed.lines.0 here making_it at.does.placed.lines.2 value tokens_are out apart program.some (omega (arith, room, number)) in
       let one = done.0 in
       goes_there fs (owners_back s.frame.cells one) s.frame.cells one asking done.2 served
       (cells_stay have (later one) (owners_made s.frame.cells one) heap_made
@@ -380,8 +380,8 @@ module _ (program : Lowering) (x y c first : ℕ) (arguments kept_at others : Li
       let values = put (v + z) (Some 0) s.frame.cells in
       let there : asked_values (v + z) ≡ Some place = subst (λ slot. SlotIs s.address slot (asked_values (v + z))) has
       (slots_asked.are z) in
-      let done = fills_newest known rest_lines fs s x (v + y) c zs at.does.placed.low (first ∷ arguments) kept_at at.does.placed.lines.0
-      here making_it at.does.placed.lines.2 value tokens_are out apart program.some (v + z) more (live_is ∙ front)
+      let done = fills_newest known rest_lines fs s x (v + y) c zs at.does.placed.low (first ∷ arguments) kept_at
+      at.does.placed.lines.0 here making_it at.does.placed.lines.2 value tokens_are out apart program.some (v + z) more (live_is ∙ front)
       (slots_unbound v s.bound others at.has.below) (omega (arith, full, number)) in
       let same : done.0 ≡ place = some-is (sym done.1 ∙ there) in
       let made : MadeBy fs (owners_back values place) values place =
@@ -422,8 +422,8 @@ module _ (program : Lowering) (x y c first : ℕ) (arguments kept_at others : Li
       let kept = subst (λ b. IsTokenCell b (words_of p) (s.owners place)) linked (have.are link.frame link.slot p mark) in
       let taken = taken_from program s.address size asking.slots at.lists.older frames fs at.shape.result waits all_apart link links
       chain_is p has in
-      let made = fills_held known rest_lines fs s x (v + y) c zs at.does.placed.low (first ∷ arguments) kept_at at.does.placed.lines.0 here
-      making_it at.does.placed.lines.2 value tokens_are out apart program.some taken.gs place kept.0 (live_is ∙ dead) holds_none
+      let made = fills_held known rest_lines fs s x (v + y) c zs at.does.placed.low (first ∷ arguments) kept_at
+      at.does.placed.lines.0 here making_it at.does.placed.lines.2 value tokens_are out apart program.some taken.gs place kept.0 (live_is ∙ dead) holds_none
       taken.newest taken.taken kept.1 (omega (arith, full, number)) in
       let values = s.frame.cells in
       goes_there taken.gs (owners_back values place) values place after made served
@@ -450,7 +450,8 @@ module _ (program : Lowering) (x y c first : ℕ) (arguments kept_at others : Li
       let next : TokenState = record { machine = token_at_end heap_full from; input = input } in
       let no_token = none_held program s.address size asking.slots at.lists.older frames fs at.shape.result waits all_apart
       (sym now.are.chain ∙ chain) in
-      let ran = fills_none known rest_lines fs s x (v + y) c zs p.low (first ∷ arguments) kept_at p.lines.0 here making_it p.lines.2 value
+      let ran = fills_none known rest_lines fs s x (v + y) c zs p.low (first ∷ arguments) kept_at p.lines.0 here making_it
+      p.lines.2 value
       tokens_are out apart program.some (live_is ∙ dead) holds_none no_token (omega (arith, full, number)) in
       let held = row known rest_lines fs s x (v + y) c zs p.low (first ∷ arguments) kept_at p.lines.0 here making_it p.lines.2 value
       tokens_are out apart program.some in

@@ -99,7 +99,8 @@ module _ {pool : Pool} {layout : Layout} {address : ℕ → ℕ} {owners : ℕ �
   one_token : (y : ℕ) → Has (tokens.slots n y) → IsToken in_hand owners (values (variables + y))
   one_token y (is_null is) = inl (value_null y is)
   one_token y (has_cell p is) =
-      let cell = hand y p is in inr (address p, cell.0, value_cell y p is, some (address p) (token_words layout address heap p) cell, cell.1)
+      let cell = hand y p is in
+      inr (address p, cell.0, value_cell y p is, some (address p) (token_words layout address heap p) cell, cell.1)
 
   same_slot : {f g y z : ℕ} → token_of f y ≡ token_of g z → y ≡ z
   same_slot e = cc

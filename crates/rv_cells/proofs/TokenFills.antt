@@ -126,8 +126,8 @@ module _ (program : Lowering) (x y c first : ℕ) (arguments kept_at others : Li
       let here : Here known s = record { follows = at.follows; values = at.has.values } in
       let values_are = values_of_slots v others in
       let rest_lines = p.lines.1 ++ p.after in
-      let whole_is = whole_lines known rest_lines fs s x (v + y) c values_are p.low (first ∷ arguments) kept_at p.lines.0 here making
-      p.lines.2 in
+      let whole_is = whole_lines known rest_lines fs s x (v + y) c values_are p.low (first ∷ arguments) kept_at p.lines.0 here
+      making p.lines.2 in
       let mark = pooled.marks n y q has in
       let nothing = at.judged.spends.0 in
       let free : is_linked n y tokens.chain ≡ false = ap (is_linked n y) at.judged.are.chain
@@ -149,8 +149,8 @@ module _ (program : Lowering) (x y c first : ℕ) (arguments kept_at others : Li
       (copies_to (v + y) x) (copies_to x base) (acts (Branch NotEqual p.low) (base ∷ [])) (takes_into x)) in
       let keeps = (fit 0).keeps q (subst (λ m. tokens.slots m y ≡ token q) (sym many) has) in
       let known_ones = kept_words program.layout s.address kept_at hand.0 2 0 (fields_held s.heap q) vs keeps hand.2 in
-      let done = fills_own known rest_lines fs s x (v + y) c values_are p.low (first ∷ arguments) kept_at p.lines.0 here making p.lines.2
-      address hand.0 value hand.1 known_ones program.some found_at in
+      let done = fills_own known rest_lines fs s x (v + y) c values_are p.low (first ∷ arguments) kept_at p.lines.0 here making
+      p.lines.2 address hand.0 value hand.1 known_ones program.some found_at in
       let later = assign size address s.address in
       let f : Frame Line = record s.frame {
         cells = put base (Some 1) (put base (Some (header_of program.layout c))
@@ -210,10 +210,11 @@ module _ (program : Lowering) (x y c first : ℕ) (arguments kept_at others : Li
         cells = cell_goes at.cells program.aligned n y q later (with_owner address (cell_of size) s.owners) to.heap after
             (hand_owned at.follows address hand.0 hand.1).0 below mark refl
             (λ g z r differ is. stays r (pooled.there g z r is))
-            (λ g z r is. grown_words program.layout s.address s.heap (record { count = 1; cell = record { made_by = c; fields = vs } })
-            address r making.older (pooled.there g z r is))
+            (λ g z r is. grown_words program.layout s.address s.heap
+            (record { count = 1; cell = record { made_by = c; fields = vs } }) address r making.older (pooled.there g z r is))
             (λ g z r differ is. refl)
-            (λ one linked ws differ is. subst (IsTokenCell linked ws) (sym (chosen_other one address (cell_of size) s.owners differ)) is)
+            (λ one linked ws differ is. subst (IsTokenCell linked ws)
+            (sym (chosen_other one address (cell_of size) s.owners differ)) is)
             (ap is_aside (chosen_same address address (cell_of size) s.owners refl))
             (λ one differ. ap is_aside (chosen_other one address (cell_of size) s.owners differ))
             (ap (λ k. k + marked after.marks size) fresh ∙ none_more (marked after.marks size));

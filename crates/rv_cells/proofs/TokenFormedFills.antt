@@ -74,7 +74,8 @@ module _ (base : ℕ) (bound outer : List ℕ) (has : HasRoom base bound) (x : �
         (refl, has_no_append l (unhold_lines others) left (unhold_none others l) (left_stored.no_label l))
 
     asks_then : (tail : List Line) → asks ++ tail
-        ≡ hold_lines others ++ (record { action = Routine Take; args = []; into = Some x } ∷ (unhold_lines others ++ (left ++ tail)))
+        ≡ hold_lines others ++ (record { action = Routine Take; args = []; into = Some x }
+        ∷ (unhold_lines others ++ (left ++ tail)))
     asks_then tail =
         append_assoc (hold_lines others)
         (record { action = Routine Take; args = []; into = Some x } ∷ (unhold_lines others ++ left)) tail

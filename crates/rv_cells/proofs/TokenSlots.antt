@@ -175,7 +175,8 @@ module _ (program : Lowering) (y : ℕ) (rest : Tokened) where
             cells = cell_goes at.cells program.aligned n y q s.address (with_owner (s.address q) nobody s.owners) s.heap after
                 (hand_owned at.follows (s.address q) hand.0 hand.1).0 (pooled.there n y q mark) mark refl
                 (λ g z r differ is. refl) (λ g z r is. refl) (λ g z r differ is. refl)
-                (λ one linked list differ is. subst (IsTokenCell linked list) (sym (chosen_other one (s.address q) nobody s.owners differ)) is)
+                (λ one linked list differ is. subst (IsTokenCell linked list)
+                (sym (chosen_other one (s.address q) nobody s.owners differ)) is)
                 (ap is_aside (chosen_same (s.address q) (s.address q) nobody s.owners refl))
                 (λ one differ. ap is_aside (chosen_other one (s.address q) nobody s.owners differ)) refl;
             slots_are = slots_set at.has.tokens y spent p.has.0 (slot_here n y spent tokens.slots) tt

@@ -323,7 +323,8 @@ module _ (program : Lowering) (x c : ℕ) (fields used : List ℕ) (y : ℕ) (re
             subst (AreFrom has.words 2) (ap (words_in program.layout s.address) (sym fields_are)) has.fields_are,
           ))
           (ap is_aside owns)
-          (λ z linked ws differ is. subst (IsTokenCell linked ws) (sym (has.aside z differ (token_aside linked ws (s.owners z) is))) is)
+          (λ z linked ws differ is. subst (IsTokenCell linked ws)
+          (sym (has.aside z differ (token_aside linked ws (s.owners z) is))) is)
           (λ z differ. same_bools (is_aside (owners z)) (is_aside (s.owners z))
           (λ is. sym (ap is_aside (has.was z differ is)) ∙ is) (λ is. ap is_aside (has.aside z differ is) ∙ is)))
       by (suc k) counts =

@@ -76,8 +76,8 @@ fn write_request(lowering: &mut Lowering, into: u32, tokens: &[u32]) -> Result<(
     write_unholds(lowering, tokens)
 }
 
-/// A construction in the cell of a token, which has the fields at the kept positions. Where the token is null a cell is taken, while
-/// the tokens of the other slots are held, and these fields are stored too.
+/// A construction in the cell of a token, which has the fields at the kept positions. Where the token is null a cell is taken,
+/// while the tokens of the other slots are held, and these fields are stored too.
 pub fn write_fill(
     lowering: &mut Lowering,
     known: &Known<'_>,

@@ -16,6 +16,6 @@ loop-field-preserved c = record {
       (some_more (is_kept c.args.left c.args.kept.now) c.args.cell c.loop-field.field-index c.loop-field.index
       c.loop-field.position c.args.fields.now (map short_line c.loop-field.lines.items) pushed.0 c.loop-field-test.true
       c.loop-field.invariant.index c.loop-field.invariant.position c.loop-field.invariant.lines
-      (subst (λ (b : Bool). StoresIf b c.args.cell c.loop-field.index (get_or c.args.fields.now c.loop-field.field-index 0) pushed.0)
-      c.is_taken.ensures pushed.1));
+      (subst (λ (b : Bool). StoresIf b c.args.cell c.loop-field.index (get_or c.args.fields.now c.loop-field.field-index 0)
+      pushed.0) c.is_taken.ensures pushed.1));
 }
