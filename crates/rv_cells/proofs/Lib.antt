@@ -20,6 +20,7 @@ pub mod Constructing
 pub mod CountOpenings
 pub mod TokenOpenings
 pub mod TokenForms
+pub mod KeptStores
 pub mod Filling
 pub mod FillingHeld
 pub mod Walking
@@ -57,6 +58,7 @@ pub mod TokenCodeLengths
 pub mod TokenFrames
 pub mod TokenTaken
 pub mod TokenCells
+pub mod TokenFields
 pub mod TokenLanding
 pub mod TokenGiving
 pub mod TokenEntering
