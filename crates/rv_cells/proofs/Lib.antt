@@ -54,6 +54,7 @@ pub mod TokenFormedFunctions
 pub mod FormLengths
 pub mod TestLengths
 pub mod TokenCodeLengths
+pub mod FormPlaces
 pub mod TokenFrames
 pub mod TokenTaken
 pub mod TokenCells
