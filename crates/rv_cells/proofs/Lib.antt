@@ -55,6 +55,7 @@ pub mod FormLengths
 pub mod TestLengths
 pub mod TokenCodeLengths
 pub mod FormPlaces
+pub mod FormArities
 pub mod FormsApart
 pub mod TokenFrames
 pub mod TokenTaken
