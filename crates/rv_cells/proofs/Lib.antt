@@ -57,6 +57,7 @@ pub mod TokenCodeLengths
 pub mod FormPlaces
 pub mod FormArities
 pub mod FormsApart
+pub mod OwnLines
 pub mod TokenFrames
 pub mod TokenTaken
 pub mod TokenCells
