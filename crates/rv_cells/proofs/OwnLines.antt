@@ -12,7 +12,9 @@ use Rattle.kk_counted.specs.CountedMachine.{arm_at}
 use Rattle.kk_counted.specs.TokenedCodes.{Tokened, TokenedArms}
 use Rattle.kk_counted.proofs.Variables.{among_cases}
 use Rattle.kk_counted.proofs.Evenness.{among_front, among_behind}
+use Rattle.rv_isa.specs.declared.asm.Action.TheVariants.{Label}
 use Rattle.rv_isa.specs.AsmCode.{Line}
+use Rattle.rv_lower.specs.Lines.{acts}
 use Rattle.rv_lower.specs.Lowered.{Goal, joins}
 use Rattle.rv_cells.specs.CountedLines.{Setting}
 use Rattle.rv_cells.specs.TokenedLines.{CodeLines, ArmsLines}
@@ -161,3 +163,155 @@ among_found sought way behind line (tree code own parts) (step ∷ steps) inner 
     (among_part sought way behind line parts step leads.0
     (among_found sought (way ++ step.way) (behind + length step.before) line step.inner steps inner leads.1 acts
     (append_assoc way step.way (way_of steps) ∙ way_is) (omega (arith, line_is))))
+
+-- ---- ways
+
+-- a way leads to such a form
+pub record Reaches (outer : Tree) (way : List ℕ) : Type 0 where
+  pub steps : List Step
+  pub inner : Tree
+  pub leads : Leads outer steps inner
+  pub way_is : way_of steps ≡ way
+  pub acts : is_own_act (code_of inner) ≡ true
+
+-- the form itself
+reaches_itself : (outer : Tree) → is_own_act (code_of outer) ≡ true → Reaches outer []
+reaches_itself outer acts = record { steps = []; inner = outer; leads = refl; way_is = refl; acts = acts }
+
+-- by a step more
+reaches_behind : (outer : Tree) (step : Step) (way : List ℕ) → IsPart step (parts_of outer) → Reaches step.inner way
+    → Reaches outer (step.way ++ way)
+reaches_behind outer step way is reaches = record {
+  steps = step ∷ reaches.steps;
+  inner = reaches.inner;
+  leads = (is, reaches.leads);
+  way_is = ap (λ w. step.way ++ w) reaches.way_is;
+  acts = reaches.acts;
+}
+
+-- a way that is at its end is at the code
+act_here : (code act : Counted) → Some code ≡ Some act → is_act act ≡ true → is_act code ≡ true
+act_here code act is does = let same : code ≡ act = cc is in ap is_act same ∙ does
+
+false_not : false ≡ true → ⊥
+false_not is = cc is
+
+module _ (setting : Setting) (variables : ℕ) where
+  mutual
+    pub way_there : (goal : Goal) (low : ℕ) (code : Tokened) (own : List Line) (high : ℕ)
+        (lines : CodeLines setting variables goal low code own high) (way : List ℕ) (act : Counted)
+        → code_at (bare code) way ≡ Some act → is_act act ≡ true
+        → Reaches (tree_in setting variables goal low code own high lines) way
+    way_there goal low (Tokened.give x) own high lines [] act is does =
+        absurd (false_not (act_here (bare (Tokened.give x)) act is does))
+    way_there goal low (Tokened.give x) own high lines (n ∷ way) act is does = cc is
+    way_there goal low (Tokened.tail_call f arguments) own high lines [] act is does =
+        reaches_itself (tree_in setting variables goal low (Tokened.tail_call f arguments) own high lines) refl
+    way_there goal low (Tokened.tail_call f arguments) own high lines (n ∷ way) act is does = cc is
+    way_there goal low (Tokened.branch x positive negative) own high lines [] act is does =
+        absurd (false_not (act_here (bare (Tokened.branch x positive negative)) act is does))
+    way_there goal low (Tokened.branch x positive negative) own high lines (zero ∷ way) act is does =
+        reaches_behind (tree_in setting variables goal low (Tokened.branch x positive negative) own high lines) _ way (inl refl)
+        (way_there goal (low + 1) positive lines.0 lines.2 lines.3 way act is does)
+    way_there goal low (Tokened.branch x positive negative) own high lines (suc zero ∷ way) act is does =
+        reaches_behind (tree_in setting variables goal low (Tokened.branch x positive negative) own high lines) _ way
+        (inr (inl refl))
+        (way_there goal lines.2 negative lines.1 high lines.4 way act is does)
+    way_there goal low (Tokened.branch x positive negative) own high lines (suc (suc n) ∷ way) act is does = cc is
+    way_there goal low (Tokened.case x decisions arms) own high lines [] act is does =
+        absurd (false_not (act_here (bare (Tokened.case x decisions arms)) act is does))
+    way_there goal low (Tokened.case x decisions arms) own high lines (n ∷ way) act is does =
+        let there = arm_there goal low (lines.2 + length decisions) arms lines.1 high 0 lines.0 lines.5 n way act is does in
+        let number : 0 + n ≡ n = omega arith in
+        subst (λ w. Reaches (tree_in setting variables goal low (Tokened.case x decisions arms) own high lines) w)
+        (ap (λ w. w ++ way) (there.1.1.0 ∙ ap (λ k. k ∷ []) number))
+        (reaches_behind (tree_in setting variables goal low (Tokened.case x decisions arms) own high lines) there.0 way there.1.0
+        there.1.1.1)
+    way_there goal low (Tokened.compute x form arguments others rest) own high lines [] act is does =
+        reaches_itself (tree_in setting variables goal low (Tokened.compute x form arguments others rest) own high lines)
+        (act_here (bare (Tokened.compute x form arguments others rest)) act is does)
+    way_there goal low (Tokened.compute x form arguments others rest) own high lines (zero ∷ way) act is does =
+        reaches_behind (tree_in setting variables goal low (Tokened.compute x form arguments others rest) own high lines) _ way (inl refl)
+        (way_there goal lines.2 rest lines.1 high lines.4 way act is does)
+    way_there goal low (Tokened.compute x form arguments others rest) own high lines (suc n ∷ way) act is does = cc is
+    way_there goal low (Tokened.inside x block rest) own high lines [] act is does =
+        absurd (false_not (act_here (bare (Tokened.inside x block rest)) act is does))
+    way_there goal low (Tokened.inside x block rest) own high lines (zero ∷ way) act is does =
+        reaches_behind (tree_in setting variables goal low (Tokened.inside x block rest) own high lines) _ way (inl refl)
+        (way_there (joins x low) (low + 1) block lines.0 lines.2 lines.3 way act is does)
+    way_there goal low (Tokened.inside x block rest) own high lines (suc zero ∷ way) act is does =
+        reaches_behind (tree_in setting variables goal low (Tokened.inside x block rest) own high lines) _ way (inr (inl refl))
+        (way_there goal lines.2 rest lines.1 high lines.4 way act is does)
+    way_there goal low (Tokened.inside x block rest) own high lines (suc (suc n) ∷ way) act is does = cc is
+    way_there goal low (Tokened.read x c fields rest) own high lines [] act is does =
+        absurd (false_not (act_here (bare (Tokened.read x c fields rest)) act is does))
+    way_there goal low (Tokened.read x c fields rest) own high lines (zero ∷ way) act is does =
+        reaches_behind (tree_in setting variables goal low (Tokened.read x c fields rest) own high lines) _ way (inl refl)
+        (way_there goal low rest lines.1 high lines.3 way act is does)
+    way_there goal low (Tokened.read x c fields rest) own high lines (suc n ∷ way) act is does = cc is
+    way_there goal low (Tokened.open_cell x c fields used y rest) own high lines [] act is does =
+        absurd (false_not (act_here (bare (Tokened.open_cell x c fields used y rest)) act is does))
+    way_there goal low (Tokened.open_cell x c fields used y rest) own high lines (zero ∷ way) act is does =
+        reaches_behind (tree_in setting variables goal low (Tokened.open_cell x c fields used y rest) own high lines) _ way (inl refl)
+        (way_there goal (low + 2) rest lines.1 high lines.3 way act is does)
+    way_there goal low (Tokened.open_cell x c fields used y rest) own high lines (suc n ∷ way) act is does = cc is
+    way_there goal low (Tokened.if_unique x c fields used y rest) own high lines [] act is does =
+        absurd (false_not (act_here (bare (Tokened.if_unique x c fields used y rest)) act is does))
+    way_there goal low (Tokened.if_unique x c fields used y rest) own high lines (zero ∷ way) act is does =
+        reaches_behind (tree_in setting variables goal low (Tokened.if_unique x c fields used y rest) own high lines) _ way (inl refl)
+        (way_there goal (low + 2) rest lines.1 high lines.3 way act is does)
+    way_there goal low (Tokened.if_unique x c fields used y rest) own high lines (suc n ∷ way) act is does = cc is
+    way_there goal low (Tokened.dup x rest) own high lines [] act is does =
+        absurd (false_not (act_here (bare (Tokened.dup x rest)) act is does))
+    way_there goal low (Tokened.dup x rest) own high lines (zero ∷ way) act is does =
+        reaches_behind (tree_in setting variables goal low (Tokened.dup x rest) own high lines) _ way (inl refl)
+        (way_there goal low rest lines.0 high lines.1 way act is does)
+    way_there goal low (Tokened.dup x rest) own high lines (suc n ∷ way) act is does = cc is
+    way_there goal low (Tokened.drop x rest) own high lines [] act is does =
+        absurd (false_not (act_here (bare (Tokened.drop x rest)) act is does))
+    way_there goal low (Tokened.drop x rest) own high lines (zero ∷ way) act is does =
+        reaches_behind (tree_in setting variables goal low (Tokened.drop x rest) own high lines) _ way (inl refl)
+        (way_there goal low rest lines.0 high lines.1 way act is does)
+    way_there goal low (Tokened.drop x rest) own high lines (suc n ∷ way) act is does = cc is
+    way_there goal low (Tokened.fill x y c first arguments kept others rest) own high lines [] act is does =
+        reaches_itself (tree_in setting variables goal low (Tokened.fill x y c first arguments kept others rest) own high lines)
+        (act_here (bare (Tokened.fill x y c first arguments kept others rest)) act is does)
+    way_there goal low (Tokened.fill x y c first arguments kept others rest) own high lines (zero ∷ way) act is does =
+        reaches_behind (tree_in setting variables goal low (Tokened.fill x y c first arguments kept others rest) own high lines) _ way (inl refl)
+        (way_there goal (low + 1) rest lines.1 high lines.3 way act is does)
+    way_there goal low (Tokened.fill x y c first arguments kept others rest) own high lines (suc n ∷ way) act is does = cc is
+    way_there goal low (Tokened.free y rest) own high lines way act is does =
+        reaches_behind (tree_in setting variables goal low (Tokened.free y rest) own high lines) _ way (inl refl)
+        (way_there goal low rest lines.0 high lines.1 way act is does)
+    way_there goal low (Tokened.null y rest) own high lines way act is does =
+        reaches_behind (tree_in setting variables goal low (Tokened.null y rest) own high lines) _ way (inl refl)
+        (way_there goal low rest lines.0 high lines.1 way act is does)
+    way_there goal low (Tokened.move to of rest) own high lines way act is does =
+        reaches_behind (tree_in setting variables goal low (Tokened.move to of rest) own high lines) _ way (inl refl)
+        (way_there goal low rest lines.0 high lines.1 way act is does)
+    way_there goal low (Tokened.hold y rest) own high lines way act is does =
+        reaches_behind (tree_in setting variables goal low (Tokened.hold y rest) own high lines) _ way (inl refl)
+        (way_there goal low rest lines.0 high lines.1 way act is does)
+    way_there goal low (Tokened.unhold y rest) own high lines way act is does =
+        reaches_behind (tree_in setting variables goal low (Tokened.unhold y rest) own high lines) _ way (inl refl)
+        (way_there goal low rest lines.0 high lines.1 way act is does)
+    way_there goal low (Tokened.if_token y there absent) own high lines way act is does =
+        reaches_behind (tree_in setting variables goal low (Tokened.if_token y there absent) own high lines) _ way (inl refl)
+        (way_there goal (low + 1) there lines.0 lines.2 lines.3 way act is does)
+
+    arm_there : (goal : Goal) (label low : ℕ) (arms : TokenedArms) (own : List Line) (high row : ℕ) (before : List Line)
+        (lines : ArmsLines setting variables goal label low arms own high) (index : ℕ) (way : List ℕ) (act : Counted)
+        → and_then (arm_at (bare_arms arms) index) (λ c. code_at c way) ≡ Some act → is_act act ≡ true
+        → (step : Step) × (IsPart step (arms_in setting variables goal label low arms own high row before lines)
+        × ((step.way ≡ (row + index) ∷ []) × Reaches step.inner way))
+    arm_there goal label low TokenedArms.no_arm own high row before lines index way act is does = cc is
+    arm_there goal label low (TokenedArms.arm body rest) own high row before lines zero way act is does =
+        let number : row ≡ row + 0 = omega arith in (
+          _,
+          (inl refl, (ap (λ k. k ∷ []) number, way_there goal low body lines.0 lines.2 lines.3 way act is does)),
+        )
+    arm_there goal label low (TokenedArms.arm body rest) own high row before lines (suc index) way act is does =
+        let later = arm_there goal (label + 1) lines.2 rest lines.1 high (suc row)
+        (before ++ (acts (Label label) [] ∷ lines.0)) lines.4 index way act is does in
+        let number : suc row + index ≡ row + suc index = omega arith in
+        (later.0, (inr later.1.0, (later.1.1.0 ∙ ap (λ k. k ∷ []) number, later.1.1.1)))
