@@ -80,6 +80,7 @@ pub mod TokenDeciding
 pub mod TokenComputing
 pub mod FormWords
 pub mod TokenSimulating
+pub mod FormRoots
 pub mod TokenMeaning
 pub mod TokenMarks
 pub mod TokenGrown
