@@ -1,14 +1,13 @@
 -- The lines of each function of a program, by their parts: those that its number alone tells.
-use Rattle.std.proofs.Common.{◌≡◌, ◌≤◌, ℕ, ◌+◌, true, false, List, [], ◌∷◌, Option, Some, None, refl, sym, ◌∙◌, ap, subst, arith}
+use Rattle.std.proofs.Common.{◌≡◌, ℕ, ◌+◌, true, List, [], Option, Some, None, refl, sym, ◌∙◌, ap, subst, arith}
 use Rattle.std.specs.Prelude.{option_map, slice_get}
 use Rattle.std.proofs.lemmas.Option.{slice_get-map}
 use Rattle.std.proofs.Math.Path.{path_j, subst_refl}
-use Rattle.kk_counted.specs.BareForms.{bare, bare_function, bare_program}
+use Rattle.kk_counted.specs.BareForms.{bare_function, bare_program}
 use Rattle.kk_counted.specs.CodePlaces.{code_at, IsActAt}
 use Rattle.kk_counted.specs.CountedCodes.{Counted, CountedFunction}
 use Rattle.kk_counted.specs.Lowerable.{AreLowerable}
 use Rattle.kk_counted.specs.Marks.{CellMarks}
-use Rattle.kk_counted.specs.TokenSpending.{AreTokensSpent}
 use Rattle.kk_counted.specs.TokenedCodes.{Tokened, TokenedFunction, TokenedProgram}
 use Rattle.kk_syntax.specs.Shapes.{is_among}
 use Rattle.rv_isa.specs.AsmCode.{Lines}
@@ -179,3 +178,9 @@ module _ (layout : Layout) (marks : CellMarks) (code : TokenedProgram) (constant
     there = λ f. line_is_there f (slice_get code.functions f) refl;
     apart = lines_apart;
   }
+
+  -- a line of the function's parts is one of these
+  pub among_own : (f : ℕ) (way : List ℕ) (k : ℕ) → is_among (lines_at (program_root f) way) k ≡ true
+      → is_among (own_lines.lines f way) k ≡ true
+  unfolding own_lines
+  among_own f way k among = among

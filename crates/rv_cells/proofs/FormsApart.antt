@@ -2,13 +2,11 @@
 use Rattle.std.proofs.Common.{◌≡◌, ℕ, zero, suc, ◌+◌, ◌≤◌, ◌<◌, inl, inr, List, [], ◌∷◌, ◌++◌, length, Some, true, refl, sym, ◌∙◌, ap, subst, arith, append_assoc}
 use Rattle.std.specs.Prelude.{slice_get}
 use Rattle.std.proofs.lemmas.List.{append-nil, length-append}
-use Rattle.std.proofs.lemmas.Option.{slice_get_within}
 use Rattle.kk_counted.specs.TokenedCodes.{Tokened, TokenedArms}
 use Rattle.rv_isa.specs.declared.asm.Action.TheVariants.{Compute, Label, Branch, Hold, Unhold}
 use Rattle.rv_isa.specs.declared.asm.Condition.TheVariants.{Equal}
 use Rattle.rv_isa.specs.declared.asm.Operation.TheVariants as Op
 use Rattle.rv_isa.specs.AsmCode.{Line}
-use Rattle.rv_isa.specs.LinePlaces.{is_no_label}
 use Rattle.rv_lower.specs.Lines.{sets, copies_to, acts}
 use Rattle.rv_lower.specs.Lowered.{Goal, joins, test_lines}
 use Rattle.rv_cells.specs.CellLines.{dup_lines, drop_lines}
@@ -200,7 +198,6 @@ module _ (setting : Setting) (variables : ℕ) where
             ),
           ),
         )
-
 
   -- so the tree of a code is in order
   pub tree_orderly : (goal : Goal) (low : ℕ) (code : Tokened) (own : List Line) (high : ℕ)

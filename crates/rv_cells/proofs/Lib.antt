@@ -82,6 +82,7 @@ pub mod FormWords
 pub mod TokenSimulating
 pub mod FormRoots
 pub mod TokenMeaning
+pub mod ComingToLines
 pub mod TokenMarks
 pub mod TokenGrown
 pub mod TokenLowered

@@ -1,10 +1,9 @@
 -- The lines of a function at which the calls, prints and constructions with fields begin that one way of its bare form leads to: one, or
 -- one for each side of the tests of tokens on the way.
-use Rattle.std.proofs.Common.{◌≡◌, ◌⊎◌, inl, inr, ℕ, zero, suc, ◌+◌, ◌==◌, ◌&&◌, ◌||◌, not, Bool, true, false, List, [], ◌∷◌, ◌++◌, length, Option, Some, None, refl, sym, ◌∙◌, ap, subst, arith, append_assoc, eqb-true}
+use Rattle.std.proofs.Common.{◌≡◌, inl, inr, ℕ, zero, suc, ◌+◌, ◌==◌, ◌&&◌, ◌||◌, Bool, true, false, List, [], ◌∷◌, ◌++◌, length, Some, refl, sym, ◌∙◌, ap, subst, arith, append_assoc, eqb-true}
 use Rattle.std.proofs.lemmas.List.{append-nil}
 use Rattle.kk_source.specs.Matching.{and_then}
 use Rattle.kk_syntax.specs.Shapes.{is_among}
-use Rattle.kk_syntax.specs.declared.program.Form.{Form}
 use Rattle.kk_counted.specs.BareForms.{bare, bare_arms}
 use Rattle.kk_counted.specs.CodePlaces.{code_at, is_act}
 use Rattle.kk_counted.specs.CountedCodes.{Counted}
@@ -19,7 +18,7 @@ use Rattle.rv_lower.specs.Lowered.{Goal, joins}
 use Rattle.rv_cells.specs.CountedLines.{Setting}
 use Rattle.rv_cells.specs.TokenedLines.{CodeLines, ArmsLines}
 use Rattle.rv_cells.proofs.FormArities.{is_own_act}
-use Rattle.rv_cells.proofs.FormPlaces.{Tree, tree, Parts, no_part, part, code_of, own_of, parts_of, Step, IsPart, Leads, way_of, lines_before, parts_in, arms_in, tree_in}
+use Rattle.rv_cells.proofs.FormPlaces.{Tree, tree, Parts, no_part, part, code_of, parts_of, Step, IsPart, Leads, way_of, lines_before, arms_in, tree_in}
 
 -- ---- numbers and lists
 
