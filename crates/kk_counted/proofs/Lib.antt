@@ -10,6 +10,7 @@ pub mod TokenForms
 pub mod TokenSteps
 pub mod StillForms
 pub mod TokenRuns
+pub mod TokenSettling
 pub mod Filling
 pub mod Unseen
 pub mod Placing

@@ -107,25 +107,25 @@ main_spends (function ∷ functions) zero each = each zero function refl
 main_spends (function ∷ functions) (suc n) each = main_spends functions n (λ f other there. each (suc f) other there)
 
 module _ (weight : CountedState → ℕ) (setting : TokenSetting) (program_spends : AreTokensSpent setting.program) where
-  abbrev upper : Machine CountedState Note End
+  abbrev pub upper : Machine CountedState Note End
   upper = counted_machine weight (bare_setting setting)
 
-  abbrev lower : Machine TokenState Note End
+  abbrev pub lower : Machine TokenState Note End
   lower = token_machine (bare_weight weight) setting
 
   -- a state stands for its bare form: from it on constructions fill, and the bare machine is never stuck
-  record Stands (s : CountedState) (t : TokenState) : Type 0 where
-    is : bare_state t ≡ s
-    kept : AreKept setting.cells t.machine
-    fills : (k : ℕ) → FillsAt setting.leaves (state lower k t).machine (state lower k t).machine.control
-    never_stuck : (k : ℕ) → NotStuck (state upper k s).machine.control
+  pub record Stands (s : CountedState) (t : TokenState) : Type 0 where
+    pub is : bare_state t ≡ s
+    pub kept : AreKept setting.cells t.machine
+    pub fills : (k : ℕ) → FillsAt setting.leaves (state lower k t).machine (state lower k t).machine.control
+    pub never_stuck : (k : ℕ) → NotStuck (state upper k s).machine.control
 
-  abbrev Related : ℕ → ℕ → CountedState → TokenState → Type 0
+  abbrev pub Related : ℕ → ℕ → CountedState → TokenState → Type 0
   Related credit idle s t = Stands s t
 
-  record Passing (t : TokenState) : Type 0 where
-    kept : AreKept setting.cells t.machine
-    not_stuck : TokenNotStuck t.machine.control
+  pub record Passing (t : TokenState) : Type 0 where
+    pub kept : AreKept setting.cells t.machine
+    pub not_stuck : TokenNotStuck t.machine.control
 
   abbrev Reached : ℕ → ℕ → CountedState → TokenState → Type 0
   Reached credit idle s t =
@@ -324,7 +324,7 @@ module _ (weight : CountedState → ℕ) (setting : TokenSetting) (program_spend
   reaches (Tokened.fill x y c first arguments left others rest) environment joins from input credit idle stands =
       steps (Tokened.fill x y c first arguments left others rest) environment joins from input credit idle refl stands
 
-  simulates : Simulates upper lower Related Passing 1
+  pub simulates : Simulates upper lower Related Passing 1
   simulates =
       simulates_until_ended upper lower Related Passing 1 (omega arith)
       (λ credit idle s t stands. end_alike t.machine.control ∙ ap (λ (u : CountedState). counted_end_at u.machine.control)
@@ -376,7 +376,7 @@ module _ (weight : CountedState → ℕ) (setting : TokenSetting) (program_spend
       by_control credit idle (TokenControl.stopped by) frames heap tokens input stands goes_on = absurd (cc)
       by_control credit idle TokenControl.stuck frames heap tokens input stands goes_on = absurd (stands.never_stuck zero)
 
-  starts : (input : List ℕ) → FillsAlways (bare_weight weight) setting input
+  pub starts : (input : List ℕ) → FillsAlways (bare_weight weight) setting input
       → ((n : ℕ) → NotStuck (state upper n (counted_first_state (bare_setting setting) input)).machine.control)
       → Stands (counted_first_state (bare_setting setting) input) (token_first_state setting input)
   starts input fills never_stuck =

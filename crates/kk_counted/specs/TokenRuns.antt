@@ -1,10 +1,12 @@
 -- Runs of code with tokens and of its bare form do the same.
 use Rattle.std.specs.Prelude.{◌≡◌, ℕ, ◌+◌, ◌==◌, ◌&&◌, Bool, true, false, List, length, Option, if◌then◌else◌}
 use Rattle.kk_base.specs.Agreements.{Agree}
+use Rattle.kk_base.specs.Machines.{trace}
 use Rattle.kk_source.specs.Actions.{Action, goes, puts, takes, builds, calls}
 use Rattle.kk_counted.specs.Heaps.{busy}
 use Rattle.kk_counted.specs.CountedStates.{CountedConfiguration, CountedState, counted_first_state}
 use Rattle.kk_counted.specs.CountedMachine.{counted_machine}
+use Rattle.kk_counted.specs.Keeping.{counted_after}
 use Rattle.kk_counted.specs.TokenedCodes.{Tokened}
 use Rattle.kk_counted.specs.Tokens.{spent, marked}
 use Rattle.kk_counted.specs.TokenStates.{TokenSetting, TokenControl, TokenConfiguration, TokenState, token_first_state, bare_configuration, bare_state, bare_setting}
@@ -77,3 +79,12 @@ pub record TakesNoCell (f y : ℕ) (from to : TokenConfiguration) : Type 0 where
   pub cells : busy to.heap + marked to.tokens.marks (length to.heap) ≡ busy from.heap + marked from.tokens.marks (length from.heap)
   pub slots : (g z : ℕ) → to.tokens.slots g z ≡ (if (g == f) && (z == y) then spent else from.tokens.slots g z)
   pub chain : to.tokens.chain ≡ from.tokens.chain
+
+-- The run with tokens comes to the n-th state of the bare run: with the same notes told, and at a form that the bare form has too.
+abbrev pub ComesTo : (CountedState → ℕ) → (TokenState → ℕ) → TokenSetting → List ℕ → ℕ → Type 0
+ComesTo below weight setting input n =
+    (m : ℕ)
+    × ((bare_configuration (token_after weight setting input m) ≡ counted_after below (bare_setting setting) input n)
+    × ((trace (token_machine weight setting) m (token_first_state setting input)
+    ≡ trace (counted_machine below (bare_setting setting)) n (counted_first_state (bare_setting setting) input))
+    × (is_quiet_at (token_after weight setting input m).control ≡ false)))

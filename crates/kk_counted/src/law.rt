@@ -30,7 +30,7 @@ ghost use Rattle.kk_counted.specs.Marks.{CellMarks, field_marks, AreMarked};
 ghost use Rattle.kk_counted.specs.MarkKeeping.{FitsMark, RunFits, StateFits, numbers_after, numbers_in};
 ghost use Rattle.kk_counted.specs.NumberedPool.{IsPlaced, IsPool, Growth, Placing};
 ghost use Rattle.kk_counted.specs.TokenCosts.{token_cost, HasRoom, AreStatesKept};
-ghost use Rattle.kk_counted.specs.TokenRuns.{is_quiet, bare_weight, AllLead, IsFollowed, IsUnseen, IsSameRun, TakesNoCell};
+ghost use Rattle.kk_counted.specs.TokenRuns.{is_quiet, bare_weight, AllLead, IsFollowed, IsUnseen, IsSameRun, ComesTo, TakesNoCell};
 
 /// Code that spends each reference that it owns keeps its heap sound: in each state of a run the count of each cell is the
 /// number of the references that own it, fields name older cells, and the cell of each lent variable is reached from what an
@@ -138,6 +138,16 @@ pub fn tokens_keep_runs_the_same()
         ≡ counted_after weight (bare_setting setting) input m) }
     ensures written { (weight : TokenState → ℕ) (setting : TokenSetting) (input : List ℕ)
         → setting.leaves ≡ false → FillsAlways weight setting input }
+{}
+
+/// Code that spends its tokens comes to each state of the run of its bare form: there it is the same without its tokens, has told the
+/// same notes, and is at a form that its bare form has too. It is a law, and does nothing.
+pub fn tokens_come_to_each_state()
+    ensures { (weight : CountedState → ℕ) (setting : TokenSetting) (input : List ℕ)
+        → AreTokensSpent setting.program
+        → FillsAlways (bare_weight weight) setting input
+        → ((n : ℕ) → NotStuck (counted_after weight (bare_setting setting) input n).control)
+        → (n : ℕ) → ComesTo weight (bare_weight weight) setting input n }
 {}
 
 /// Code with tokens costs no more than its bare form with room for them: each step of the bare form but dups and drops pays so much

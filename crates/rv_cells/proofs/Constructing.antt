@@ -405,6 +405,7 @@ module _ (known : Known) (rest : List Line) (fs : List (Frame Line)) (s : Spot) 
           left = refl;
           trace = refl;
           whole = refl;
+          function = refl;
           held = refl;
           into = refl;
         },

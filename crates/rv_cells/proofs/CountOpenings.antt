@@ -257,6 +257,7 @@ module _ (known : Known) (o : CountOpening known) where
     pub here : Here known (spot_of frame owners cells)
     pub spared : (z : ℕ) → z < known.base → is_among (bound_list fields s.bound) z ≡ false → frame.cells z ≡ from z
     pub whole : frame.whole ≡ s.frame.whole
+    pub function : frame.function ≡ s.frame.function
     pub held : frame.held ≡ s.frame.held
     pub into : frame.into ≡ s.frame.into
 
@@ -374,6 +375,7 @@ module _ (known : Known) (o : CountOpening known) where
               here = did.here;
               spared = λ z low none. did.spared z low none ∙ read.spared z low none ∙ tests_spare z low;
               whole = did.whole;
+              function = did.function;
               held = did.held;
               into = did.into;
             };
@@ -561,6 +563,7 @@ module _ (known : Known) (o : CountOpening known) where
                 ∙ put_other known.base z (suc (suc n)) one.frame.cells (λ e. omega (arith, e, low))
                 ∙ read.spared z low none;
             whole = did.whole;
+            function = did.function;
             held = did.held;
             into = did.into;
           },

@@ -364,6 +364,7 @@ module _ (known : Known) (rest : List Line) (fs : List (Frame Line)) (s : Spot) 
           left = refl {a = s.world.left};
           trace = refl {a = s.world.trace};
           whole = refl;
+          function = refl;
           held = refl;
           into = refl;
         },

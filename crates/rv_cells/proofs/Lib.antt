@@ -55,6 +55,10 @@ pub mod TokenFormedFunctions
 pub mod FormLengths
 pub mod TestLengths
 pub mod TokenCodeLengths
+pub mod FormPlaces
+pub mod FormArities
+pub mod FormsApart
+pub mod OwnLines
 pub mod TokenFrames
 pub mod TokenTaken
 pub mod TokenCells
@@ -78,7 +82,9 @@ pub mod TokenDeciding
 pub mod TokenComputing
 pub mod FormWords
 pub mod TokenSimulating
+pub mod FormRoots
 pub mod TokenMeaning
+pub mod ComingToLines
 pub mod TokenMarks
 pub mod TokenGrown
 pub mod TokenLowered

@@ -130,6 +130,7 @@ read_did known rest fs s x c fields lines named here reads loads =
       left = refl;
       trace = refl;
       whole = refl;
+      function = refl;
       held = refl;
       into = refl;
     }

@@ -69,6 +69,7 @@ pub record Did (known : Known) (most : ℕ) (lines rest : List Line) (fs : List 
   pub left : t.world.left ≡ s.world.left
   pub trace : t.world.trace ≡ s.world.trace
   pub whole : t.frame.whole ≡ s.frame.whole
+  pub function : t.frame.function ≡ s.frame.function
   pub held : t.frame.held ≡ s.frame.held
   pub into : t.frame.into ≡ s.frame.into
 
@@ -86,6 +87,7 @@ did_none known rest fs s here = record {
   left = refl;
   trace = refl;
   whole = refl;
+  function = refl;
   held = refl;
   into = refl;
 }
@@ -113,6 +115,7 @@ did_then known most others lines more rest fs s t u first second =
       left = second.left ∙ first.left;
       trace = second.trace ∙ first.trace;
       whole = second.whole ∙ first.whole;
+      function = second.function ∙ first.function;
       held = second.held ∙ first.held;
       into = second.into ∙ first.into;
     }
@@ -261,6 +264,7 @@ same_did known most rest fs s next here same = (
         left = refl;
         trace = refl;
         whole = refl;
+        function = refl;
         held = refl;
         into = refl;
       }),
@@ -294,6 +298,7 @@ module _ (known : Known) (rest : List Line) (fs : List (Frame Line)) (s : Spot) 
           left = refl;
           trace = refl;
           whole = refl;
+          function = refl;
           held = refl;
           into = refl;
         },
@@ -350,6 +355,7 @@ module _ (known : Known) (rest : List Line) (fs : List (Frame Line)) (s : Spot) 
           left = refl;
           trace = refl;
           whole = refl;
+          function = refl;
           held = refl;
           into = refl;
         },

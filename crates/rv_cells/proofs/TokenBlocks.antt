@@ -1,5 +1,5 @@
 -- The lines of branches, and of tests of tokens, do the steps of the machine with tokens.
-use Rattle.std.proofs.Common.{◌≡◌, ◌≢◌, ℕ, suc, ◌+◌, ◌*◌, ◌<◌, ◌≤◌, Bool, true, false, not, nat_eq, List, [], ◌∷◌, ◌++◌, length, Option, Some, refl, sym, ◌∙◌, ap, subst, arith, append_assoc, ne_eqb}
+use Rattle.std.proofs.Common.{inl, inr, ◌≡◌, ◌≢◌, ℕ, suc, ◌+◌, ◌*◌, ◌<◌, ◌≤◌, Bool, true, false, not, nat_eq, List, [], ◌∷◌, ◌++◌, length, Option, Some, refl, sym, ◌∙◌, ap, subst, arith, append_assoc, ne_eqb}
 use Rattle.std.specs.Prelude.{if◌then◌else◌}
 use Rattle.kk_source.specs.State.{Value}
 use Rattle.kk_source.specs.Live.{value_of}
@@ -28,6 +28,7 @@ use Rattle.rv_lower.proofs.Orders.{split_at}
 use Rattle.rv_lower.proofs.Performing.{put_same, put_other}
 use Rattle.rv_cells.specs.Layout.{Layout, word_in}
 use Rattle.rv_cells.specs.Follows.{Owner, Follows}
+use Rattle.rv_cells.proofs.FormPlaces.{stands_behind, stands_behind_three}
 use Rattle.rv_cells.proofs.Acting.{put_in, copy_runs, sets_runs, label_runs, falls_runs, branch_runs, falls_one_runs, branch_one_runs}
 use Rattle.rv_cells.proofs.FormWords.{has_same}
 use Rattle.rv_cells.proofs.LineCosts.{most_moves}
@@ -98,6 +99,7 @@ module _ (program : Lowering) where
               tokens = slots_moved at.has.tokens (λ y p is. refl) (λ y low unspent. same (v + y) (omega (arith, low)));
               held_is = at.has.held_is;
               formed = at.has.formed;
+              in_function = at.has.in_function;
             };
             waits = at.waits;
             input_is = at.input_is;
@@ -226,6 +228,7 @@ module _ (program : Lowering) where
           lines = p.lines.3;
           left_is = append_assoc yes (label ∷ no) p.after;
           place = part_at;
+          stands = stands_behind p.stands (record { way = 0 ∷ []; is_part = inl refl; code_is = refl });
           marked = p.marked.1.1.0;
           numbered = p.numbered.0;
           has = p.has.0;
@@ -256,6 +259,7 @@ module _ (program : Lowering) where
           lines = p.lines.4;
           left_is = refl;
           place = label_at ∙ sym (append_assoc ((p.before ++ test) ++ yes) (label ∷ []) there);
+          stands = stands_behind_three p.stands test yes (label ∷ []) (record { way = 1 ∷ []; is_part = inr (inl refl); code_is = refl });
           marked = p.marked.1.1.1;
           numbered = p.numbered.1;
           has = p.has.1;
@@ -379,6 +383,7 @@ module _ (program : Lowering) where
           lines = p.lines.3;
           left_is = append_assoc first (mark ∷ second) p.after;
           place = ways_at;
+          stands = stands_behind p.stands (record { way = []; is_part = inl refl; code_is = refl });
           marked = p.marked;
           numbered = p.numbered;
           has = p.has.1.0;
@@ -411,6 +416,8 @@ module _ (program : Lowering) where
           lines = p.lines.4;
           left_is = refl;
           place = mark_at ∙ sym (append_assoc ((p.before ++ tests) ++ first) (mark ∷ []) there);
+          stands = stands_behind_three p.stands tests first (mark ∷ [])
+              (record { way = []; is_part = inr (inl refl); code_is = ap (λ c. Some c) alike });
           marked = subst (HasMark program.marks at.shape.holds at.shape.result s.bound at.does.given) alike p.marked;
           numbered = subst (AreNumbered at.shape.variables s.bound) alike p.numbered;
           has = p.has.1.1;

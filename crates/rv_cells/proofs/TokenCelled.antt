@@ -1,5 +1,5 @@
 -- The lines of forms that leave the tokens as they are, and do the steps of the machine with tokens.
-use Rattle.std.proofs.Common.{◌≡◌, ℕ, suc, ◌+◌, ◌*◌, ◌<◌, ◌≤◌, true, List, ◌++◌, length, map, Option, Some, None, refl, sym, ◌∙◌, ap, subst, arith}
+use Rattle.std.proofs.Common.{inl, ◌≡◌, ℕ, suc, ◌+◌, ◌*◌, ◌<◌, ◌≤◌, true, List, [], ◌∷◌, ◌++◌, length, map, Option, Some, None, refl, sym, ◌∙◌, ap, subst, arith}
 use Rattle.kk_syntax.specs.Shapes.{is_among}
 use Rattle.kk_source.specs.Live.{value_of}
 use Rattle.kk_source.specs.Actions.{Action, goes}
@@ -31,7 +31,7 @@ use Rattle.rv_cells.proofs.TokenFields.{recounted_words, dup_cells, drop_cells}
 use Rattle.rv_cells.proofs.TokenFrames.{none_behind, slots_moved, all_carried}
 use Rattle.rv_cells.proofs.TokenLineCosts.{forms}
 use Rattle.rv_cells.proofs.TokenStanding.{IsTokenCell, token_words, Lowering, texts, setting, upper, known_of, At, IsFitFrom, Follows_step}
-use Rattle.rv_cells.proofs.TokenLanding.{lands_did, token_at, machine_at, CodeSteps, IsSilent, silent_goes, seen_action, goes_on, kept_after}
+use Rattle.rv_cells.proofs.TokenLanding.{lands_did, token_at, machine_at, CodeSteps, IsSilent, silent_goes, seen_action, GoesTo, goes_on, kept_after}
 
 heap_there : (o : Option Heap) (from to : TokenConfiguration) → NotStuck (bare_configuration (to_heap o from to)).control
     → (next : Heap) × (o ≡ Some next)
@@ -47,8 +47,9 @@ module _ (program : Lowering) where
         (tells : TokenConfiguration → Action TokenConfiguration)
         → (did : Did (known_of program at.shape) most own (more ++ at.does.placed.after) fs s to) → s.address ≡ to.address
         → length to.heap ≡ length s.heap → cells_of to.heap ≡ cells_of s.heap → at.does.placed.own ≡ own ++ more → (low : ℕ)
-        → CodeLines (record { layout = program.layout; holds = at.shape.holds; base = at.shape.variables + at.shape.slots; texts = texts program })
-        at.shape.variables at.does.goal low rest more at.does.placed.high
+        → (lines : CodeLines (record { layout = program.layout; holds = at.shape.holds; base = at.shape.variables + at.shape.slots; texts = texts program })
+        at.shape.variables at.does.goal low rest more at.does.placed.high)
+        → GoesTo program code inner frames tokens input s fs left at rest own more low lines
         → AreWithin later to.bound → AreWithin s.bound later
         → ((x : ℕ) → is_among to.bound x ≡ true → x < at.shape.variables)
         → HasMark program.marks at.shape.holds at.shape.result later at.does.given (bare rest)
@@ -62,7 +63,7 @@ module _ (program : Lowering) where
         → suc (forms rest) ≤ idle → forms rest ≤ program.most
         → Follows_step program idle (token_at program code s.environment inner frames s.heap tokens input)
         (turn_of left s.frame fs s.world)
-    goes_did idle fit rest own more to later most tells did address_is long recounted parts low lines within older below marked_is
+    goes_did idle fit rest own more to later most tells did address_is long recounted parts low lines part_is within older below marked_is
         numbered has plain judged silent cheap is less short =
         let v = at.shape.variables in
         let same : (p : ℕ) → to.address p ≡ s.address p = λ p. ap (λ (g : ℕ → ℕ). g p) (sym address_is) in
@@ -75,6 +76,7 @@ module _ (program : Lowering) where
           parts = parts;
           low = low;
           lines = lines;
+          part_is = part_is;
           within = within;
           older = older;
           below = λ x is. below x (within x is);
@@ -115,7 +117,7 @@ module _ (program : Lowering) where
       goes_did code inner frames tokens input s fs left at idle fit rest (dup_lines at.shape.holds x) p.lines.0
       (record s { heap = next.0; owners = done.0; world = with_cells s.world done.1 }) s.bound (most_moves + 5) goes done.2 refl
       (dup_length (value_of s.environment x) s.heap next.0 next.1) (dup_cells (value_of s.environment x) s.heap next.0 next.1)
-      p.lines.2 p.low p.lines.1 (within_itself s.bound)
+      p.lines.2 p.low p.lines.1 (record { way = 0 ∷ []; is_part = inl refl; code_is = refl }) (within_itself s.bound)
       (within_itself s.bound) at.has.below p.marked.1 p.numbered p.has p.plain
       (subst (λ (l : Lists). IsJudged program.pool.cells l.left l.unspent l.held l.older rest inner frames next.0 tokens) kept.1.0
       kept.1.1)
@@ -140,7 +142,7 @@ module _ (program : Lowering) where
       (record s { heap = next.0; frame = done.0; owners = done.1; world = with_cells s.world done.2 }) s.bound (2 * most_moves + 16)
       goes done.3 refl
       (drop_length (value_of s.environment x) s.heap next.0 next.1) (drop_cells (value_of s.environment x) s.heap next.0 next.1)
-      p.lines.2 p.low p.lines.1 (within_itself s.bound)
+      p.lines.2 p.low p.lines.1 (record { way = 0 ∷ []; is_part = inl refl; code_is = refl }) (within_itself s.bound)
       (within_itself s.bound) at.has.below p.marked.1 p.numbered p.has p.plain
       (subst (λ (l : Lists). IsJudged program.pool.cells l.left l.unspent l.held l.older rest inner frames next.0 tokens) kept.1.0
       kept.1.1)

@@ -39,6 +39,7 @@ use Rattle.rv_lower.proofs.Runs as NumberRuns
 use Rattle.rv_cells.specs.Layout.{word_in, FitsField}
 use Rattle.rv_cells.specs.Follows.{Follows}
 use Rattle.rv_cells.proofs.Bound.{within_one, below_among}
+use Rattle.rv_cells.proofs.FormPlaces.{stands_behind}
 use Rattle.rv_cells.proofs.FormWords.{has_same, number_word, word_follows, IsPlainForm, put_some, is_true_of, fits_constant, bytes_behind, turns_are}
 use Rattle.rv_cells.proofs.Runs.{turn_of}
 use Rattle.rv_cells.proofs.Spots.{Spot, saved}
@@ -198,6 +199,7 @@ module _ (program : Lowering) where
                 lines = p.lines.4;
                 left_is = refl;
                 place = place;
+                stands = stands_behind p.stands (record { way = 0 ∷ []; is_part = inl refl; code_is = refl });
                 marked = p.marked.1.1;
                 numbered = p.numbered.1.1;
                 has = p.has.1;
@@ -219,6 +221,7 @@ module _ (program : Lowering) where
                   (λ y few unspent. kept (variables + y) (omega (arith, few)) (λ e. omega (arith, e, low)));
               held_is = at.has.held_is;
               formed = at.has.formed;
+              in_function = at.has.in_function;
             };
             waits = at.waits;
             input_is = left_is;

@@ -108,6 +108,7 @@ module _ (known : Known) (rest : List Line) (fs : List (Frame Line)) (s : Spot) 
           left = refl {a = s.world.left};
           trace = refl {a = s.world.trace};
           whole = refl;
+          function = refl;
           held = refl;
           into = refl;
         },
@@ -236,6 +237,7 @@ module _ (program : Lowering) (x c a : ℕ) (more : List ℕ) (rest : Tokened) (
         parts = p.lines.5;
         low = p.lines.2;
         lines = p.lines.4;
+        part_is = record { way = 0 ∷ []; is_part = inl refl; code_is = refl };
         within = within_itself (x ∷ s.bound);
         older = within_one x s.bound;
         below = λ z is. elim (among_by x s.bound z is) [

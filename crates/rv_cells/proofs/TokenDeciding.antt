@@ -1,6 +1,9 @@
 -- The lines of a case do the step of the machine with tokens.
-use Rattle.std.proofs.Common.{◌≡◌, ℕ, zero, suc, ◌+◌, ◌*◌, ◌≤◌, Bool, List, [], ◌∷◌, ◌++◌, length, Option, Some, None, refl, sym, ◌∙◌, ap, subst, arith, append_assoc, mul-le-mul_right}
+use Rattle.std.proofs.Common.{◌≡◌, ℕ, zero, suc, ◌+◌, ◌*◌, ◌≤◌, inl, inr, Bool, List, [], ◌∷◌, ◌++◌, length, Option, Some, None, refl, sym, ◌∙◌, ap, subst, arith, append_assoc, mul-le-mul_right}
 use Rattle.std.specs.Prelude.{slice_get}
+use Rattle.std.specs.Prelude.{option_map}
+use Rattle.std.proofs.lemmas.List.{append-nil}
+use Rattle.std.proofs.Math.Path.{path_j, subst_refl}
 use Rattle.kk_source.specs.State.{Value, Environment}
 use Rattle.kk_source.specs.Live.{value_of}
 use Rattle.kk_source.specs.Matching.{and_then}
@@ -11,7 +14,7 @@ use Rattle.kk_core.specs.Costs.{part_cost}
 use Rattle.kk_core.specs.Looks.{looks_behind, looks_at, looks_from, looks_taken}
 use Rattle.kk_core.specs.Decisions.{NodeTree, chooses, tests, value_at, answer_of, found_at, next_by, row_at, chosen_from, chosen}
 use Rattle.kk_counted.specs.BareForms.{bare, bare_arms}
-use Rattle.kk_counted.specs.CountedMachine.{NotStuck}
+use Rattle.kk_counted.specs.CountedMachine.{arm_at, NotStuck}
 use Rattle.kk_counted.specs.Heaps.{cell_at}
 use Rattle.kk_counted.specs.Lowerable.{AreNumbered, AreArmsNumbered}
 use Rattle.kk_counted.specs.Marks.{CellMarks, HasMark, HaveMark}
@@ -34,6 +37,7 @@ use Rattle.rv_cells.specs.Fitting.{FitsNode, FitsFrom}
 use Rattle.rv_cells.specs.TokenedLines.{HasSlots, HaveSlots, CodeLines, ArmsLines}
 use Rattle.rv_cells.proofs.Held.{some-is}
 use Rattle.rv_cells.proofs.Acting.{label_runs, jump_runs}
+use Rattle.rv_cells.proofs.FormPlaces.{Tree, Step, IsPart, arms_in, tree_in, stands_behind_three}
 use Rattle.rv_cells.proofs.LineCosts.{most_moves, row_cost, edges_cost, look_cost, test_within}
 use Rattle.rv_cells.proofs.Rows.{then_some}
 use Rattle.rv_cells.proofs.Runs.{turn_of, Runs, runs_then}
@@ -123,6 +127,73 @@ arm_stands setting variables goal label low high (suc row) (TokenedArms.arm one 
           ∙ sym (append_assoc head later.before (acts (Label (label + suc row)) [] ∷ (later.first ++ later.rest)));
       code = later.code;
     }
+
+-- ---- the part of an arm
+
+-- a step of equal parts
+step_same : (w v : List ℕ) (b c : List Line) (t u : Tree) → w ≡ v → b ≡ c → t ≡ u
+    → ◌≡◌ {A = Step} (record { way = w; before = b; inner = t }) (record { way = v; before = c; inner = u })
+step_same w v b c t u ways lines trees = λ i. record { way = ways i; before = lines i; inner = trees i }
+
+tree_moved : (setting : Setting) (variables : ℕ) (goal : Goal) (low high : ℕ) (own : List Line) (one body : Tokened)
+    (same : one ≡ body) (lines : CodeLines setting variables goal low one own high)
+    → tree_in setting variables goal low body own high
+    (subst (λ b. CodeLines setting variables goal low b own high) same lines)
+    ≡ tree_in setting variables goal low one own high lines
+tree_moved setting variables goal low high own one body same lines =
+    path_j (λ b is. tree_in setting variables goal low b own high
+    (subst (λ c. CodeLines setting variables goal low c own high) is lines)
+    ≡ tree_in setting variables goal low one own high lines)
+    (ap (λ made. tree_in setting variables goal low one own high made)
+    (subst_refl (λ c. CodeLines setting variables goal low c own high) lines)) same
+
+-- the arm of a row is a part, behind its label
+arm_part : (setting : Setting) (variables : ℕ) (goal : Goal) (label low high first row : ℕ) (arms : TokenedArms)
+    (lines start : List Line) (body : Tokened) (are : ArmsLines setting variables goal label low arms lines high)
+    (is : tokened_arm_at arms row ≡ Some body)
+    → IsPart (record {
+      way = (first + row) ∷ [];
+      before = (start ++ (arm_stands setting variables goal label low high row arms lines body are is).before)
+          ++ (acts (Label (label + row)) [] ∷ []);
+      inner = tree_in setting variables goal (arm_stands setting variables goal label low high row arms lines body are is).low
+          body (arm_stands setting variables goal label low high row arms lines body are is).first
+          (arm_stands setting variables goal label low high row arms lines body are is).high
+          (arm_stands setting variables goal label low high row arms lines body are is).code;
+    }) (arms_in setting variables goal label low arms lines high first start are)
+unfolding arm_stands
+arm_part setting variables goal label low high first row TokenedArms.no_arm lines start body are is = cc is
+arm_part setting variables goal label low high first zero (TokenedArms.arm one more) lines start body are is =
+    let same : one ≡ body = cc is in
+    let number : first + 0 ≡ first = omega arith in
+    let here : label + 0 ≡ label = omega arith in
+    inl (step_same ((first + 0) ∷ []) (first ∷ []) ((start ++ []) ++ (acts (Label (label + 0)) [] ∷ []))
+    (start ++ (acts (Label label) [] ∷ []))
+    (tree_in setting variables goal low body are.0 are.2
+    (subst (λ b. CodeLines setting variables goal low b are.0 are.2) same are.3))
+    (tree_in setting variables goal low one are.0 are.2 are.3) (ap (λ n. n ∷ []) number)
+    (ap (λ ls. ls ++ (acts (Label (label + 0)) [] ∷ [])) (append-nil start) ∙ ap (λ l. start ++ (acts (Label l) [] ∷ [])) here)
+    (tree_moved setting variables goal low are.2 are.0 one body same are.3))
+arm_part setting variables goal label low high first (suc row) (TokenedArms.arm one more) lines start body are is =
+    let later = arm_stands setting variables goal (label + 1) are.2 high row more are.1 body are.4 is in
+    let head = acts (Label label) [] ∷ are.0 in
+    let number : suc first + row ≡ first + suc row = omega arith in
+    let there : label + 1 + row ≡ label + suc row = omega arith in
+    let inner = tree_in setting variables goal later.low body later.first later.high later.code in
+    inr (subst (λ (step : Step). IsPart step (arms_in setting variables goal (label + 1) are.2 more are.1 high (suc first)
+    (start ++ (acts (Label label) [] ∷ are.0)) are.4))
+    (step_same ((suc first + row) ∷ []) ((first + suc row) ∷ [])
+    (((start ++ head) ++ later.before) ++ (acts (Label (label + 1 + row)) [] ∷ []))
+    ((start ++ (head ++ later.before)) ++ (acts (Label (label + suc row)) [] ∷ [])) inner inner (ap (λ n. n ∷ []) number)
+    (ap (λ ls. ls ++ (acts (Label (label + 1 + row)) [] ∷ [])) (append_assoc start head later.before)
+    ∙ ap (λ l. (start ++ (head ++ later.before)) ++ (acts (Label l) [] ∷ [])) there) refl)
+    (arm_part setting variables goal (label + 1) are.2 high (suc first) row more are.1 (start ++ head) body are.4 is))
+
+-- the bare form of an arm is that of its row
+arm_bare : (arms : TokenedArms) (row : ℕ) (body : Tokened) → tokened_arm_at arms row ≡ Some body
+    → arm_at (bare_arms arms) row ≡ Some (bare body)
+arm_bare TokenedArms.no_arm row body is = cc is
+arm_bare (TokenedArms.arm one more) zero body is = ap (λ o. option_map bare o) is
+arm_bare (TokenedArms.arm one more) (suc row) body is = arm_bare more row body is
 
 -- what is true of all arms is true of the one of a row
 arm_short : (arms : TokenedArms) (row : ℕ) (body : Tokened) → tokened_arm_at arms row ≡ Some body → forms body ≤ arms_forms arms
@@ -384,6 +455,11 @@ module _ (program : Lowering) (x : ℕ) (decisions : List NodeTree) (arms : Toke
       let row = choose.0 in
       let stands = arm_stands (record { layout = program.layout; holds = at.shape.holds; base = base; texts = texts program })
       at.shape.variables at.does.goal low (nodes + length decisions) p.high row arms p.lines.1 body p.lines.5 choose.2 in
+      let lines_of : Setting
+      = record { layout = program.layout; holds = at.shape.holds; base = base; texts = texts program } in
+      let inner_tree : Tree
+      = tree_in lines_of at.shape.variables at.does.goal stands.low body stands.first stands.high stands.code in
+      let number : 0 + row ≡ row = omega arith in
       let label = acts (Label (low + row)) [] in
       let rest = stands.rest ++ p.after in
       let behind = stands.first ++ rest in
@@ -423,6 +499,18 @@ module _ (program : Lowering) (x : ℕ) (decisions : List NodeTree) (arms : Toke
         lines = stands.code;
         left_is = refl;
         place = place ∙ sym (append_assoc ((p.before ++ choice) ++ stands.before) (label ∷ []) behind);
+        stands = stands_behind_three p.stands choice stands.before (label ∷ []) (record {
+          way = row ∷ [];
+          is_part = subst (λ n. IsPart (record {
+            way = n ∷ [];
+            before = (choice ++ stands.before) ++ (label ∷ []);
+            inner = inner_tree;
+          }) (arms_in lines_of at.shape.variables at.does.goal low (nodes + length decisions) arms p.lines.1 p.high 0 choice
+              p.lines.5)) number
+              (arm_part lines_of at.shape.variables at.does.goal low (nodes + length decisions) p.high 0 row arms p.lines.1 choice
+              body p.lines.5 choose.2);
+          code_is = ap (λ o. and_then o (λ c. Some c)) (arm_bare arms row body choose.2);
+        });
         marked = arm_marked program.marks at.shape.holds at.shape.result at.does.given s.bound arms row body choose.2 p.marked.1;
         numbered = arm_numbered at.shape.variables s.bound arms row body choose.2 p.numbered;
         has = arm_slots at.shape.slots arms row body choose.2 p.has;

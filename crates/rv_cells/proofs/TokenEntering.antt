@@ -41,8 +41,9 @@ use Rattle.rv_cells.specs.TokenedLines.{IsFunctionOf}
 use Rattle.rv_cells.proofs.Values.{HasValues, among_by}
 use Rattle.rv_cells.proofs.Runs.{left_at, turn_of, Runs, runs_then}
 use Rattle.rv_cells.proofs.Calling.{temporaries_many, put_row, row_below, row_has, copies_run, has_parameters, call_runs, full_call_runs, tail_call_runs}
+use Rattle.rv_cells.proofs.FormPlaces.{stands_itself, stands_behind}
 use Rattle.rv_cells.proofs.Spots.{Spot, saved}
-use Rattle.rv_cells.proofs.TokenStanding.{SlotIs, HaveSlotValues, HaveTokenCells, held_values, Shape, Lowering, target, texts, setting, upper, pace, continues_more, HasFrame, AllWait, At, by_lines, Follows_step}
+use Rattle.rv_cells.proofs.TokenStanding.{SlotIs, HaveSlotValues, HaveTokenCells, held_values, Shape, Lowering, target, texts, setting, upper, pace, root_in, IsRootOf, continues_more, HasFrame, AllWait, At, by_lines, Follows_step}
 use Rattle.rv_cells.proofs.TokenFrames.{slots_moved, as_many_wait}
 use Rattle.rv_cells.proofs.Bound.{within_one, all_among}
 use Rattle.rv_cells.proofs.TokenLanding.{token_at, CodeSteps, seen_action, does_by, kept_after}
@@ -223,6 +224,7 @@ module _ (program : Lowering) where
     -- its body is at its lines, without tokens
     body_at : (there : slice_get program.functions f ≡ Some lines)
         (function_is : slice_get program.code.functions f ≡ Some function)
+        → IsRootOf program f (root_in program f function lines of)
         → (frames : List TokenFrame) (tokens : Tokens) (helds : List (List ℕ)) (input : List ℕ) (fs : List (Frame Line))
         → IsJudged program.pool.cells [] [] [] helds function.body [] frames s.heap tokens
         → ((y : ℕ) → tokens.slots (length helds) y ≡ spent)
@@ -231,9 +233,11 @@ module _ (program : Lowering) where
         → AllWait program s.address (length s.heap) tokens.slots helds frames fs (result_mark program.marks f)
         → s.world.left ≡ input → All (λ byte. byte < 256) input
         → At program function.body [] frames tokens input (entered_spot entry.values) fs lines.code
-    body_at there function_is frames tokens helds input fs judged none stands cells waits input_is bytes =
+    body_at there function_is root_is frames tokens helds input fs judged none stands cells waits input_is bytes =
         record {
           shape = record {
+            function = f;
+            root = root_in program f function lines of;
             holds = of.lowered.holds;
             variables = of.lowered.variables;
             slots = of.lowered.slots;
@@ -253,6 +257,7 @@ module _ (program : Lowering) where
               lines = of.lowered.code;
               left_is = sym (append-nil lines.code);
               place = refl;
+              stands = stands_itself (root_in program f function lines of);
               marked = of.marked.body_marked;
               numbered = of.numbered;
               has = of.has;
@@ -269,6 +274,7 @@ module _ (program : Lowering) where
             tokens = no_slots s.address (tokens.slots (length helds)) of.lowered.variables of.lowered.slots entry.values none;
             held_is = refl;
             formed = program.formed f lines there;
+            in_function = record { number = λ first. refl; whole_is = refl; root_is = root_is };
           };
           waits = waits;
           input_is = input_is;
@@ -345,6 +351,7 @@ module _ (program : Lowering) where
                   lines = p.lines.4;
                   left_is = refl;
                   place = place;
+                  stands = stands_behind p.stands (record { way = 0 ∷ []; is_part = inl refl; code_is = refl });
                   marked = p.marked.1.1;
                   numbered = p.numbered.1.1;
                   has = p.has.1;
@@ -361,6 +368,7 @@ module _ (program : Lowering) where
                     (λ y few unspent. row_below base (at.shape.variables + y) ws s.frame.cells (omega (arith, few)));
                 held_is = at.has.held_is;
                 formed = at.has.formed;
+                in_function = at.has.in_function;
               };
             },
             at.waits,
@@ -428,7 +436,7 @@ module _ (program : Lowering) where
                   heap_is = refl;
                   turn_is = refl;
                   at = body_at s at.shape slots at.lists.held at.has f arguments all p.marked.1.0.0 function lines of low.1 there.1
-                      (waiting ∷ frames) tokens (at.lists.held ∷ at.lists.older) input (f2 ∷ fs) judged
+                      (function, (there.1, refl)) (waiting ∷ frames) tokens (at.lists.held ∷ at.lists.older) input (f2 ∷ fs) judged
                       (λ y. at.judged.are.beyond (suc (length at.lists.older)) y (omega arith)) at.follows at.cells waits at.input_is
                       at.bytes;
                 }))
@@ -503,7 +511,7 @@ module _ (program : Lowering) where
         environment_is = refl;
         heap_is = refl;
         turn_is = refl;
-        at = body_at s at.shape slots at.lists.held at.has f arguments all p.marked.1.0 function lines of low.1 there.1 frames tokens
+        at = body_at s at.shape slots at.lists.held at.has f arguments all p.marked.1.0 function lines of low.1 there.1 (function, (there.1, refl)) frames tokens
             at.lists.older input fs judged
             (λ y. not_unspent (slots y) (at.judged.slots_are y ∙ at.judged.spends.1 y)) at.follows at.cells
             (subst (AllWait program s.address (length s.heap) tokens.slots at.lists.older frames fs) (sym p.marked.1.1) at.waits)

@@ -245,6 +245,7 @@ module _ (program : Lowering) (x y c first : ℕ) (arguments kept_at others : Li
         parts = p.lines.4;
         low = p.low + 1;
         lines = p.lines.3;
+        part_is = record { way = 0 ∷ []; is_part = inl refl; code_is = refl };
         within = within_itself (x ∷ s.bound);
         older = within_one x s.bound;
         below = λ z is. elim (among_by x s.bound z is) [

@@ -36,6 +36,7 @@ module _ (known : Known) (rest : List Line) (fs : List (Frame Line)) (s : Spot) 
     left = refl;
     trace = refl;
     whole = refl;
+    function = refl;
     held = refl;
     into = refl;
   }
@@ -69,6 +70,7 @@ module _ (known : Known) (rest : List Line) (fs : List (Frame Line)) (s : Spot) 
           left = refl;
           trace = refl;
           whole = refl;
+          function = refl;
           held = refl;
           into = refl;
         },
@@ -87,6 +89,7 @@ module _ (known : Known) (rest : List Line) (fs : List (Frame Line)) (s : Spot) 
     left = refl;
     trace = refl;
     whole = refl;
+    function = refl;
     held = refl;
     into = refl;
   }

@@ -192,6 +192,7 @@ module _ (program : Lowering) where
             tokens = slots_moved w.has.tokens (λ y p is. same (length helds) y p is) (λ y low unspent. refl);
             held_is = w.has.held_is;
             formed = w.has.formed;
+            in_function = w.has.in_function;
           };
         },
         all_carried address next later more slots helds frames fs w.shape.result carries same wait.1,

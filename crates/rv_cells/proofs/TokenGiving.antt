@@ -49,6 +49,7 @@ module _ (program : Lowering) where
         (λ y few unspent. put_other x (shape.variables + y) (word_in program.layout address v) f.cells (λ e. omega (arith, e, low)));
     held_is = has.held_is;
     formed = has.formed;
+    in_function = has.in_function;
   }
 
   -- fewer variables are bound
@@ -61,6 +62,7 @@ module _ (program : Lowering) where
     tokens = has.tokens;
     held_is = has.held_is;
     formed = has.formed;
+    in_function = has.in_function;
   }
 
   module _ (x idle : ℕ) (s : Spot) (shape : Shape) (given : Bool) (left_lines : List Line) (tokens : Tokens) (input : List ℕ)

@@ -1,5 +1,5 @@
 -- The lines that hold a token and that take it back do the steps of the machine with tokens.
-use Rattle.std.proofs.Common.{◌≡◌, ℕ, ◌+◌, ◌==◌, Bool, true, false, List, [], ◌∷◌, ◌++◌, length, Some, None, refl, sym, ◌∙◌, ap, subst, arith, eqb-true}
+use Rattle.std.proofs.Common.{inl, ◌≡◌, ℕ, ◌+◌, ◌==◌, Bool, true, false, List, [], ◌∷◌, ◌++◌, length, Some, None, refl, sym, ◌∙◌, ap, subst, arith, eqb-true}
 use Rattle.std.specs.Prelude.{if◌then◌else◌, ◌||◌}
 use Rattle.kk_syntax.specs.Shapes.{is_among}
 use Rattle.kk_source.specs.Actions.{goes}
@@ -110,11 +110,13 @@ module _ (program : Lowering) (y : ℕ) (rest : Tokened) where
             here = record { follows = at.follows; values = at.has.values };
             left = refl;
             whole = refl;
+            function = refl;
           })
           (record {
             parts = p.lines.2;
             low = p.low;
             lines = p.lines.1;
+            part_is = record { way = []; is_part = inl refl; code_is = refl };
             within = within_itself s.bound;
             older = within_itself s.bound;
             below = at.has.below;
@@ -182,11 +184,13 @@ module _ (program : Lowering) (y : ℕ) (rest : Tokened) where
             here = record { follows = put.holds; values = at.has.values };
             left = refl;
             whole = refl;
+            function = refl;
           })
           (record {
             parts = p.lines.2;
             low = p.low;
             lines = p.lines.1;
+            part_is = record { way = []; is_part = inl refl; code_is = refl };
             within = within_itself s.bound;
             older = within_itself s.bound;
             below = at.has.below;
@@ -254,11 +258,13 @@ module _ (program : Lowering) (y : ℕ) (rest : Tokened) where
             here = record { follows = at.follows; values = at.has.values };
             left = refl;
             whole = refl;
+            function = refl;
           })
           (record {
             parts = p.lines.2;
             low = p.low;
             lines = p.lines.1;
+            part_is = record { way = []; is_part = inl refl; code_is = refl };
             within = within_itself s.bound;
             older = within_itself s.bound;
             below = at.has.below;
@@ -337,11 +343,13 @@ module _ (program : Lowering) (y : ℕ) (rest : Tokened) where
             here = record { follows = back.holds; values = at.has.values };
             left = refl;
             whole = refl;
+            function = refl;
           })
           (record {
             parts = p.lines.2;
             low = p.low;
             lines = p.lines.1;
+            part_is = record { way = []; is_part = inl refl; code_is = refl };
             within = within_itself s.bound;
             older = within_itself s.bound;
             below = at.has.below;

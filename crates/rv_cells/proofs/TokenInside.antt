@@ -1,5 +1,5 @@
 -- The lines of blocks inside and of readings do the steps of the machine with tokens.
-use Rattle.std.proofs.Common.{◌≡◌, ℕ, suc, ◌+◌, List, [], ◌∷◌, ◌++◌, length, Option, Some, None, refl, sym, ◌∙◌, ap, subst, arith, append_assoc}
+use Rattle.std.proofs.Common.{inl, inr, ◌≡◌, ℕ, suc, ◌+◌, List, [], ◌∷◌, ◌++◌, length, Option, Some, None, refl, sym, ◌∙◌, ap, subst, arith, append_assoc}
 use Rattle.kk_source.specs.State.{Environment}
 use Rattle.kk_source.specs.Live.{value_of}
 use Rattle.kk_source.specs.Actions.{goes, performed}
@@ -16,6 +16,7 @@ use Rattle.rv_lower.specs.Lines.{acts}
 use Rattle.rv_lower.specs.Lowered.{joins}
 use Rattle.rv_lower.proofs.Orders.{split_at}
 use Rattle.rv_cells.proofs.Bound.{within_itself, within_one, marks_are}
+use Rattle.rv_cells.proofs.FormPlaces.{stands_first, stands_behind_two}
 use Rattle.rv_cells.proofs.LineCosts.{most_moves, row_cost}
 use Rattle.rv_cells.proofs.Rows.{IsReading, with_fields, read_did}
 use Rattle.rv_cells.proofs.Runs.{turn_of, runs_none}
@@ -77,6 +78,7 @@ module _ (program : Lowering) where
               lines = p.lines.3;
               left_is = is ∙ append_assoc part (label ∷ more) p.after;
               place = p.place;
+              stands = stands_first p.stands (record { way = 0 ∷ []; is_part = inl refl; code_is = refl });
               marked = p.marked.0;
               numbered = p.numbered.1.0;
               has = p.has.0;
@@ -104,6 +106,8 @@ module _ (program : Lowering) where
                   lines = p.lines.4;
                   left_is = refl;
                   place = stands ∙ sym (append_assoc (p.before ++ part) (label ∷ []) (more ++ p.after));
+                  stands = stands_behind_two p.stands part (label ∷ [])
+                      (record { way = 1 ∷ []; is_part = inr (inl refl); code_is = refl });
                   marked = p.marked.1;
                   numbered = p.numbered.1.1;
                   has = p.has.1;
@@ -153,7 +157,7 @@ module _ (program : Lowering) where
       goes_did program code inner frames tokens input s fs left at idle fit rest p.lines.0 p.lines.1 to (fields ++ s.bound)
       (row_cost fields (most_moves + 2)) goes
       (read_did known (p.lines.1 ++ p.after) fs s x c fields p.lines.0 named.0 here reads p.lines.2) refl refl refl p.lines.4 p.low
-      p.lines.3 (within_fields fields s.bound) (within_front fields s.bound)
+      p.lines.3 (record { way = 0 ∷ []; is_part = inl refl; code_is = refl }) (within_fields fields s.bound) (within_front fields s.bound)
       (below_list v fields s.bound p.numbered.0.0 at.has.below) p.marked.1 p.numbered.1 p.has p.plain
       (subst (λ (l : Lists). IsJudged program.pool.cells l.left l.unspent l.held l.older rest inner frames s.heap tokens) kept.1.0
       kept.1.1)

@@ -31,6 +31,7 @@ use Rattle.rv_cells.proofs.Runs.{turn_of, Runs}
 use Rattle.rv_cells.proofs.Spots.{Spot, Known, Here, Did, saved}
 use Rattle.rv_cells.proofs.TokenOpenings.{Leads}
 use Rattle.rv_cells.proofs.Bound.{AreWithin, has_fewer}
+use Rattle.rv_cells.proofs.FormPlaces.{tree_in, Next, stands_behind}
 use Rattle.rv_cells.proofs.TokenLineCosts.{forms}
 use Rattle.rv_cells.proofs.TokenStanding.{HaveSlotValues, HaveTokenCells, held_values, Lowering, target, texts, setting, upper, known_of, Placed, Continues, continues_more, AllWait, At, IsFitFrom, Follow, by_lines, Follows_step}
 
@@ -45,6 +46,7 @@ pub record Lands (known : Known) (most : ℕ) (lines rest : List Line) (fs gs : 
   pub here : Here known t
   pub left : t.world.left ≡ s.world.left
   pub whole : t.frame.whole ≡ s.frame.whole
+  pub function : t.frame.function ≡ s.frame.function
 
 pub lands_did : {known : Known} {most : ℕ} {lines rest : List Line} {fs : List (Frame Line)} {s t : Spot}
     → Did known most lines rest fs s t → Lands known most lines rest fs fs s t
@@ -56,6 +58,7 @@ lands_did did = record {
   here = did.here;
   left = did.left;
   whole = did.whole;
+  function = did.function;
 }
 
 pub lands_leads : {known : Known} {most : ℕ} {lines rest : List Line} {fs gs : List (Frame Line)} {s t : Spot} {written : List ℕ}
@@ -68,6 +71,7 @@ lands_leads leads = record {
   here = leads.here;
   left = leads.left;
   whole = leads.whole;
+  function = leads.function;
 }
 
 module _ (program : Lowering) where
@@ -141,6 +145,17 @@ module _ (program : Lowering) where
         goes_same : {a b : TokenConfiguration} → goes a ≡ goes b → a ≡ b
         goes_same e = cc
 
+    -- the rest of the code stands behind its own lines
+    abbrev pub GoesTo : (rest : Tokened) (own more : List Line) (low : ℕ)
+        → CodeLines (record { layout = program.layout; holds = at.shape.holds; base = at.shape.variables + at.shape.slots; texts = texts program })
+        at.shape.variables at.does.goal low rest more at.does.placed.high → Type 0
+    GoesTo rest own more low lines =
+        Next (tree_in (record { layout = program.layout; holds = at.shape.holds; base = at.shape.variables + at.shape.slots; texts = texts program })
+        at.shape.variables at.does.goal at.does.placed.low code at.does.placed.own at.does.placed.high at.does.placed.lines)
+        own
+        (tree_in (record { layout = program.layout; holds = at.shape.holds; base = at.shape.variables + at.shape.slots; texts = texts program })
+        at.shape.variables at.does.goal low rest more at.does.placed.high lines)
+
     -- What is to be shown of a spot, with older frames, tokens and lists, for a code to go on there behind some own lines.
     pub record GoesOn (rest : Tokened) (own more : List Line) (to : Spot) (gs : List (Frame Line)) (after : Tokens) (later : List ℕ)
         (next : Lists) : Type 0 where
@@ -148,6 +163,7 @@ module _ (program : Lowering) where
       pub low : ℕ
       pub lines : CodeLines (record { layout = program.layout; holds = at.shape.holds; base = at.shape.variables + at.shape.slots; texts = texts program })
           at.shape.variables at.does.goal low rest more at.does.placed.high
+      pub part_is : GoesTo rest own more low lines
       pub within : AreWithin later to.bound
       pub older : AreWithin s.bound later
       pub below : (x : ℕ) → is_among later x ≡ true → x < at.shape.variables
@@ -194,6 +210,7 @@ module _ (program : Lowering) where
           lines = on.lines;
           left_is = refl;
           place = place;
+          stands = stands_behind p.stands on.part_is;
           marked = on.marked;
           numbered = on.numbered;
           has = on.has;
@@ -231,6 +248,11 @@ module _ (program : Lowering) where
               tokens = on.slots_are;
               held_is = on.held_is;
               formed = subst AreLinesFormed whole at.has.formed;
+              in_function = record {
+                number = λ first. lands.function ∙ at.has.in_function.number first;
+                whole_is = lands.whole ∙ at.has.in_function.whole_is;
+                root_is = at.has.in_function.root_is;
+              };
             };
             waits = on.waits;
             input_is = lands.left ∙ at.input_is;

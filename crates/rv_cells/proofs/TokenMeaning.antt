@@ -35,6 +35,7 @@ use Rattle.rv_cells.specs.Layout.{Layout}
 use Rattle.rv_cells.specs.Fitting.{IsFit}
 use Rattle.rv_cells.specs.Meaning.{setting_on, AreFree}
 use Rattle.rv_cells.specs.TokenedMeaning.{roomy_outside, IsTokenedLowered, TokenedRunsTheSame}
+use Rattle.rv_cells.proofs.FormRoots.{lowered_once}
 use Rattle.rv_cells.proofs.Programs.{all_free, lines_formed}
 use Rattle.rv_cells.proofs.TokenLineCosts.{forms}
 use Rattle.rv_cells.proofs.TokenStanding.{Lowering, setting, upper, lower, pace, Passing, HasEnded, StandsFor, IsFitWith, IsFitFrom, Related}
@@ -60,12 +61,12 @@ ends_once machine j k s v w first second =
 -- ---- codes
 
 -- the forms of all functions
-abbrev all_forms : List TokenedFunction → ℕ
+abbrev pub all_forms : List TokenedFunction → ℕ
 all_forms [] = 0
 all_forms (function ∷ functions) = forms function.body + all_forms functions
 
 -- no function has more
-forms_within : (functions : List TokenedFunction) (f : ℕ) (function : TokenedFunction) → slice_get functions f ≡ Some function
+pub forms_within : (functions : List TokenedFunction) (f : ℕ) (function : TokenedFunction) → slice_get functions f ≡ Some function
     → forms function.body ≤ all_forms functions
 forms_within [] f function is = cc
 forms_within (one ∷ functions) zero function is =
@@ -88,7 +89,7 @@ module _ (layout : Layout) (marks : CellMarks) (code : TokenedProgram) (constant
     (bytes : All (λ byte. byte < 256) input)
     (fits : (n : ℕ) → IsFit layout (counted_after (roomy_cost room) (setting_on (bare_program code) pool depth) input n)) where
   -- the program and its lines
-  abbrev lowering : Lowering
+  abbrev pub lowering : Lowering
   lowering = record {
     code = code;
     marks = marks;
@@ -106,7 +107,8 @@ module _ (layout : Layout) (marks : CellMarks) (code : TokenedProgram) (constant
     falsity = lowered.falsity;
     truth_is = lowered.truth_is;
     spends = lowered.spends;
-    lowered = lowered.each;
+    lowered = lowered_once layout marks (record { literals = code.texts; constants = constants }) code.functions functions
+        lowered.each;
     formed = lines_formed functions lowered.formed;
     plain = lowered.plain;
     short = forms_within code.functions;
@@ -116,24 +118,24 @@ module _ (layout : Layout) (marks : CellMarks) (code : TokenedProgram) (constant
   abbrev counted : Machine CountedState Note End
   counted = counted_machine (roomy_cost room) (bare_setting (setting lowering))
 
-  abbrev tokened : Machine TokenState Note End
+  abbrev pub tokened : Machine TokenState Note End
   tokened = token_machine token_cost (setting lowering)
 
   -- the first states of the three machines
   abbrev bare_start : CountedState
   bare_start = counted_first_state (bare_setting (setting lowering)) input
 
-  abbrev start : TokenState
+  abbrev pub start : TokenState
   start = token_first_state (setting lowering) input
 
-  abbrev turn : AsmTurn World Ending
+  abbrev pub turn : AsmTurn World Ending
   turn = asm_start lowered.main_lines (first_world pool input)
 
-  abbrev idle : ℕ
+  abbrev pub idle : ℕ
   idle = forms lowered.main.body
 
   -- the fields that are left are those that would be written
-  fills : FillsAlways token_cost (setting lowering) input
+  pub fills : FillsAlways token_cost (setting lowering) input
   fills = known_may_be_left token_cost (setting lowering) lowered.spends lowered.leaves input
 
   -- each state with tokens is kept, and without them one of the bare form
@@ -145,7 +147,7 @@ module _ (layout : Layout) (marks : CellMarks) (code : TokenedProgram) (constant
   has_room = costs_within room (setting lowering) fits_room input lowered.spends fills (λ n. (fits n).going)
 
   -- the image tells the same states
-  seen_states : (n : ℕ) → state (upper lowering) n start ≡ state tokened n start
+  pub seen_states : (n : ℕ) → state (upper lowering) n start ≡ state tokened n start
   seen_states n = state_mapped events_of (λ end. exited (exit_of end)) tokened n start
 
   -- each state with tokens is fit, since it is so without them, and it keeps only fields that are the new ones
@@ -159,7 +161,7 @@ module _ (layout : Layout) (marks : CellMarks) (code : TokenedProgram) (constant
       })
 
   -- the assembler's machine begins where the machine with tokens does
-  related : Related lowering 0 idle start turn
+  pub related : Related lowering 0 idle start turn
   related =
       starts lowering lowered.main lowered.main_is lowered.main_alone lowered.main_lines lowered.lines_are input bytes fit_from
 

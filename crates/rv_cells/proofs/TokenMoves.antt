@@ -1,5 +1,5 @@
 -- The line that moves a token to another slot does the step of the machine with tokens.
-use Rattle.std.proofs.Common.{◌≡◌, ℕ, suc, ◌+◌, ◌<◌, ◌==◌, Bool, true, false, List, [], ◌∷◌, ◌++◌, length, Some, None, refl, sym, ◌∙◌, ap, subst, arith, eqb-true}
+use Rattle.std.proofs.Common.{inl, ◌≡◌, ℕ, suc, ◌+◌, ◌<◌, ◌==◌, Bool, true, false, List, [], ◌∷◌, ◌++◌, length, Some, None, refl, sym, ◌∙◌, ap, subst, arith, eqb-true}
 use Rattle.kk_syntax.specs.Shapes.{is_among, without}
 use Rattle.kk_source.specs.Actions.{goes}
 use Rattle.kk_counted.specs.Heaps.{Heap}
@@ -119,6 +119,7 @@ module _ (program : Lowering) (to of : ℕ) (rest : Tokened) where
           parts = p.lines.2;
           low = p.low;
           lines = p.lines.1;
+          part_is = record { way = []; is_part = inl refl; code_is = refl };
           within = within_itself s.bound;
           older = within_itself s.bound;
           below = at.has.below;

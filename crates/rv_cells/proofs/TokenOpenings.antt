@@ -64,6 +64,7 @@ pub record Leads (known : Known) (most : ℕ) (lines rest : List Line) (fs gs : 
   pub left : t.world.left ≡ s.world.left
   pub trace : t.world.trace ≡ s.world.trace
   pub whole : t.frame.whole ≡ s.frame.whole
+  pub function : t.frame.function ≡ s.frame.function
   pub held : t.frame.held ≡ s.frame.held
   pub into : t.frame.into ≡ s.frame.into
 
@@ -172,6 +173,7 @@ module _ (known : Known) (rest : List Line) (fs : List (Frame Line)) (s : Spot) 
           left = refl {a = s.world.left};
           trace = refl {a = s.world.trace};
           whole = comes.whole;
+          function = comes.function;
           held = comes.held;
           into = comes.into;
         },
@@ -213,6 +215,7 @@ module _ (known : Known) (rest : List Line) (fs : List (Frame Line)) (s : Spot) 
           left = refl {a = s.world.left};
           trace = refl {a = s.world.trace};
           whole = comes.whole;
+          function = comes.function;
           held = comes.held;
           into = comes.into;
         },

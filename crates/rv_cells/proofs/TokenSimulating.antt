@@ -2,6 +2,7 @@
 use Rattle.std.proofs.Common.{◌≡◌, ℕ, ◌+◌, ◌<◌, true, List, [], ◌∷◌, Some, None, All, refl, sym, ◌∙◌, ap, subst, arith}
 use Rattle.std.specs.Prelude.{slice_get, slice_index_or}
 use Rattle.std.proofs.lemmas.List.{append-nil}
+use Rattle.std.proofs.Math.Path.{path_j, subst_refl}
 use Rattle.std.proofs.lemmas.Option.{get_or_from_slice_get}
 use Rattle.kk_base.specs.Simulations.{Reaches, Simulates}
 use Rattle.kk_base.proofs.Simulations.{simulates_until_ended}
@@ -29,11 +30,12 @@ use Rattle.rv_cells.specs.Follows.{nobody}
 use Rattle.rv_cells.specs.TokenedLines.{IsFunctionOf}
 use Rattle.rv_cells.proofs.Rooms.{none_aside}
 use Rattle.rv_cells.proofs.Starts.{starts as begins}
+use Rattle.rv_cells.proofs.FormPlaces.{stands_itself}
 use Rattle.rv_cells.proofs.Values.{HasValues}
 use Rattle.rv_cells.proofs.Runs.{turn_of}
 use Rattle.rv_cells.proofs.Spots.{Spot, saved}
 use Rattle.rv_cells.proofs.TokenLineCosts.{forms}
-use Rattle.rv_cells.proofs.TokenStanding.{Lowering, texts, setting, upper, lower, pace, Passing, At, IsAt, StandsFor, IsFitFrom, Related, Follows_step, HaveTokenCells}
+use Rattle.rv_cells.proofs.TokenStanding.{Lowering, texts, setting, upper, lower, pace, root_in, Passing, At, IsAt, StandsFor, IsFitFrom, Related, Follows_step, HaveTokenCells}
 use Rattle.rv_cells.proofs.TokenLanding.{machine_at, token_at, CodeSteps}
 use Rattle.rv_cells.proofs.TokenGiving.{at_give}
 use Rattle.rv_cells.proofs.TokenEntering.{at_call, at_tail}
@@ -213,6 +215,19 @@ module _ (program : Lowering) (main : TokenedFunction) (main_is : slice_get prog
     number = none_aside program.pool (λ at. nobody) (λ at. refl);
   }
 
+  -- of the same lines the parts stand so too
+  root_moved : (one other : Lines) (same : one ≡ other)
+      (of : IsFunctionOf program.layout (texts program) program.marks program.code.main main one)
+      → root_in program program.code.main main other
+      (subst (λ ls. IsFunctionOf program.layout (texts program) program.marks program.code.main main ls) same of)
+      ≡ root_in program program.code.main main one of
+  root_moved one other same of =
+      path_j (λ ls is. root_in program program.code.main main ls
+      (subst (λ l. IsFunctionOf program.layout (texts program) program.marks program.code.main main l) is of)
+      ≡ root_in program program.code.main main one of)
+      (ap (λ made. root_in program program.code.main main one made)
+      (subst_refl (λ l. IsFunctionOf program.layout (texts program) program.marks program.code.main main l) of)) same
+
   -- the body of `main` is at its lines
   starts_at : At program main.body [] [] no_tokens input start_spot [] lines.code
   starts_at =
@@ -221,6 +236,8 @@ module _ (program : Lowering) (main : TokenedFunction) (main_is : slice_get prog
       let of = subst (λ ls. IsFunctionOf program.layout (texts program) program.marks program.code.main main ls) same low.2 in
       record {
         shape = record {
+          function = program.code.main;
+          root = root_in program program.code.main main lines of;
           holds = of.lowered.holds;
           variables = of.lowered.variables;
           slots = of.lowered.slots;
@@ -240,6 +257,7 @@ module _ (program : Lowering) (main : TokenedFunction) (main_is : slice_get prog
             lines = of.lowered.code;
             left_is = sym (append-nil lines.code);
             place = refl;
+            stands = stands_itself (root_in program program.code.main main lines of);
             marked = of.marked.body_marked;
             numbered = of.numbered;
             has = of.has;
@@ -259,6 +277,11 @@ module _ (program : Lowering) (main : TokenedFunction) (main_is : slice_get prog
           tokens = record { below = λ y is. cc; are = λ y. tt };
           held_is = refl;
           formed = program.formed program.code.main lines lines_are;
+          in_function = record {
+            number = λ first. sym first;
+            whole_is = refl;
+            root_is = (main, (main_is, root_moved low.0 lines same low.2));
+          };
         };
         waits = tt;
         input_is = refl;

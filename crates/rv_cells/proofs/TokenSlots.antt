@@ -1,5 +1,5 @@
 -- The lines of the forms on tokens alone: a token is null, freed, or moved.
-use Rattle.std.proofs.Common.{◌≡◌, ℕ, ◌+◌, false, List, [], ◌∷◌, ◌++◌, length, Some, None, refl, sym, ◌∙◌, ap, subst, arith}
+use Rattle.std.proofs.Common.{inl, ◌≡◌, ℕ, ◌+◌, false, List, [], ◌∷◌, ◌++◌, length, Some, None, refl, sym, ◌∙◌, ap, subst, arith}
 use Rattle.kk_syntax.specs.Shapes.{is_among, without}
 use Rattle.kk_source.specs.Actions.{goes}
 use Rattle.kk_counted.specs.TokenKeeping.{Lists, IsJudged}
@@ -53,6 +53,7 @@ module _ (program : Lowering) (y : ℕ) (rest : Tokened) where
         parts = p.lines.2;
         low = p.low;
         lines = p.lines.1;
+        part_is = record { way = []; is_part = inl refl; code_is = refl };
         within = within_itself s.bound;
         older = within_itself s.bound;
         below = at.has.below;
@@ -107,6 +108,7 @@ module _ (program : Lowering) (y : ℕ) (rest : Tokened) where
             parts = p.lines.2;
             low = p.low;
             lines = p.lines.1;
+            part_is = record { way = []; is_part = inl refl; code_is = refl };
             within = within_itself s.bound;
             older = within_itself s.bound;
             below = at.has.below;
@@ -163,6 +165,7 @@ module _ (program : Lowering) (y : ℕ) (rest : Tokened) where
             parts = p.lines.2;
             low = p.low;
             lines = p.lines.1;
+            part_is = record { way = []; is_part = inl refl; code_is = refl };
             within = within_itself s.bound;
             older = within_itself s.bound;
             below = at.has.below;

@@ -36,9 +36,10 @@ use Rattle.rv_lower.proofs.Labels.{found_label, label_found}
 use Rattle.rv_cells.specs.Layout.{Layout, IsNarrow, words_in}
 use Rattle.rv_cells.specs.Follows.{AreFrom, Owner, in_hand, kept_aside, Follows, NoneAside, set_aside}
 use Rattle.rv_cells.specs.CountedLines.{Setting}
-use Rattle.rv_cells.specs.TokenedLines.{CodeLines, HasSlots, AreFunctionsOf}
+use Rattle.rv_cells.specs.TokenedLines.{CodeLines, HasSlots, IsFunctionOf, AreFunctionsOf}
 use Rattle.rv_cells.specs.Fitting.{IsFit}
 use Rattle.rv_cells.proofs.Bound.{AreWithin}
+use Rattle.rv_cells.proofs.FormPlaces.{Tree, own_of, tree_in, StandsAt}
 use Rattle.rv_cells.proofs.TokenLineCosts.{forms}
 use Rattle.rv_cells.proofs.Values.{HasValues}
 use Rattle.rv_cells.proofs.Runs.{Target, turn_of, Runs, machine}
@@ -106,9 +107,11 @@ pub record HaveTokenCells (pool : Pool) (layout : Layout) (address : ℕ → ℕ
 
 -- ---- functions
 
--- What is known of a function: which of its variables are of types with cells, how many variables and slots it has, and the mark of
--- its result.
+-- What is known of a function: its number, where the parts of its code stand among its lines, which of its variables are of types with
+-- cells, how many variables and slots it has, and the mark of its result.
 pub record Shape : Type 0 where
+  pub function : ℕ
+  pub root : Tree
   pub holds : ℕ → Bool
   pub variables : ℕ
   pub slots : ℕ
@@ -161,6 +164,24 @@ module _ (program : Lowering) where
   abbrev pub lines_setting : Shape → Setting
   lines_setting shape = record { layout = program.layout; holds = shape.holds; base = base_of shape; texts = texts }
 
+  -- where the parts of a function's code stand among its lines
+  abbrev pub root_in : (f : ℕ) (function : TokenedFunction) (lines : Lines)
+      → IsFunctionOf program.layout (record { literals = program.code.texts; constants = program.constants }) program.marks f function
+      lines → Tree
+  root_in f function lines of =
+      tree_in (record {
+        layout = program.layout;
+        holds = of.lowered.holds;
+        base = of.lowered.variables + of.lowered.slots;
+        texts = texts;
+      }) of.lowered.variables returns 0 function.body lines.code of.lowered.labels of.lowered.code
+
+  -- they stand so in the function of a number
+  abbrev pub IsRootOf : ℕ → Tree → Type 0
+  IsRootOf f root =
+      (function : TokenedFunction) × ((is : slice_get program.code.functions f ≡ Some function)
+      × (root ≡ root_in f function (program.lowered f function is).0 (program.lowered f function is).2))
+
   module _ (shape : Shape) where
     -- lines that are left in a function are those of a code
     pub record Placed (goal : Goal) (given : Bool) (bound : List ℕ) (whole : List Line) (code : Tokened) (left : List Line)
@@ -174,6 +195,9 @@ module _ (program : Lowering) where
           shape.variables goal low code own high
       pub left_is : left ≡ own ++ after
       pub place : whole ≡ before ++ left
+      pub stands : StandsAt shape.root before
+          (tree_in (record { layout = program.layout; holds = shape.holds; base = shape.variables + shape.slots; texts = texts })
+          shape.variables goal low code own high lines)
       pub marked : HasMark program.marks shape.holds shape.result bound given (bare code)
       pub numbered : AreNumbered shape.variables bound (bare code)
       pub has : HasSlots shape.slots code
@@ -232,6 +256,12 @@ module _ (program : Lowering) where
       pub placed : Placed goal given bound whole code left
       pub continues : Continues whole inner goal given bound
 
+    -- a frame is in the function, whose lines these are: it has its number, where `main` is the first function
+    pub record IsInFunction (f : ℕ) (whole : List Line) : Type 0 where
+      pub number : program.code.main ≡ 0 → f ≡ shape.function
+      pub whole_is : whole ≡ own_of shape.root
+      pub root_is : IsRootOf shape.function shape.root
+
     -- A frame has the values of its bound variables and those of its slots, and it holds the tokens of these held slots. `next` is
     -- the name of the next cell.
     pub record HasFrame (address : ℕ → ℕ) (next : ℕ) (slots : ℕ → Slot) (held bound : List ℕ) (environment : Environment)
@@ -241,6 +271,7 @@ module _ (program : Lowering) where
       pub tokens : HaveSlotValues address slots shape.variables shape.slots f.cells
       pub held_is : f.held ≡ held_values slots shape.variables held
       pub formed : AreLinesFormed f.whole
+      pub in_function : IsInFunction f.function f.whole
 
   -- ---- frames
 

@@ -56,6 +56,7 @@ module _ (program : Lowering) (address : ℕ → ℕ) (next : ℕ) (slots : ℕ 
               tokens = slots_put w.has.tokens y 0 null low (slot_here n y null slots) refl there;
               held_is = sym (drops (slots_with n y null slots n) (slot_here n y null slots) there);
               formed = w.has.formed;
+              in_function = w.has.in_function;
             };
           },
           all_wait_at program address next slots (slots_with n y null slots) helds frames fs w.shape.result

@@ -253,6 +253,7 @@ module _ (program : Lowering) (x c : ℕ) (fields used : List ℕ) (y : ℕ) (re
         parts = p.lines.4;
         low = p.low + 2;
         lines = p.lines.3;
+        part_is = record { way = 0 ∷ []; is_part = inl refl; code_is = refl };
         within = within_fields fields s.bound;
         older = within_front fields s.bound;
         below = λ z is. list_below z (within_fields fields s.bound z is);

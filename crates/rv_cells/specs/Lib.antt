@@ -11,6 +11,7 @@ pub mod Marking
 pub mod Tables
 pub mod TokenedLowered
 pub mod TokenedMeaning
+pub mod FormLines
 pub mod TokenedMarking
 pub mod TokenedWritten
 pub mod TokenedFunctions

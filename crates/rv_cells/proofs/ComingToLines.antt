@@ -1,0 +1,183 @@
+-- Where the counted machine is at a call, a print or a construction with fields, the assembler's machine comes to a line of its own.
+use Rattle.std.proofs.Common.{◌≡◌, ℕ, ◌+◌, ◌%◌, ◌<◌, ◌&&◌, not, true, false, List, [], length, drop, Some, All, refl, sym, ◌∙◌, ap, subst, arith, flat_map}
+use Rattle.std.proofs.Math.Seq.{drop-append_seam}
+use Rattle.kk_base.specs.Machines.{state}
+use Rattle.kk_base.proofs.Machines.{trace-mapped}
+use Rattle.kk_base.proofs.Simulations.{simulates_many}
+use Rattle.kk_syntax.specs.Shapes.{is_among}
+use Rattle.kk_source.specs.Ends.{exit_of}
+use Rattle.kk_source.specs.Notes.{events_of}
+use Rattle.kk_source.specs.State.{Environment}
+use Rattle.kk_counted.specs.BareForms.{bare, bare_function, bare_program}
+use Rattle.kk_counted.specs.CodePlaces.{code_at, is_act, IsActAt}
+use Rattle.kk_counted.specs.CountedCodes.{Counted}
+use Rattle.kk_counted.specs.CountedCosts.{roomy_cost}
+use Rattle.kk_counted.specs.CountedStates.{CountedJoin, CountedControl, CountedConfiguration}
+use Rattle.kk_counted.specs.CountedMachine.{counted_machine}
+use Rattle.kk_counted.specs.CountedStates.{counted_first_state}
+use Rattle.kk_counted.specs.Keeping.{counted_after}
+use Rattle.kk_counted.specs.Lowerable.{AreLowerable}
+use Rattle.kk_counted.specs.Marks.{CellMarks}
+use Rattle.kk_counted.specs.TokenCosts.{token_cost, HasRoom}
+use Rattle.kk_counted.specs.TokenRuns.{is_quiet, is_quiet_at, ComesTo}
+use Rattle.kk_counted.specs.TokenStates.{TokenJoin, TokenControl, TokenConfiguration, TokenState, bare_control, bare_setting}
+use Rattle.kk_counted.specs.TokenedCodes.{Tokened, TokenedProgram}
+use Rattle.kk_counted.proofs.TokenSettling.{comes_to_each}
+use Rattle.cell_heap.specs.Pool.{Pool}
+use Rattle.rv_isa.specs.Processor.{Ending, exited}
+use Rattle.rv_isa.specs.AsmCode.{Lines}
+use Rattle.rv_isa.specs.AsmMachine.{AsmTurn}
+use Rattle.rv_isa.specs.LinePlaces.{AsmIsAt}
+use Rattle.rv_world.specs.World.{World}
+use Rattle.rv_cells.specs.Fitting.{IsFit}
+use Rattle.rv_cells.specs.FormLines.{ComesToItsLines}
+use Rattle.rv_cells.specs.Layout.{Layout}
+use Rattle.rv_cells.specs.Meaning.{setting_on}
+use Rattle.rv_cells.specs.TokenedMeaning.{IsTokenedLowered}
+use Rattle.rv_cells.proofs.FormArities.{is_own_act}
+use Rattle.rv_cells.proofs.FormPlaces.{code_of, own_of, Leads, way_of, tree_in}
+use Rattle.rv_cells.proofs.FormRoots.{root_same, program_root, own_lines, among_own}
+use Rattle.rv_cells.proofs.OwnLines.{among_found}
+use Rattle.rv_cells.proofs.Runs.{left_at}
+use Rattle.rv_cells.proofs.TokenFormedFunctions.{bare_at}
+use Rattle.rv_cells.proofs.TokenMeaning.{lowering, idle, fills, seen_states, related, tokened, start, turn}
+use Rattle.rv_cells.proofs.TokenStanding.{Lowering, setting, upper, lower, pace, Passing, IsAt, StandsFor, Related}
+use Rattle.rv_cells.proofs.TokenSimulating.{simulates}
+
+code_same : (a b : Counted) (e f : Environment) (j k : List CountedJoin)
+    → CountedControl.running a e j ≡ CountedControl.running b f k → a ≡ b
+code_same a b e f j k is = cc
+
+module _ (layout : Layout) (marks : CellMarks) (code : TokenedProgram) (constants : List (List ℕ)) (functions : List Lines)
+    (lowered : IsTokenedLowered layout marks code constants functions)
+    (lowerable : AreLowerable marks (bare_program code).functions) (main_first : code.main ≡ 0) (room : ℕ)
+    (fits_room : HasRoom room code) (pool : Pool) (depth first : ℕ) (input : List ℕ) (aligned : pool.first % 32 ≡ 0)
+    (some : 0 < pool.first) (bytes : All (λ byte. byte < 256) input)
+    (fits : (n : ℕ) → IsFit layout (counted_after (roomy_cost room) (setting_on (bare_program code) pool depth) input n)) where
+  abbrev low : Lowering
+  low = lowering layout marks code constants functions lowered room fits_room pool depth first input aligned some bytes fits
+
+  -- a turn is at a line of the place of a form
+  abbrev IsAtLine : Counted → AsmTurn World Ending → Type 0
+  IsAtLine act at_turn =
+      (f : ℕ) × ((way : List ℕ) × (IsActAt (bare_program code) f way act × ((k : ℕ)
+      × ((is_among ((own_lines layout marks code constants functions lowered lowerable).lines f way) k ≡ true)
+      × AsmIsAt functions f k at_turn))))
+
+  -- where the code of a turn stands
+  at_line : (act : Counted) (tokens_code : Tokened) (environment : Environment) (inner : List TokenJoin) (c : TokenConfiguration)
+      (left_input : List ℕ) (at_turn : AsmTurn World Ending)
+      → IsAt (lowering layout marks code constants functions lowered room fits_room pool depth first input aligned some bytes fits)
+      tokens_code environment inner c left_input at_turn
+      → bare tokens_code ≡ act → is_quiet tokens_code ≡ false → is_act act ≡ true → IsAtLine act at_turn
+  at_line act tokens_code environment inner c left_input at_turn is same loud does =
+      let at = is.at in
+      let p = at.does.placed in
+      let shape = at.shape in
+      let f = shape.function in
+      let stands = p.stands in
+      let within = at.has.in_function in
+      let root_is = within.root_is in
+      let function = root_is.0 in
+      let there = root_is.1.0 in
+      let lines = (low.lowered f function there).0 in
+      let k = length p.before in
+      let way = way_of stands.steps in
+      let root_eq : shape.root ≡ program_root layout marks code constants functions lowered lowerable f
+      = root_is.1.1
+      ∙ root_same layout marks (record { literals = code.texts; constants = constants }) code.functions functions lowered.each f
+      function there in
+      let inner_tree = tree_in (record {
+        layout = layout;
+        holds = shape.holds;
+        base = shape.variables + shape.slots;
+        texts = record { literals = code.texts; constants = constants };
+      }) shape.variables at.does.goal p.low tokens_code p.own p.high p.lines in
+      let acts_so : is_act (bare tokens_code) ≡ true = ap is_act same ∙ does in
+      let own : is_own_act tokens_code ≡ true = ap (λ b. not b && is_act (bare tokens_code)) loud ∙ acts_so in
+      let far = stands.behind in
+      let whole : is.spot.frame.whole ≡ lines.code = within.whole_is ∙ ap own_of root_is.1.1 in (
+        f,
+        (
+          way,
+          (
+            record {
+              function = bare_function function;
+              function_is = bare_at code.functions f function there;
+              code_is = ap (λ t. code_at (bare (code_of t)) way) (sym root_is.1.1) ∙ stands.code_is ∙ ap (λ b. Some b) same;
+              acts = does;
+            },
+            (
+              k,
+              (
+                among_own layout marks code constants functions lowered lowerable f way k
+                    (among_found way [] 0 k (program_root layout marks code constants functions lowered lowerable f) stands.steps
+                    inner_tree (subst (λ t. Leads t stands.steps inner_tree) root_eq stands.leads) own refl (omega (arith, far))),
+                subst (AsmIsAt functions f k) (sym is.turn_is) (
+                  lines,
+                  (
+                    (low.lowered f function there).1,
+                    (
+                      left_at is.left is.spot.frame,
+                      (
+                        is.fs,
+                        (
+                          refl,
+                          record {
+                            function = within.number main_first;
+                            whole = whole;
+                            left = sym (drop-append_seam p.before is.left) ∙ ap (drop k) (sym p.place ∙ whole);
+                          },
+                        ),
+                      ),
+                    ),
+                  ),
+                ),
+              ),
+            ),
+          ),
+        ),
+      )
+
+  -- so each turn that stands for a state at such a form
+  at_control : (act : Counted) (environment : Environment) (joins : List CountedJoin) (control : TokenControl)
+      (c : TokenConfiguration) (left_input : List ℕ) (at_turn : AsmTurn World Ending)
+      → StandsFor (lowering layout marks code constants functions lowered room fits_room pool depth first input aligned some bytes
+      fits) control c left_input at_turn
+      → bare_control control ≡ CountedControl.running act environment joins → is_quiet_at control ≡ false → is_act act ≡ true
+      → IsAtLine act at_turn
+  at_control act environment joins (TokenControl.running tokens_code own_environment inner) c left_input at_turn stands same loud
+      does =
+      at_line act tokens_code own_environment inner c left_input at_turn stands
+      (code_same (bare tokens_code) act own_environment environment _ joins same) loud does
+  at_control act environment joins (TokenControl.stopped by) c left_input at_turn stands same loud does = cc same
+  at_control act environment joins TokenControl.stuck c left_input at_turn stands same loud does = absurd stands
+
+  pub comes_to_its_lines : ComesToItsLines (bare_program code) room constants functions lowered.main_lines pool depth first input
+      (own_lines layout marks code constants functions lowered lowerable)
+  comes_to_its_lines n act environment joins control_is does =
+      let back = fills layout marks code constants functions lowered room fits_room pool depth first input aligned some bytes fits in
+      let comes = comes_to_each (roomy_cost room) (setting low) lowered.spends input (λ k. back k) (λ k. (fits k).going) n in
+      let come : ComesTo (roomy_cost room) token_cost (setting low) input n = (comes.0, (comes.1.0, (comes.1.1.0, comes.1.1.1))) in
+      let begin = start layout marks code constants functions lowered room fits_room pool depth first input aligned some bytes fits in
+      let at_start = turn layout marks code constants functions lowered room fits_room pool depth first input aligned some bytes fits in
+      let machine = tokened layout marks code constants functions lowered room fits_room pool depth first input aligned some bytes
+      fits in
+      let spare = idle layout marks code constants functions lowered room fits_room pool depth first input aligned some bytes fits in
+      let m = come.0 in
+      let reaches = simulates_many (upper low) (lower low) (Related low) (Passing low) (pace low) (simulates low) m 0 spare begin
+      at_start
+      (related layout marks code constants functions lowered room fits_room pool depth first input aligned some bytes fits) in
+      let there = state (lower low) reaches.steps at_start in
+      let stands = subst (λ (s : TokenState). StandsFor low s.machine.control s.machine s.input there)
+      (seen_states layout marks code constants functions lowered room fits_room pool depth first input aligned some bytes fits m)
+      reaches.related.stands in
+      let s = state machine m begin in
+      let it = at_control act environment joins s.machine.control s.machine s.input there stands
+      (ap (λ (c : CountedConfiguration). c.control) come.1.0 ∙ control_is) come.1.1.1 does in
+      let counted = counted_machine (roomy_cost room) (bare_setting (setting low)) in
+      let told = reaches.events_are
+      ∙ trace-mapped events_of (λ end. exited (exit_of end)) machine m begin
+      ∙ ap (λ notes. flat_map events_of notes) come.1.1.0
+      ∙ sym (trace-mapped events_of (λ end. exited (exit_of end)) counted n (counted_first_state (bare_setting (setting low)) input))
+      in (it.0, (it.1.0, (it.1.1.0, (it.1.1.1.0, (it.1.1.1.1.0, (reaches.steps, (it.1.1.1.1.1, told)))))))

@@ -1,0 +1,201 @@
+-- Forms with tokens have as many arguments as they take, where their bare forms do; and a call, a print and a construction with fields
+-- begins with a line that is no label.
+use Rattle.std.proofs.Common.{◌≡◌, ℕ, ◌≤◌, ◌&&◌, not, Bool, true, List, [], ◌∷◌, ◌++◌, length, refl, sym, ◌∙◌, ap, subst, arith}
+use Rattle.kk_syntax.specs.declared.program.Form.{Form}
+use Rattle.kk_syntax.specs.declared.program.Form.TheVariants.{Number, Unit as Nothing, ReadByte, PrintText, Unary, Binary, Print, Construct, Call}
+use Rattle.kk_syntax.specs.Programs.{text_at}
+use Rattle.kk_syntax.specs.Shapes.{without}
+use Rattle.kk_source.specs.FormEffects.{piece_of}
+use Rattle.kk_counted.specs.BareForms.{bare, bare_arms}
+use Rattle.kk_counted.specs.CodePlaces.{is_act}
+use Rattle.kk_counted.specs.Lowerable.{HasArity, HasArities, HaveArities}
+use Rattle.kk_counted.specs.TokenRuns.{is_quiet}
+use Rattle.kk_counted.specs.TokenSpending.{SpendsTokens, SpendAllTokens}
+use Rattle.kk_counted.specs.TokenedCodes.{Tokened, TokenedArms}
+use Rattle.rv_isa.specs.AsmCode.{Line}
+use Rattle.rv_isa.specs.LinePlaces.{is_no_label}
+use Rattle.rv_lower.specs.Lines.{copies, PrintLines}
+use Rattle.rv_lower.specs.Lowered.{Goal}
+use Rattle.rv_cells.specs.CountedLines.{Setting}
+use Rattle.rv_cells.specs.TokenedLines.{AskLines, CodeLines}
+use Rattle.rv_cells.proofs.FormPlaces.{Parts, no_part, part, parts_in}
+
+-- ---- arities
+
+-- each form on values has as many arguments as it takes
+abbrev mutual
+  pub FitArities : Tokened → Type 0
+  FitArities (Tokened.give x) = Unit {0}
+  FitArities (Tokened.tail_call f arguments) = Unit {0}
+  FitArities (Tokened.branch x positive negative) = FitArities positive × FitArities negative
+  FitArities (Tokened.case x decisions arms) = FitAllArities arms
+  FitArities (Tokened.compute x form arguments others rest) = HasArity form arguments × FitArities rest
+  FitArities (Tokened.inside x block rest) = FitArities block × FitArities rest
+  FitArities (Tokened.read x c fields rest) = FitArities rest
+  FitArities (Tokened.open_cell x c fields used y rest) = FitArities rest
+  FitArities (Tokened.if_unique x c fields used y rest) = FitArities rest
+  FitArities (Tokened.dup x rest) = FitArities rest
+  FitArities (Tokened.drop x rest) = FitArities rest
+  FitArities (Tokened.fill x y c first arguments kept others rest) = FitArities rest
+  FitArities (Tokened.free y rest) = FitArities rest
+  FitArities (Tokened.null y rest) = FitArities rest
+  FitArities (Tokened.move to of rest) = FitArities rest
+  FitArities (Tokened.hold y rest) = FitArities rest
+  FitArities (Tokened.unhold y rest) = FitArities rest
+  FitArities (Tokened.if_token y there absent) = FitArities there × FitArities absent
+
+  pub FitAllArities : TokenedArms → Type 0
+  FitAllArities TokenedArms.no_arm = Unit {0}
+  FitAllArities (TokenedArms.arm body rest) = FitArities body × FitAllArities rest
+
+mutual
+  pub fit_arities : (code : Tokened) (left unspent held : List ℕ) → SpendsTokens left unspent held code → HasArities (bare code)
+      → FitArities code
+  fit_arities (Tokened.give x) left unspent held s a = tt
+  fit_arities (Tokened.tail_call f arguments) left unspent held s a = tt
+  fit_arities (Tokened.branch x positive negative) left unspent held s a =
+      (fit_arities positive left unspent [] s.1.0 a.0, fit_arities negative left unspent [] s.1.1 a.1)
+  fit_arities (Tokened.case x decisions arms) left unspent held s a = fit_all_arities arms left unspent s.1 a
+  fit_arities (Tokened.compute x form arguments others rest) left unspent held s a =
+      (a.0, fit_arities rest left unspent held s.1 a.1)
+  fit_arities (Tokened.inside x block rest) left unspent held s a =
+      (fit_arities block s.0 unspent [] s.1.1.0 a.0, fit_arities rest left s.0 [] s.1.1.1 a.1)
+  fit_arities (Tokened.read x c fields rest) left unspent held s a = fit_arities rest left unspent [] s.1 a
+  fit_arities (Tokened.open_cell x c fields used y rest) left unspent held s a =
+      fit_arities rest left (y ∷ unspent) [] s.1.1 a
+  fit_arities (Tokened.if_unique x c fields used y rest) left unspent held s a =
+      fit_arities rest left (y ∷ unspent) [] s.1.1 a
+  fit_arities (Tokened.dup x rest) left unspent held s a = fit_arities rest left unspent [] s.1 a
+  fit_arities (Tokened.drop x rest) left unspent held s a = fit_arities rest left unspent [] s.1 a
+  fit_arities (Tokened.fill x y c first arguments kept others rest) left unspent held s a =
+      fit_arities rest left (without (y ∷ []) unspent) [] s.1.1.1.1 a.1
+  fit_arities (Tokened.free y rest) left unspent held s a = fit_arities rest left (without (y ∷ []) unspent) [] s.1.1 a
+  fit_arities (Tokened.null y rest) left unspent held s a = fit_arities rest left (y ∷ unspent) [] s.1.1 a
+  fit_arities (Tokened.move to of rest) left unspent held s a =
+      fit_arities rest left (to ∷ without (of ∷ []) unspent) [] s.1.1.1 a
+  fit_arities (Tokened.hold y rest) left unspent held s a = fit_arities rest left unspent (y ∷ held) s.1.1 a
+  fit_arities (Tokened.unhold y rest) left unspent held s a = fit_arities rest left unspent s.0 s.1.1.1 a
+  fit_arities (Tokened.if_token y there absent) left unspent held s a = (
+    fit_arities there left unspent held s.1.1.0 a,
+    fit_arities absent left unspent held s.1.1.1 (subst HasArities (sym s.1.0) a),
+  )
+
+  fit_all_arities : (arms : TokenedArms) (left unspent : List ℕ) → SpendAllTokens left unspent arms
+      → HaveArities (bare_arms arms) → FitAllArities arms
+  fit_all_arities TokenedArms.no_arm left unspent s a = tt
+  fit_all_arities (TokenedArms.arm body rest) left unspent s a =
+      (fit_arities body left unspent [] s.0 a.0, fit_all_arities rest left unspent s.1 a.1)
+
+-- ---- first lines
+
+-- a call, a print or a construction with fields, which the bare form has too
+abbrev pub is_own_act : Tokened → Bool
+is_own_act code = not (is_quiet code) && is_act (bare code)
+
+-- lines begin with one that is no label
+pub record Begins (lines : List Line) : Type 0 where
+  pub line : Line
+  pub more : List Line
+  pub is : lines ≡ line ∷ more
+  pub no_label : is_no_label line.action ≡ true
+
+-- no part begins with the first of these lines
+abbrev pub StartsBehind : ℕ → Parts → Type 0
+StartsBehind first no_part = Unit {0}
+StartsBehind first (part way before inner more) = first ≤ length before
+
+-- a code begins with a line of its own, which is no label
+pub record IsOwn (own : List Line) (parts : Parts) : Type 0 where
+  pub begins : Begins own
+  pub apart : StartsBehind 1 parts
+
+begins_at : (line : Line) (more : List Line) → is_no_label line.action ≡ true → Begins (line ∷ more)
+begins_at line more no_label = record { line = line; more = more; is = refl; no_label = no_label }
+
+-- lines in front of others
+begins_more : (lines first more : List Line) → lines ≡ first ++ more → Begins first → Begins lines
+begins_more lines first more is begins = record {
+  line = begins.line;
+  more = begins.more ++ more;
+  is = is ∙ ap (λ ls. ls ++ more) begins.is;
+  no_label = begins.no_label;
+}
+
+-- the copies of arguments, or what comes behind them
+copies_begin : (base : ℕ) (arguments : List ℕ) (last : Line) → is_no_label last.action ≡ true
+    → Begins (copies base arguments ++ (last ∷ []))
+copies_begin base [] last no_label = begins_at last [] no_label
+copies_begin base (x ∷ xs) last no_label = record { line = _; more = _; is = refl; no_label = refl }
+
+-- a print of constant bytes, or what comes behind it
+print_begins : (base : ℕ) (texts : List (List ℕ)) (bytes : List ℕ) (print : List Line) (last : Line)
+    → PrintLines base texts bytes print → is_no_label last.action ≡ true → Begins (print ++ (last ∷ []))
+print_begins base texts [] print last is no_label =
+    begins_more (print ++ (last ∷ [])) (last ∷ []) [] (ap (λ ls. ls ++ (last ∷ [])) is) (begins_at last [] no_label)
+print_begins base texts (byte ∷ bytes) print last is no_label =
+    record { line = _; more = _; is = ap (λ ls. ls ++ (last ∷ [])) is.2; no_label = refl }
+
+module _ (setting : Setting) (variables : ℕ) where
+  -- the lines of a form on values
+  form_begins : (low x : ℕ) (form : Form) (arguments others : List ℕ) (rest : Tokened) (own : List Line) (high : ℕ)
+      → AskLines setting variables low x form arguments others own high → HasArity form arguments
+      → is_own_act (Tokened.compute x form arguments others rest) ≡ true → Begins own
+  form_begins low x (Number n) arguments others rest own high lines arity act = cc act
+  form_begins low x Nothing arguments others rest own high lines arity act = cc act
+  form_begins low x ReadByte arguments others rest own high lines arity act = cc act
+  form_begins low x (PrintText how text) arguments others rest own high lines arity act =
+      let print = print_begins setting.base setting.texts.constants (piece_of how (text_at setting.texts.literals text))
+      lines.0.0 _ lines.0.1 refl in
+      record { line = print.line; more = print.more; is = lines.0.2 ∙ print.is; no_label = print.no_label }
+  form_begins low x (Unary operator) arguments others rest own high lines arity act = cc act
+  form_begins low x (Binary operator) arguments others rest own high lines arity act = cc act
+  form_begins low x (Print how) [] others rest own high lines arity act = absurd (omega (arith, arity))
+  form_begins low x (Print how) (a ∷ b ∷ more) others rest own high lines arity act = absurd (omega (arith, arity))
+  form_begins low x (Print how) (a ∷ []) others rest own high lines arity act =
+      record { line = _; more = _; is = lines.0; no_label = refl }
+  form_begins low x (Construct c) [] others rest own high lines arity act = cc act
+  form_begins low x (Construct c) (a ∷ more) [] rest own high lines arity act =
+      record { line = _; more = _; is = lines.0.6; no_label = refl }
+  form_begins low x (Construct c) (a ∷ more) (other ∷ others) rest own high lines arity act =
+      record { line = _; more = _; is = lines.2; no_label = refl }
+  form_begins low x (Call f) arguments others rest own high lines arity act =
+      let call = copies_begin setting.base arguments _ refl in
+      record { line = call.line; more = call.more; is = lines.0 ∙ call.is; no_label = call.no_label }
+
+  -- an act whose own lines begin so, and whose other part comes behind them
+  own_by : (own first more : List Line) (way : List ℕ) (inner : _) → own ≡ first ++ more → Begins first
+      → IsOwn own (part way first inner no_part)
+  own_by own first more way inner is begins = record {
+    begins = begins_more own first more is begins;
+    apart = let long = ap length begins.is in omega arith;
+  }
+
+  pub act_own : (goal : Goal) (low : ℕ) (code : Tokened) (own : List Line) (high : ℕ)
+      (lines : CodeLines setting variables goal low code own high) → FitArities code → is_own_act code ≡ true
+      → IsOwn own (parts_in setting variables goal low code own high lines)
+  act_own goal low (Tokened.give x) own high lines arity act = cc act
+  act_own goal low (Tokened.tail_call f arguments) own high lines arity act =
+      let call = copies_begin setting.base arguments _ refl in
+      record {
+        begins = record { line = call.line; more = call.more; is = lines.0 ∙ call.is; no_label = call.no_label };
+        apart = tt;
+      }
+  act_own goal low (Tokened.branch x positive negative) own high lines arity act = cc act
+  act_own goal low (Tokened.case x decisions arms) own high lines arity act = cc act
+  act_own goal low (Tokened.compute x form arguments others rest) own high lines arity act =
+      own_by own lines.0 lines.1 _ _ lines.5
+      (form_begins low x form arguments others rest lines.0 lines.2 lines.3 arity.0 act)
+  act_own goal low (Tokened.inside x block rest) own high lines arity act = cc act
+  act_own goal low (Tokened.read x c fields rest) own high lines arity act = cc act
+  act_own goal low (Tokened.open_cell x c fields used y rest) own high lines arity act = cc act
+  act_own goal low (Tokened.if_unique x c fields used y rest) own high lines arity act = cc act
+  act_own goal low (Tokened.dup x rest) own high lines arity act = cc act
+  act_own goal low (Tokened.drop x rest) own high lines arity act = cc act
+  act_own goal low (Tokened.fill x y c first arguments kept others rest) own high lines arity act =
+      own_by own lines.0 lines.1 _ _ lines.4 (record { line = _; more = _; is = lines.2.2; no_label = refl })
+  act_own goal low (Tokened.free y rest) own high lines arity act = cc act
+  act_own goal low (Tokened.null y rest) own high lines arity act = cc act
+  act_own goal low (Tokened.move to of rest) own high lines arity act = cc act
+  act_own goal low (Tokened.hold y rest) own high lines arity act = cc act
+  act_own goal low (Tokened.unhold y rest) own high lines arity act = cc act
+  act_own goal low (Tokened.if_token y there absent) own high lines arity act = cc act
