@@ -1,2 +1,4 @@
 pub mod Strips
 pub mod Seen
+pub mod Steps
+pub mod Pending

@@ -1,12 +1,12 @@
 -- What a dup, a drop, a reading and a plain form do to a heap that is sound over what is owned: they are not stuck, and the heap is
 -- sound over what is owned then.
-use Rattle.std.proofs.Common.{◌≡◌, ◌⊎◌, inl, inr, ℕ, ◌+◌, ◌≤◌, ◌==◌, ◌&&◌, Bool, true, false, List, [], ◌∷◌, ◌++◌, length, map, Option, Some, None, arith, refl, sym, ap, ◌∙◌, subst}
+use Rattle.std.proofs.Common.{◌≡◌, ◌⊎◌, inl, inr, ℕ, ◌+◌, ◌≤◌, ◌==◌, ◌&&◌, Bool, true, false, List, [], ◌∷◌, ◌++◌, length, Option, Some, arith, refl, sym, ap, ◌∙◌, subst}
 use Rattle.std.specs.Prelude.{slice_get}
 use Rattle.kk_syntax.specs.Shapes.{is_among}
 use Rattle.kk_source.specs.State.{Value, place, Cell, Store, Environment}
 use Rattle.kk_source.specs.Live.{value_of, fields_at, Reached}
 use Rattle.kk_core.specs.CoreMachine.{bind_fields}
-use Rattle.kk_counted.specs.Heaps.{Heap, count_at, cell_at, fields_held, forwards, dup_value, drop_value}
+use Rattle.kk_counted.specs.Heaps.{Heap, count_at, cell_at, forwards, dup_value, drop_value}
 use Rattle.kk_counted.specs.CountedMachine.{Named, cell_named}
 use Rattle.kk_counted.specs.References.{refs_of, refs, IsSound, IsCounted, cells_of}
 use Rattle.kk_counted.specs.Spending.{AreEven, AreFresh}

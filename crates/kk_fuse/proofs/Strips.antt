@@ -1,12 +1,12 @@
 -- Code without the next drops of some variables, by its first form.
-use Rattle.std.proofs.Common.{◌≡◌, ◌⊎◌, inl, inr, ℕ, ◌+◌, ◌==◌, ◌||◌, Bool, true, false, List, [], ◌∷◌, ◌++◌, Option, Some, None, arith, refl, sym, ap, ◌∙◌, subst}
+use Rattle.std.proofs.Common.{◌≡◌, ◌⊎◌, inl, inr, ℕ, ◌==◌, ◌||◌, Bool, true, false, List, [], ◌∷◌, ◌++◌, Option, Some, None, arith, refl, sym, ap, ◌∙◌, subst}
 use Rattle.std.specs.Prelude.{if◌then◌else◌, option_map}
 use Rattle.kk_syntax.specs.declared.program.Form.{Form}
 use Rattle.kk_syntax.specs.Shapes.{is_among}
 use Rattle.kk_source.specs.Matching.{and_then}
-use Rattle.kk_counted.specs.CountedCodes.{Counted, give, tail_call, branch, case, compute, inside, read, open_cell, if_unique, dup, drop}
+use Rattle.kk_counted.specs.CountedCodes.{Counted, compute, read, dup, drop}
 use Rattle.kk_counted.specs.Drafts.{minus}
-use Rattle.kk_counted.specs.Spending.{total, AreEven}
+use Rattle.kk_counted.specs.Spending.{AreEven}
 use Rattle.kk_counted.proofs.Counting.{same, itself}
 use Rattle.kk_counted.proofs.Variables.{among_cases}
 use Rattle.kk_counted.proofs.Evenness.{minus_even, even_among, total_append}
