@@ -2,3 +2,4 @@ pub mod Strips
 pub mod Seen
 pub mod Steps
 pub mod Pending
+pub mod Between

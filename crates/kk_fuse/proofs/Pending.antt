@@ -41,7 +41,7 @@ AreAlike R (takes to) action =
 AreAlike R (builds found to) action = (other : CountedConfiguration) × ((action ≡ builds found other) × R to other)
 AreAlike R (calls found to) action = (other : CountedConfiguration) × ((action ≡ calls found other) × R to other)
 
-print_alike : (R : CountedConfiguration → CountedConfiguration → Type 0) (piece : List ℕ) (to other : CountedConfiguration)
+pub print_alike : (R : CountedConfiguration → CountedConfiguration → Type 0) (piece : List ℕ) (to other : CountedConfiguration)
     → R to other → AreAlike R (print_step piece to) (print_step piece other)
 print_alike R [] to other related = (other, (refl, related))
 print_alike R (byte ∷ bytes) to other related = (other, (refl, related))
@@ -57,7 +57,7 @@ in_even xs owned now y even other is =
     by_case (inl here) = absurd (let both : true ≡ false = sym here ∙ other in cc)
     by_case (inr here) = here
 
-not_among : (xs ys : List ℕ) (y : ℕ) → (is_among xs y ≡ true → is_among ys y ≡ true) → is_among ys y ≡ false → is_among xs y ≡ false
+pub not_among : (xs ys : List ℕ) (y : ℕ) → (is_among xs y ≡ true → is_among ys y ≡ true) → is_among ys y ≡ false → is_among xs y ≡ false
 not_among xs ys y each is = by_test (is_among xs y) refl
   where
     by_test : (t : Bool) → is_among xs y ≡ t → t ≡ false
@@ -126,7 +126,7 @@ module _ (positions : PositionTable) (setting : CountedSetting) where
   module _ (environment : Environment) (joins : List CountedJoin) (from fused : CountedConfiguration)
       (frames : fused.frames ≡ map fused_frame from.frames) where
     -- the rest of the code, with the heaps changed
-    rest_follows : (rest less : Counted) (heap other : Heap) (bound : Environment) → Pending heap other bound rest less
+    pub rest_follows : (rest less : Counted) (heap other : Heap) (bound : Environment) → Pending heap other bound rest less
         → Follows (record from { control = running rest bound joins; heap = heap })
         (record fused { control = running less bound (map fused_join joins); heap = other })
     rest_follows rest less heap other bound pending =
@@ -214,7 +214,7 @@ module _ (positions : PositionTable) (setting : CountedSetting) where
             (seen_even p.below environment p.lent from.heap p.readable (p.pending ++ p.owned) p.spends.0 p.spends.1.0 p.seen)
 
     -- the drop of a pending variable
-    drop_idle : (y : ℕ) (rest less : Counted) → (p : Pending from.heap fused.heap environment (drop y rest) less)
+    pub drop_idle : (y : ℕ) (rest less : Counted) → (p : Pending from.heap fused.heap environment (drop y rest) less)
         → IsTaken p.pending y (fuse rest) less
         → fused.control ≡ running less environment (map fused_join joins)
         → IsIdle (drop y rest) environment joins from fused
@@ -255,7 +255,7 @@ module _ (positions : PositionTable) (setting : CountedSetting) where
 
     -- ---- both do a step
 
-    dup_both : (y : ℕ) (rest less : Counted) → (p : Pending from.heap fused.heap environment (dup y rest) less)
+    pub dup_both : (y : ℕ) (rest less : Counted) → (p : Pending from.heap fused.heap environment (dup y rest) less)
         → (past : IsPast p.pending y (dup y) (fuse rest) less) → AreBoth (dup y rest) (dup y past.less) environment joins from fused
     dup_both y rest less p past =
         record {
@@ -312,7 +312,7 @@ module _ (positions : PositionTable) (setting : CountedSetting) where
             seen_dup p.below environment p.lent fused.heap p.readable p.owned y
             (in_all (among_cases p.lent (p.readable ++ p.spends.0) y p.spends.1.1.0)) p.fused_seen
 
-    drop_both : (y : ℕ) (rest less : Counted) → (p : Pending from.heap fused.heap environment (drop y rest) less)
+    pub drop_both : (y : ℕ) (rest less : Counted) → (p : Pending from.heap fused.heap environment (drop y rest) less)
         → (past : IsPast p.pending y (drop y) (fuse rest) less)
         → AreBoth (drop y rest) (drop y past.less) environment joins from fused
     drop_both y rest less p past =
@@ -364,7 +364,7 @@ module _ (positions : PositionTable) (setting : CountedSetting) where
         (heaps_alike (Some from.heap) (Some fused.heap) from.heap fused.heap rest less (bind_fields fields named.fields environment)
         refl refl pending))
 
-    read_both : (y c : ℕ) (fields : List ℕ) (rest less : Counted)
+    pub read_both : (y c : ℕ) (fields : List ℕ) (rest less : Counted)
         → (p : Pending from.heap fused.heap environment (read y c fields rest) less)
         → (past : IsPast p.pending y (read y c fields) (fuse rest) less)
         → IsCell (forwards from.heap) c (length fields) (value_of environment y)
