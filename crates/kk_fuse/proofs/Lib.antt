@@ -3,3 +3,4 @@ pub mod Seen
 pub mod Steps
 pub mod Pending
 pub mod Between
+pub mod Few
