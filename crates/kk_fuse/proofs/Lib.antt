@@ -4,3 +4,5 @@ pub mod Steps
 pub mod Pending
 pub mod Between
 pub mod Few
+pub mod Simulating
+pub mod Runs
