@@ -6,3 +6,4 @@ pub mod Between
 pub mod Few
 pub mod Simulating
 pub mod Runs
+pub mod FusedStates

@@ -1,6 +1,7 @@
 -- Runs of fused code do what the code does that it is made of.
 use Rattle.std.specs.Prelude.{◌≡◌, ◌⊎◌, ℕ, suc, ◌+◌, ◌*◌, ◌≤◌, true, List, map, Some, slice_get}
 use Rattle.kk_base.specs.Agreements.{Agree}
+use Rattle.kk_source.specs.State.{Environment}
 use Rattle.kk_counted.specs.CountedCodes.{Counted, give, tail_call, branch, case, compute, inside, read, open_cell, if_unique, dup, drop, CountedArms, no_arm, arm, CountedFunction, CountedProgram}
 use Rattle.kk_counted.specs.CountedCosts.{roomy_cost}
 use Rattle.kk_counted.specs.CountedMachine.{counted_machine, NotStuck}
@@ -81,6 +82,14 @@ pub record AreFusedStates (state fused : CountedConfiguration) : Type 0 where
   pub frames : fused.frames ≡ map fused_frame state.frames
   pub cells : cells_of fused.heap ≡ cells_of state.heap
   pub control : AreAtOne state.heap fused.heap state.control fused.control
+
+-- both are at the same test of a count, and the counts are equal
+pub record IsSameTest (heap other : Heap) (control : CountedControl) (x c : ℕ) (fields used : List ℕ) (environment : Environment)
+    : Type 0 where
+  pub rest : Counted
+  pub joins : List CountedJoin
+  pub at : control ≡ running (if_unique x c fields used rest) environment joins
+  pub counts : other ≡ heap
 
 -- ---- runs
 
