@@ -25,7 +25,7 @@ use Rattle.kk_fuse.specs.FusedRuns.{steps_in, HasFewSteps, fused_join, IsAtForm,
 use Rattle.kk_fuse.proofs.Steps.{fused_configuration, arm_same}
 use Rattle.kk_fuse.proofs.Few.{AreFew, start_few}
 use Rattle.kk_fuse.proofs.Simulating.{one_step, IsLeft}
-use Rattle.kk_fuse.proofs.Runs.{upper, lower, first, Related, Passing, simulates}
+use Rattle.kk_fuse.proofs.Following.{upper, lower, first, Related, Passing, simulates}
 
 -- ---- by the form at which the code is
 

@@ -5,5 +5,5 @@ pub mod Pending
 pub mod Between
 pub mod Few
 pub mod Simulating
-pub mod Runs
+pub mod Following
 pub mod FusedStates

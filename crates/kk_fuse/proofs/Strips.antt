@@ -46,11 +46,6 @@ pub record IsPast (xs : List ℕ) (y : ℕ) (put : Counted → Counted) (rest fu
   pub is : fused ≡ put less
   pub other : is_among xs y ≡ false
 
--- what stands behind a form that makes no cell and calls no function
-pub record IsPlain (xs : List ℕ) (form : Form) (arguments : List ℕ) : Type 0 where
-  pub plain : is_plain form arguments ≡ true
-  pub past : ArePast xs arguments
-
 -- a form that each drop passes, if the variable is another one
 past_one : (x y : ℕ) (xs : List ℕ) (put : Counted → Counted) (rest fused : Counted) (found : Option Counted)
     → without_drop x rest ≡ found → (y == x) ≡ false
