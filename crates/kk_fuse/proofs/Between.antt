@@ -1,5 +1,5 @@
 -- A step of code in which some variables are pending: the code does it alone, or the fused code does it too.
-use Rattle.std.proofs.Common.{◌≡◌, ◌⊎◌, inl, inr, ℕ, suc, ◌+◌, ◌==◌, ◌||◌, Bool, true, false, List, [], ◌∷◌, ◌++◌, length, map, Option, Some, None, arith, refl, sym, ap, ◌∙◌, subst}
+use Rattle.std.proofs.Common.{◌≡◌, ◌⊎◌, inl, inr, ℕ, true, false, List, [], ◌∷◌, ◌++◌, map, Option, Some, None, arith, refl, sym, ap, ◌∙◌, subst}
 use Rattle.std.specs.Fmt.{signed_decimal}
 use Rattle.kk_syntax.specs.declared.program.Form.{Form}
 use Rattle.kk_syntax.specs.declared.program.Form.TheVariants.{Number, Unit as Nothing, ReadByte, PrintText, Unary, Binary, Print, Construct, Call}
@@ -8,24 +8,23 @@ use Rattle.kk_syntax.specs.Shapes.{is_among}
 use Rattle.kk_syntax.specs.PositionsOf.{PositionTable}
 use Rattle.kk_source.specs.State.{Value, integer, unit, constant, Environment}
 use Rattle.kk_source.specs.Live.{value_of}
-use Rattle.kk_source.specs.Actions.{print_step}
 use Rattle.kk_source.specs.FormEffects.{integer_of, unary_result, binary_result, argument, piece_of, byte_value}
 use Rattle.kk_counted.specs.CountedCodes.{Counted, give, tail_call, branch, case, compute, inside, read, open_cell, if_unique, dup, drop}
 use Rattle.kk_counted.specs.Heaps.{forwards}
 use Rattle.kk_counted.specs.CountedStates.{CountedSetting, CountedJoin, running, CountedConfiguration}
-use Rattle.kk_counted.specs.CountedMachine.{bound_then, form_step, counted_code_step}
+use Rattle.kk_counted.specs.CountedMachine.{bound_then, form_step}
 use Rattle.kk_counted.specs.References.{refs_of}
-use Rattle.kk_counted.specs.Spending.{total, AreEven, used_by, Spends}
+use Rattle.kk_counted.specs.Spending.{total, AreEven, used_by}
 use Rattle.kk_counted.specs.Keeping.{values_of, HaveNoCells, TakesNoCells, FitsAt, HasShape}
 use Rattle.kk_counted.proofs.Evenness.{even_among, total_append, among_behind}
 use Rattle.kk_counted.proofs.Order.{spends_even}
 use Rattle.kk_counted.proofs.SoundSteps.{with_variable, unary_free, number_free, byte_free}
 use Rattle.kk_fuse.specs.Fused.{is_plain, without_drop, fuse, fused_setting}
-use Rattle.kk_fuse.specs.FusedRuns.{fused_join, fused_frame, IsAtForm, IsBetween}
+use Rattle.kk_fuse.specs.FusedRuns.{fused_join, fused_frame}
 use Rattle.kk_fuse.proofs.Strips.{strip, ArePast, IsPast, IsTaken, strip_dup, strip_read, strip_compute, strip_plain, strip_drop, IsSplit, split}
-use Rattle.kk_fuse.proofs.Seen.{IsSeen, seen_even, seen_value}
-use Rattle.kk_fuse.proofs.Steps.{dup_stays, dup_goes}
-use Rattle.kk_fuse.proofs.Pending.{AreAlike, print_alike, not_among, Pending, IsPending, Follows, IsIdle, AreBoth, rest_follows, dup_idle, drop_idle, dup_both, drop_both, read_both}
+use Rattle.kk_fuse.proofs.Seen.{seen_even, seen_value}
+use Rattle.kk_fuse.proofs.Steps.{dup_stays}
+use Rattle.kk_fuse.proofs.Pending.{AreAlike, print_alike, not_among, Pending, Follows, IsIdle, AreBoth, rest_follows, dup_idle, drop_idle, dup_both, drop_both, read_both}
 
 -- a form that makes no cell and calls no function uses up its arguments
 plain_used : (positions : PositionTable) (setting : CountedSetting) (form : Form) (arguments kept owned : List ℕ)
@@ -62,15 +61,25 @@ module _ (positions : PositionTable) (setting : CountedSetting) where
         print_alike (Follows positions setting) (piece_of form (text_at setting.program.texts text))
         (bound_then y unit rest environment joins from) (bound_then y unit less environment (map fused_join joins) fused)
         (each fits unit (λ q. refl))
-    form_alike (Unary operator) arguments y rest less plain fits each =
-        (_, (refl, each fits (unary_result operator (argument 0 (map (value_of environment) arguments)))
-        (unary_free operator (argument 0 (map (value_of environment) arguments)))))
-    form_alike (Binary operator) arguments y rest less plain fits each =
-        (_, (refl, each fits
-        (binary_result operator (argument 0 (map (value_of environment) arguments))
-        (argument 1 (map (value_of environment) arguments)))
-        (number_free operator (integer_of (argument 0 (map (value_of environment) arguments)))
-        (integer_of (argument 1 (map (value_of environment) arguments))))))
+    form_alike (Unary operator) arguments y rest less plain fits each = (
+      _,
+      (
+        refl,
+        each fits (unary_result operator (argument 0 (map (value_of environment) arguments)))
+            (unary_free operator (argument 0 (map (value_of environment) arguments))),
+      ),
+    )
+    form_alike (Binary operator) arguments y rest less plain fits each = (
+      _,
+      (
+        refl,
+        each fits
+            (binary_result operator (argument 0 (map (value_of environment) arguments))
+            (argument 1 (map (value_of environment) arguments)))
+            (number_free operator (integer_of (argument 0 (map (value_of environment) arguments)))
+            (integer_of (argument 1 (map (value_of environment) arguments)))),
+      ),
+    )
     form_alike (Print form) arguments y rest less plain fits each =
         print_alike (Follows positions setting)
         (piece_of form (signed_decimal (integer_of (argument 0 (map (value_of environment) arguments)))))
@@ -80,11 +89,13 @@ module _ (positions : PositionTable) (setting : CountedSetting) where
     form_alike (Construct c) (x ∷ xs) y rest less plain fits each = absurd (cc)
     form_alike (Call f) arguments y rest less plain fits each = absurd (cc)
 
+    -- both compute a plain form
     compute_both : (y : ℕ) (form : Form) (arguments : List ℕ) (rest less : Counted)
         → (p : Pending positions setting from.heap fused.heap environment (compute y form arguments rest) less)
         → (past : IsPast p.pending y (compute y form arguments) (fuse rest) less) → ArePast p.pending arguments
         → is_plain form arguments ≡ true → TakesNoCells form (values_of environment arguments)
-        → AreBoth positions setting (compute y form arguments rest) (compute y form arguments past.less) environment joins from fused
+        → AreBoth positions setting (compute y form arguments rest) (compute y form arguments past.less) environment joins from
+        fused
     compute_both y form arguments rest less p past others plain fits =
         record {
           form = (past.less, refl);
@@ -141,9 +152,13 @@ module _ (positions : PositionTable) (setting : CountedSetting) where
 
     -- ---- by the code
 
+    -- the code does the step alone, or both do it
     abbrev Steps : Counted → Counted → Type 0
-    Steps code less = IsIdle positions setting code environment joins from fused ⊎ AreBoth positions setting code less environment joins from fused
+    Steps code less =
+        IsIdle positions setting code environment joins from fused
+        ⊎ AreBoth positions setting code less environment joins from fused
 
+    -- a dup is done by both, or it cancels
     dup_steps : (y : ℕ) (rest less : Counted) → fused.control ≡ running less environment (map fused_join joins)
         → Pending positions setting from.heap fused.heap environment (dup y rest) less → Steps (dup y rest) less
     dup_steps y rest less at p = by_found (without_drop y (fuse rest)) refl
@@ -159,6 +174,7 @@ module _ (positions : PositionTable) (setting : CountedSetting) where
         by_found (Some first) is =
             inl (dup_idle positions setting environment joins from fused frames y rest less first p is at)
 
+    -- a drop is done by both, or it cancels with an earlier dup
     drop_steps : (y : ℕ) (rest less : Counted) → fused.control ≡ running less environment (map fused_join joins)
         → Pending positions setting from.heap fused.heap environment (drop y rest) less → Steps (drop y rest) less
     drop_steps y rest less at p = by_found (strip_drop p.pending y (fuse rest) less p.strips)
@@ -180,7 +196,8 @@ module _ (positions : PositionTable) (setting : CountedSetting) where
         → HasShape setting.program.functions (forwards from.heap) (running code environment joins)
         → Steps code less
     pending_steps (give y) less at p x xs some fits shape =
-        absurd (let none : strip (x ∷ xs) (fuse (give y)) ≡ Some less = ap (λ zs. strip zs (fuse (give y))) (sym some) ∙ p.strips in cc)
+        absurd (let none : strip (x ∷ xs) (fuse (give y)) ≡ Some less
+        = ap (λ zs. strip zs (fuse (give y))) (sym some) ∙ p.strips in cc)
     pending_steps (tail_call f arguments) less at p x xs some fits shape =
         absurd (let none : strip (x ∷ xs) (fuse (tail_call f arguments)) ≡ Some less
         = ap (λ zs. strip zs (fuse (tail_call f arguments))) (sym some) ∙ p.strips in cc)

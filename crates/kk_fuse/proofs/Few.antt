@@ -6,13 +6,13 @@ use Rattle.kk_base.specs.Machines.{step_unless, state}
 use Rattle.kk_source.specs.State.{Value, unit, place, Environment, End, heap_full, stack_full}
 use Rattle.kk_source.specs.Live.{value_of}
 use Rattle.kk_source.specs.Matching.{and_then}
-use Rattle.kk_source.specs.Actions.{Action, print_step}
-use Rattle.kk_source.specs.FormEffects.{FormEffect, gives, prints, reads, makes, enters, is_true, form_effect, effect_step, byte_value}
+use Rattle.kk_source.specs.Actions.{print_step}
+use Rattle.kk_source.specs.FormEffects.{FormEffect, gives, prints, reads, makes, enters, is_true, form_effect, effect_step}
 use Rattle.kk_core.specs.CoreMachine.{bind_fields}
 use Rattle.kk_core.specs.Decisions.{chosen}
 use Rattle.kk_counted.specs.CountedCodes.{Counted, give, tail_call, branch, case, compute, inside, read, open_cell, if_unique, dup, drop, CountedArms, no_arm, arm, CountedFunction}
 use Rattle.kk_counted.specs.Heaps.{Heap, count_at, cell_at, busy, dup_value, drop_value}
-use Rattle.kk_counted.specs.CountedStates.{CountedSetting, CountedJoin, CountedFrame, CountedControl, running, stopped, stuck, CountedConfiguration, CountedState, no_function, counted_start, counted_first_state}
+use Rattle.kk_counted.specs.CountedStates.{CountedSetting, CountedJoin, CountedFrame, CountedControl, running, stopped, stuck, CountedConfiguration, CountedState, no_function, counted_start}
 use Rattle.kk_counted.specs.CountedMachine.{at_counted, bound_then, at_end, with_heap, arm_at, case_step, give_step, in_code, tail_step, Named, cell_named, used_values, other_values, opened_heap, unique_heap, open_step, construct_step, call_step, counted_code_step, counted_step_at, counted_step_of, counted_step, counted_ending_of, counted_machine}
 use Rattle.kk_counted.proofs.SoundSteps.{LeadsTo}
 use Rattle.kk_counted.proofs.SoundRuns.{performed_kept}
@@ -32,6 +32,7 @@ module _ (most : ℕ) where
   FewControl (stopped by) = Unit {0}
   FewControl stuck = Unit {0}
 
+  -- the code that runs, and each that waits, has so many forms at most
   abbrev pub AreFew : CountedConfiguration → Type 0
   AreFew c = FewControl c.control × FewFrames c.frames
 
@@ -63,9 +64,12 @@ module _ (most : ℕ) where
   few_either true end to first second = first
   few_either false end to first second = second
 
+  -- the arm that is taken
   few_arm : (arms : CountedArms) (row : ℕ) (body : Counted) → arm_at arms row ≡ Some body → steps_in body ≤ steps_in_arms arms
   few_arm no_arm row body is = absurd (cc)
-  few_arm (arm first rest) zero body is = let same : first ≡ body = cc in subst (λ (code : Counted). steps_in code ≤ steps_in first + steps_in_arms rest) same (omega arith)
+  few_arm (arm first rest) zero body is =
+      let same : first ≡ body = cc in
+      subst (λ (code : Counted). steps_in code ≤ steps_in first + steps_in_arms rest) same (omega arith)
   few_arm (arm first rest) (suc row) body is = omega (arith, few_arm rest row body is)
 
   few_row : (row : Option ℕ) (arms : CountedArms) (body : Counted) → and_then row (arm_at arms) ≡ Some body
@@ -106,12 +110,15 @@ module _ (most : ℕ) where
     few_effect reads x rest environment joins from few in_joins these = λ byte. ((few, in_joins), these)
     few_effect (makes c fields) x rest environment joins from few in_joins these =
         few_either (nat_le setting.cells (busy from.heap)) (at_end heap_full from)
-        (record (bound_then x (place (length from.heap)) rest environment joins from) { heap = record { count = 1; cell = record { made_by = c; fields = fields } } ∷ from.heap })
+        (record (bound_then x (place (length from.heap)) rest environment joins from) {
+          heap = record { count = 1; cell = record { made_by = c; fields = fields } } ∷ from.heap;
+        })
         (tt, these) ((few, in_joins), these)
     few_effect (enters f arguments) x rest environment joins from few in_joins these =
         few_call f (slice_get setting.program.functions f) arguments
         (record { variable = x; rest = rest; joins = joins; environment = environment }) from refl few in_joins these
 
+    -- a step at a code leads to code that is as short
     few_code : (code : Counted) (environment : Environment) (joins : List CountedJoin) (from : CountedConfiguration)
         → steps_in code ≤ most → FewJoins joins → FewFrames from.frames
         → LeadsTo AreFew (counted_code_step setting code environment joins from)
@@ -164,10 +171,12 @@ module _ (most : ℕ) where
           performed_kept AreFew (counted_step_of setting s.machine) s.input (few_control s.machine.control s.machine few.0 few)
       next_few s (Some end) few = few
 
+      -- in each state of a run
       pub run_few : (n : ℕ) (s : CountedState) → AreFew s.machine → AreFew (state (counted_machine weight setting) n s).machine
       run_few zero s few = few
       run_few (suc n) s few = run_few n ((counted_machine weight setting).step s).1 (next_few s (counted_ending_of s) few)
 
+    -- at the start
     pub start_few : (function : CountedFunction) → slice_get setting.program.functions setting.program.main ≡ Some function
         → AreFew (counted_start setting)
     start_few function is =

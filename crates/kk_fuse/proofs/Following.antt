@@ -1,21 +1,21 @@
 -- Runs of fused code: each state stands for one of the code that it is made of, at no higher cost.
-use Rattle.std.proofs.Common.{◌≡◌, ◌⊎◌, inl, inr, ℕ, zero, suc, ◌+◌, ◌-◌, ◌*◌, ◌≤◌, ◌<◌, List, [], ◌∷◌, ◌++◌, map, Option, Some, None, arith, refl, sym, ap, ◌∙◌, subst, zero-mul, append-nil}
-use Rattle.kk_base.specs.Machines.{Machine, state, trace, weight_of}
+use Rattle.std.proofs.Common.{◌≡◌, ◌⊎◌, inl, inr, ℕ, suc, ◌+◌, ◌-◌, ◌≤◌, List, [], ◌∷◌, map, Some, arith, refl, sym, ap, ◌∙◌, subst, zero-mul, append-nil}
+use Rattle.kk_base.specs.Machines.{Machine, state}
 use Rattle.kk_base.specs.Simulations.{Reaches, Simulates}
 use Rattle.kk_base.proofs.Machines.{state-add}
 use Rattle.kk_base.proofs.Simulations.{ended_reaches}
 use Rattle.kk_syntax.specs.PositionsOf.{PositionTable}
 use Rattle.kk_source.specs.State.{Environment, End}
 use Rattle.kk_source.specs.Notes.{Note}
-use Rattle.kk_source.specs.Actions.{goes, performed}
-use Rattle.kk_counted.specs.CountedCodes.{Counted, dup, CountedFunction}
-use Rattle.kk_counted.specs.CountedCosts.{code_cost, room_at, roomy_cost}
-use Rattle.kk_counted.specs.Heaps.{Heap, forwards}
+use Rattle.kk_source.specs.Actions.{performed}
+use Rattle.kk_counted.specs.CountedCodes.{Counted, dup}
+use Rattle.kk_counted.specs.CountedCosts.{roomy_cost}
+use Rattle.kk_counted.specs.Heaps.{forwards}
 use Rattle.kk_counted.specs.CountedStates.{CountedSetting, CountedJoin, CountedControl, running, stopped, stuck, CountedConfiguration, CountedState, counted_first_state, counted_end_at}
 use Rattle.kk_counted.specs.CountedMachine.{counted_code_step, counted_machine, NotStuck}
-use Rattle.kk_counted.specs.References.{IsSound, cells_of}
+use Rattle.kk_counted.specs.References.{cells_of}
 use Rattle.kk_counted.specs.Spending.{IsSpent}
-use Rattle.kk_counted.specs.Keeping.{values_of, FitsAt, IsRunning, IsKeptAt, IsKept, HasShape, FitsAlways, HasShapeAlways}
+use Rattle.kk_counted.specs.Keeping.{FitsAt, IsRunning, IsKeptAt, IsKept, HasShape, FitsAlways, HasShapeAlways}
 use Rattle.kk_counted.proofs.SoundRuns.{keeps_sound}
 use Rattle.kk_counted.proofs.SoundGoing.{never_stuck}
 use Rattle.kk_fuse.specs.Fused.{fuse, fused_setting}
@@ -44,12 +44,14 @@ module _ (positions : PositionTable) (setting : CountedSetting) (most room : ℕ
     pub at : ℕ
     pub is : s ≡ state upper at first
 
-  reached_is : (P : CountedConfiguration → Type 0) (s : CountedState) (r : IsReached s) → P (state upper r.at first).machine → P s.machine
+  reached_is : (P : CountedConfiguration → Type 0) (s : CountedState) (r : IsReached s) → P (state upper r.at first).machine
+      → P s.machine
   reached_is P s r holds = subst (λ (s : CountedState). P s.machine) (sym r.is) holds
 
   is_kept : (s : CountedState) → IsReached s → IsKept positions setting.program.functions s.machine
   is_kept s r =
-      reached_is (IsKept positions setting.program.functions) s r (keeps_sound positions setting (roomy_cost room) input spent fits r.at)
+      reached_is (IsKept positions setting.program.functions) s r
+      (keeps_sound positions setting (roomy_cost room) input spent fits r.at)
 
   is_fit : (s : CountedState) → IsReached s → FitsAt s.machine.control
   is_fit s r = reached_is (λ c. FitsAt c.control) s r (fits r.at)
@@ -58,7 +60,9 @@ module _ (positions : PositionTable) (setting : CountedSetting) (most room : ℕ
   is_shaped s r = reached_is (λ c. HasShape setting.program.functions (forwards c.heap) c.control) s r (shape r.at)
 
   is_going : (s : CountedState) → IsReached s → NotStuck s.machine.control
-  is_going s r = reached_is (λ c. NotStuck c.control) s r (never_stuck positions setting (roomy_cost room) input spent fits shape r.at)
+  is_going s r =
+      reached_is (λ c. NotStuck c.control) s r
+      (never_stuck positions setting (roomy_cost room) input spent fits shape r.at)
 
   is_few : (s : CountedState) → IsReached s → AreFew most s.machine
   is_few s r =
@@ -69,6 +73,7 @@ module _ (positions : PositionTable) (setting : CountedSetting) (most room : ℕ
   next_reached s r =
       record { at = r.at + 1; is = ap (λ (s : CountedState). (upper.step s).1) r.is ∙ sym (state-add upper r.at 1 first) }
 
+  -- a state of the fused code stands for a reached one, with so many steps that the code may do alone
   pub record Related (credit idle : ℕ) (s t : CountedState) : Type 0 where
     pub reached : IsReached s
     pub follows : Follows positions setting s.machine t.machine
@@ -78,6 +83,11 @@ module _ (positions : PositionTable) (setting : CountedSetting) (most room : ℕ
   -- a state of the fused code stands for one of the code's own run
   abbrev pub Passing : CountedState → Type 0
   Passing t = (n : ℕ) × AreFusedStates (state upper n first).machine t.machine
+
+  -- the fused code does what the step of the code does
+  abbrev Goes : ℕ → ℕ → CountedState → CountedState → Type 0
+  Goes credit idle s t =
+      Reaches lower Related Passing (suc most) (upper.weight s + credit) 1 idle (upper.step s).0 (upper.step s).1 t
 
   passes : (s t : CountedState) → IsReached s → AreFusedStates s.machine t.machine → Passing t
   passes s t r states = (r.at, subst (λ (s : CountedState). AreFusedStates s.machine t.machine) r.is states)
@@ -92,7 +102,7 @@ module _ (positions : PositionTable) (setting : CountedSetting) (most room : ℕ
         → IsAtForm code less → (t.machine.heap ≡ s.machine.heap) ⊎ IsBetween code
         → AreAlike (Follows positions setting) (counted_code_step setting code environment joins s.machine)
         (counted_code_step (fused_setting setting) less environment (map fused_join joins) t.machine)
-        → Reaches lower Related Passing (suc most) (upper.weight s + credit) 1 idle (upper.step s).0 (upper.step s).1 t
+        → Goes credit idle s t
     both_do frames cells form heaps alike =
         record {
           steps = 1;
@@ -128,7 +138,8 @@ module _ (positions : PositionTable) (setting : CountedSetting) (most room : ℕ
             (performed (counted_code_step setting code environment joins s.machine) s.input) two)
             (sym
             (step_is (roomy_cost room) (fused_setting setting) t less environment (map fused_join joins) fused_at
-            ∙ ap (performed (counted_code_step (fused_setting setting) less environment (map fused_join joins) t.machine)) input_is))
+            ∙ ap (performed (counted_code_step (fused_setting setting) less environment (map fused_join joins) t.machine))
+            input_is))
             (told_alike (Follows positions setting) (counted_code_step setting code environment joins s.machine)
             (counted_code_step (fused_setting setting) less environment (map fused_join joins) t.machine) s.input alike))
 
@@ -145,7 +156,7 @@ module _ (positions : PositionTable) (setting : CountedSetting) (most room : ℕ
     -- ---- the code does a step alone
 
     alone : IsLeft idle s.machine.control → IsIdle positions setting code environment joins s.machine t.machine
-        → Reaches lower Related Passing (suc most) (upper.weight s + credit) 1 idle (upper.step s).0 (upper.step s).1 t
+        → Goes credit idle s t
     alone left goes_on =
         record {
           steps = 0;
@@ -180,9 +191,6 @@ module _ (positions : PositionTable) (setting : CountedSetting) (most room : ℕ
 
   module _ (credit idle : ℕ) (s t : CountedState) (reached : IsReached s) (input_is : t.input ≡ s.input)
       (left : IsLeft idle s.machine.control) (same : t.machine ≡ fused_configuration s.machine) where
-    abbrev Goal : Type 0
-    Goal = Reaches lower Related Passing (suc most) (upper.weight s + credit) 1 idle (upper.step s).0 (upper.step s).1 t
-
     frames_are : t.machine.frames ≡ map fused_frame s.machine.frames
     frames_are = ap (λ (c : CountedConfiguration). c.frames) same
 
@@ -194,7 +202,7 @@ module _ (positions : PositionTable) (setting : CountedSetting) (most room : ℕ
 
     same_runs : (code : Counted) (environment : Environment) (joins : List CountedJoin)
         → s.machine.control ≡ running code environment joins → Stays code ⊎ Cancels code
-        → Reaches lower Related Passing (suc most) (upper.weight s + credit) 1 idle (upper.step s).0 (upper.step s).1 t
+        → Goes credit idle s t
     same_runs code environment joins at (inl stays) =
         both_do credit idle s t reached input_is code (fuse code) environment joins at (control_is ∙ ap fused_control at) frames_are
         (ap cells_of heap_is) (at_form code stays) (inl heap_is)
@@ -238,7 +246,7 @@ module _ (positions : PositionTable) (setting : CountedSetting) (most room : ℕ
             }
 
     ended : (end : End) → s.machine.control ≡ stopped end
-        → Reaches lower Related Passing (suc most) (upper.weight s + credit) 1 idle (upper.step s).0 (upper.step s).1 t
+        → Goes credit idle s t
     ended end at =
         ended_reaches upper lower Related Passing (suc most) credit idle s t end (omega arith)
         (record { reached = reached; follows = inl same; input_is = input_is; left = left })
@@ -253,7 +261,7 @@ module _ (positions : PositionTable) (setting : CountedSetting) (most room : ℕ
         }))
 
     same_by : (control : CountedControl) → s.machine.control ≡ control → NotStuck control
-        → Reaches lower Related Passing (suc most) (upper.weight s + credit) 1 idle (upper.step s).0 (upper.step s).1 t
+        → Goes credit idle s t
     same_by (running code environment joins) at going = same_runs code environment joins at (cancels code)
     same_by (stopped end) at going = ended end at
     same_by stuck at going = absurd going
@@ -263,18 +271,19 @@ module _ (positions : PositionTable) (setting : CountedSetting) (most room : ℕ
   module _ (credit idle : ℕ) (s t : CountedState) (reached : IsReached s) (input_is : t.input ≡ s.input)
       (left : IsLeft idle s.machine.control) (p : IsPending positions setting s.machine t.machine) where
     pending_by : (xs : List ℕ) → p.pending.pending ≡ xs
-        → Reaches lower Related Passing (suc most) (upper.weight s + credit) 1 idle (upper.step s).0 (upper.step s).1 t
+        → Goes credit idle s t
     pending_by [] none =
         same_by credit idle s t reached input_is left (settled positions setting s.machine t.machine p none) s.machine.control refl
         (is_going s reached)
     pending_by (x ∷ xs) some =
-        by_step (pending_steps positions setting p.environment p.joins s.machine t.machine p.frames p.code p.less p.fused_at p.pending
+        by_step
+        (pending_steps positions setting p.environment p.joins s.machine t.machine p.frames p.code p.less p.fused_at p.pending
         x xs some (subst FitsAt p.at (is_fit s reached))
         (subst (HasShape setting.program.functions (forwards s.machine.heap)) p.at (is_shaped s reached)))
       where
         by_step : IsIdle positions setting p.code p.environment p.joins s.machine t.machine
             ⊎ AreBoth positions setting p.code p.less p.environment p.joins s.machine t.machine
-            → Reaches lower Related Passing (suc most) (upper.weight s + credit) 1 idle (upper.step s).0 (upper.step s).1 t
+            → Goes credit idle s t
         by_step (inl goes_on) =
             alone credit idle s t reached input_is p.code p.less p.environment p.joins p.at p.fused_at left goes_on
         by_step (inr both) =
@@ -284,7 +293,7 @@ module _ (positions : PositionTable) (setting : CountedSetting) (most room : ℕ
   -- ---- the simulation
 
   by_follows : (credit idle : ℕ) (s t : CountedState) → Related credit idle s t → Follows positions setting s.machine t.machine
-      → Reaches lower Related Passing (suc most) (upper.weight s + credit) 1 idle (upper.step s).0 (upper.step s).1 t
+      → Goes credit idle s t
   by_follows credit idle s t related (inl same) =
       same_by credit idle s t related.reached related.input_is related.left same s.machine.control refl (is_going s related.reached)
   by_follows credit idle s t related (inr p) =

@@ -1,6 +1,6 @@
 -- What is true of each state of the code's run is true of each state of that of the fused code.
-use Rattle.std.proofs.Common.{◌≡◌, ◌⊎◌, inl, inr, ℕ, zero, suc, ◌+◌, ◌-◌, ◌*◌, ◌≤◌, List, [], ◌∷◌, map, Option, Some, None, arith, refl, sym, ap, ◌∙◌, subst}
-use Rattle.std.specs.Prelude.{slice_get, slice_index_or, option_map}
+use Rattle.std.proofs.Common.{◌≡◌, ◌⊎◌, inl, inr, ℕ, zero, suc, ◌+◌, ◌-◌, ◌*◌, ◌≤◌, List, [], map, arith, refl, sym, ap, ◌∙◌, subst}
+use Rattle.std.specs.Prelude.{slice_index_or, option_map}
 use Rattle.std.proofs.lemmas.Option.{get_or_from_slice_get, slice_get-map}
 use Rattle.kk_base.specs.Machines.{state}
 use Rattle.kk_base.specs.Agreements.{Agree, IsFollowedBy}
@@ -12,9 +12,8 @@ use Rattle.kk_source.specs.State.{Store, Environment, End, ended}
 use Rattle.kk_counted.specs.CountedCodes.{Counted, give, tail_call, branch, case, compute, inside, read, open_cell, if_unique, dup, drop, CountedFunction}
 use Rattle.kk_counted.specs.CountedCosts.{roomy_cost}
 use Rattle.kk_counted.specs.Heaps.{Heap, forwards, busy}
-use Rattle.kk_counted.specs.CountedStates.{CountedSetting, CountedJoin, CountedControl, running, stopped, stuck, CountedConfiguration, CountedState, no_function, counted_start, counted_first_state}
+use Rattle.kk_counted.specs.CountedStates.{CountedSetting, CountedJoin, CountedControl, running, stopped, stuck, CountedState, no_function, counted_start, counted_first_state}
 use Rattle.kk_counted.specs.CountedMachine.{counted_machine, NotStuck}
-use Rattle.kk_counted.specs.References.{cells_of}
 use Rattle.kk_counted.specs.Spending.{IsSpent}
 use Rattle.kk_counted.specs.Keeping.{FitsAt, IsThere, CallsOne, HasShape, counted_after, FitsAlways, HasShapeAlways}
 use Rattle.kk_counted.specs.Kinds.{HasKinds, HasKindsAlways}
@@ -23,9 +22,9 @@ use Rattle.kk_counted.proofs.SoundGoing.{never_stuck}
 use Rattle.kk_fuse.specs.Fused.{fuse, fused_function, fused_setting}
 use Rattle.kk_fuse.specs.FusedRuns.{steps_in, HasFewSteps, fused_join, IsAtForm, IsBetween, AreAtOne, AreFusedStates, IsSameTest, IsFusedRun}
 use Rattle.kk_fuse.proofs.Steps.{fused_configuration, arm_same}
-use Rattle.kk_fuse.proofs.Few.{AreFew, start_few}
-use Rattle.kk_fuse.proofs.Simulating.{one_step, IsLeft}
-use Rattle.kk_fuse.proofs.Following.{upper, lower, first, Related, Passing, simulates}
+use Rattle.kk_fuse.proofs.Few.{start_few}
+use Rattle.kk_fuse.proofs.Simulating.{one_step}
+use Rattle.kk_fuse.proofs.Following.{Related, Passing, simulates}
 
 -- ---- by the form at which the code is
 
@@ -123,7 +122,8 @@ module _ (alike : ℕ → ℕ → Type 0) (fields : ℕ → ℕ) (heap other : H
 
 -- ---- by what is the same in both states
 
-control_fits : (heap other : Heap) (control fused : CountedControl) → AreAtOne heap other control fused → FitsAt control → FitsAt fused
+control_fits : (heap other : Heap) (control fused : CountedControl) → AreAtOne heap other control fused → FitsAt control
+    → FitsAt fused
 control_fits heap other (running code environment joins) fused one fits =
     subst FitsAt (sym one.1.0) (form_fits code one.0 environment joins (map fused_join joins) one.1.1.0 fits)
 control_fits heap other (stopped by) fused one fits = subst FitsAt (sym one.0) tt
@@ -163,6 +163,7 @@ control_ends heap other (running code environment joins) fused by one at =
 control_ends heap other (stopped end) fused by one at = (sym one.0 ∙ at, one.1)
 control_ends heap other stuck fused by one at = absurd (let both : stuck ≡ stopped by = sym one.0 ∙ at in cc)
 
+-- where fused code is at a test of a count, so is the code, and the heaps are equal
 test_is : (heap other : Heap) (code less : Counted) (x c : ℕ) (fields used : List ℕ) (rest : Counted) → IsAtForm code less
     → (other ≡ heap) ⊎ IsBetween code → less ≡ if_unique x c fields used rest
     → (from : Counted) × ((code ≡ if_unique x c fields used from) × (other ≡ heap))
@@ -188,7 +189,8 @@ test_is heap other (drop y next) less x c fields used rest is heaps at =
     absurd (let both : drop y is.0 ≡ if_unique x c fields used rest = sym is.1 ∙ at in cc)
 test_is heap other (if_unique y d others kept next) less x c fields used rest is (inr between) at = absurd between
 test_is heap other (if_unique y d others kept next) less x c fields used rest is (inl same) at =
-    let both : if_unique y d others kept (fuse next) ≡ if_unique x c fields used rest = sym is ∙ at in (next, (test_same both, same))
+    let both : if_unique y d others kept (fuse next) ≡ if_unique x c fields used rest = sym is ∙ at in
+    (next, (test_same both, same))
   where
     test_same : if_unique y d others kept (fuse next) ≡ if_unique x c fields used rest
         → if_unique y d others kept next ≡ if_unique x c fields used next
@@ -232,6 +234,7 @@ module _ (positions : PositionTable) (setting : CountedSetting) (most : ℕ) (in
   abbrev fused_first : CountedState
   fused_first = counted_first_state (fused_setting setting) input
 
+  -- both start alike
   start_same : counted_start (fused_setting setting) ≡ fused_configuration (counted_start setting)
   start_same =
       ap (λ (function : CountedFunction). record { control = running function.body [] []; frames = []; heap = [] })
@@ -297,6 +300,7 @@ module _ (positions : PositionTable) (setting : CountedSetting) (most : ℕ) (in
               within agree.upwards;
         }
 
+  -- each state stands for one of the code's run
   states : (weight : CountedState → ℕ) (n : ℕ) → (m : ℕ)
       × AreFusedStates (counted_after weight setting input m) (counted_after weight (fused_setting setting) input n)
   states weight n =
@@ -311,6 +315,7 @@ module _ (positions : PositionTable) (setting : CountedSetting) (most : ℕ) (in
             (same_states (roomy_cost 0) weight (fused_setting setting) n fused_first) one.1),
       )
 
+  -- with the same cells
   stores : (weight : CountedState → ℕ) (n : ℕ)
       → forwards (counted_after weight setting input (states weight n).0).heap
       ≡ forwards (counted_after weight (fused_setting setting) input n).heap
@@ -318,6 +323,7 @@ module _ (positions : PositionTable) (setting : CountedSetting) (most : ℕ) (in
       same_store (counted_after weight setting input (states weight n).0).heap
       (counted_after weight (fused_setting setting) input n).heap (sym (states weight n).1.cells)
 
+  -- fused code runs the same
   pub fused_run : IsFusedRun setting most input
   fused_run =
       record {
@@ -343,6 +349,7 @@ module _ (positions : PositionTable) (setting : CountedSetting) (most : ℕ) (in
         states = states;
       }
 
+  -- no cell is left at the end, if the code leaves none
   pub fused_clean : ((weight : CountedState → ℕ) (n : ℕ) → (counted_after weight setting input n).control ≡ stopped ended
       → busy (counted_after weight setting input n).heap ≡ 0)
       → (weight : CountedState → ℕ) (n : ℕ) → (counted_after weight (fused_setting setting) input n).control ≡ stopped ended
@@ -354,6 +361,7 @@ module _ (positions : PositionTable) (setting : CountedSetting) (most : ℕ) (in
       (counted_after weight (fused_setting setting) input n).control ended one.1.control at in
       ap busy both.1 ∙ clean weight one.0 both.0
 
+  -- a test of a count is one of the code, with the same counts
   pub fused_tests : (weight : CountedState → ℕ) (n x c : ℕ) (fields used : List ℕ) (rest : Counted) (environment : Environment)
       (joins : List CountedJoin)
       → (counted_after weight (fused_setting setting) input n).control ≡ running (if_unique x c fields used rest) environment joins
@@ -367,6 +375,7 @@ module _ (positions : PositionTable) (setting : CountedSetting) (most : ℕ) (in
             fields used rest environment joins one.1.control at,
       )
 
+  -- values are of the kinds that are asked for
   pub fused_kinds : (alike : ℕ → ℕ → Type 0) (fields : ℕ → ℕ) (weight other : CountedState → ℕ)
       → HasKindsAlways alike fields weight setting input → HasKindsAlways alike fields other (fused_setting setting) input
   fused_kinds alike fields weight other kinds = λ n.

@@ -1,33 +1,28 @@
 -- Steps of fused code between a dup and the drop with which it cancels: the code that it is made of owns some values once more.
-use Rattle.std.proofs.Common.{◌≡◌, ◌⊎◌, inl, inr, ℕ, suc, ◌+◌, ◌==◌, ◌||◌, Bool, true, false, List, [], ◌∷◌, ◌++◌, length, map, Option, Some, None, arith, refl, sym, ap, ◌∙◌, subst}
-use Rattle.std.specs.Fmt.{signed_decimal}
-use Rattle.kk_syntax.specs.declared.program.Form.{Form}
-use Rattle.kk_syntax.specs.declared.program.Form.TheVariants.{Number, Unit as Nothing, ReadByte, PrintText, Unary, Binary, Print, Construct, Call}
-use Rattle.kk_syntax.specs.Programs.{text_at}
+use Rattle.std.proofs.Common.{◌≡◌, ◌⊎◌, inl, inr, ℕ, suc, Bool, true, false, List, [], ◌∷◌, ◌++◌, length, map, Option, Some, arith, refl, sym, ap, ◌∙◌, subst}
 use Rattle.kk_syntax.specs.Shapes.{is_among}
 use Rattle.kk_syntax.specs.PositionsOf.{PositionTable}
-use Rattle.kk_source.specs.State.{Value, integer, unit, constant, Environment}
+use Rattle.kk_source.specs.State.{Value, Environment}
 use Rattle.kk_source.specs.Live.{value_of}
 use Rattle.kk_source.specs.Actions.{Action, goes, puts, takes, builds, calls, print_step}
-use Rattle.kk_source.specs.FormEffects.{integer_of, unary_result, binary_result, argument, piece_of, byte_value}
 use Rattle.kk_core.specs.CoreMachine.{bind_fields}
-use Rattle.kk_counted.specs.CountedCodes.{Counted, give, tail_call, branch, case, compute, inside, read, open_cell, if_unique, dup, drop, CountedFunction}
+use Rattle.kk_counted.specs.CountedCodes.{Counted, read, dup, drop}
 use Rattle.kk_counted.specs.Heaps.{Heap, forwards, dup_value, drop_value}
-use Rattle.kk_counted.specs.CountedStates.{CountedSetting, CountedJoin, CountedFrame, running, CountedConfiguration}
-use Rattle.kk_counted.specs.CountedMachine.{at_counted, bound_then, with_heap, Named, cell_named, open_step, form_step, counted_code_step}
-use Rattle.kk_counted.specs.References.{refs_of, IsCounted, cells_of}
+use Rattle.kk_counted.specs.CountedStates.{CountedSetting, CountedJoin, running, CountedConfiguration}
+use Rattle.kk_counted.specs.CountedMachine.{at_counted, with_heap, Named, cell_named, open_step, counted_code_step}
+use Rattle.kk_counted.specs.References.{cells_of}
 use Rattle.kk_counted.specs.Spending.{total, AreEven, AreFresh, Spends}
-use Rattle.kk_counted.specs.Keeping.{values_of, HaveNoCells, FitsAt, HasShape, IsCell}
+use Rattle.kk_counted.specs.Keeping.{IsCell}
 use Rattle.kk_counted.proofs.Reaching.{same_store}
 use Rattle.kk_counted.proofs.Variables.{among_cases, other_variable}
 use Rattle.kk_counted.proofs.Evenness.{even_among, total_append, among_front, among_behind}
 use Rattle.kk_counted.proofs.Order.{spends_even}
-use Rattle.kk_counted.proofs.SoundSteps.{with_variable, unary_free, number_free, byte_free, NamedCell}
-use Rattle.kk_fuse.specs.Fused.{is_plain, without_drop, fuse, fused_setting}
+use Rattle.kk_counted.proofs.SoundSteps.{NamedCell}
+use Rattle.kk_fuse.specs.Fused.{without_drop, fuse, fused_setting}
 use Rattle.kk_fuse.specs.FusedRuns.{steps_in, fused_join, fused_frame, IsAtForm, IsBetween}
-use Rattle.kk_fuse.proofs.Strips.{strip, ArePast, IsPast, IsTaken, strip_dup, strip_read, strip_compute, strip_plain, strip_drop, IsSplit, split}
-use Rattle.kk_fuse.proofs.Seen.{IsSeen, Turned, seen_even, seen_counted, seen_dup, seen_drop, seen_value, seen_read, named_in, named_is}
-use Rattle.kk_fuse.proofs.Steps.{fused_configuration, dup_stays, dup_goes}
+use Rattle.kk_fuse.proofs.Strips.{strip, IsPast, IsTaken, IsSplit, split}
+use Rattle.kk_fuse.proofs.Seen.{IsSeen, Turned, seen_even, seen_counted, seen_dup, seen_drop, seen_read, named_in, named_is}
+use Rattle.kk_fuse.proofs.Steps.{fused_configuration, dup_goes}
 
 -- ---- actions
 
@@ -48,6 +43,7 @@ print_alike R (byte ∷ bytes) to other related = (other, (refl, related))
 
 -- ---- variables
 
+-- a variable of all that is owned, if it is not pending, is owned beside what is pending
 in_even : (xs owned now : List ℕ) (y : ℕ) → AreEven (xs ++ owned) now → is_among xs y ≡ false → is_among now y ≡ true
     → is_among owned y ≡ true
 in_even xs owned now y even other is =
@@ -57,7 +53,9 @@ in_even xs owned now y even other is =
     by_case (inl here) = absurd (let both : true ≡ false = sym here ∙ other in cc)
     by_case (inr here) = here
 
-pub not_among : (xs ys : List ℕ) (y : ℕ) → (is_among xs y ≡ true → is_among ys y ≡ true) → is_among ys y ≡ false → is_among xs y ≡ false
+-- a variable that is not among more is not among fewer
+pub not_among : (xs ys : List ℕ) (y : ℕ) → (is_among xs y ≡ true → is_among ys y ≡ true) → is_among ys y ≡ false
+    → is_among xs y ≡ false
 not_among xs ys y each is = by_test (is_among xs y) refl
   where
     by_test : (t : Bool) → is_among xs y ≡ t → t ≡ false
@@ -141,7 +139,8 @@ module _ (positions : PositionTable) (setting : CountedSetting) where
           pending = pending;
         })
 
-    heaps_alike : (result : Option Heap) (other_result : Option Heap) (heap other : Heap) (rest less : Counted) (bound : Environment)
+    -- both change their heaps
+    heaps_alike : (result other_result : Option Heap) (heap other : Heap) (rest less : Counted) (bound : Environment)
         → result ≡ Some heap → other_result ≡ Some other → Pending heap other bound rest less
         → AreAlike Follows (goes (with_heap result from (at_counted rest bound joins from)))
         (goes (with_heap other_result fused (at_counted less bound (map fused_join joins) fused)))
@@ -151,9 +150,10 @@ module _ (positions : PositionTable) (setting : CountedSetting) where
         (goes (with_heap other_result fused (at_counted less bound (map fused_join joins) fused)))) (sym is)
         (subst
         (λ result. AreAlike Follows (goes (with_heap (Some heap) from (at_counted rest bound joins from)))
-        (goes (with_heap result fused (at_counted less bound (map fused_join joins) fused)))) (sym other_is)
-        (record fused { control = running less bound (map fused_join joins); heap = other },
-        (refl, rest_follows rest less heap other bound pending)))
+        (goes (with_heap result fused (at_counted less bound (map fused_join joins) fused)))) (sym other_is) (
+          record fused { control = running less bound (map fused_join joins); heap = other },
+          (refl, rest_follows rest less heap other bound pending),
+        ))
 
     -- ---- the code does a step alone
 
@@ -255,6 +255,7 @@ module _ (positions : PositionTable) (setting : CountedSetting) where
 
     -- ---- both do a step
 
+    -- both give a value a reference more
     pub dup_both : (y : ℕ) (rest less : Counted) → (p : Pending from.heap fused.heap environment (dup y rest) less)
         → (past : IsPast p.pending y (dup y) (fuse rest) less) → AreBoth (dup y rest) (dup y past.less) environment joins from fused
     dup_both y rest less p past =
@@ -312,6 +313,7 @@ module _ (positions : PositionTable) (setting : CountedSetting) where
             seen_dup p.below environment p.lent fused.heap p.readable p.owned y
             (in_all (among_cases p.lent (p.readable ++ p.spends.0) y p.spends.1.1.0)) p.fused_seen
 
+    -- both give up a reference
     pub drop_both : (y : ℕ) (rest less : Counted) → (p : Pending from.heap fused.heap environment (drop y rest) less)
         → (past : IsPast p.pending y (drop y) (fuse rest) less)
         → AreBoth (drop y rest) (drop y past.less) environment joins from fused
@@ -350,6 +352,7 @@ module _ (positions : PositionTable) (setting : CountedSetting) where
         two : Turned p.below environment p.lent [] parts.beside fused.heap (drop_value (value_of environment y) fused.heap)
         two = seen_drop p.below environment p.lent fused.heap p.readable p.owned parts.beside y parts.owned_is p.fused_seen
 
+    -- both find the same cell
     named_alike : (found other_found : Option Named) (named : Named) (fields : List ℕ) (rest less : Counted) → found ≡ Some named
         → other_found ≡ Some named → Pending from.heap fused.heap (bind_fields fields named.fields environment) rest less
         → AreAlike Follows (open_step found (λ one. Some from.heap) fields rest environment joins from)
@@ -364,6 +367,7 @@ module _ (positions : PositionTable) (setting : CountedSetting) where
         (heaps_alike (Some from.heap) (Some fused.heap) from.heap fused.heap rest less (bind_fields fields named.fields environment)
         refl refl pending))
 
+    -- both read the fields of a cell
     pub read_both : (y c : ℕ) (fields : List ℕ) (rest less : Counted)
         → (p : Pending from.heap fused.heap environment (read y c fields rest) less)
         → (past : IsPast p.pending y (read y c fields) (fuse rest) less)

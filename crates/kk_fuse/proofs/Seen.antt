@@ -75,11 +75,13 @@ module _ (below : List Value) (environment : Environment) (lent : List ℕ) (hea
           (λ q. omega (arith, refs_append (values_of environment owned) below q)) (seen.reached x at here e))
       by_case (inr there) = by_now (among_cases readable owned x there)
 
+  -- what is reached stays reached in a heap of the same cells
   reached_after : (after : Heap) → cells_of after ≡ cells_of heap → AreReached (forwards heap) below environment lent
       → AreReached (forwards after) below environment lent
   reached_after after cells reached =
       subst (λ (store : Store). AreReached store below environment lent) (sym (same_store after heap cells)) reached
 
+  -- the value of a variable gets a reference more
   pub seen_dup : (readable owned : List ℕ) (x : ℕ) → is_among (lent ++ (readable ++ owned)) x ≡ true
       → IsSeen below environment lent readable owned heap
       → Turned below environment lent readable (x ∷ owned) heap (dup_value (value_of environment x) heap)
@@ -103,6 +105,7 @@ module _ (below : List Value) (environment : Environment) (lent : List ℕ) (hea
             };
       }
 
+  -- a reference of the value of an owned variable is given up
   pub seen_drop : (readable owned kept : List ℕ) (x : ℕ) → AreEven owned (x ∷ kept)
       → IsSeen below environment lent readable owned heap
       → Turned below environment lent [] kept heap (drop_value (value_of environment x) heap)
@@ -161,9 +164,11 @@ module _ (below : List Value) (environment : Environment) (lent : List ℕ) (hea
   seen_read readable owned fields x named fresh where_from cell seen =
       record {
         reached = λ y at is e. lent_reached where_from y is at e;
-        counted = λ y is. field_is_one (IsCounted heap) fields named.fields environment y cell.many is (λ v one. field_counted v one);
+        counted = λ y is.
+            field_is_one (IsCounted heap) fields named.fields environment y cell.many is (λ v one. field_counted v one);
         sound =
-            moved (values_of environment owned ++ below) (values_of (bind_fields fields named.fields environment) owned ++ below) heap
+            moved (values_of environment owned ++ below)
+            (values_of (bind_fields fields named.fields environment) owned ++ below) heap
             (λ q. omega (
               arith,
               refs_append (values_of environment owned) below q,

@@ -1,32 +1,24 @@
 -- The code does what its fused form does, step for step, but for the dups and the drops that cancel: these it does alone.
-use Rattle.std.proofs.Common.{◌≡◌, ◌⊎◌, inl, inr, ℕ, zero, suc, ◌+◌, ◌-◌, ◌*◌, ◌≤◌, ◌<◌, List, [], ◌∷◌, ◌++◌, map, Option, Some, None, arith, refl, sym, ap, ◌∙◌, subst, zero-mul, append-nil}
-use Rattle.std.specs.Prelude.{slice_get}
-use Rattle.kk_base.specs.Machines.{Machine, step_unless, weight_unless, state, trace, weight_of}
-use Rattle.kk_base.specs.Simulations.{Reaches, Simulates}
-use Rattle.kk_base.proofs.Machines.{state-add}
-use Rattle.kk_base.proofs.Simulations.{ended_reaches}
+use Rattle.std.proofs.Common.{◌≡◌, ◌⊎◌, inl, inr, ℕ, suc, ◌+◌, ◌≤◌, List, [], ◌∷◌, ◌++◌, map, Option, Some, None, arith, refl, sym, ap, ◌∙◌, subst}
+use Rattle.kk_base.specs.Machines.{step_unless, weight_unless, state}
 use Rattle.kk_syntax.specs.PositionsOf.{PositionTable}
-use Rattle.kk_source.specs.State.{Value, Environment, End}
+use Rattle.kk_source.specs.State.{Environment}
 use Rattle.kk_source.specs.Notes.{Note}
 use Rattle.kk_source.specs.Actions.{Action, goes, puts, takes, builds, calls, performed}
-use Rattle.kk_counted.specs.CountedCodes.{Counted, give, tail_call, branch, case, compute, inside, read, open_cell, if_unique, dup, drop, CountedFunction}
+use Rattle.kk_counted.specs.CountedCodes.{Counted, give, tail_call, branch, case, compute, inside, read, open_cell, if_unique, dup, drop}
 use Rattle.kk_counted.specs.CountedCosts.{code_cost, room_at, roomy_control_cost, roomy_cost}
-use Rattle.kk_counted.specs.Heaps.{Heap, forwards}
-use Rattle.kk_counted.specs.CountedStates.{CountedSetting, CountedJoin, CountedFrame, CountedControl, running, stopped, stuck, CountedConfiguration, CountedState, counted_first_state, counted_end_at}
-use Rattle.kk_counted.specs.CountedMachine.{counted_code_step, counted_step_at, counted_machine, NotStuck}
-use Rattle.kk_counted.specs.References.{refs, IsSound, cells_of, counted}
-use Rattle.kk_counted.specs.Spending.{IsSpent}
-use Rattle.kk_counted.specs.Keeping.{values_of, FitsAt, IsRunning, IsKeptAt, IsKept, HasShape, counted_after, FitsAlways, HasShapeAlways}
-use Rattle.kk_counted.proofs.SoundRuns.{keeps_sound, sound_heap_is}
-use Rattle.kk_counted.proofs.SoundGoing.{never_stuck}
-use Rattle.kk_fuse.specs.Fused.{without_drop, fuse, fused_setting}
-use Rattle.kk_fuse.specs.FusedRuns.{steps_in, HasFewSteps, fused_join, fused_frame, IsAtForm, IsBetween, AreFusedStates}
+use Rattle.kk_counted.specs.Heaps.{Heap}
+use Rattle.kk_counted.specs.CountedStates.{CountedSetting, CountedJoin, CountedFrame, CountedControl, running, stopped, stuck, CountedConfiguration, CountedState, counted_end_at}
+use Rattle.kk_counted.specs.CountedMachine.{counted_code_step, counted_step_at, counted_machine}
+use Rattle.kk_counted.specs.References.{refs, cells_of, counted}
+use Rattle.kk_counted.specs.Keeping.{values_of}
+use Rattle.kk_counted.proofs.SoundRuns.{sound_heap_is}
+use Rattle.kk_fuse.specs.Fused.{without_drop, fuse}
+use Rattle.kk_fuse.specs.FusedRuns.{steps_in, fused_join, IsAtForm, IsBetween}
 use Rattle.kk_fuse.proofs.Strips.{strip}
-use Rattle.kk_fuse.proofs.Seen.{IsSeen}
-use Rattle.kk_fuse.proofs.Steps.{fused_control, fused_configuration, fused_action, dup_stays, Stays, steps_same}
-use Rattle.kk_fuse.proofs.Pending.{AreAlike, Pending, IsPending, Follows, IsIdle, AreBoth, dup_idle}
-use Rattle.kk_fuse.proofs.Between.{pending_steps}
-use Rattle.kk_fuse.proofs.Few.{FewControl, AreFew, run_few, start_few}
+use Rattle.kk_fuse.proofs.Steps.{fused_control, fused_configuration, fused_action, dup_stays, Stays}
+use Rattle.kk_fuse.proofs.Pending.{AreAlike, IsPending, Follows}
+use Rattle.kk_fuse.proofs.Few.{FewControl}
 
 -- ---- steps and what they tell
 
@@ -36,6 +28,7 @@ configuration_is c d control frames heap =
     ∙ ap (λ (frames : List CountedFrame). record { control = d.control; frames = frames; heap = c.heap }) frames
     ∙ ap (λ (heap : Heap). record { control = d.control; frames = d.frames; heap = heap }) heap
 
+-- the step at a code, and what it costs
 pub step_is : (weight : CountedState → ℕ) (setting : CountedSetting) (s : CountedState) (code : Counted) (environment : Environment)
     (joins : List CountedJoin) → s.machine.control ≡ running code environment joins
     → (counted_machine weight setting).step s ≡ performed (counted_code_step setting code environment joins s.machine) s.input
@@ -49,12 +42,14 @@ cost_is room setting s code environment joins at =
     ap (λ control. weight_unless (counted_end_at control) (roomy_control_cost room control s.machine.heap)) at
 
 -- steps that are alike tell the same, and lead to related states with as much of the input left
-pub record IsToldAlike (R : CountedConfiguration → CountedConfiguration → Type 0) (one two : List Note × CountedState) : Type 0 where
+pub record IsToldAlike (R : CountedConfiguration → CountedConfiguration → Type 0) (one two : List Note × CountedState)
+    : Type 0 where
   pub notes : two.0 ≡ one.0
   pub related : R one.1.machine two.1.machine
   pub input : two.1.input ≡ one.1.input
 
-pub told_alike : (R : CountedConfiguration → CountedConfiguration → Type 0) (action other : Action CountedConfiguration) (input : List ℕ)
+pub told_alike : (R : CountedConfiguration → CountedConfiguration → Type 0) (action other : Action CountedConfiguration)
+    (input : List ℕ)
     → AreAlike R action other → IsToldAlike R (performed action input) (performed other input)
 told_alike R (goes to) other input alike =
     subst (λ other. IsToldAlike R (performed (goes to) input) (performed other input)) (sym alike.1.0)
@@ -103,6 +98,7 @@ cancels (dup x rest) = by_found (without_drop x (fuse rest)) refl
     by_found None is = inl is
     by_found (Some first) is = inr (record { variable = x; rest = rest; first = first; is = refl; goes_on = is })
 
+-- code that begins with no dup that cancels, and its fused form, are at the same form
 pub at_form : (code : Counted) → Stays code → IsAtForm code (fuse code)
 at_form (give x) stays = refl
 at_form (tail_call f arguments) stays = refl
@@ -153,6 +149,7 @@ module _ (room : ℕ) (environment : Environment) where
   costs_alike code less heap other form (inl same) = form_costs code less other form ∙ ap (cost_of code) same
   costs_alike code less heap other form (inr between) = form_costs code less other form ∙ heap_costs code heap other between
 
+-- each code has a form
 pub one_step : (code : Counted) → 1 ≤ steps_in code
 one_step (give x) = omega arith
 one_step (tail_call f arguments) = omega arith
@@ -178,6 +175,7 @@ few_left most (stopped by) few = tt
 few_left most stuck few = tt
 
 module _ (positions : PositionTable) (setting : CountedSetting) where
+  -- a step, and the same step with fused code
   pub alike_fused : (action : Action CountedConfiguration) → AreAlike (Follows positions setting) action (fused_action action)
   alike_fused (goes to) = (fused_configuration to, (refl, inl refl))
   alike_fused (puts piece to) = (fused_configuration to, (refl, inl refl))
@@ -190,7 +188,8 @@ module _ (positions : PositionTable) (setting : CountedSetting) where
       → fused ≡ fused_configuration state
   settled state fused p none =
       configuration_is fused (fused_configuration state)
-      (p.fused_at ∙ ap (λ (code : Counted). running code p.environment (map fused_join p.joins)) (sym code) ∙ ap fused_control (sym p.at))
+      (p.fused_at ∙ ap (λ (code : Counted). running code p.environment (map fused_join p.joins)) (sym code)
+      ∙ ap fused_control (sym p.at))
       p.frames (sym heap)
     where
       code : fuse p.code ≡ p.less
@@ -203,6 +202,7 @@ module _ (positions : PositionTable) (setting : CountedSetting) where
       heap =
           sound_heap_is (values_of p.environment (p.pending.pending ++ p.pending.owned) ++ p.pending.below) state.heap
           p.pending.seen.sound
-          ∙ ap (λ xs. counted (refs (values_of p.environment (xs ++ p.pending.owned) ++ p.pending.below)) (cells_of state.heap)) none
+          ∙ ap
+          (λ xs. counted (refs (values_of p.environment (xs ++ p.pending.owned) ++ p.pending.below)) (cells_of state.heap)) none
           ∙ ap (counted (refs (values_of p.environment p.pending.owned ++ p.pending.below))) (sym p.pending.cells)
           ∙ sym (sound_heap_is (values_of p.environment p.pending.owned ++ p.pending.below) fused.heap p.pending.fused_seen.sound)

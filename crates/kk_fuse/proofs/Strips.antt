@@ -93,7 +93,8 @@ pub strip_compute : (xs : List ℕ) (y : ℕ) (form : Form) (arguments : List �
 strip_compute [] y form arguments rest fused is =
     (past_nothing y (compute y form arguments) rest fused is, λ x among. absurd (cc))
 strip_compute (x ∷ xs) y form arguments rest fused is =
-    by_test (y == x) refl (is_among arguments x) refl (is_plain form arguments) is (λ less. strip_compute xs y form arguments less fused)
+    by_test (y == x) refl (is_among arguments x) refl (is_plain form arguments) is
+    (λ less. strip_compute xs y form arguments less fused)
   where
     by_found : (y == x) ≡ false → is_among arguments x ≡ false → (found : Option Counted) → without_drop x rest ≡ found
         → and_then (option_map (compute y form arguments) found) (strip xs) ≡ Some fused
@@ -182,14 +183,14 @@ pub split : (xs used kept owned : List ℕ) → AreEven (xs ++ owned) (used ++ k
 split [] used kept owned even past = record { beside = kept; kept_is = λ weight. refl; owned_is = even }
 split (x ∷ xs) used kept owned even past =
     let later : IsSplit xs used (minus x kept) owned = split xs used (minus x kept) owned
-        (λ weight. omega (
-          arith,
-          even weight,
-          total_append weight used kept,
-          total_append weight used (minus x kept),
-          minus_even x kept there weight,
-        ))
-        past_rest in
+    (λ weight. omega (
+      arith,
+      even weight,
+      total_append weight used kept,
+      total_append weight used (minus x kept),
+      minus_even x kept there weight,
+    ))
+    past_rest in
     record {
       beside = later.beside;
       kept_is = λ weight. omega (arith, minus_even x kept there weight, later.kept_is weight);

@@ -51,8 +51,8 @@ fused_frame frame =
       environment = frame.environment;
     }
 
--- The fused code is at the form at which the code is. Behind a dup, a drop, a reading and a form it may be less than the fused
--- rest, by drops whose dups are cancelled.
+-- The fused code is at the same form. Behind a dup, a drop, a reading or a form on values it may be less than the fused rest: the
+-- drops whose dups have been cancelled are not there.
 abbrev pub IsAtForm : Counted → Counted → Type 0
 IsAtForm (compute x form arguments rest) fused = (less : Counted) × (fused ≡ compute x form arguments less)
 IsAtForm (read x c fields rest) fused = (less : Counted) × (fused ≡ read x c fields less)
@@ -68,8 +68,8 @@ IsBetween (dup x rest) = Unit {0}
 IsBetween (drop x rest) = Unit {0}
 IsBetween code = ⊥
 
--- Both are at the same form, with the same environment. The counts are equal, but between a dup and the drop with which it cancels.
--- Both are stopped alike.
+-- Both are at the same form, with the same environment, and the counts are equal, unless the form stands between a dup and the drop
+-- with which it cancels; or both are stopped alike.
 abbrev pub AreAtOne : Heap → Heap → CountedControl → CountedControl → Type 0
 AreAtOne heap other (running code environment joins) control =
     (less : Counted) × ((control ≡ running less environment (map fused_join joins))
@@ -93,12 +93,13 @@ pub record IsSameTest (heap other : Heap) (control : CountedControl) (x c : ℕ)
 
 -- ---- runs
 
--- Fused code tells the same notes and ends alike, so that as many cells are counted at each construction, and as many call frames stand
--- at each call; and it costs no more. In each state of its run it takes values without cells where it has to, has the shape of a typed
--- program and is not stuck; and it stands for a state of the code that it is made of.
+-- Fused code tells the same notes and ends alike, so that as many cells are counted at each construction, and as many call frames
+-- stand at each call; and it costs no more. In each state of its run operators and prints take values without cells, the code has
+-- the shape of a typed program, the machine is not stuck, and the state stands for one of the code that it is made of.
 pub record IsFusedRun (setting : CountedSetting) (most : ℕ) (input : List ℕ) : Type 0 where
-  pub agrees : (room : ℕ) → Agree (counted_machine (roomy_cost room) setting) (counted_machine (roomy_cost room) (fused_setting setting))
-      0 (λ m. m * suc most + most) (counted_first_state setting input) (counted_first_state (fused_setting setting) input)
+  pub agrees : (room : ℕ) → Agree (counted_machine (roomy_cost room) setting)
+      (counted_machine (roomy_cost room) (fused_setting setting)) 0 (λ m. m * suc most + most)
+      (counted_first_state setting input) (counted_first_state (fused_setting setting) input)
   pub fits : (weight : CountedState → ℕ) → FitsAlways weight (fused_setting setting) input
   pub shape : (weight : CountedState → ℕ) → HasShapeAlways weight (fused_setting setting) input
   pub never_stuck : (weight : CountedState → ℕ) (n : ℕ) → NotStuck (counted_after weight (fused_setting setting) input n).control

@@ -12,10 +12,11 @@ ghost use Rattle.kk_counted.specs.Spending.{IsSpent};
 ghost use Rattle.kk_fuse.specs.Fused.{fused_setting};
 ghost use Rattle.kk_fuse.specs.FusedRuns.{HasFewSteps, IsSameTest, IsFusedRun};
 
-/// Fused code tells the same notes as the code that it is made of, at no higher cost, with any room; and it ends where that ends, and
-/// alike. In each state of its run it stands for a state of that code. Where that leaves no cell at its end, neither does fused code;
-/// and where it tests a count, that code does too, with the same counts. The code must spend each reference that it owns, operators
-/// and prints must take values without cells, and it must have the shape of a typed program. It is a law, and does nothing.
+/// Fused code tells the same notes as the code that it is made of, at no higher cost, with any room; and it ends where that ends,
+/// and alike. In each state of its run it stands for a state of that code. Where that leaves no cell at its end, neither does fused
+/// code; and where it tests a count, that code does too, with the same counts. The code must spend each reference that it owns,
+/// operators and prints must take values without cells, and it must have the shape of a typed program. It is a law, and does
+/// nothing.
 pub fn fused_code_runs_the_same()
     ensures run { (positions : PositionTable) (setting : CountedSetting) (most : ℕ) (input : List ℕ)
         → IsSpent positions setting.program
@@ -47,8 +48,8 @@ pub fn fused_code_runs_the_same()
         x c fields used environment }
 {}
 
-/// In each state of its run fused code takes values of the kinds that it asks for, where the code does that it is made of. It is a law,
-/// and does nothing.
+/// In each state of its run fused code takes values of the kinds that it asks for, where the code does that it is made of. It is a
+/// law, and does nothing.
 pub fn fused_code_has_its_kinds()
     ensures { (constructors : List ConstructorTree) (positions : PositionTable) (setting : CountedSetting) (most : ℕ)
         (weight other : CountedState → ℕ) (input : List ℕ)

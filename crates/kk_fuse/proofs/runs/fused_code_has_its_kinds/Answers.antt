@@ -4,4 +4,5 @@ use Rattle.kk_fuse.proofs.runs.fused_code_has_its_kinds.Goals as goal
 
 pub returns : goal.returns
 returns c = λ constructors positions setting most weight other input spent fits shape short.
-    fused_kinds positions setting most input spent fits shape short (MakeOneType constructors) (field_count constructors) weight other
+    fused_kinds positions setting most input spent fits shape short (MakeOneType constructors) (field_count constructors) weight
+    other
