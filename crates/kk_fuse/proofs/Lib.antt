@@ -7,3 +7,4 @@ pub mod Few
 pub mod Simulating
 pub mod Following
 pub mod FusedStates
+pub mod Short

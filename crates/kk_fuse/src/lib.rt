@@ -4,4 +4,4 @@
 
 mod runs;
 
-pub use runs::{fused_code_has_its_kinds, fused_code_runs_the_same};
+pub use runs::{fused_code_has_its_kinds, fused_code_runs_the_same, short_code_has_few_steps};

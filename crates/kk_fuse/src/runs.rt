@@ -3,11 +3,12 @@ ghost use Rattle.kk_syntax.specs.PositionsOf.{PositionTable};
 ghost use Rattle.kk_syntax.specs.Programs.{ConstructorTree};
 ghost use Rattle.kk_source.specs.State.{Environment, ended};
 ghost use Rattle.kk_core.specs.Kinds.{MakeOneType, field_count};
-ghost use Rattle.kk_counted.specs.CountedCodes.{Counted, if_unique};
+ghost use Rattle.kk_counted.specs.CountedCodes.{Counted, CountedProgram, if_unique};
 ghost use Rattle.kk_counted.specs.CountedStates.{CountedSetting, CountedJoin, CountedState, running, stopped};
 ghost use Rattle.kk_counted.specs.Heaps.{busy};
 ghost use Rattle.kk_counted.specs.Keeping.{counted_after, FitsAlways, HasShapeAlways};
 ghost use Rattle.kk_counted.specs.Kinds.{HasKindsAlways};
+ghost use Rattle.kk_counted.specs.Lengths.{most_length, AreShort};
 ghost use Rattle.kk_counted.specs.Spending.{IsSpent};
 ghost use Rattle.kk_fuse.specs.Fused.{fused_setting};
 ghost use Rattle.kk_fuse.specs.FusedRuns.{HasFewSteps, IsSameTest, IsFusedRun};
@@ -59,4 +60,9 @@ pub fn fused_code_has_its_kinds()
         → HasFewSteps most setting.program
         → HasKindsAlways (MakeOneType constructors) (field_count constructors) weight setting input
         → HasKindsAlways (MakeOneType constructors) (field_count constructors) other (fused_setting setting) input }
+{}
+
+/// No body of a program within the limits has more forms than such a program has instructions. It is a law, and does nothing.
+pub fn short_code_has_few_steps()
+    ensures { (program : CountedProgram) → AreShort program.functions → HasFewSteps most_length program }
 {}
