@@ -1,3 +1,7 @@
 //! Fusion: counted code in which a dup and the next drop of its variable cancel. What it makes of code is a function in specs/, which
 //! `run` computes; laws say that its runs are the same.
 #![tactic(auto)]
+
+mod law;
+
+pub use law::fused_code_is_spent;
