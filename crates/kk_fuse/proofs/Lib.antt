@@ -1,2 +1,5 @@
 pub mod Without
 pub mod Spends
+pub mod Lowered
+pub mod FusedLengths
+mod Opens

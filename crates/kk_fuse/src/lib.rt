@@ -4,4 +4,7 @@
 
 mod law;
 
-pub use law::fused_code_is_spent;
+pub use law::{
+    fused_code_can_be_lowered, fused_code_is_spent, fused_code_opens_by_count,
+    fused_code_opens_no_more,
+};
