@@ -2,8 +2,10 @@
 //! `run` computes; laws say that its runs are the same.
 #![tactic(auto)]
 
+mod fuse;
 mod law;
 
+pub use fuse::run;
 pub use law::{
     fused_code_can_be_lowered, fused_code_is_spent, fused_code_opens_by_count,
     fused_code_opens_no_more,
