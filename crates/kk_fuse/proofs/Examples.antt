@@ -13,10 +13,12 @@ seen : fuse (dup 0 (if_unique 1 7 (2 ∷ []) (2 ∷ []) (drop 0 (give 2)))) ≡ 
 seen = refl
 
 -- They stay, where a form between them takes the variable, and where one makes a cell.
-named : fuse (dup 0 (compute 1 (Construct 7) (0 ∷ []) (drop 0 (give 1)))) ≡ dup 0 (compute 1 (Construct 7) (0 ∷ []) (drop 0 (give 1)))
+named : fuse (dup 0 (compute 1 (Construct 7) (0 ∷ []) (drop 0 (give 1))))
+    ≡ dup 0 (compute 1 (Construct 7) (0 ∷ []) (drop 0 (give 1)))
 named = refl
 
-made : fuse (dup 0 (compute 2 (Construct 7) (1 ∷ []) (drop 0 (give 2)))) ≡ dup 0 (compute 2 (Construct 7) (1 ∷ []) (drop 0 (give 2)))
+made : fuse (dup 0 (compute 2 (Construct 7) (1 ∷ []) (drop 0 (give 2))))
+    ≡ dup 0 (compute 2 (Construct 7) (1 ∷ []) (drop 0 (give 2)))
 made = refl
 
 -- They go, where only another variable is read and dropped between them, and a form makes no cell.

@@ -31,7 +31,8 @@ in_order (step ∷ steps) =
     ap (map step_move) (reverse-append (step ∷ []) steps) ∙ map-append step_move (reverse steps) (step ∷ [])
     ∙ ap (λ ms. ms ++ step_move step ∷ []) (in_order steps) ∙ sym (reverse-append (step_move step ∷ []) (map step_move steps))
 
-pub pushed : (before after : List Step) (step : Step) → after ≡ before ++ step ∷ [] → backwards after ≡ step_move step ∷ backwards before
+pub pushed : (before after : List Step) (step : Step) → after ≡ before ++ step ∷ []
+    → backwards after ≡ step_move step ∷ backwards before
 pushed before after step is =
     ap backwards is ∙ backwards_both before (step ∷ []) ∙ ap (λ ms. ms ++ backwards before) (backwards_one step)
 
@@ -63,7 +64,8 @@ all_made made ordered steps left none turned is =
 -- ---- numbers
 
 pub none_int32 : (made : List Step) → made ≡ [] → AreMovesInt32 (backwards made)
-none_int32 made is = subst (λ (steps : List Step). AreMovesInt32 (backwards steps)) (sym is) (subst AreMovesInt32 (sym backwards_none) tt)
+none_int32 made is =
+    subst (λ (steps : List Step). AreMovesInt32 (backwards steps)) (sym is) (subst AreMovesInt32 (sym backwards_none) tt)
 
 pub all_int32 : (made ordered : List Step) → ordered ≡ reverse made → AreMovesInt32 (backwards made)
     → AreMovesInt32 (map step_move ordered)
@@ -82,7 +84,8 @@ without_int32 x (move ∷ moves) less is all =
 
     by_test : (drops past : Bool)
         → (if drops then Some moves else if past then option_map (λ ms. move ∷ ms) (moves_without x moves) else None) ≡ Some less
-        → ((inner : List Move) → moves_without x moves ≡ Some inner → AreMovesInt32 moves → AreMovesInt32 inner) → AreMovesInt32 less
+        → ((inner : List Move) → moves_without x moves ≡ Some inner → AreMovesInt32 moves → AreMovesInt32 inner)
+        → AreMovesInt32 less
     by_test true past is later = let same : moves ≡ less = cc in subst AreMovesInt32 same all.1
     by_test false false is later = absurd (cc)
     by_test false true is later = by_inner (moves_without x moves) is later
@@ -125,7 +128,8 @@ module _ (x : ℕ) (last : Counted) (none : without_drop x last ≡ None) where
   put_both move code None is = rw is refl
   put_both move code (Some less) is = rw is refl
 
-  pub without_plug : (moves : List Move) → without_drop x (plug moves last) ≡ option_map (λ less. plug less last) (moves_without x moves)
+  pub without_plug : (moves : List Move)
+      → without_drop x (plug moves last) ≡ option_map (λ less. plug less last) (moves_without x moves)
   without_plug [] = none
   without_plug (computes y form arguments ∷ moves) =
       by_test (y == x || is_among arguments x) (is_plain form arguments)
@@ -197,7 +201,8 @@ fuse_put last none (drops x) rest moves is = ap (drop_code x) is
 pub fuse_plug : (moves : List Move) (last : Counted) → ((x : ℕ) → without_drop x (fuse last) ≡ None)
     → fuse (plug moves last) ≡ plug (fused_moves moves) (fuse last)
 fuse_plug [] last none = refl
-fuse_plug (move ∷ moves) last none = fuse_put (fuse last) none move (plug moves last) (fused_moves moves) (fuse_plug moves last none)
+fuse_plug (move ∷ moves) last none =
+    fuse_put (fuse last) none move (plug moves last) (fused_moves moves) (fuse_plug moves last none)
 
 fuse_arms_of : (codes : List Counted) → fuse_arms (arms_of codes) ≡ arms_of (map fuse codes)
 fuse_arms_of [] = refl

@@ -24,7 +24,8 @@ fused_is_function positions f fun made is instance parameters body =
       parameters = parameters ∙ is.parameters;
       judged = λ functions have.
           subst (SpendsParameters positions functions f) (sym (function_made made fun parameters body))
-          (spends_parameters positions functions functions (λ g arguments many. many) f (function_of fun) (is.judged functions have));
+          (spends_parameters positions functions functions (λ g arguments many. many) f (function_of fun)
+          (is.judged functions have));
       arms = subst HasArms (sym body) (has_arms (block_code fun.body) is.arms);
     }
 
@@ -38,5 +39,6 @@ next_is_function positions others functions items fun made f at are table same w
     subst (λ (p : PositionTable). IsFunctionOf p at made) (sym table)
     (subst (λ (n : ℕ). IsFunctionOf positions n made) (sym place)
     (fused_is_function positions f fun made
-    (each f fun (ap (λ (xs : List CountedFun). slice_get xs f) (sym same) ∙ slice_get_read items (length items) f fun refl within is))
+    (each f fun (ap (λ (xs : List CountedFun). slice_get xs f) (sym same)
+    ∙ slice_get_read items (length items) f fun refl within is))
     instance parameters body)))

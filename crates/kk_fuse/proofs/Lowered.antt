@@ -140,7 +140,8 @@ mutual
   same_given (give x) = refl
   same_given (tail_call f arguments) = refl
   same_given (branch x positive negative) =
-      ap (λ o. first_of o (given_by (fuse negative))) (same_given positive) ∙ ap (first_of (given_by positive)) (same_given negative)
+      ap (λ o. first_of o (given_by (fuse negative))) (same_given positive)
+      ∙ ap (first_of (given_by positive)) (same_given negative)
   same_given (case x decisions arms) = same_given_arms arms
   same_given (compute x form arguments rest) = same_given rest
   same_given (inside x block rest) = same_given rest

@@ -51,7 +51,8 @@ at_step : (x : ℕ) (move : Move) (moves : List Move) → drops_it x move ≡ fa
 at_step x move moves other none = rw other (rw none refl)
 
 mapped_twice : (front : List Move) (move : Move) (found : Option (List Move))
-    → option_map (λ less. front ++ less) (option_map (λ less. move ∷ less) found) ≡ option_map (λ less. (front ++ move ∷ []) ++ less) found
+    → option_map (λ less. front ++ less) (option_map (λ less. move ∷ less) found)
+    ≡ option_map (λ less. (front ++ move ∷ []) ++ less) found
 mapped_twice front move None = refl
 mapped_twice front move (Some less) = ap Some (sym (grouped front))
   where
@@ -64,11 +65,14 @@ mapped_twice front move (Some less) = ap Some (sym (grouped front))
 -- the drop is not among the steps that were passed
 abbrev pub IsPassed : ℕ → List Step → ℕ → Type 0
 IsPassed x xs left =
-    moves_without x (backwards xs) ≡ option_map (λ less. backwards (drop left xs) ++ less) (moves_without x (backwards (take left xs)))
+    moves_without x (backwards xs)
+    ≡ option_map (λ less. backwards (drop left xs) ++ less) (moves_without x (backwards (take left xs)))
 
 module _ (x : ℕ) (xs : List Step) where
   pub passed_first : (left : ℕ) → left ≡ length xs → IsPassed x xs left
-  passed_first left is = subst (IsPassed x xs) (sym is) (rw (taken_all xs) (rw (dropped_all xs) (rw backwards_none (same (moves_without x (backwards xs))))))
+  passed_first left is =
+      subst (IsPassed x xs) (sym is)
+      (rw (taken_all xs) (rw (dropped_all xs) (rw backwards_none (same (moves_without x (backwards xs))))))
     where
       taken_all : (xs : List Step) → take (length xs) xs ≡ xs
       taken_all [] = refl
@@ -88,7 +92,8 @@ module _ (x : ℕ) (xs : List Step) where
       ≡ option_map (λ less. backwards (drop (i + 1) xs) ++ less) (moves_without x (step_move step ∷ backwards (take i xs)))
   seen left i step same within is passed =
       subst (IsPassed x xs) same passed
-      ∙ ap (λ ms. option_map (λ less. backwards (drop (i + 1) xs) ++ less) (moves_without x ms)) (backwards_taken xs i step within is)
+      ∙ ap (λ ms. option_map (λ less. backwards (drop (i + 1) xs) ++ less) (moves_without x ms))
+      (backwards_taken xs i step within is)
 
   pub found_drop : (left i : ℕ) (step : Step) → left ≡ i + 1 → i < length xs → step ≡ get_or xs i step → IsPassed x xs left
       → drops_it x (step_move step) ≡ true
@@ -102,15 +107,18 @@ module _ (x : ℕ) (xs : List Step) where
       → drops_it x (step_move step) ≡ false → lets_past x (step_move step) ≡ false → moves_without x (backwards xs) ≡ None
   found_none left i step same within is passed other none =
       seen left i step same within is passed
-      ∙ ap (option_map (λ less. backwards (drop (i + 1) xs) ++ less)) (at_step x (step_move step) (backwards (take i xs)) other none)
+      ∙ ap (option_map (λ less. backwards (drop (i + 1) xs) ++ less))
+      (at_step x (step_move step) (backwards (take i xs)) other none)
 
   pub passed_next : (left i : ℕ) (step : Step) → left ≡ i + 1 → i < length xs → step ≡ get_or xs i step → IsPassed x xs left
       → drops_it x (step_move step) ≡ false → lets_past x (step_move step) ≡ true → IsPassed x xs i
   passed_next left i step same within is passed other past =
       seen left i step same within is passed
-      ∙ ap (option_map (λ less. backwards (drop (i + 1) xs) ++ less)) (past_step x (step_move step) (backwards (take i xs)) other past)
+      ∙ ap (option_map (λ less. backwards (drop (i + 1) xs) ++ less))
+      (past_step x (step_move step) (backwards (take i xs)) other past)
       ∙ mapped_twice (backwards (drop (i + 1) xs)) (step_move step) (moves_without x (backwards (take i xs)))
-      ∙ ap (λ ms. option_map (λ less. ms ++ less) (moves_without x (backwards (take i xs)))) (sym (backwards_dropped xs i step within is))
+      ∙ ap (λ ms. option_map (λ less. ms ++ less) (moves_without x (backwards (take i xs))))
+      (sym (backwards_dropped xs i step within is))
 
   pub passed_all : (left : ℕ) → left ≡ 0 → IsPassed x xs left → moves_without x (backwards xs) ≡ None
   passed_all left is passed =

@@ -72,7 +72,8 @@ among_through front behind others y has is = by_case (among_cases front behind y
 -- ---- plain forms
 
 plain_uses : (positions : PositionTable) (functions : List CountedFunction) (form : Form) (arguments : List ℕ) (x : ℕ)
-    → is_plain form arguments ≡ true → is_among arguments x ≡ false → is_among (used_by positions functions form arguments) x ≡ false
+    → is_plain form arguments ≡ true → is_among arguments x ≡ false
+    → is_among (used_by positions functions form arguments) x ≡ false
 plain_uses positions functions (Call f) arguments x plain none = absurd (cc)
 plain_uses positions functions (Number n) arguments x plain none = none
 plain_uses positions functions Nothing arguments x plain none = none
@@ -143,7 +144,8 @@ module _ (positions : PositionTable) (functions : List CountedFunction) (lent : 
         there : is_among s.0 x ≡ true
         there =
             past_first y x s.0 apart
-            (even_among owned (y ∷ s.0) x s.1.0 (even_among (x ∷ kept) owned x (even_back owned (x ∷ kept) even) (first_there x kept)))
+            (even_among owned (y ∷ s.0) x s.1.0
+            (even_among (x ∷ kept) owned x (even_back owned (x ∷ kept) even) (first_there x kept)))
 
         out : AreEven s.0 (x ∷ minus x s.0)
         out = minus_even x s.0 there
@@ -269,7 +271,8 @@ module _ (positions : PositionTable) (functions others : List CountedFunction)
   -- a dup spends what it spends where it cancels with the next drop too
   dup_spends : (x : ℕ) (code : Counted) (lent readable : List ℕ) (left : Option (List ℕ)) (owned now : List ℕ)
       → AreEven owned now → is_among (lent ++ (readable ++ now)) x ≡ true
-      → Spends positions others lent readable left (x ∷ now) code → Spends positions others lent readable left owned (fused_dup x code)
+      → Spends positions others lent readable left (x ∷ now) code
+      → Spends positions others lent readable left owned (fused_dup x code)
   dup_spends x code lent readable left owned now even there s =
       by_fused (Spends positions others lent readable left owned) x code (now, (even, (there, s)))
       (λ less is.

@@ -11,14 +11,15 @@ use kk_counted::{Block, Counted, CountedFun, Last, Step, copied_decisions};
 use kk_syntax::Form;
 use std::alloc::Global;
 
-/// The program in which each dup cancels with the next drop of its variable, where nothing between them reads that variable or can
-/// see its count. Its numbers are numbers of 32 bits.
+/// The program in which each dup cancels with the next drop of its variable, where nothing between them reads that variable or
+/// can see its count. Its numbers are numbers of 32 bits.
 ///
 /// The recursion is as deep as the blocks of the code. At each dup the steps behind it are looked through: it takes time as the
 /// square of the length of a body.
 pub fn run(alloc: Global, counted: Counted) -> Result<Counted, NoMemory>
     ensures shape { IfOk result (λ made. made.shape ≡ counted.shape) }
-    ensures functions { IfOk result (λ made. map function_of made.functions.items ≡ map fused_function (map function_of counted.functions.items)) }
+    ensures functions { IfOk result (λ made. map function_of made.functions.items
+        ≡ map fused_function (map function_of counted.functions.items)) }
     ensures body_nodes { IfOk result (λ made. made.body_nodes ≡ counted.body_nodes) }
     ensures nodes { IfOk result (λ made. made.nodes ≡ counted.nodes) }
     ensures numbers { IfOk result (λ made. AllHaveInt32 (map function_of made.functions.items)) }
@@ -148,7 +149,8 @@ fn put_fused(made: &mut Vec<Step>, step: Step) -> Result<(), NoMemory>
 fn cancelled_by(step: &Step, made: &[Step]) -> Option<usize>
     ensures none { IfNone result (put_fused (step_move step.now) (backwards made.now) ≡ step_move step.now ∷ backwards made.now) }
     ensures fits { IfSome result (λ at. at < length made.now) }
-    ensures some { IfSome result (λ at. put_fused (step_move step.now) (backwards made.now) ≡ backwards (take at made.now ++ drop (at + 1) made.now)) }
+    ensures some { IfSome result (λ at. put_fused (step_move step.now) (backwards made.now)
+        ≡ backwards (take at made.now ++ drop (at + 1) made.now)) }
 {
     match step {
         Step::Dup(variable) => next_drop(made, *variable),
@@ -165,7 +167,8 @@ fn cancelled_by(step: &Step, made: &[Step]) -> Option<usize>
 fn next_drop(made: &[Step], variable: u32) -> Option<usize>
     ensures none { IfNone result (moves_without variable (backwards made.now) ≡ None) }
     ensures fits { IfSome result (λ at. at < length made.now) }
-    ensures some { IfSome result (λ at. moves_without variable (backwards made.now) ≡ Some (backwards (take at made.now ++ drop (at + 1) made.now))) }
+    ensures some { IfSome result (λ at. moves_without variable (backwards made.now)
+        ≡ Some (backwards (take at made.now ++ drop (at + 1) made.now))) }
 {
     let mut left = made.len();
     'back: while left > 0 {

@@ -15,8 +15,8 @@ pub fn fused_code_is_spent()
         → IsSpent positions (fused_program program) }
 {}
 
-/// Fused code is marked as the code is that it is made of, can be lowered where that can, spends as few references, and is as
-/// short. It is a law, and does nothing.
+/// Fused code is marked as the code is that it is made of, can be lowered where that can, spends no more references, and is no
+/// longer. It is a law, and does nothing.
 pub fn fused_code_can_be_lowered()
     ensures marked { (marks : CellMarks) (holds : ℕ → Bool) (f : ℕ) (function : CountedFunction) → IsMarked marks holds f function
         → IsMarked marks holds f (fused_function function) }

@@ -1,5 +1,5 @@
-//! Fusion: counted code in which a dup and the next drop of its variable cancel. What it makes of code is a function in specs/, which
-//! `run` computes; laws say that its runs are the same.
+//! Fusion: counted code in which a dup and the next drop of its variable cancel. What it makes of code is a function in specs/,
+//! which `run` computes; laws say that its runs are the same.
 #![tactic(auto)]
 
 mod fuse;

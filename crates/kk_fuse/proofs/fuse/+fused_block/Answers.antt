@@ -50,7 +50,8 @@ fused_last-returns-in_ok-arms-in-Case-clause-same t c =
 
 pub fused_arms-loop-arm-preserved : goal.fused_arms-loop-arm-preserved
 fused_arms-loop-arm-preserved t c = (
-  made_more block_code block_code fuse c.loop-arm.made.items c.push.new.self.items _ c.args.arms.now c.loop-arm.arm-index c.arm-item.result
-      c.loop-arm-test.true c.arm-item.is c.in_ok-push.ensures.items c.in_ok-fused_block.ensures.same c.loop-arm.invariant.0,
+  made_more block_code block_code fuse c.loop-arm.made.items c.push.new.self.items _ c.args.arms.now c.loop-arm.arm-index
+      c.arm-item.result c.loop-arm-test.true c.arm-item.is c.in_ok-push.ensures.items
+      c.in_ok-fused_block.ensures.same c.loop-arm.invariant.0,
   arms_pushed _ _ _ c.in_ok-push.ensures.items c.loop-arm.invariant.1 c.in_ok-fused_block.ensures.numbers,
 )

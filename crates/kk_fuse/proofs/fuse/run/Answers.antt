@@ -14,18 +14,21 @@ pub add-requires : goal.add-requires
 add-requires c =
     next_is_function (positions_in c.args.counted.shape.instances.items) _ c.args.counted.functions.items
     c.deref-function-items.result.now c.function-item.result c.new.result c.loop-function.function-index _ c.args.counted.spent
-    (ap (λ shape. positions_in shape.instances.items) (c.loop-function.invariant.1.1.0 ∙ c.new-made.ensures.shape ∙ ap (λ parts. parts.0) c.parts-shape.ensures))
-    (c.deref-function-items.ensures.value ∙ ap (λ parts. parts.1.items) c.parts-shape.ensures) c.loop-function-test.true c.function-item.is c.loop-function.invariant.1.0
+    (ap (λ shape. positions_in shape.instances.items) (c.loop-function.invariant.1.1.0 ∙ c.new-made.ensures.shape
+    ∙ ap (λ parts. parts.0) c.parts-shape.ensures))
+    (c.deref-function-items.ensures.value ∙ ap (λ parts. parts.1.items) c.parts-shape.ensures)
+    c.loop-function-test.true c.function-item.is c.loop-function.invariant.1.0
     (ap (λ fun. fun.instance) c.new.ensures ∙ c.instance.ensures) (ap (λ fun. fun.parameters) c.new.ensures ∙ c.parameters.ensures)
     (ap (λ fun. block_code fun.body) c.new.ensures ∙ c.in_ok-body.ensures.same ∙ ap (λ body. fuse (block_code body)) c.body.ensures)
 
 pub loop-function-preserved : goal.loop-function-preserved
 loop-function-preserved c = (
   made_more function_of function_of fused_function c.loop-function.made.functions.items c.add.new.self.functions.items c.new.result
-      c.deref-function-items.result.now c.loop-function.function-index c.function-item.result c.loop-function-test.true c.function-item.is
-      c.in_ok-add.ensures.ok
+      c.deref-function-items.result.now c.loop-function.function-index c.function-item.result
+      c.loop-function-test.true c.function-item.is c.in_ok-add.ensures.ok
       (function_made c.new.result c.function-item.result (ap (λ fun. fun.parameters) c.new.ensures ∙ c.parameters.ensures)
-      (ap (λ fun. block_code fun.body) c.new.ensures ∙ c.in_ok-body.ensures.same ∙ ap (λ body. fuse (block_code body)) c.body.ensures))
+      (ap (λ fun. block_code fun.body) c.new.ensures ∙ c.in_ok-body.ensures.same
+      ∙ ap (λ body. fuse (block_code body)) c.body.ensures))
       c.loop-function.invariant.0,
   (
     one_longer c.loop-function.made.functions.items c.add.new.self.functions.items c.new.result c.loop-function.function-index
