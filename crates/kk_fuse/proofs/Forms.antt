@@ -24,6 +24,7 @@ use Rattle.kk_fuse.proofs.Searching.{backwards_both, backwards_one, backwards_no
 
 -- ---- steps in their order
 
+-- the steps in their order
 pub in_order : (steps : List Step) → map step_move (reverse steps) ≡ backwards steps
 unfolding backwards
 in_order [] = refl
@@ -31,6 +32,7 @@ in_order (step ∷ steps) =
     ap (map step_move) (reverse-append (step ∷ []) steps) ∙ map-append step_move (reverse steps) (step ∷ [])
     ∙ ap (λ ms. ms ++ step_move step ∷ []) (in_order steps) ∙ sym (reverse-append (step_move step ∷ []) (map step_move steps))
 
+-- a step that is pushed comes in front of those before it
 pub pushed : (before after : List Step) (step : Step) → after ≡ before ++ step ∷ []
     → backwards after ≡ step_move step ∷ backwards before
 pushed before after step is =
@@ -56,6 +58,7 @@ none_made made steps is = ap backwards is ∙ backwards_none ∙ sym (all_droppe
     all_dropped [] = refl
     all_dropped (step ∷ steps) = all_dropped steps
 
+-- where no step is left, those that were made are all
 pub all_made : (made ordered steps : List Step) (left : ℕ) → left ≡ 0 → ordered ≡ reverse made
     → backwards made ≡ fused_moves (map step_move (drop left steps)) → map step_move ordered ≡ fused_moves (map step_move steps)
 all_made made ordered steps left none turned is =
@@ -63,14 +66,17 @@ all_made made ordered steps left none turned is =
 
 -- ---- numbers
 
+-- at first no number is made
 pub none_int32 : (made : List Step) → made ≡ [] → AreMovesInt32 (backwards made)
 none_int32 made is =
     subst (λ (steps : List Step). AreMovesInt32 (backwards steps)) (sym is) (subst AreMovesInt32 (sym backwards_none) tt)
 
+-- the numbers stay small where the steps are put in order
 pub all_int32 : (made ordered : List Step) → ordered ≡ reverse made → AreMovesInt32 (backwards made)
     → AreMovesInt32 (map step_move ordered)
 all_int32 made ordered turned all = subst AreMovesInt32 (sym (ap (map step_move) turned ∙ in_order made)) all
 
+-- the numbers stay small where a drop goes
 without_int32 : (x : ℕ) (moves less : List Move) → moves_without x moves ≡ Some less → AreMovesInt32 moves → AreMovesInt32 less
 without_int32 x [] less is all = absurd (cc)
 without_int32 x (move ∷ moves) less is all =
@@ -90,6 +96,7 @@ without_int32 x (move ∷ moves) less is all =
     by_test false false is later = absurd (cc)
     by_test false true is later = by_inner (moves_without x moves) is later
 
+-- the numbers stay small where a step is put in front
 put_int32 : (move : Move) (moves : List Move) → IsMoveInt32 move → AreMovesInt32 moves → AreMovesInt32 (put_fused move moves)
 put_int32 (computes x form arguments) moves one all = (one, all)
 put_int32 (runs x block) moves one all = (one, all)
@@ -103,6 +110,7 @@ put_int32 (dups x) moves one all = by_case (moves_without x moves) refl
     by_case (Some less) is = rw is (without_int32 x moves less is all)
 put_int32 (drops x) moves one all = (one, all)
 
+-- the same of steps in Rust
 pub moves_put : (before after : List Step) (step : Step) → backwards after ≡ put_fused (step_move step) (backwards before)
     → IsMoveInt32 (step_move step) → AreMovesInt32 (backwards before) → AreMovesInt32 (backwards after)
 moves_put before after step is one all =
@@ -117,6 +125,7 @@ step_ends x (TailCall f arguments) = refl
 step_ends x (If y positive negative) = refl
 step_ends x (Case y decisions arms) = refl
 
+-- the same of an end in Rust
 ends : (last : Last) (x : ℕ) → without_drop x (last_code last) ≡ None
 ends last x =
     ap (without_drop x) (fold_out-Last Counted Move Counted last_step step_step block_step last) ∙ step_ends x _
@@ -128,6 +137,7 @@ module _ (x : ℕ) (last : Counted) (none : without_drop x last ≡ None) where
   put_both move code None is = rw is refl
   put_both move code (Some less) is = rw is refl
 
+  -- the code without a drop is that of its steps without the drop
   pub without_plug : (moves : List Move)
       → without_drop x (plug moves last) ≡ option_map (λ less. plug less last) (moves_without x moves)
   without_plug [] = none
@@ -177,6 +187,7 @@ module _ (x : ℕ) (last : Counted) (none : without_drop x last ≡ None) where
       by_test true later = refl
       by_test false later = later
 
+  -- a dup is fused with code as it is with its steps
   pub dup_plug : (moves : List Move) → fused_dup x (plug moves last) ≡ plug (put_fused (dups x) moves) last
   dup_plug moves = by_case (moves_without x moves) refl
     where
@@ -198,16 +209,19 @@ fuse_put last none (opens_unique x c fields used) rest moves is = ap (if_unique 
 fuse_put last none (dups x) rest moves is = ap (fused_dup x) is ∙ dup_plug x last (none x) moves
 fuse_put last none (drops x) rest moves is = ap (drop_code x) is
 
+-- fused code is that of its fused steps
 pub fuse_plug : (moves : List Move) (last : Counted) → ((x : ℕ) → without_drop x (fuse last) ≡ None)
     → fuse (plug moves last) ≡ plug (fused_moves moves) (fuse last)
 fuse_plug [] last none = refl
 fuse_plug (move ∷ moves) last none =
     fuse_put (fuse last) none move (plug moves last) (fused_moves moves) (fuse_plug moves last none)
 
+-- arms are fused one by one
 fuse_arms_of : (codes : List Counted) → fuse_arms (arms_of codes) ≡ arms_of (map fuse codes)
 fuse_arms_of [] = refl
 fuse_arms_of (code ∷ codes) = ap (arm (fuse code)) (fuse_arms_of codes)
 
+-- a block is fused where its steps and its end are
 pub block_fused : (block made : Block) → map step_move made.steps.items ≡ fused_moves (map step_move block.steps.items)
     → last_code made.last ≡ fuse (last_code block.last) → block_code made ≡ fuse (block_code block)
 block_fused block made steps last =
@@ -216,6 +230,7 @@ block_fused block made steps last =
     ∙ sym (fuse_plug (map step_move block.steps.items) (last_code block.last)
     (λ x. ap (without_drop x) (sym last) ∙ ends made.last x)) ∙ ap fuse (sym (block_is block))
 
+-- a case is fused where its arms are
 pub case_fused : (of made : Last) (x : ℕ) (d e : Decisions) (arms others : Vec Block) → of ≡ OfLast.Case x d arms
     → made ≡ OfLast.Case x e others → decisions_of e ≡ decisions_of d
     → map block_code others.items ≡ map fuse (map block_code arms.items) → last_code made ≡ fuse (last_code of)
@@ -226,6 +241,7 @@ case_fused of made x d e arms others is made_is decisions bodies =
     ∙ ap (case x (decisions_of d)) (sym (fuse_arms_of (map block_code arms.items)))
     ∙ ap fuse (sym (case_code x d arms)) ∙ ap (λ (l : Last). fuse (last_code l)) (sym is)
 
+-- a function is fused where its body is
 pub function_made : (fun item : CountedFun) → fun.parameters ≡ item.parameters → block_code fun.body ≡ fuse (block_code item.body)
     → function_of fun ≡ fused_function (function_of item)
 function_made fun item many body = ap (of (block_code fun.body)) many ∙ ap (λ code. of code item.parameters) body

@@ -5,6 +5,7 @@ use Rattle.kk_counted.specs.Lengths.{code_length, arms_length, functions_length,
 use Rattle.kk_fuse.specs.Fused.{without_drop, fuse, fuse_arms, fused_function}
 use Rattle.kk_fuse.proofs.Without.{by_without, by_fused}
 
+-- the code without a drop is no longer
 less_length : (x : ℕ) (code less : Counted) → without_drop x code ≡ Some less → code_length less ≤ code_length code
 less_length x =
     by_without x (λ code less. code_length less ≤ code_length code) (λ rest. omega arith)
@@ -12,6 +13,7 @@ less_length x =
     (λ y c fields rest less apart named later. omega (arith, later))
     (λ y form arguments rest less apart named plain later. omega (arith, later))
 
+-- fused code is no longer
 mutual
   no_longer : (code : Counted) → code_length (fuse code) ≤ code_length code
   no_longer (give x) = omega arith
@@ -34,12 +36,14 @@ mutual
   arms_no_longer no_arm = omega arith
   arms_no_longer (arm body rest) = let one = no_longer body in let two = arms_no_longer rest in omega (arith, one, two)
 
+-- the code without a drop has as many forms on values
 less_computes : (x : ℕ) (code less : Counted) → without_drop x code ≡ Some less → computes less ≡ computes code
 less_computes x =
     by_without x (λ code less. computes less ≡ computes code) (λ rest. refl) (λ y rest less apart later. later)
     (λ y rest less apart later. later) (λ y c fields rest less apart named later. later)
     (λ y form arguments rest less apart named plain later. ap suc later)
 
+-- so has fused code
 mutual
   same_computes : (code : Counted) → computes (fuse code) ≡ computes code
   same_computes (give x) = refl
@@ -62,12 +66,14 @@ mutual
   same_arms_compute no_arm = refl
   same_arms_compute (arm body rest) = let one = same_computes body in let two = same_arms_compute rest in omega (arith, one, two)
 
+-- the code without a drop has as many forms beside dups and drops
 less_forms : (x : ℕ) (code less : Counted) → without_drop x code ≡ Some less → forms_in less ≡ forms_in code
 less_forms x =
     by_without x (λ code less. forms_in less ≡ forms_in code) (λ rest. refl) (λ y rest less apart later. later)
     (λ y rest less apart later. later) (λ y c fields rest less apart named later. ap suc later)
     (λ y form arguments rest less apart named plain later. ap suc later)
 
+-- so has fused code
 mutual
   same_forms : (code : Counted) → forms_in (fuse code) ≡ forms_in code
   same_forms (give x) = refl
@@ -89,21 +95,25 @@ mutual
   same_arms_forms no_arm = refl
   same_arms_forms (arm body rest) = let one = same_forms body in let two = same_arms_forms rest in omega (arith, one, two)
 
+-- the same of all functions: their length
 all_length : (functions : List CountedFunction) → functions_length (map fused_function functions) ≤ functions_length functions
 all_length [] = omega arith
 all_length (function ∷ functions) =
     let one = no_longer function.body in let later = all_length functions in omega (arith, one, later)
 
+-- their forms on values
 all_compute : (functions : List CountedFunction) → all_computes (map fused_function functions) ≡ all_computes functions
 all_compute [] = refl
 all_compute (function ∷ functions) =
     let one = same_computes function.body in let later = all_compute functions in omega (arith, one, later)
 
+-- their forms beside dups and drops
 all_forms : (functions : List CountedFunction) → all_forms_in (map fused_function functions) ≡ all_forms_in functions
 all_forms [] = refl
 all_forms (function ∷ functions) =
     let one = same_forms function.body in let later = all_forms functions in omega (arith, one, later)
 
+-- fused functions are short where the functions are
 pub fused_short : (functions : List CountedFunction) → AreShort functions → AreShort (map fused_function functions)
 fused_short functions short =
     let long = all_length functions in

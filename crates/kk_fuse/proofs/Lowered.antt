@@ -19,6 +19,7 @@ module _ (marks : CellMarks) (holds : ℕ → Bool) (result : Bool) where
   MarkedToo code less =
       (bound : List ℕ) (given : Bool) → HasMark marks holds result bound given code → HasMark marks holds result bound given less
 
+  -- so it is, by each form
   less_marked : (x : ℕ) (code less : Counted) → without_drop x code ≡ Some less → MarkedToo code less
   less_marked x =
       by_without x MarkedToo (λ rest bound given has. has.1)
@@ -28,6 +29,7 @@ module _ (marks : CellMarks) (holds : ℕ → Bool) (result : Bool) where
       (λ y form arguments rest less apart named plain later bound given has.
       (has.0, (has.1.0, later (y ∷ bound) given has.1.1)))
 
+  -- fused code is marked where the code is
   mutual
     fused_has : (bound : List ℕ) (given : Bool) (code : Counted) → HasMark marks holds result bound given code
         → HasMark marks holds result bound given (fuse code)
@@ -53,6 +55,7 @@ module _ (marks : CellMarks) (holds : ℕ → Bool) (result : Bool) where
     fused_have bound given no_arm have = tt
     fused_have bound given (arm body rest) have = (fused_has bound given body have.0, fused_have bound given rest have.1)
 
+-- a fused function is marked where the function is
 pub fused_marked : (marks : CellMarks) (holds : ℕ → Bool) (f : ℕ) (function : CountedFunction) → IsMarked marks holds f function
     → IsMarked marks holds f (fused_function function)
 fused_marked marks holds f function marked =
@@ -68,6 +71,7 @@ module _ (base : ℕ) where
   abbrev NumberedToo : Counted → Counted → Type 0
   NumberedToo code less = (bound : List ℕ) → AreNumbered base bound code → AreNumbered base bound less
 
+  -- so it is, by each form
   less_numbered : (x : ℕ) (code less : Counted) → without_drop x code ≡ Some less → NumberedToo code less
   less_numbered x =
       by_without x NumberedToo (λ rest bound are. are) (λ y rest less apart later bound are. later bound are)
@@ -75,6 +79,7 @@ module _ (base : ℕ) where
       (λ y c fields rest less apart named later bound are. (are.0, later (fields ++ bound) are.1))
       (λ y form arguments rest less apart named plain later bound are. (are.0, (are.1.0, later (y ∷ bound) are.1.1)))
 
+  -- fused code is numbered where the code is
   mutual
     numbered : (bound : List ℕ) (code : Counted) → AreNumbered base bound code → AreNumbered base bound (fuse code)
     numbered bound (give x) are = tt
@@ -98,16 +103,19 @@ module _ (base : ℕ) where
 
 -- ---- arms
 
+-- the code without a drop has its arms
 less_has_arms : (x : ℕ) (code less : Counted) → without_drop x code ≡ Some less → HasArms code → HasArms less
 less_has_arms x =
     by_without x (λ code less. HasArms code → HasArms less) (λ rest has. has) (λ y rest less apart later has. later has)
     (λ y rest less apart later has. later has) (λ y c fields rest less apart named later has. later has)
     (λ y form arguments rest less apart named plain later has. later has)
 
+-- fused arms are as many
 same_count : (arms : CountedArms) → arm_count (fuse_arms arms) ≡ arm_count arms
 same_count no_arm = refl
 same_count (arm body rest) = ap suc (same_count rest)
 
+-- fused code has its arms
 mutual
   pub has_arms : (code : Counted) → HasArms code → HasArms (fuse code)
   has_arms (give x) has = tt
@@ -129,12 +137,14 @@ mutual
 
 -- ---- blocks inside
 
+-- the code without a drop gives the same variable
 less_given : (x : ℕ) (code less : Counted) → without_drop x code ≡ Some less → given_by less ≡ given_by code
 less_given x =
     by_without x (λ code less. given_by less ≡ given_by code) (λ rest. refl) (λ y rest less apart later. later)
     (λ y rest less apart later. later) (λ y c fields rest less apart named later. later)
     (λ y form arguments rest less apart named plain later. later)
 
+-- fused code gives the same variable
 mutual
   same_given : (code : Counted) → given_by (fuse code) ≡ given_by code
   same_given (give x) = refl
@@ -159,6 +169,7 @@ mutual
   same_given_arms (arm body rest) =
       ap (λ o. first_of o (given_by_arms (fuse_arms rest))) (same_given body) ∙ ap (first_of (given_by body)) (same_given_arms rest)
 
+-- each block inside of the code without a drop gives a value
 less_gives : (x : ℕ) (code less : Counted) → without_drop x code ≡ Some less → BlocksGive code → BlocksGive less
 less_gives x =
     by_without x (λ code less. BlocksGive code → BlocksGive less) (λ rest gives. gives)
@@ -166,6 +177,7 @@ less_gives x =
     (λ y c fields rest less apart named later gives. later gives)
     (λ y form arguments rest less apart named plain later gives. later gives)
 
+-- each block inside of fused code gives a value
 mutual
   blocks_give : (code : Counted) → BlocksGive code → BlocksGive (fuse code)
   blocks_give (give x) gives = tt
@@ -189,12 +201,14 @@ mutual
 
 -- ---- arguments
 
+-- the forms of the code without a drop have their arguments
 less_arities : (x : ℕ) (code less : Counted) → without_drop x code ≡ Some less → HasArities code → HasArities less
 less_arities x =
     by_without x (λ code less. HasArities code → HasArities less) (λ rest has. has) (λ y rest less apart later has. later has)
     (λ y rest less apart later has. later has) (λ y c fields rest less apart named later has. later has)
     (λ y form arguments rest less apart named plain later has. (has.0, later has.1))
 
+-- the forms of fused code have their arguments
 mutual
   has_arities : (code : Counted) → HasArities code → HasArities (fuse code)
   has_arities (give x) has = tt
@@ -217,10 +231,12 @@ mutual
 
 -- ---- what is spent
 
+-- fused arms are there where the arms are
 still_one : (arms : CountedArms) → HasAnArm arms → HasAnArm (fuse_arms arms)
 still_one no_arm has = has
 still_one (arm body rest) has = tt
 
+-- each case of the code without a drop has an arm
 less_arm : (x : ℕ) (code less : Counted) → without_drop x code ≡ Some less → EachHasAnArm code → EachHasAnArm less
 less_arm x =
     by_without x (λ code less. EachHasAnArm code → EachHasAnArm less) (λ rest has. has)
@@ -228,6 +244,7 @@ less_arm x =
     (λ y c fields rest less apart named later has. later has)
     (λ y form arguments rest less apart named plain later has. later has)
 
+-- each case of fused code has an arm
 mutual
   some_arm : (code : Counted) → EachHasAnArm code → EachHasAnArm (fuse code)
   some_arm (give x) has = tt
@@ -247,6 +264,7 @@ mutual
   some_arms no_arm have = tt
   some_arms (arm body rest) have = (some_arm body have.0, some_arms rest have.1)
 
+-- the code without a drop spends as little
 less_spent : (x : ℕ) (code less : Counted) → without_drop x code ≡ Some less → (n : ℕ) → SpendsAtMost code n → SpendsAtMost less n
 less_spent x =
     by_without x (λ code less. (n : ℕ) → SpendsAtMost code n → SpendsAtMost less n)
@@ -256,6 +274,7 @@ less_spent x =
     (λ y c fields rest less apart named later n most. later n most)
     (λ y form arguments rest less apart named plain later n most. (most.0, (most.1.0, later most.0 most.1.1)))
 
+-- fused code spends as little
 mutual
   spends : (code : Counted) (n : ℕ) → SpendsAtMost code n → SpendsAtMost (fuse code) n
   spends (give x) n most = most
@@ -277,6 +296,7 @@ mutual
   spend no_arm n most = tt
   spend (arm body rest) n most = (spends body n most.0, spend rest n most.1)
 
+-- a fused program spends as little
 pub fused_spends : (program : CountedProgram) (n : ℕ) → AllSpendAtMost program n → AllSpendAtMost (fused_program program) n
 fused_spends program n each f function there =
     let before = found_before program.functions f function there in
@@ -284,6 +304,7 @@ fused_spends program n each f function there =
 
 -- ---- functions
 
+-- a fused function can be lowered where the function can
 fused_is : (table : CellMarks) (f : ℕ) (function : CountedFunction) → IsLowerable table f function
     → IsLowerable table f (fused_function function)
 fused_is table f function lowerable =
@@ -301,6 +322,7 @@ fused_is table f function lowerable =
       arities = has_arities function.body lowerable.arities;
     }
 
+-- fused functions can be lowered where the functions can
 pub fused_are : (table : CellMarks) (functions : List CountedFunction) → AreLowerable table functions
     → AreLowerable table (map fused_function functions)
 fused_are table functions each f function there =

@@ -7,12 +7,14 @@ use Rattle.kk_fuse.specs.Fused.{without_drop, fuse, fuse_arms, fused_function, f
 use Rattle.kk_fuse.proofs.Spends.{found_before}
 use Rattle.kk_fuse.proofs.Without.{by_without, by_fused}
 
+-- the code without a drop has as many openings
 less_openings : (x : ℕ) (code less : Counted) → without_drop x code ≡ Some less → openings less ≡ openings code
 less_openings x =
     by_without x (λ code less. openings less ≡ openings code) (λ rest. refl) (λ y rest less apart later. later)
     (λ y rest less apart later. later) (λ y c fields rest less apart named later. later)
     (λ y form arguments rest less apart named plain later. later)
 
+-- fused code has as many openings
 mutual
   same_openings : (code : Counted) → openings (fuse code) ≡ openings code
   same_openings (give x) = refl
@@ -36,12 +38,14 @@ mutual
   same_arms_openings (arm body rest) =
       let one = same_openings body in let two = same_arms_openings rest in omega (arith, one, two)
 
+-- a fused program has no more openings
 pub fused_opens : (most : ℕ) (program : CountedProgram) → OpenAtMost most program → OpenAtMost most (fused_program program)
 fused_opens most program few f function is =
     let before = found_before program.functions f function is in
     subst (λ (one : CountedFunction). openings one.body ≤ most) before.1.1
     (let same = same_openings before.0.body in let less = few f before.0 before.1.0 in omega (arith, same, less))
 
+-- the code without a drop opens by count
 less_by_count : (x : ℕ) (code less : Counted) → without_drop x code ≡ Some less → OpensByCount code → OpensByCount less
 less_by_count x =
     by_without x (λ code less. OpensByCount code → OpensByCount less) (λ rest by. by) (λ y rest less apart later by. later by)
@@ -68,6 +72,7 @@ mutual
   arms_by_count no_arm by = tt
   arms_by_count (arm body rest) by = (by_count body by.0, arms_by_count rest by.1)
 
+-- fused functions open by count
 pub all_by_count : (functions : List CountedFunction) → AllOpenByCount functions → AllOpenByCount (map fused_function functions)
 all_by_count functions by f function is =
     let before = found_before functions f function is in

@@ -9,14 +9,17 @@ use Rattle.kk_fuse.specs.FusedForms.{backwards, drops_it, lets_past, moves_witho
 
 -- ---- steps backwards
 
+-- two lists of steps
 pub backwards_both : (xs ys : List Step) → backwards (xs ++ ys) ≡ backwards ys ++ backwards xs
 unfolding backwards
 backwards_both xs ys = ap reverse (map-append step_move xs ys) ∙ reverse-append (map step_move xs) (map step_move ys)
 
+-- one step
 pub backwards_one : (step : Step) → backwards (step ∷ []) ≡ step_move step ∷ []
 unfolding backwards
 backwards_one step = refl
 
+-- no step
 pub backwards_none : backwards [] ≡ []
 unfolding backwards
 backwards_none = refl
@@ -39,17 +42,21 @@ backwards_dropped xs i step within is =
 
 -- ---- one step
 
+-- at the drop
 at_drop : (x : ℕ) (move : Move) (moves : List Move) → drops_it x move ≡ true → moves_without x (move ∷ moves) ≡ Some moves
 at_drop x move moves is = rw is refl
 
+-- at a step that may stand before the drop
 past_step : (x : ℕ) (move : Move) (moves : List Move) → drops_it x move ≡ false → lets_past x move ≡ true
     → moves_without x (move ∷ moves) ≡ option_map (λ less. move ∷ less) (moves_without x moves)
 past_step x move moves other past = rw other (rw past refl)
 
+-- at any other step
 at_step : (x : ℕ) (move : Move) (moves : List Move) → drops_it x move ≡ false → lets_past x move ≡ false
     → moves_without x (move ∷ moves) ≡ None
 at_step x move moves other none = rw other (rw none refl)
 
+-- a step between the passed ones and the others
 mapped_twice : (front : List Move) (move : Move) (found : Option (List Move))
     → option_map (λ less. front ++ less) (option_map (λ less. move ∷ less) found)
     ≡ option_map (λ less. (front ++ move ∷ []) ++ less) found
@@ -69,6 +76,7 @@ IsPassed x xs left =
     ≡ option_map (λ less. backwards (drop left xs) ++ less) (moves_without x (backwards (take left xs)))
 
 module _ (x : ℕ) (xs : List Step) where
+  -- at first no step is passed
   pub passed_first : (left : ℕ) → left ≡ length xs → IsPassed x xs left
   passed_first left is =
       subst (IsPassed x xs) (sym is)
@@ -95,6 +103,7 @@ module _ (x : ℕ) (xs : List Step) where
       ∙ ap (λ ms. option_map (λ less. backwards (drop (i + 1) xs) ++ less) (moves_without x ms))
       (backwards_taken xs i step within is)
 
+  -- where the step is the drop, it is found
   pub found_drop : (left i : ℕ) (step : Step) → left ≡ i + 1 → i < length xs → step ≡ get_or xs i step → IsPassed x xs left
       → drops_it x (step_move step) ≡ true
       → moves_without x (backwards xs) ≡ Some (backwards (take i xs ++ drop (i + 1) xs))
@@ -103,6 +112,7 @@ module _ (x : ℕ) (xs : List Step) where
       ∙ ap (option_map (λ less. backwards (drop (i + 1) xs) ++ less)) (at_drop x (step_move step) (backwards (take i xs)) drops)
       ∙ ap Some (sym (backwards_both (take i xs) (drop (i + 1) xs)))
 
+  -- where the step may not stand before the drop, there is none
   pub found_none : (left i : ℕ) (step : Step) → left ≡ i + 1 → i < length xs → step ≡ get_or xs i step → IsPassed x xs left
       → drops_it x (step_move step) ≡ false → lets_past x (step_move step) ≡ false → moves_without x (backwards xs) ≡ None
   found_none left i step same within is passed other none =
@@ -110,6 +120,7 @@ module _ (x : ℕ) (xs : List Step) where
       ∙ ap (option_map (λ less. backwards (drop (i + 1) xs) ++ less))
       (at_step x (step_move step) (backwards (take i xs)) other none)
 
+  -- where the step may stand before the drop, it is passed
   pub passed_next : (left i : ℕ) (step : Step) → left ≡ i + 1 → i < length xs → step ≡ get_or xs i step → IsPassed x xs left
       → drops_it x (step_move step) ≡ false → lets_past x (step_move step) ≡ true → IsPassed x xs i
   passed_next left i step same within is passed other past =
@@ -120,6 +131,7 @@ module _ (x : ℕ) (xs : List Step) where
       ∙ ap (λ ms. option_map (λ less. ms ++ less) (moves_without x (backwards (take i xs))))
       (sym (backwards_dropped xs i step within is))
 
+  -- where all steps are passed, there is none
   pub passed_all : (left : ℕ) → left ≡ 0 → IsPassed x xs left → moves_without x (backwards xs) ≡ None
   passed_all left is passed =
       subst (IsPassed x xs) is passed

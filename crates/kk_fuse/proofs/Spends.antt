@@ -25,6 +25,7 @@ fewer xs ys y has none = by_test (is_among ys y) refl
     by_test false is = refl
     by_test true is = sym (has is) ∙ none
 
+-- the same of some variables
 fresh_fewer : (fields xs ys : List ℕ) → ((y : ℕ) → is_among ys y ≡ true → is_among xs y ≡ true) → AreFresh fields xs
     → AreFresh fields ys
 fresh_fewer [] xs ys has fresh = tt
@@ -46,9 +47,11 @@ past_first x y ys apart is = by_test (x == y) apart is
     by_test true apart is = absurd (cc)
     by_test false apart is = is
 
+-- two variables differ either way round
 turned : (x y : ℕ) → (x == y) ≡ false → (y == x) ≡ false
 turned x y apart = grind arith
 
+-- the first variable is among those of its list
 first_there : (x : ℕ) (xs : List ℕ) → is_among (x ∷ xs) x ≡ true
 first_there x xs = grind arith
 
@@ -71,6 +74,7 @@ among_through front behind others y has is = by_case (among_cases front behind y
 
 -- ---- plain forms
 
+-- a plain form uses none but its arguments
 plain_uses : (positions : PositionTable) (functions : List CountedFunction) (form : Form) (arguments : List ℕ) (x : ℕ)
     → is_plain form arguments ≡ true → is_among arguments x ≡ false
     → is_among (used_by positions functions form arguments) x ≡ false
@@ -84,6 +88,7 @@ plain_uses positions functions (Binary operator) arguments x plain none = none
 plain_uses positions functions (Print form) arguments x plain none = none
 plain_uses positions functions (Construct c) arguments x plain none = none
 
+-- a plain form is lent nothing
 plain_lends : (positions : PositionTable) (functions : List CountedFunction) (form : Form) (arguments ys : List ℕ)
     → is_plain form arguments ≡ true → AllAmong (lent_by positions functions form arguments) ys
 plain_lends positions functions (Call f) arguments ys plain = absurd (cc)
@@ -130,12 +135,14 @@ module _ (positions : PositionTable) (functions : List CountedFunction) (lent : 
       → Spends positions functions lent readable left owned code → Spends positions functions lent readable left kept less
 
   module _ (x : ℕ) where
+    -- at the drop
     less_at : (rest : Counted) → SpendsLess x (drop x rest) rest
     unfolding SpendsLess
     less_at rest readable left owned kept even s =
         readable_too readable left kept rest
         (spends_even positions functions lent [] left s.0 kept (λ w. omega (arith, even w, s.1.0 w)) rest s.1.1)
 
+    -- past a drop of another variable
     less_drop : (y : ℕ) (rest less : Counted) → (y == x) ≡ false → SpendsLess x rest less → SpendsLess x (drop y rest) (drop y less)
     unfolding SpendsLess
     less_drop y rest less apart later readable left owned kept even s =
@@ -150,6 +157,7 @@ module _ (positions : PositionTable) (functions : List CountedFunction) (lent : 
         out : AreEven s.0 (x ∷ minus x s.0)
         out = minus_even x s.0 there
 
+    -- past a dup of another variable
     less_dup : (y : ℕ) (rest less : Counted) → (y == x) ≡ false → SpendsLess x rest less → SpendsLess x (dup y rest) (dup y less)
     unfolding SpendsLess
     less_dup y rest less apart later readable left owned kept even s = (
@@ -168,6 +176,7 @@ module _ (positions : PositionTable) (functions : List CountedFunction) (lent : 
         out : AreEven s.0 (x ∷ kept)
         out = λ w. sym (s.1.0 w) ∙ even w
 
+    -- past a reading that does not name the variable
     less_read : (y c : ℕ) (fields : List ℕ) (rest less : Counted) → (y == x) ≡ false → is_among fields x ≡ false
         → SpendsLess x rest less → SpendsLess x (read y c fields rest) (read y c fields less)
     unfolding SpendsLess
@@ -190,6 +199,7 @@ module _ (positions : PositionTable) (functions : List CountedFunction) (lent : 
         by_case (inl is) = inl is
         by_case (inr both) = inr (past_first x y kept (turned y x apart) (even_among s.0 (x ∷ kept) y out both.0), both.1)
 
+    -- past a plain form that does not name the variable
     less_compute : (y : ℕ) (form : Form) (arguments : List ℕ) (rest less : Counted) → (y == x) ≡ false
         → is_among arguments x ≡ false → is_plain form arguments ≡ true → SpendsLess x rest less
         → SpendsLess x (compute y form arguments rest) (compute y form arguments less)
@@ -227,6 +237,7 @@ module _ (positions : PositionTable) (functions : List CountedFunction) (lent : 
         out : AreEven s.0 (x ∷ minus x s.0)
         out = minus_even x s.0 there
 
+    -- by each form
     pub spends_less : (code less : Counted) → without_drop x code ≡ Some less → (readable : List ℕ) (left : Option (List ℕ))
         (owned kept : List ℕ) → AreEven owned (x ∷ kept) → Spends positions functions lent readable left owned code
         → Spends positions functions lent readable left kept less
@@ -236,6 +247,7 @@ module _ (positions : PositionTable) (functions : List CountedFunction) (lent : 
 -- ---- functions
 
 module _ (functions : List CountedFunction) where
+  -- the same, by what stands there
   found : (f : ℕ) (other : CountedFunction) (here : Option CountedFunction) → slice_get functions f ≡ here
       → option_map fused_function here ≡ Some other
       → (function : CountedFunction) × ((slice_get functions f ≡ Some function) × (fused_function function ≡ other))
@@ -247,6 +259,7 @@ module _ (functions : List CountedFunction) where
       → (function : CountedFunction) × ((slice_get functions f ≡ Some function) × (fused_function function ≡ other))
   found_before f other is = found f other (slice_get functions f) refl (sym (slice_get-map fused_function functions f) ∙ is)
 
+  -- a fused function is called with as many arguments
   as_many : (positions : PositionTable) (f : ℕ) (arguments : List ℕ) → HasAsMany positions functions f arguments
       → HasAsMany positions (map fused_function functions) f arguments
   as_many positions f arguments many other is =
@@ -256,6 +269,7 @@ module _ (functions : List CountedFunction) where
 -- by functions that may be called with as many arguments as others
 module _ (positions : PositionTable) (functions others : List CountedFunction)
     (many : (f : ℕ) (arguments : List ℕ) → HasAsMany positions functions f arguments → HasAsMany positions others f arguments) where
+  -- forms fit still
   fits : (form : Form) (arguments : List ℕ) → FitsForm positions functions form arguments
       → FitsForm positions others form arguments
   fits (Call f) arguments fit = many f arguments fit
@@ -279,6 +293,7 @@ module _ (positions : PositionTable) (functions others : List CountedFunction)
       spends_even positions others lent readable left now owned even less
       (spends_less positions others lent x code less is readable left (x ∷ now) now (even_same (x ∷ now)) s))
 
+  -- fused code spends what the code spends
   mutual
     pub spends : (code : Counted) (lent readable : List ℕ) (left : Option (List ℕ)) (owned : List ℕ)
         → Spends positions functions lent readable left owned code
@@ -333,10 +348,12 @@ module _ (positions : PositionTable) (functions others : List CountedFunction)
     spend_all no_arm lent left owned s = tt
     spend_all (arm body rest) lent left owned s = (spends body lent [] left owned s.0, spend_all rest lent left owned s.1)
 
+  -- a fused function spends its parameters
   pub spends_parameters : (f : ℕ) (function : CountedFunction) → SpendsParameters positions functions f function
       → SpendsParameters positions others f (fused_function function)
   spends_parameters f function s = (s.0, (s.1.0, spends function.body s.0 [] None _ s.1.1))
 
+-- a fused program spends what it owns
 pub is_spent : (positions : PositionTable) (program : CountedProgram) → IsSpent positions program
     → IsSpent positions (fused_program program)
 is_spent positions program spent =

@@ -7,14 +7,11 @@ use Rattle.kk_counted.specs.CountedCodes.{Counted, give, tail_call, branch, case
 use Rattle.kk_counted.proofs.Counting.{same}
 use Rattle.kk_fuse.specs.Fused.{is_plain, without_drop, fused_dup}
 
+-- what is mapped is there
 mapped : (f : Counted → Counted) (here : Option Counted) (less : Counted) → option_map f here ≡ Some less
     → (inner : Counted) × ((here ≡ Some inner) × (f inner ≡ less))
 mapped f None less is = absurd (cc)
 mapped f (Some inner) less is = let one : f inner ≡ less = cc in (inner, (refl, one))
-
-right_of : (a b : Bool) → (a || b) ≡ false → b ≡ false
-right_of false b is = is
-right_of true b is = absurd (cc)
 
 -- What holds of a code and of the code without the next drop of a variable, if it holds at that drop, and past each form that may
 -- stand before it.
@@ -27,6 +24,7 @@ module _ (x : ℕ) (P : Counted → Counted → Type 0)
     (past_compute : (y : ℕ) (form : Form) (arguments : List ℕ) (rest less : Counted) → (y == x) ≡ false
     → is_among arguments x ≡ false → is_plain form arguments ≡ true → P rest less
     → P (compute y form arguments rest) (compute y form arguments less)) where
+  -- by each form
   pub by_without : (code less : Counted) → without_drop x code ≡ Some less → P code less
   by_without (give y) less is = absurd (cc)
   by_without (tail_call f arguments) less is = absurd (cc)
