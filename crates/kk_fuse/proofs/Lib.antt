@@ -1,3 +1,12 @@
+pub mod Examples
+pub mod Without
+pub mod Spends
+pub mod Lowered
+pub mod FusedLengths
+mod Opens
+pub mod Searching
+pub mod Forms
+pub mod Functions
 pub mod Strips
 pub mod Seen
 pub mod Steps
