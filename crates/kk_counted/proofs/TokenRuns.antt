@@ -54,7 +54,7 @@ led_kept P (builds found to) input kept = kept
 led_kept P (calls found to) input kept = kept
 
 -- a state that is kept by some lists is kept
-weaker : (cells : ℕ) (P : Lists → Type 0) (c : TokenConfiguration) (control : TokenControl) → AreKeptByAt cells P c control
+pub weaker : (cells : ℕ) (P : Lists → Type 0) (c : TokenConfiguration) (control : TokenControl) → AreKeptByAt cells P c control
     → AreKeptAt cells c control
 weaker cells P c (TokenControl.running code environment joins) kept = (kept.0, kept.1.1)
 weaker cells P c (TokenControl.stopped by) kept = kept
@@ -99,7 +99,7 @@ function_at [] n = refl
 function_at (function ∷ functions) zero = refl
 function_at (function ∷ functions) (suc n) = function_at functions n
 
-main_spends : (functions : List TokenedFunction) (n : ℕ)
+pub main_spends : (functions : List TokenedFunction) (n : ℕ)
     → ((f : ℕ) (function : TokenedFunction) → slice_get functions f ≡ Some function → SpendsTokens [] [] [] function.body)
     → SpendsTokens [] [] [] (slice_index_or functions n no_tokened).body
 main_spends [] n each = (refl, λ y. refl)

@@ -1,0 +1,5 @@
+pub mod Forms
+mod Measures
+mod Pairs
+mod Lowering
+mod Examples

@@ -1,0 +1,2 @@
+pub mod Respecialised
+pub mod RespecialisedForms
