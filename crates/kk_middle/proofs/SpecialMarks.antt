@@ -44,7 +44,8 @@ special_is_marked marks holds program marked =
           (special_marked marks (holds f) f from.0 (marked.each f from.0 from.1.0));
       main_there = (
         special_function marked.main_there.0,
-        (made_there special_function program.functions program.main marked.main_there.0 marked.main_there.1.0, marked.main_there.1.1),
+        (made_there special_function program.functions program.main marked.main_there.0 marked.main_there.1.0,
+            marked.main_there.1.1),
       );
     }
 
@@ -58,7 +59,8 @@ fused_is_marked marks holds program marked =
           (fused_marked marks (holds f) f from.0 (marked.each f from.0 from.1.0));
       main_there = (
         fused_function marked.main_there.0,
-        (made_there fused_function program.functions program.main marked.main_there.0 marked.main_there.1.0, marked.main_there.1.1),
+        (made_there fused_function program.functions program.main marked.main_there.0 marked.main_there.1.0,
+            marked.main_there.1.1),
       );
     }
 

@@ -80,8 +80,8 @@ returns c typed given made checked are compiled keeps cells depth input =
     let store : Setting = setting_of ground own cells depth in
     let agree
     : (nodes room : ℕ) → greatest_nodes ground ≤ nodes → room ≤ most_room nodes
-    → Agree (Norm.heavy_store_machine (256 * (nodes * nodes)) store) (counted_machine (roomy_cost room) counted) 0 (inserted_steps ground)
-    (first_state store input) (counted_first_state counted input)
+    → Agree (Norm.heavy_store_machine (256 * (nodes * nodes)) store) (counted_machine (roomy_cost room) counted) 0
+    (inserted_steps ground) (first_state store input) (counted_first_state counted input)
     = λ nodes room large within.
     agree_through (Norm.heavy_store_machine (256 * (nodes * nodes)) store) (core_machine (roomy_core_cost room) core)
     (counted_machine (roomy_cost room) counted) 0 0
@@ -114,5 +114,5 @@ returns c typed given made checked are compiled keeps cells depth input =
     (store_steps ground) input)
     (sym same)
     (fused_keeps c.fused_code_is_spent.ensures c.fused_code_runs_the_same.ensures.run c.fused_code_runs_the_same.ensures.clean
-    c.judged_code_keeps_its_heap_sound.ensures (setting_of program table cells depth) own special (greatest_nodes ground) most_length
-    (inserted_steps ground) input kept shape few)
+    c.judged_code_keeps_its_heap_sound.ensures (setting_of program table cells depth) own special (greatest_nodes ground)
+    most_length (inserted_steps ground) input kept shape few)

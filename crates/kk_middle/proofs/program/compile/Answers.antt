@@ -89,7 +89,8 @@ returns c =
         form = c.in_ok-core.ensures.form;
         functions = c.in_ok-fused.ensures.functions ∙ ap (map fused_function) (c.in_ok-special.ensures.functions
             ∙ ap (map special_function) c.in_ok-counted.ensures.functions
-            ∙ ap (λ (positions : PositionTable). map special_function (inserted positions code).functions) c.in_ok-positions.ensures);
+            ∙ ap (λ (positions : PositionTable). map special_function (inserted positions code).functions)
+            c.in_ok-positions.ensures);
         positions = ap (λ (s : Shape). Shaping.positions_in s.instances.items) shape ∙ c.in_ok-counted.ensures.positions
             ∙ c.in_ok-positions.ensures;
         tells = c.in_ok-core.ensures.cells;
@@ -99,7 +100,8 @@ returns c =
         constructors = ap (λ (s : Shape). map facts_of s.constructors.items) shape ∙ c.in_ok-counted.ensures.constructors;
         body_nodes = c.in_ok-fused.ensures.body_nodes ∙ c.in_ok-special.ensures.body_nodes ∙ c.in_ok-counted.ensures.body_nodes
             ∙ c.in_ok-core.ensures.greatest_nodes ∙ c.requires.given.greatest;
-        nodes = c.in_ok-fused.ensures.nodes ∙ c.in_ok-special.ensures.nodes ∙ c.in_ok-counted.ensures.nodes ∙ c.in_ok-core.ensures.summed_nodes;
+        nodes = c.in_ok-fused.ensures.nodes ∙ c.in_ok-special.ensures.nodes ∙ c.in_ok-counted.ensures.nodes
+            ∙ c.in_ok-core.ensures.summed_nodes;
         numbers = c.in_ok-fused.ensures.numbers;
       },
       record {
