@@ -1,1 +1,3 @@
 pub mod Fused
+pub mod FusedForms
+pub mod FusedRuns

@@ -17,6 +17,7 @@ use Rattle.kk_insert.specs.Insertion.{inserted, inserted_functions}
 use Rattle.kk_insert.specs.Limits.{most_fields, HaveFewFields}
 use Rattle.kk_insert.specs.MarkTables.{marks_of_types}
 use Rattle.kk_dropspec.specs.Specialised.{special_function}
+use Rattle.kk_fuse.specs.Fused.{fused_function}
 
 module _ (types : List TypeTree) where
   few_made : (items : List GroundConstructor) → All (λ (made : GroundConstructor). length made.fields.items ≤ 6) items
@@ -55,7 +56,9 @@ as_many positions next [] = refl
 as_many positions next (function ∷ functions) = ap suc (as_many positions (suc next) functions)
 
 pub functions_few : (positions : PositionTable) (code : ProgramCode) (made : List CountedFunction)
-    → made ≡ map special_function (inserted positions code).functions → length code.functions ≤ 1024 → length made ≤ 1024
+    → made ≡ map fused_function (map special_function (inserted positions code).functions) → length code.functions ≤ 1024
+    → length made ≤ 1024
 functions_few positions code made is few =
-    let many = ap length is ∙ length-map (inserted positions code).functions special_function ∙ as_many positions 0 code.functions in
+    let many = ap length is ∙ length-map (map special_function (inserted positions code).functions) fused_function
+    ∙ length-map (inserted positions code).functions special_function ∙ as_many positions 0 code.functions in
     omega (arith, many, few)

@@ -1,5 +1,5 @@
 -- No body of an instance has more nodes than the limit, so its function opens no more cells on a path than it may have slots.
-use Rattle.std.proofs.Common.{◌≤◌, ◌-◌, ℕ, List, [], ◌∷◌, arith}
+use Rattle.std.proofs.Common.{◌≤◌, ◌-◌, List, [], ◌∷◌, arith}
 use Rattle.std.proofs.Math.Nat.{max-le}
 use Rattle.kk_syntax.specs.declared.ground.Ground.{Ground}
 use Rattle.kk_syntax.specs.GroundPrograms.{ground_program}

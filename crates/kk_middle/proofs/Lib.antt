@@ -10,6 +10,7 @@ mod Agreeing
 mod Marked
 mod Special
 mod SpecialMarks
+mod Fused
 mod Programs
 mod Apart
 mod ShapeKinds

@@ -1,4 +1,4 @@
--- The program of a compiled program's functions is the specialised insertion of its core form.
+-- The program of a compiled program's functions is the insertion of its core form, specialised and fused.
 use Rattle.std.proofs.Common.{◌≡◌, ℕ, List, sym, ap, ◌∙◌}
 use Rattle.kk_syntax.specs.declared.ground.Ground.{Ground}
 use Rattle.kk_syntax.specs.declared.typed.Typed.{Typed}
@@ -8,14 +8,15 @@ use Rattle.kk_counted.specs.declared.counted.Counted.{Counted}
 use Rattle.kk_counted.specs.Programs.{program_of}
 use Rattle.kk_insert.specs.Insertion.{inserted}
 use Rattle.kk_dropspec.specs.Specialised.{special_program}
+use Rattle.kk_fuse.specs.Fused.{fused_program}
 use Rattle.kk_middle.specs.Compiled.{instance_positions, IsCompiled}
 
 module _ (typed : Typed) (given : Ground) (made : Counted) (compiled : IsCompiled typed given made) where
   abbrev image : CountedProgram
-  image = special_program (inserted (instance_positions given compiled.table) (core_code compiled.core))
+  image = fused_program (special_program (inserted (instance_positions given compiled.table) (core_code compiled.core)))
 
   pub compiled_program : program_of made.functions.items given.texts.items
-      ≡ special_program (inserted (instance_positions given compiled.table) (core_code compiled.core))
+      ≡ fused_program (special_program (inserted (instance_positions given compiled.table) (core_code compiled.core)))
   compiled_program =
       ap (λ (functions : List CountedFunction). record { functions = functions; texts = given.texts.items; main = 0 })
       compiled.functions

@@ -40,7 +40,7 @@ module _ (keeps_spent : KeepsSpent) (runs_the_same : RunsTheSame) (keeps_sound :
   same : (weights : CountedState → ℕ) (n : ℕ) → AreSameAfter n weights weights counted input
   same weights n = runs_the_same positions counted weights weights input spent (fits weights) n
 
-  fits_too : (weights : CountedState → ℕ) → FitsAlways weights (special_setting counted) input
+  pub fits_too : (weights : CountedState → ℕ) → FitsAlways weights (special_setting counted) input
   fits_too weights n =
       subst (λ (c : CountedConfiguration). FitsAt c.control) (sym (same weights n).states)
       (special_fits (counted_after weights counted input n).control (fits weights n))

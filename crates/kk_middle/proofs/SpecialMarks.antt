@@ -1,4 +1,4 @@
--- Drop specialisation keeps the marks of code, and the shape of a compiled program tells those of its types.
+-- Drop specialisation and fusion keep the marks of code, and the shape of a compiled program tells those of its types.
 use Rattle.std.proofs.Common.{◌≡◌, ℕ, zero, suc, Bool, List, [], ◌∷◌, map, Some, refl, sym, ap, ◌∙◌, subst}
 use Rattle.std.specs.Prelude.{slice_get}
 use Rattle.kk_core.specs.declared.form.Core.{Core}
@@ -11,38 +11,56 @@ use Rattle.kk_insert.specs.MarkTables.{marks_of_core}
 use Rattle.kk_insert.specs.Shapes.{cells_told, cells_in, ConstructorFacts, facts_of}
 use Rattle.kk_dropspec.specs.Specialised.{special_function, special_program}
 use Rattle.kk_dropspec.proofs.Lowered.{special_marked}
+use Rattle.kk_fuse.specs.Fused.{fused_function, fused_program}
+use Rattle.kk_fuse.proofs.Lowered.{fused_marked}
 
--- a specialised function is that of one that is there
-special_from : (functions : List CountedFunction) (f : ℕ) (made : CountedFunction)
-    → slice_get (map special_function functions) f ≡ Some made
-    → (function : CountedFunction) × ((slice_get functions f ≡ Some function) × (special_function function ≡ made))
-special_from [] f made there = absurd (cc)
-special_from (function ∷ functions) zero made there = (function, (refl, only there))
-  where
-    only : Some (special_function function) ≡ Some made → special_function function ≡ made
-    only same = cc
-special_from (function ∷ functions) (suc f) made there = special_from functions f made there
+module _ (change : CountedFunction → CountedFunction) where
+  -- a function that a pass makes is that of one that is there
+  made_from : (functions : List CountedFunction) (f : ℕ) (made : CountedFunction) → slice_get (map change functions) f ≡ Some made
+      → (function : CountedFunction) × ((slice_get functions f ≡ Some function) × (change function ≡ made))
+  made_from [] f made there = absurd (cc)
+  made_from (function ∷ functions) zero made there = (function, (refl, only there))
+    where
+      only : Some (change function) ≡ Some made → change function ≡ made
+      only same = cc
+  made_from (function ∷ functions) (suc f) made there = made_from functions f made there
 
-special_there : (functions : List CountedFunction) (f : ℕ) (function : CountedFunction) → slice_get functions f ≡ Some function
-    → slice_get (map special_function functions) f ≡ Some (special_function function)
-special_there [] f function there = absurd (cc)
-special_there (first ∷ functions) zero function there = only there
-  where
-    only : Some first ≡ Some function → Some (special_function first) ≡ Some (special_function function)
-    only same = cc
-special_there (first ∷ functions) (suc f) function there = special_there functions f function there
+  made_there : (functions : List CountedFunction) (f : ℕ) (function : CountedFunction) → slice_get functions f ≡ Some function
+      → slice_get (map change functions) f ≡ Some (change function)
+  made_there [] f function there = absurd (cc)
+  made_there (first ∷ functions) zero function there = only there
+    where
+      only : Some first ≡ Some function → Some (change first) ≡ Some (change function)
+      only same = cc
+  made_there (first ∷ functions) (suc f) function there = made_there functions f function there
 
 pub special_is_marked : (marks : CellMarks) (holds : ℕ → ℕ → Bool) (program : CountedProgram) → AreMarked marks holds program
     → AreMarked marks holds (special_program program)
 special_is_marked marks holds program marked =
     record {
       each = λ f made there.
-          let from = special_from program.functions f made there in
+          let from = made_from special_function program.functions f made there in
           subst (IsMarked marks (holds f) f) from.1.1
           (special_marked marks (holds f) f from.0 (marked.each f from.0 from.1.0));
       main_there = (
         special_function marked.main_there.0,
-        (special_there program.functions program.main marked.main_there.0 marked.main_there.1.0, marked.main_there.1.1),
+        (made_there special_function program.functions program.main marked.main_there.0 marked.main_there.1.0,
+            marked.main_there.1.1),
+      );
+    }
+
+pub fused_is_marked : (marks : CellMarks) (holds : ℕ → ℕ → Bool) (program : CountedProgram) → AreMarked marks holds program
+    → AreMarked marks holds (fused_program program)
+fused_is_marked marks holds program marked =
+    record {
+      each = λ f made there.
+          let from = made_from fused_function program.functions f made there in
+          subst (IsMarked marks (holds f) f) from.1.1
+          (fused_marked marks (holds f) f from.0 (marked.each f from.0 from.1.0));
+      main_there = (
+        fused_function marked.main_there.0,
+        (made_there fused_function program.functions program.main marked.main_there.0 marked.main_there.1.0,
+            marked.main_there.1.1),
       );
     }
 

@@ -1,5 +1,5 @@
 -- What it is that the counted form of a program keeps the program's meaning.
-use Rattle.std.specs.Prelude.{◌≡◌, ℕ, ◌+◌, ◌*◌, ◌≤◌, List, Some, slice_get}
+use Rattle.std.specs.Prelude.{◌≡◌, ℕ, suc, ◌+◌, ◌*◌, ◌≤◌, List, Some, slice_get}
 use Rattle.kk_base.specs.Agreements.{Agree}
 use Rattle.kk_base.specs.Machines.{trace}
 use Rattle.kk_syntax.specs.declared.ground.Ground.{Ground}
@@ -16,6 +16,7 @@ use Rattle.kk_counted.specs.CountedCosts.{roomy_cost}
 use Rattle.kk_counted.specs.CountedStates.{CountedSetting, CountedState, counted_first_state}
 use Rattle.kk_counted.specs.CountedMachine.{counted_machine, NotStuck}
 use Rattle.kk_counted.specs.Keeping.{FitsAlways, IsKept, counted_after}
+use Rattle.kk_counted.specs.Lengths.{most_length}
 use Rattle.kk_counted.specs.Programs.{program_of}
 use Rattle.kk_counted.specs.Spending.{IsSpent}
 use Rattle.kk_insert.specs.Meaning.{pace, EndsClean}
@@ -32,9 +33,20 @@ store_notes setting input n = trace (store_machine setting) n (first_state setti
 abbrev pub counted_notes : CountedSetting → List ℕ → ℕ → List Note
 counted_notes counted input n = trace (counted_machine (λ s. 0) counted) n (counted_first_state counted input)
 
--- within how many steps the store machine does what the counted machine does in m steps, by the greatest body of the instances
+-- Within how many steps the code that is not fused does what fused code does in m steps, by the longest body: at each step it may
+-- do all dups and drops of a body that fusion leaves out.
+abbrev pub unfused_steps : ℕ → ℕ → ℕ
+unfused_steps most m = m * suc most + most
+
+-- Within how many steps the store machine does what the code that is not fused does in m steps, by the greatest body of the
+-- instances.
+abbrev pub inserted_steps : ProgramTree → ℕ → ℕ
+inserted_steps instances m = (m * pace + pace + 1) * (greatest_nodes instances + 1) + greatest_nodes instances + 1
+
+-- Within how many steps the store machine does what the counted machine does in m steps, by the greatest body of the instances. The
+-- steps that fusion leaves out are counted first: no body has more forms than a program within the limits has instructions.
 abbrev pub store_steps : ProgramTree → ℕ → ℕ
-store_steps instances m = (m * pace + pace + 1) * (greatest_nodes instances + 1) + greatest_nodes instances + 1
+store_steps instances m = inserted_steps instances (unfused_steps most_length m)
 
 -- On an input both machines tell the same notes and end alike: what the store machine does in n steps the counted machine does in
 -- some, and what the counted machine does in m steps the store machine does within `up m`. The counted steps that do n steps of the

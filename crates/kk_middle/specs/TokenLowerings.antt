@@ -13,6 +13,7 @@ use Rattle.kk_counted.specs.TokenedCodes.{TokenedProgram}
 use Rattle.kk_counted.specs.TokenedForms.{tokened_program}
 use Rattle.kk_counted.specs.declared.counted.Counted.{Counted}
 use Rattle.kk_counted.specs.declared.tokened.Tokened.{Tokened}
+use Rattle.kk_reuse.specs.Paired.{AllPaired}
 
 -- a program with tokens, with the string literals of its instances
 abbrev pub tokened_of : Tokened → Ground → TokenedProgram
@@ -23,11 +24,13 @@ tokened_of made given = tokened_program made.functions.items given.texts.items
 abbrev pub token_room : Ground → ℕ
 token_room given = 36 * (greatest_nodes (ground_program given) - 1)
 
--- Without its tokens it is its counted form. Its slots are few, its openings go by counts, and its tokens are held at calls alone;
--- it spends each token once on each path, is short with its tokens, and there is room for them.
+-- Without its tokens it is its counted form. Its slots are few, its openings go by counts, its tokens are held at calls alone, and
+-- constructions leave only fields that are known to be their arguments. It spends each token once on each path, is paired, is short
+-- with its tokens, and there is room for them.
 pub record TokensCanBeLowered (counted : Counted) (made : Tokened) (given : Ground) : Type 0 where
   pub form : bare_program (tokened_of made given) ≡ program_of counted.functions.items given.texts.items
   pub lowerable : AreTokensLowerable (tokened_of made given).functions
   pub spends : AreTokensSpent (tokened_of made given)
+  pub paired : AllPaired (tokened_of made given)
   pub short : AreTokensShort (tokened_of made given).functions
   pub room : HasRoom (token_room given) (tokened_of made given)

@@ -21,6 +21,7 @@ use kk_dropspec::{
     specialised_code_can_be_lowered, specialised_code_opens_by_count,
     specialised_code_opens_no_more,
 };
+use kk_fuse::{fused_code_can_be_lowered, fused_code_opens_by_count, fused_code_opens_no_more};
 use kk_insert::{
     inserted_code_can_be_lowered, inserted_code_is_short, inserted_code_is_spent,
     inserted_code_opens_no_more, typed_code_is_marked,
@@ -41,6 +42,7 @@ pub fn compiled_programs_can_be_lowered()
     inserted_code_is_spent();
     inserted_code_can_be_lowered();
     specialised_code_can_be_lowered();
+    fused_code_can_be_lowered();
 }
 
 /// The counted form of an accepted program is short, and has few forms on values: so its image has a known greatest length. It is a
@@ -54,6 +56,7 @@ pub fn compiled_programs_are_short()
     core_forms_are_small();
     inserted_code_is_short();
     specialised_code_can_be_lowered();
+    fused_code_can_be_lowered();
 }
 
 /// The counted form of an accepted program opens fewer cells on a path than the greatest body of its instances has nodes: so a function
@@ -66,6 +69,7 @@ pub fn compiled_programs_open_few_cells()
     core_forms_open_few_cells();
     inserted_code_opens_no_more();
     specialised_code_opens_no_more();
+    fused_code_opens_no_more();
 }
 
 /// In the counted form of an accepted program each opening goes by the count of the cell. It is a law, and does nothing.
@@ -74,4 +78,5 @@ pub fn compiled_programs_open_by_count()
         → AllOpenByCount (program_of made.functions.items given.texts.items).functions }
 {
     specialised_code_opens_by_count();
+    fused_code_opens_by_count();
 }

@@ -23,11 +23,16 @@ use crate::law::{owned_positions_of_instances_are_closed, tail_calls_of_core_for
 use kk_core::{typed_code_has_its_kinds, typed_code_is_never_stuck};
 use kk_counted::judged_code_keeps_its_heap_sound;
 use kk_dropspec::{
-    specialised_code_has_its_kinds, specialised_code_is_spent, specialised_code_runs_the_same,
+    specialised_code_can_be_lowered, specialised_code_has_its_kinds, specialised_code_is_spent,
+    specialised_code_runs_the_same,
+};
+use kk_fuse::{
+    fused_code_has_its_kinds, fused_code_is_spent, fused_code_runs_the_same,
+    short_code_has_few_steps,
 };
 use kk_insert::{
-    inserted_code_has_its_kinds, inserted_code_is_spent, inserted_code_keeps_meaning,
-    typed_code_is_insertable,
+    inserted_code_has_its_kinds, inserted_code_is_short, inserted_code_is_spent,
+    inserted_code_keeps_meaning, typed_code_is_insertable,
 };
 use kk_instances::instances_mean_the_program;
 use kk_norm::{
@@ -69,10 +74,18 @@ pub fn compiled_programs_keep_meaning()
     compiled_core_forms_are_insertable();
     core_forms_of_typed_programs_cost_little();
     typed_code_is_never_stuck();
+    core_forms_are_small();
     inserted_code_is_spent();
+    inserted_code_is_short();
+    inserted_code_has_its_kinds();
     inserted_code_keeps_meaning();
     specialised_code_is_spent();
+    specialised_code_can_be_lowered();
+    specialised_code_has_its_kinds();
     specialised_code_runs_the_same();
+    fused_code_is_spent();
+    fused_code_runs_the_same();
+    short_code_has_few_steps();
     judged_code_keeps_its_heap_sound();
 }
 
@@ -89,9 +102,18 @@ pub fn compiled_programs_have_their_kinds()
     typed_code_is_never_stuck();
     core_forms_ask_what_types_tell();
     typed_code_has_its_kinds();
+    core_forms_are_small();
     inserted_code_is_spent();
+    inserted_code_is_short();
     inserted_code_has_its_kinds();
+    specialised_code_is_spent();
+    specialised_code_can_be_lowered();
     specialised_code_has_its_kinds();
+    specialised_code_runs_the_same();
+    fused_code_has_its_kinds();
+    fused_code_runs_the_same();
+    short_code_has_few_steps();
+    judged_code_keeps_its_heap_sound();
 }
 
 /// The variables of the counted form of an accepted program are marked by the types that its shape tells: a variable is marked

@@ -23,9 +23,11 @@ use kk_norm::normal;
 use kk_syntax::Accepted;
 use std::alloc::Global;
 
-/// The counted form of an accepted program with its tokens: the core form of its instances, in which each variable that owns a
-/// reference is used up once on each path, and each opening of a cell goes by the cell's count. A construction with fields takes the
-/// newest token that its function has left, if there is one: so it uses that cell again, where the cell had no other reference.
+/// The counted form of an accepted program with its tokens. Five passes make it of the core form of its instances. `kk_insert` puts
+/// in dups and drops, so that each variable that owns a reference is used up once on each path. `kk_dropspec` makes each opening of
+/// a cell go by the cell's count. `kk_fuse` cancels each dup with the next drop of its variable, where nothing between them can see
+/// the count. `kk_reuse` lets a construction with fields take the newest token that its function has left, if there is one: so it
+/// uses that cell again, where the cell had no other reference. `kk_respec` lets it leave the fields that the cell has already.
 ///
 /// The recursion is as deep as the deepest expression.
 pub fn compile(alloc: Global, accepted: &Accepted) -> Result<Tokened, NoMemory>
@@ -46,6 +48,8 @@ pub fn compile(alloc: Global, accepted: &Accepted) -> Result<Tokened, NoMemory>
     core_constructors_are_consistent();
     let counted = kk_insert::run(alloc, &core, &positions)?;
     let special = kk_dropspec::run(alloc, counted)?;
-    let made = kk_reuse::run(alloc, special)?;
+    let fused = kk_fuse::run(alloc, special)?;
+    let paired = kk_reuse::run(alloc, fused)?;
+    let made = kk_respec::run(alloc, paired)?;
     Ok(made)
 }

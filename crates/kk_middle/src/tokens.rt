@@ -12,14 +12,15 @@ ghost use Rattle.kk_middle.specs.TokenLowerings.{TokensCanBeLowered};
 use crate::lowering::{
     compiled_programs_are_short, compiled_programs_open_by_count, compiled_programs_open_few_cells,
 };
+use kk_respec::{respecialised_code_can_be_lowered, respecialised_code_has_its_form};
 use kk_reuse::{
     paired_code_can_be_lowered, paired_code_costs_what_it_has_room_for, paired_code_is_short,
     paired_code_spends_its_tokens,
 };
 
 /// The tokens of a compiled program can be lowered: without them it is its counted form, of which the other laws speak; its slots
-/// are few, each token is spent once on each path, and held at calls alone; and its length and its costs with them are bounded. It
-/// is a law, and does nothing.
+/// are few, each token is spent once on each path, and held at calls alone; a construction leaves only fields that are known to be
+/// its arguments, and takes the newest token; and its length and its costs with tokens are bounded. It is a law, and does nothing.
 pub fn compiled_tokens_can_be_lowered()
     ensures { (typed : Typed) (given : Ground) (counted : Counted) (made : Tokened)
         → IsChecked (program_tree typed.program) (typings_of typed) → AreGiven typed given
@@ -32,4 +33,6 @@ pub fn compiled_tokens_can_be_lowered()
     paired_code_costs_what_it_has_room_for();
     paired_code_can_be_lowered();
     paired_code_is_short();
+    respecialised_code_has_its_form();
+    respecialised_code_can_be_lowered();
 }

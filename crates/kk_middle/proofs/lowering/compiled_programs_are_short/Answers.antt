@@ -1,4 +1,4 @@
-use Rattle.std.proofs.Common.{List, sym, subst}
+use Rattle.std.proofs.Common.{List, map, sym, subst}
 use Rattle.kk_syntax.specs.GroundPrograms.{ground_program}
 use Rattle.kk_syntax.specs.GroundTyping.{table_of}
 use Rattle.kk_syntax.specs.PositionsOf.{PositionTable}
@@ -7,6 +7,7 @@ use Rattle.kk_core.specs.Codes.{ProgramCode, core_code}
 use Rattle.kk_counted.specs.CountedCodes.{CountedFunction}
 use Rattle.kk_counted.specs.Lengths.{AreShort}
 use Rattle.kk_insert.specs.Insertion.{inserted}
+use Rattle.kk_dropspec.specs.Specialised.{special_function}
 use Rattle.kk_middle.specs.Compiled.{instance_positions}
 use Rattle.kk_middle.proofs.FewFields.{ground_has_few}
 use Rattle.kk_norm.proofs.Within.{instances_are_within}
@@ -21,4 +22,5 @@ returns c typed given made checked are compiled =
     let small = c.core_forms_are_small.ensures ground code compiled.form (instances_are_within given) in
     let short = c.inserted_code_is_short.ensures own (table_of ground) code core_typed small (ground_has_few given) in
     subst (λ (functions : List CountedFunction). AreShort functions) (sym compiled.functions)
-    (c.specialised_code_can_be_lowered.ensures.short (inserted own code).functions short)
+    (c.fused_code_can_be_lowered.ensures.short (map special_function (inserted own code).functions)
+    (c.specialised_code_can_be_lowered.ensures.short (inserted own code).functions short))

@@ -12,7 +12,8 @@ use Rattle.kk_counted.specs.Marks.{CellMarks, field_marks}
 use Rattle.kk_insert.specs.Insertion.{inserted}
 use Rattle.kk_insert.specs.Limits.{most_fields, most_spent}
 use Rattle.kk_insert.specs.MarkTables.{marks_of_types}
-use Rattle.kk_dropspec.specs.Specialised.{special_function}
+use Rattle.kk_dropspec.specs.Specialised.{special_function, special_program}
+use Rattle.kk_fuse.specs.Fused.{fused_function}
 use Rattle.kk_middle.specs.Compiled.{instance_positions}
 use Rattle.kk_middle.specs.Lowerings.{marks_in}
 use Rattle.kk_middle.proofs.Compiling.{all_have_rows}
@@ -39,14 +40,17 @@ returns c typed given made checked are compiled keeps =
     let tells : marks ≡ marks_of_types (table_of ground)
     = shape_tells compiled.core made.shape.instances.items made.shape.constructors.items compiled.cells compiled.results
     compiled.constructors ∙ c.typed_code_is_marked.ensures.tables ground compiled.core compiled.tells in
-    let lowerable = c.specialised_code_can_be_lowered.ensures.lowerable (marks_of_types (table_of ground)) (inserted own code).functions
+    let special : List CountedFunction = map special_function (inserted own code).functions in
+    let lowerable = c.fused_code_can_be_lowered.ensures.lowerable (marks_of_types (table_of ground)) special
+    (c.specialised_code_can_be_lowered.ensures.lowerable (marks_of_types (table_of ground)) (inserted own code).functions
     (c.inserted_code_can_be_lowered.ensures.lowerable own (table_of ground) code core_typed small whole
-    (c.typed_code_is_marked.ensures.ground given) few) in
-    let little = c.specialised_code_can_be_lowered.ensures.little (inserted own code) most_spent
-    (c.inserted_code_can_be_lowered.ensures.little own (table_of ground) code core_typed small few spent) in
+    (c.typed_code_is_marked.ensures.ground given) few)) in
+    let little = c.fused_code_can_be_lowered.ensures.little (special_program (inserted own code)) most_spent
+    (c.specialised_code_can_be_lowered.ensures.little (inserted own code) most_spent
+    (c.inserted_code_can_be_lowered.ensures.little own (table_of ground) code core_typed small few spent)) in
     record {
       lowerable = subst (λ (functions : List CountedFunction). AreLowerable marks functions) (sym compiled.functions)
-          (subst (λ (other : CellMarks). AreLowerable other (map special_function (inserted own code).functions)) (sym tells) lowerable);
+          (subst (λ (other : CellMarks). AreLowerable other (map fused_function special)) (sym tells) lowerable);
       little = subst (λ (program : CountedProgram). AllSpendAtMost program most_spent) (sym (compiled_program typed given made compiled)) little;
       few = functions_few own code _ compiled.functions small.few;
       few_fields = λ k. subst (λ (other : CellMarks). length (field_marks other k) ≤ most_fields) (sym tells) (few_marked (table_of ground) few k);

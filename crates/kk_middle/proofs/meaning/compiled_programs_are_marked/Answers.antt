@@ -13,9 +13,10 @@ use Rattle.kk_insert.specs.Insertion.{inserted}
 use Rattle.kk_insert.specs.MarkTables.{marks_of_types}
 use Rattle.kk_insert.proofs.MarkedPrograms.{typed_is_marked, tables_tell, grounds_are}
 use Rattle.kk_dropspec.specs.Specialised.{special_program}
+use Rattle.kk_fuse.specs.Fused.{fused_program}
 use Rattle.kk_middle.specs.Compiled.{instance_positions}
 use Rattle.kk_middle.proofs.Programs.{compiled_program}
-use Rattle.kk_middle.proofs.SpecialMarks.{special_is_marked, shape_tells}
+use Rattle.kk_middle.proofs.SpecialMarks.{special_is_marked, fused_is_marked, shape_tells}
 use Rattle.kk_middle.proofs.meaning.compiled_programs_are_marked.Goals as goal
 
 pub returns : goal.returns
@@ -35,6 +36,7 @@ returns c typed given made checked are compiled =
     = typed_is_marked own (table_of ground) (grounds_are given) core_typed.truths code core_typed in (
       marked.0,
       subst (λ (program : CountedProgram). AreMarked marks marked.0 program) (sym (compiled_program typed given made compiled))
-          (subst (λ (other : CellMarks). AreMarked other marked.0 (special_program (inserted own code))) (sym tells)
-          (special_is_marked (marks_of_types (table_of ground)) marked.0 (inserted own code) marked.1)),
+          (subst (λ (other : CellMarks). AreMarked other marked.0 (fused_program (special_program (inserted own code)))) (sym tells)
+          (fused_is_marked (marks_of_types (table_of ground)) marked.0 (special_program (inserted own code))
+          (special_is_marked (marks_of_types (table_of ground)) marked.0 (inserted own code) marked.1))),
     )

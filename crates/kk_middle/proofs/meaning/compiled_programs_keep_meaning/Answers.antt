@@ -19,11 +19,13 @@ use Rattle.kk_core.specs.Costs.{most_room, roomy_core_cost}
 use Rattle.kk_core.specs.CoreStates.{CoreSetting, core_first_state}
 use Rattle.kk_core.specs.CoreTyping.{IsCoreTyped}
 use Rattle.kk_norm.specs.Meaning as Norm
+use Rattle.kk_norm.proofs.Within.{instances_are_within}
 use Rattle.kk_counted.specs.CountedCodes.{CountedProgram}
 use Rattle.kk_counted.specs.CountedCosts.{roomy_cost}
 use Rattle.kk_counted.specs.CountedMachine.{counted_machine}
 use Rattle.kk_counted.specs.CountedStates.{CountedSetting, CountedState, counted_first_state}
-use Rattle.kk_counted.specs.Keeping.{FitsAlways, counted_after}
+use Rattle.kk_counted.specs.Keeping.{FitsAlways, HasShapeAlways, counted_after}
+use Rattle.kk_counted.specs.Lengths.{most_length}
 use Rattle.kk_counted.specs.MarkKeeping.{numbers_in}
 use Rattle.kk_counted.specs.Marks.{AreMarked}
 use Rattle.kk_counted.specs.Spending.{IsSpent}
@@ -34,11 +36,15 @@ use Rattle.kk_insert.specs.Meaning as Insert
 use Rattle.kk_insert.specs.Promise.{IsInsertable}
 use Rattle.kk_insert.proofs.MarkedPrograms.{typed_is_marked, grounds_are}
 use Rattle.kk_dropspec.specs.Specialised.{special_setting}
+use Rattle.kk_fuse.specs.Fused.{fused_setting}
+use Rattle.kk_fuse.specs.FusedRuns.{HasFewSteps}
 use Rattle.kk_middle.specs.Compiled.{instance_positions}
-use Rattle.kk_middle.specs.Meaning.{counted_setting, store_steps, KeepsMeaning}
+use Rattle.kk_middle.specs.Meaning.{counted_setting, inserted_steps, store_steps, KeepsMeaning}
 use Rattle.kk_instances.proofs.Meaning.{typed as ground_typed, same_trace, same_end}
 use Rattle.kk_middle.proofs.Programs.{compiled_program}
 use Rattle.kk_middle.proofs.Special.{special_keeps}
+use Rattle.kk_middle.proofs.Fused.{fused_keeps}
+use Rattle.kk_middle.proofs.FewFields.{ground_has_few}
 use Rattle.kk_middle.proofs.Marked.{control_fits}
 use Rattle.kk_middle.proofs.meaning.compiled_programs_keep_meaning.Goals as goal
 
@@ -74,8 +80,8 @@ returns c typed given made checked are compiled keeps cells depth input =
     let store : Setting = setting_of ground own cells depth in
     let agree
     : (nodes room : ℕ) → greatest_nodes ground ≤ nodes → room ≤ most_room nodes
-    → Agree (Norm.heavy_store_machine (256 * (nodes * nodes)) store) (counted_machine (roomy_cost room) counted) 0 (store_steps ground)
-    (first_state store input) (counted_first_state counted input)
+    → Agree (Norm.heavy_store_machine (256 * (nodes * nodes)) store) (counted_machine (roomy_cost room) counted) 0
+    (inserted_steps ground) (first_state store input) (counted_first_state counted input)
     = λ nodes room large within.
     agree_through (Norm.heavy_store_machine (256 * (nodes * nodes)) store) (core_machine (roomy_core_cost room) core)
     (counted_machine (roomy_cost room) counted) 0 0
@@ -85,15 +91,28 @@ returns c typed given made checked are compiled keeps cells depth input =
     ((c.core_forms_of_typed_programs_cost_little.ensures ground code is_typed compiled.form).agrees own cells depth input nodes
     room (roomy_core_cost room) large within (λ n. omega arith))
     (means.agrees room) in
-    let same : counted_setting made given cells depth ≡ special_setting counted
+    let special : CountedSetting = special_setting counted in
+    let same : counted_setting made given cells depth ≡ fused_setting special
     = ap (λ (all : CountedProgram). record { program = all; cells = cells; depth = depth })
     (compiled_program typed given made compiled) in
+    let kept : KeepsMeaning (setting_of program table cells depth) own special (greatest_nodes ground) (inserted_steps ground) input
+    = special_keeps c.specialised_code_is_spent.ensures c.specialised_code_runs_the_same.ensures
+    c.judged_code_keeps_its_heap_sound.ensures own counted input spent fits
+    (setting_of program table cells depth) store (greatest_nodes ground) (inserted_steps ground)
+    (same_trace program ground typings instances is checked table cells depth input)
+    (same_end program ground typings instances is checked table cells depth input)
+    agree means.never_stuck means.clean in
+    let shape : (weights : CountedState → ℕ) → HasShapeAlways weights special input
+    = λ weights. c.specialised_code_has_its_kinds.ensures.shape own counted weights weights input spent (fits weights)
+    (c.inserted_code_has_its_kinds.ensures.shape core (table_of ground).constructors (λ s. 0) weights input insertable never) in
+    let small = c.core_forms_are_small.ensures ground code compiled.form (instances_are_within given) in
+    let short = c.inserted_code_is_short.ensures own (table_of ground) code core_typed small (ground_has_few given) in
+    let few : HasFewSteps most_length special.program
+    = c.short_code_has_few_steps.ensures special.program
+    (c.specialised_code_can_be_lowered.ensures.short (inserted own code).functions short) in
     subst (λ (setting : CountedSetting). KeepsMeaning (setting_of program table cells depth) own setting (greatest_nodes ground)
     (store_steps ground) input)
     (sym same)
-    (special_keeps c.specialised_code_is_spent.ensures c.specialised_code_runs_the_same.ensures
-    c.judged_code_keeps_its_heap_sound.ensures own counted input spent fits
-    (setting_of program table cells depth) store (greatest_nodes ground) (store_steps ground)
-    (same_trace program ground typings instances is checked table cells depth input)
-    (same_end program ground typings instances is checked table cells depth input)
-    agree means.never_stuck means.clean)
+    (fused_keeps c.fused_code_is_spent.ensures c.fused_code_runs_the_same.ensures.run c.fused_code_runs_the_same.ensures.clean
+    c.judged_code_keeps_its_heap_sound.ensures (setting_of program table cells depth) own special (greatest_nodes ground)
+    most_length (inserted_steps ground) input kept shape few)

@@ -15,6 +15,8 @@ use Rattle.kk_insert.specs.Insertion.{inserted}
 use Rattle.kk_insert.specs.Promise.{TailsLendOn}
 use Rattle.kk_insert.specs.Shapes.{cells_in, facts_of}
 use Rattle.kk_dropspec.specs.Specialised.{special_function}
+use Rattle.kk_fuse.specs.Fused.{fused_function}
+use Rattle.kk_respec.specs.Respecialised.{respecialised_program}
 use Rattle.kk_middle.proofs.Compiling.{tells_parameters, tells_as_many, all_have_rows}
 use Rattle.kk_middle.proofs.program.compile.Goals as goal
 
@@ -78,15 +80,17 @@ run-requires-clause-consistent c =
 pub returns : goal.returns
 returns c =
     let code : ProgramCode = core_code c.in_ok-core.core in
-    let shape = c.in_ok-special.ensures.shape in (
-      c.in_ok-special.special,
+    let shape = c.in_ok-fused.ensures.shape ∙ c.in_ok-special.ensures.shape in (
+      c.in_ok-fused.fused,
       record {
         table = positions_of c.in_ok-table.table;
         least = c.in_ok-table.ensures;
         core = c.in_ok-core.core;
         form = c.in_ok-core.ensures.form;
-        functions = c.in_ok-special.ensures.functions ∙ ap (map special_function) c.in_ok-counted.ensures.functions
-            ∙ ap (λ (positions : PositionTable). map special_function (inserted positions code).functions) c.in_ok-positions.ensures;
+        functions = c.in_ok-fused.ensures.functions ∙ ap (map fused_function) (c.in_ok-special.ensures.functions
+            ∙ ap (map special_function) c.in_ok-counted.ensures.functions
+            ∙ ap (λ (positions : PositionTable). map special_function (inserted positions code).functions)
+            c.in_ok-positions.ensures);
         positions = ap (λ (s : Shape). Shaping.positions_in s.instances.items) shape ∙ c.in_ok-counted.ensures.positions
             ∙ c.in_ok-positions.ensures;
         tells = c.in_ok-core.ensures.cells;
@@ -94,15 +98,16 @@ returns c =
         results = ap (λ (s : Shape). map (λ (i : InstanceShape). i.result_has_cells) s.instances.items) shape
             ∙ c.in_ok-counted.ensures.results;
         constructors = ap (λ (s : Shape). map facts_of s.constructors.items) shape ∙ c.in_ok-counted.ensures.constructors;
-        body_nodes = c.in_ok-special.ensures.body_nodes ∙ c.in_ok-counted.ensures.body_nodes ∙ c.in_ok-core.ensures.greatest_nodes
-            ∙ c.requires.given.greatest;
-        nodes = c.in_ok-special.ensures.nodes ∙ c.in_ok-counted.ensures.nodes ∙ c.in_ok-core.ensures.summed_nodes;
-        numbers = c.in_ok-special.ensures.numbers;
+        body_nodes = c.in_ok-fused.ensures.body_nodes ∙ c.in_ok-special.ensures.body_nodes ∙ c.in_ok-counted.ensures.body_nodes
+            ∙ c.in_ok-core.ensures.greatest_nodes ∙ c.requires.given.greatest;
+        nodes = c.in_ok-fused.ensures.nodes ∙ c.in_ok-special.ensures.nodes ∙ c.in_ok-counted.ensures.nodes
+            ∙ c.in_ok-core.ensures.summed_nodes;
+        numbers = c.in_ok-fused.ensures.numbers;
       },
       record {
-        shape = c.in_ok-made.ensures.shape;
-        program = c.in_ok-made.ensures.program;
-        body_nodes = c.in_ok-made.ensures.body_nodes;
-        nodes = c.in_ok-made.ensures.nodes;
+        shape = c.in_ok-made.ensures.shape ∙ c.in_ok-paired.ensures.shape;
+        program = λ texts. c.in_ok-made.ensures.program texts ∙ ap respecialised_program (c.in_ok-paired.ensures.program texts);
+        body_nodes = c.in_ok-made.ensures.body_nodes ∙ c.in_ok-paired.ensures.body_nodes;
+        nodes = c.in_ok-made.ensures.nodes ∙ c.in_ok-paired.ensures.nodes;
       },
     )

@@ -1,0 +1,5 @@
+use Rattle.kk_fuse.proofs.Short.{few_steps}
+use Rattle.kk_fuse.proofs.runs.short_code_has_few_steps.Goals as goal
+
+pub returns : goal.returns
+returns c = few_steps

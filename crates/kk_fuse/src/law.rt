@@ -1,0 +1,38 @@
+ghost use Rattle.std.specs.Prelude.{ℕ, Bool, List, map};
+ghost use Rattle.kk_syntax.specs.PositionsOf.{PositionTable};
+ghost use Rattle.kk_counted.specs.CountBounds.{AllSpendAtMost};
+ghost use Rattle.kk_counted.specs.CountedCodes.{CountedProgram, CountedFunction};
+ghost use Rattle.kk_counted.specs.Lengths.{AreShort};
+ghost use Rattle.kk_counted.specs.Lowerable.{AreLowerable, AllOpenByCount};
+ghost use Rattle.kk_counted.specs.Marks.{CellMarks, IsMarked};
+ghost use Rattle.kk_counted.specs.Spending.{IsSpent};
+ghost use Rattle.kk_counted.specs.TokenCosts.{OpenAtMost};
+ghost use Rattle.kk_fuse.specs.Fused.{fused_program, fused_function};
+
+/// Fused code spends what the code spends that it is made of. It is a law, and does nothing.
+pub fn fused_code_is_spent()
+    ensures { (positions : PositionTable) (program : CountedProgram) → IsSpent positions program
+        → IsSpent positions (fused_program program) }
+{}
+
+/// Fused code is marked as the code is that it is made of, can be lowered where that can, spends no more references, and is no
+/// longer. It is a law, and does nothing.
+pub fn fused_code_can_be_lowered()
+    ensures marked { (marks : CellMarks) (holds : ℕ → Bool) (f : ℕ) (function : CountedFunction) → IsMarked marks holds f function
+        → IsMarked marks holds f (fused_function function) }
+    ensures lowerable { (table : CellMarks) (functions : List CountedFunction) → AreLowerable table functions
+        → AreLowerable table (map fused_function functions) }
+    ensures little { (program : CountedProgram) (n : ℕ) → AllSpendAtMost program n → AllSpendAtMost (fused_program program) n }
+    ensures short { (functions : List CountedFunction) → AreShort functions → AreShort (map fused_function functions) }
+{}
+
+/// Fused code has no more openings on a path than the code that it is made of. It is a law, and does nothing.
+pub fn fused_code_opens_no_more()
+    ensures { (most : ℕ) (program : CountedProgram) → OpenAtMost most program → OpenAtMost most (fused_program program) }
+{}
+
+/// In fused code each opening goes by the count of the cell, where it does in the code that it is made of. It is a law, and does
+/// nothing.
+pub fn fused_code_opens_by_count()
+    ensures { (functions : List CountedFunction) → AllOpenByCount functions → AllOpenByCount (map fused_function functions) }
+{}

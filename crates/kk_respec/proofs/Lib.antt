@@ -1,0 +1,7 @@
+pub mod Forms
+mod Measures
+mod Pairs
+mod Lowering
+pub mod Knowing
+pub mod Writing
+mod Examples

@@ -1,0 +1,3 @@
+pub mod Respecialised
+pub mod RespecialisedForms
+pub mod KnownTokens
