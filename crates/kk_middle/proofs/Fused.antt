@@ -58,16 +58,19 @@ to_clean (stopped heap_full) heap none = tt
 to_clean (stopped stack_full) heap none = tt
 to_clean stuck heap none = tt
 
+-- code whose meaning is kept, which has its shape and few forms in each body
 module _ (keeps_spent : KeepsSpent) (runs_the_same : RunsTheSame) (keeps_clean : KeepsClean) (keeps_sound : KeepsSound)
     (setting : Setting) (positions : PositionTable) (counted : CountedSetting) (greatest most : ℕ) (up : ℕ → ℕ) (input : List ℕ)
     (keeps : KeepsMeaning setting positions counted greatest up input)
     (shape : (weights : CountedState → ℕ) → HasShapeAlways weights counted input) (few : HasFewSteps most counted.program) where
+  -- what the laws say of its fusion
   run : IsFusedRun counted most input
   run = runs_the_same positions counted most input keeps.spent keeps.fits shape few
 
   spent : IsSpent positions (fused_program counted.program)
   spent = keeps_spent positions counted.program keeps.spent
 
+  -- the agreement with the source, through the code that is not fused
   whole : (nodes room : ℕ) → greatest ≤ nodes → room ≤ most_room nodes
       → Agree (heavy_store_machine (256 * (nodes * nodes)) setting) (counted_machine (roomy_cost room) (fused_setting counted)) 0
       (λ m. up (unfused_steps most m)) (first_state setting input) (counted_first_state (fused_setting counted) input)
@@ -77,6 +80,7 @@ module _ (keeps_spent : KeepsSpent) (runs_the_same : RunsTheSame) (keeps_clean :
       (counted_first_state counted input) (counted_first_state (fused_setting counted) input)
       (keeps.agrees nodes room large within) (run.agrees room)
 
+  -- fused code keeps the meaning, within the steps that it leaves out
   pub fused_keeps : KeepsMeaning setting positions (fused_setting counted) greatest (λ m. up (unfused_steps most m)) input
   fused_keeps =
       record {

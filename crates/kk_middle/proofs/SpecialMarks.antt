@@ -25,6 +25,7 @@ module _ (change : CountedFunction → CountedFunction) where
       only same = cc
   made_from (function ∷ functions) (suc f) made there = made_from functions f made there
 
+  -- and each function that is there is made into one
   made_there : (functions : List CountedFunction) (f : ℕ) (function : CountedFunction) → slice_get functions f ≡ Some function
       → slice_get (map change functions) f ≡ Some (change function)
   made_there [] f function there = absurd (cc)
@@ -34,6 +35,7 @@ module _ (change : CountedFunction → CountedFunction) where
       only same = cc
   made_there (first ∷ functions) (suc f) function there = made_there functions f function there
 
+-- each pass keeps the marks of a program
 pub special_is_marked : (marks : CellMarks) (holds : ℕ → ℕ → Bool) (program : CountedProgram) → AreMarked marks holds program
     → AreMarked marks holds (special_program program)
 special_is_marked marks holds program marked =
@@ -44,8 +46,10 @@ special_is_marked marks holds program marked =
           (special_marked marks (holds f) f from.0 (marked.each f from.0 from.1.0));
       main_there = (
         special_function marked.main_there.0,
-        (made_there special_function program.functions program.main marked.main_there.0 marked.main_there.1.0,
-            marked.main_there.1.1),
+        (
+          made_there special_function program.functions program.main marked.main_there.0 marked.main_there.1.0,
+          marked.main_there.1.1,
+        ),
       );
     }
 
@@ -59,8 +63,10 @@ fused_is_marked marks holds program marked =
           (fused_marked marks (holds f) f from.0 (marked.each f from.0 from.1.0));
       main_there = (
         fused_function marked.main_there.0,
-        (made_there fused_function program.functions program.main marked.main_there.0 marked.main_there.1.0,
-            marked.main_there.1.1),
+        (
+          made_there fused_function program.functions program.main marked.main_there.0 marked.main_there.1.0,
+          marked.main_there.1.1,
+        ),
       );
     }
 
