@@ -2,12 +2,13 @@ ghost use Rattle.std.specs.Prelude.{◌≡◌, ℕ, List, IfOk};
 ghost use Rattle.kk_counted.specs.TokenedForms.{tokened_program};
 ghost use Rattle.kk_respec.specs.Respecialised.{respecialised_program};
 
-use crate::block::respec_block;
+use crate::block::mark_block;
 use kk_base::NoMemory;
-use kk_counted::{Tokened, TokenedFun};
+use kk_counted::Tokened;
 use std::alloc::Global;
 
-/// The program with constructions in a token's cell that leave the fields that the cell has already.
+/// The program with constructions in a token's cell that leave the fields that are known to be their arguments. It is marked in
+/// place.
 ///
 /// The recursion is as deep as the blocks of the code.
 pub fn run(alloc: Global, tokened: Tokened) -> Result<Tokened, NoMemory>
@@ -17,18 +18,9 @@ pub fn run(alloc: Global, tokened: Tokened) -> Result<Tokened, NoMemory>
     ensures body_nodes { IfOk result (λ made. made.body_nodes ≡ tokened.body_nodes) }
     ensures nodes { IfOk result (λ made. made.nodes ≡ tokened.nodes) }
 {
-    let mut made = Vec::new(alloc);
-    for function in &tokened.functions {
-        let body = respec_block(alloc, &[], &function.body)?;
-        made.push(TokenedFun {
-            parameters: function.parameters,
-            body,
-        })?;
+    let mut tokened = tokened;
+    for function in tokened.functions.iter_mut() {
+        mark_block(alloc, &[], &mut function.body)?;
     }
-    Ok(Tokened {
-        shape: tokened.shape,
-        functions: made,
-        body_nodes: tokened.body_nodes,
-        nodes: tokened.nodes,
-    })
+    Ok(tokened)
 }
