@@ -1,5 +1,5 @@
--- Forms with tokens have as many arguments as they take, where their bare forms do; and a call, a print and a construction with fields
--- begins with a line that is no label.
+-- Forms with tokens have as many arguments as they take, where their bare forms do; and a call, a print and a construction with
+-- fields begins with a line that is no label.
 use Rattle.std.proofs.Common.{◌≡◌, ℕ, ◌≤◌, ◌&&◌, not, Bool, true, List, [], ◌∷◌, ◌++◌, length, refl, sym, ◌∙◌, ap, subst, arith}
 use Rattle.kk_syntax.specs.declared.program.Form.{Form}
 use Rattle.kk_syntax.specs.declared.program.Form.TheVariants.{Number, Unit as Nothing, ReadByte, PrintText, Unary, Binary, Print, Construct, Call}
