@@ -52,3 +52,7 @@ pub mod Working
 pub mod Seeing
 pub mod Programs
 pub mod TokenedViews
+pub mod Knowing
+pub mod KnownSteps
+pub mod KnownRuns
+pub mod KnownKept

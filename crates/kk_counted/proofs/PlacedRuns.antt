@@ -15,7 +15,7 @@ use Rattle.kk_counted.proofs.Growing.{step_grows}
 pub none_placed : (cells : ℕ) (assigned : ℕ → ℕ) → IsPlaced cells assigned [] no_tokens.marks
 none_placed cells assigned = record { within = λ p alive. absurd (cc); own = λ p q first second equal. absurd (cc) }
 
-pooled_at : (cells : ℕ) (c : TokenConfiguration) (control : TokenControl) → AreKeptAt cells c control
+pub pooled_at : (cells : ℕ) (c : TokenConfiguration) (control : TokenControl) → AreKeptAt cells c control
     → ArePooled cells c.heap c.tokens
 pooled_at cells c (TokenControl.running code environment joins) kept = kept.1.are.pooled
 pooled_at cells c (TokenControl.stopped by) kept = kept.1.pooled

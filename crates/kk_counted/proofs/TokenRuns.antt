@@ -99,7 +99,7 @@ function_at [] n = refl
 function_at (function ∷ functions) zero = refl
 function_at (function ∷ functions) (suc n) = function_at functions n
 
-main_spends : (functions : List TokenedFunction) (n : ℕ)
+pub main_spends : (functions : List TokenedFunction) (n : ℕ)
     → ((f : ℕ) (function : TokenedFunction) → slice_get functions f ≡ Some function → SpendsTokens [] [] [] function.body)
     → SpendsTokens [] [] [] (slice_index_or functions n no_tokened).body
 main_spends [] n each = (refl, λ y. refl)

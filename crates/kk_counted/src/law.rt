@@ -12,12 +12,13 @@ ghost use Rattle.kk_counted.specs.CountedMachine.{opened_heap, unique_heap, coun
 ghost use Rattle.kk_counted.specs.CountedStates.{CountedSetting, CountedJoin, CountedState, running, counted_start, counted_first_state};
 ghost use Rattle.kk_counted.specs.Heaps.{Heap, forwards, count_at, cell_at, fields_held, busy, weight, dup_value, drop_value};
 ghost use Rattle.kk_counted.specs.Int32.{AllHaveInt32, IsStateInt32};
+ghost use Rattle.kk_counted.specs.KeptFields.{LeavesKnown};
 ghost use Rattle.kk_counted.specs.Keeping.{HasNoCell, uses, IsKept, counted_after, FitsAlways, HasShapeAlways};
 ghost use Rattle.kk_counted.specs.References.{refs, IsSound, IsCounted, cells_of, AreOlder, counted};
 ghost use Rattle.kk_counted.specs.Spending.{AreEven, SpendsParameters, IsSpent};
 ghost use Rattle.kk_counted.specs.Cost.{drop_turns, saved, opening_turns};
 ghost use Rattle.kk_source.specs.Actions.{builds};
-ghost use Rattle.kk_counted.specs.TokenedCodes.{Tokened};
+ghost use Rattle.kk_counted.specs.TokenedCodes.{Tokened, TokenedFunction};
 ghost use Rattle.kk_counted.specs.BareForms.{bare};
 ghost use Rattle.kk_counted.specs.Tokens.{token, Tokens, no_tokens};
 ghost use Rattle.kk_counted.specs.TokenStates.{TokenSetting, TokenJoin, TokenControl, TokenConfiguration, TokenState, token_first_state, bare_join, bare_configuration, bare_setting};
@@ -276,4 +277,21 @@ pub fn numbers_stay_in_32_bits()
         → All (λ byte. byte < 256) input
         → AllHaveInt32 setting.program.functions
         → (n : ℕ) → IsStateInt32 (counted_after weight setting input n) }
+{}
+
+/// A construction in a token's cell may leave the fields that are known to be its arguments: in each state of a run of code that
+/// spends its tokens, and leaves no other field, leaving them gives what writing all of them gives. So the machine that leaves them
+/// comes to the same states as the one that writes them. It is a law, and does nothing.
+pub fn known_fields_may_be_left()
+    ensures fills { (weight : TokenState → ℕ) (setting : TokenSetting) (input : List ℕ)
+        → AreTokensSpent setting.program
+        → ((f : ℕ) (function : TokenedFunction) → slice_get setting.program.functions f ≡ Some function
+        → LeavesKnown [] function.body)
+        → FillsAlways weight setting input }
+    ensures exact { (weight : TokenState → ℕ) (setting : TokenSetting) (input : List ℕ)
+        → AreTokensSpent setting.program
+        → ((f : ℕ) (function : TokenedFunction) → slice_get setting.program.functions f ≡ Some function
+        → LeavesKnown [] function.body)
+        → (n : ℕ) → token_after weight (record setting { leaves = true }) input n
+        ≡ token_after weight (record setting { leaves = false }) input n }
 {}

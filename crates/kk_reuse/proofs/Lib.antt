@@ -5,6 +5,7 @@ pub mod Pairs
 pub mod Programs
 pub mod Rooms
 mod Lengths
+mod Leaving
 mod Lowering
 pub mod Ahead
 pub mod Walks

@@ -11,6 +11,7 @@ use Rattle.kk_counted.specs.TokenLowerable.{slots_of, slots_in, slots_in_arms, m
 use Rattle.kk_counted.specs.TokenedCodes.{Tokened, TokenedArms}
 use Rattle.kk_reuse.specs.Following.{may_make, kept, taken}
 use Rattle.kk_reuse.specs.Pairing.{slots_below, frees, holds, unholds, nulls, moves_up, filled_up, settled, left_by, paired_form, paired, paired_arms, paired_function, paired_program}
+use Rattle.kk_reuse.proofs.Leaving.{paired_none}
 use Rattle.kk_reuse.proofs.Rooms.{kept_few, taken_few, leaves_few}
 use Rattle.kk_reuse.proofs.Spends.{slots_are, next_free}
 
@@ -192,6 +193,11 @@ program_low most program few fits by_count f function is = by program.functions 
         let same : paired_function first ≡ function = cc is in
         let low = paired_low first.body (by_count zero first refl) false 0 (omega arith) 0
         (omega (arith, few zero first refl, fits)) in
-        subst IsTokenLowerable same (record { slots = low.slots; plain = low.plain; straight = low.straight })
+        subst IsTokenLowerable same (record {
+          slots = low.slots;
+          plain = low.plain;
+          straight = low.straight;
+          leaves = paired_none first.body false 0 0 [];
+        })
     by (first ∷ functions) few by_count (suc f) is =
         by functions (λ g other there. few (suc g) other there) (λ g other there. by_count (suc g) other there) f is

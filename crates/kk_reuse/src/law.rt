@@ -60,7 +60,7 @@ pub fn paired_code_costs_what_it_has_room_for()
 }
 
 /// Paired code can be lowered where the code has few openings on a path, each by the count of the cell: a function has few slots,
-/// and tokens are held around calls alone. It is a law, and does nothing.
+/// tokens are held around calls alone, and no construction leaves a field. It is a law, and does nothing.
 pub fn paired_code_can_be_lowered()
     ensures { (most : ℕ) (program : CountedProgram) → OpenAtMost most program → most ≤ most_slots
         → AllOpenByCount program.functions → AreTokensLowerable (paired_program program).functions }

@@ -57,8 +57,8 @@ use Rattle.rv_lower.proofs.Formed.{
   some_same,
 }
 use Rattle.rv_lower.proofs.Operations.{Leads, leads_then, leads_weaker, next_temporary, only_bound}
-use Rattle.rv_cells.specs.CellLines.{Loads, Stores, AllLoads, AllStores, dup_lines, drop_lines, dups_lines, drops_lines}
-use Rattle.rv_cells.specs.CellLines.{ConstructLines, OpenLines}
+use Rattle.rv_cells.specs.CellLines.{Loads, Stores, AllLoads, AllStores, StoresIf, SomeStores, is_kept, dup_lines, drop_lines, dups_lines, drops_lines}
+use Rattle.rv_cells.specs.CellLines.{ConstructLines, FillingLines, OpenLines}
 
 -- an operation that gives no value
 good_effect : (B : ℕ → Type 0) (operation : Operation) (args : List ℕ) (rest : List Line) → length args ≤ 2 → Each B args
@@ -146,6 +146,33 @@ module _ (base : ℕ) where
       one_more : (n : ℕ) → 1 + n ≡ suc n
       one_more n = omega arith
 
+  -- some words are stored
+  pub some_lead : (takes : ℕ → Bool) (bound : List ℕ) (limit cell i position : ℕ) (xs : List ℕ) (lines : List Line)
+      → HasRoom base bound → limit ≤ base + 8 → is_bound bound cell ≡ true → AreBound bound xs
+      → SomeStores takes cell i position xs lines
+      → Leads (Readable base limit bound) (Readable base limit bound) (length xs) lines
+  some_lead takes bound limit cell i position [] lines has le is are stores =
+      subst (Leads (Readable base limit bound) (Readable base limit bound) 0) (sym stores)
+      (record { no_label = λ l. tt; few = omega arith; good = λ rest good. good })
+  some_lead takes bound limit cell i position (x ∷ xs) lines has le is are stores =
+      subst (Leads (Readable base limit bound) (Readable base limit bound) (suc (length xs))) (sym stores.4)
+      (subst (λ n. Leads (Readable base limit bound) (Readable base limit bound) n (stores.0 ++ stores.1)) (one_more (length xs))
+      (leads_then (Readable base limit bound) (Readable base limit bound) (Readable base limit bound) 1 (length xs) stores.0
+      stores.1 (by (takes position) stores.2)
+      (some_lead takes bound limit cell (suc i) (suc position) xs stores.1 has le is are.1 stores.3)))
+    where
+      one_more : (n : ℕ) → 1 + n ≡ suc n
+      one_more n = omega arith
+
+      by : (b : Bool) → StoresIf b cell i x stores.0
+          → Leads (Readable base limit bound) (Readable base limit bound) 1 stores.0
+      by true first =
+          subst (Leads (Readable base limit bound) (Readable base limit bound) 1) (sym first.2)
+          (one_store bound limit cell i x first.0 has le (inl is) (inl are.0) first.1)
+      by false first =
+          subst (Leads (Readable base limit bound) (Readable base limit bound) 1) (sym first)
+          (record { no_label = λ l. tt; few = omega arith; good = λ rest good. good })
+
   -- a reference more, and one less
   pub dup_leads : (bound : List ℕ) (holds : ℕ → Bool) (x : ℕ) → HasRoom base bound → is_bound bound x ≡ true
       → Leads (Bound bound) (Bound bound) 1 (dup_lines holds x)
@@ -231,12 +258,12 @@ module _ (base : ℕ) where
     };
   }
 
-  -- its words are stored
-  pub build_leads : (bound : List ℕ) (x header : ℕ) (arguments : List ℕ) (head count : Line) (stores : List Line)
-      → HasRoom base bound → is_bound bound x ≡ true → AreBound bound arguments → Stores x 1 base head
-      → AllStores x 2 arguments stores → Stores x 0 base count
+  -- its words are stored, those of the fields by lines that lead on
+  build_with : (bound : List ℕ) (x header : ℕ) (arguments : List ℕ) (head count : Line) (stores : List Line)
+      → HasRoom base bound → is_bound bound x ≡ true → Stores x 1 base head
+      → Leads (Readable base (base + 1) bound) (Readable base (base + 1) bound) (length arguments) stores → Stores x 0 base count
       → Leads (Bound bound) (Bound bound) (4 + length arguments) (sets header base ∷ head ∷ (stores ++ sets 1 base ∷ count ∷ []))
-  build_leads bound x header arguments head count stores room here are heads all_stores counts =
+  build_with bound x header arguments head count stores room here heads stored counts =
       leads_weaker (Bound bound) (Bound bound) (Bound bound) (Bound bound) (1 + (1 + (length arguments + (1 + 1))))
       (4 + length arguments) (sets header base ∷ head ∷ (stores ++ sets 1 base ∷ count ∷ [])) (λ v is. is) (λ v is. is)
       (omega arith) (leads_then (Bound bound) Word (Bound bound) 1 (1 + (length arguments + (1 + 1))) (sets header base ∷ [])
@@ -244,8 +271,7 @@ module _ (base : ℕ) where
       (next_temporary base bound room base (Op.Li header) [] (omega arith) refl (omega arith) tt)
       (leads_then Word Word (Bound bound) 1 (length arguments + (1 + 1)) (head ∷ []) (stores ++ sets 1 base ∷ count ∷ [])
       (one_store bound (base + 1) x 1 base head room (omega arith) (inl here) (inr (omega arith, omega arith)) heads)
-      (leads_then Word Word (Bound bound) (length arguments) (1 + 1) stores (sets 1 base ∷ count ∷ [])
-      (stores_lead bound (base + 1) x 2 arguments stores room (omega arith) here are all_stores)
+      (leads_then Word Word (Bound bound) (length arguments) (1 + 1) stores (sets 1 base ∷ count ∷ []) stored
       (leads_then Word Word (Bound bound) 1 1 (sets 1 base ∷ []) (count ∷ [])
       (leads_weaker (Bound bound) Word Word Word 1 1 (sets 1 base ∷ [])
       (λ v is. readable_more base base (base + 1) bound (omega arith) v is) (λ v is. is) (omega arith)
@@ -256,6 +282,23 @@ module _ (base : ℕ) where
     where
       Word : ℕ → Type 0
       Word = Readable base (base + 1) bound
+
+  pub build_leads : (bound : List ℕ) (x header : ℕ) (arguments : List ℕ) (head count : Line) (stores : List Line)
+      → HasRoom base bound → is_bound bound x ≡ true → AreBound bound arguments → Stores x 1 base head
+      → AllStores x 2 arguments stores → Stores x 0 base count
+      → Leads (Bound bound) (Bound bound) (4 + length arguments) (sets header base ∷ head ∷ (stores ++ sets 1 base ∷ count ∷ []))
+  build_leads bound x header arguments head count stores room here are heads all_stores counts =
+      build_with bound x header arguments head count stores room here heads
+      (stores_lead bound (base + 1) x 2 arguments stores room (omega arith) here are all_stores) counts
+
+  -- those of some fields alone
+  pub filling_leads : (bound : List ℕ) (x header : ℕ) (arguments kept : List ℕ) (lines : List Line) → HasRoom base bound
+      → is_bound bound x ≡ true → AreBound bound arguments → FillingLines base x header arguments kept lines
+      → Leads (Bound bound) (Bound bound) (4 + length arguments) lines
+  filling_leads bound x header arguments kept lines room here are own =
+      subst (Leads (Bound bound) (Bound bound) (4 + length arguments)) (sym own.6)
+      (build_with bound x header arguments own.0 own.2 own.1 room here own.3
+      (some_lead (is_kept false kept) bound (base + 1) x 2 0 arguments own.1 room (omega arith) here are own.4) own.5)
 
   pub bound_later : (bound : List ℕ) (x : ℕ) (xs : List ℕ) → AreBound bound xs → AreBound (x ∷ bound) xs
   bound_later bound x [] are = tt

@@ -56,8 +56,8 @@ from_words i (w ∷ ws) words = (
       (with_word i w words),
 )
 
-twice_owner : (at : ℕ) (first second : Owner) (owners : ℕ → Owner) → with_owner at second (with_owner at first owners) ≡ with_owner
-    at second owners
+pub twice_owner : (at : ℕ) (first second : Owner) (owners : ℕ → Owner)
+    → with_owner at second (with_owner at first owners) ≡ with_owner at second owners
 twice_owner at first second owners =
     fun_ext (λ x. chosen_by (λ o. o ≡ with_owner at second owners x) x at second (with_owner at first owners)
     (λ e. sym (chosen_same x at second owners e))
@@ -73,14 +73,14 @@ module _ (target : Target) (layout : Layout) (address : ℕ → ℕ) (owners : �
   abbrev Holds : (ℕ → Option ℕ) → Cells → Type 0
   Holds words cells = Hands target.pool layout address owners heap at words cells
 
-  stored : (i w : ℕ) (words : ℕ → Option ℕ) (cells : Cells) → Holds words cells → Holds (with_word i w words)
+  pub stored : (i w : ℕ) (words : ℕ → Option ℕ) (cells : Cells) → Holds words cells → Holds (with_word i w words)
       (with_block at (own (with_word i w words)) cells)
   stored i w words cells holds =
       subst (λ o. Follows target.pool layout address o heap (with_block at (own (with_word i w words)) cells))
       (twice_owner at (in_hand words) (in_hand (with_word i w words)) owners)
       (written holds at i w words (chosen_same at at (in_hand words) owners refl))
 
-  store_hand : (rest : List Line) (world : World) (i from w : ℕ) (words : ℕ → Option ℕ) (line : Line) → Stores x i from line
+  pub store_hand : (rest : List Line) (world : World) (i from w : ℕ) (words : ℕ → Option ℕ) (line : Line) → Stores x i from line
       → f.cells from ≡ Some w → i < 8 → Holds words world.cells
       → Runs target (most_moves + 3) 1 (turn_of (line ∷ rest) f fs world)
       (turn_of rest f fs (with_cells world (with_block at (own (with_word i w words)) world.cells)))
@@ -193,6 +193,49 @@ fits_place : (b : Bool) (name : ℕ) → b ≡ true → FitsField b (place name)
 fits_place true name is = tt
 fits_place false name is = cc
 
+-- ---- a cell that is made
+
+-- its fields are few
+pub few_arguments : (known : Known) (s : Spot) (x c : ℕ) (arguments : List ℕ) → IsMaking known s x c arguments
+    → length arguments ≤ 6
+few_arguments known s x c arguments making =
+    let many = fits_length (known.layout.fields c) (values_of s.environment arguments) making.fits in
+    let long : length (values_of s.environment arguments) ≡ length arguments = length-map arguments (value_of s.environment) in
+    let most = known.narrow.few c in omega arith
+
+-- variable x names it
+pub names_made : (known : Known) (s : Spot) (x c : ℕ) (arguments : List ℕ) → Here known s → IsMaking known s x c arguments
+    → (at : ℕ) → HasValues known.layout (assign (length s.heap) at s.address) known.holds known.base (suc (length s.heap))
+    (x ∷ s.bound) (record { variable = x; value = place (length s.heap) } ∷ s.environment) (put x (Some at) s.frame.cells)
+names_made known s x c arguments here making at =
+    let n = length s.heap in
+    let later = assign n at s.address in
+    subst (λ w. HasValues known.layout later known.holds known.base (suc n) (x ∷ s.bound)
+    (record { variable = x; value = place n } ∷ s.environment) (put x (Some w) s.frame.cells))
+    (chosen_same n n at s.address refl)
+    (has_bound (has_cell here.values at) x (place n) making.below (fits_place (known.holds x) n making.holds) (omega arith))
+
+-- a cell in hand that has its words is counted
+pub counts_made : (known : Known) (s : Spot) (x c : ℕ) (arguments : List ℕ) → Here known s → IsMaking known s x c arguments
+    → (f : Frame Line) (at : ℕ) (words : ℕ → Option ℕ) (cells : Cells)
+    → Hands known.target.pool known.layout s.address s.owners s.heap at words cells
+    → IsBlockOf known.layout s.address
+    (record { count = 1; cell = record { made_by = c; fields = values_of s.environment arguments } }) words
+    → HasValues known.layout (assign (length s.heap) at s.address) known.holds known.base (suc (length s.heap)) (x ∷ s.bound)
+    (record { variable = x; value = place (length s.heap) } ∷ s.environment) f.cells
+    → Here known (made_spot s x c (values_of s.environment arguments) at
+    (put_in known.base 1 (put_in known.base (header_of known.layout c) f)) cells)
+counts_made known s x c arguments here making f at words cells whole shows values =
+    let n = length s.heap in
+    let cell : Cell = record { made_by = c; fields = values_of s.environment arguments } in
+    let counted = built whole at words cell (chosen_same at at (in_hand words) s.owners refl)
+    making.older (args_older known s here arguments making.bound) shows in
+    record {
+      follows = subst (λ o. Follows known.target.pool known.layout (assign n at s.address) o
+          (record { count = 1; cell = cell } ∷ s.heap) cells) (twice_owner at (in_hand words) (cell_of n) s.owners) counted;
+      values = has_temporary (has_temporary values known.base (header_of known.layout c) (omega arith)) known.base 1 (omega arith);
+    }
+
 module _ (known : Known) (rest : List Line) (fs : List (Frame Line)) (s : Spot) (x c : ℕ) (arguments : List ℕ) (lines : List Line)
     (here : Here known s) (making : IsMaking known s x c arguments)
     (constructs : ConstructLines known.base x (header_of known.layout c) arguments lines) where
@@ -213,10 +256,7 @@ module _ (known : Known) (rest : List Line) (fs : List (Frame Line)) (s : Spot) 
   behind_take = sets header known.base ∷ constructs.0 ∷ ((constructs.1 ++ tail) ++ rest)
 
   pub few : length arguments ≤ 6
-  few =
-      let many = fits_length (known.layout.fields c) (values_of s.environment arguments) making.fits in
-      let long : length (values_of s.environment arguments) ≡ length arguments = length-map arguments (value_of s.environment) in
-      let most = known.narrow.few c in omega arith
+  few = few_arguments known s x c arguments making
 
   -- the frame behind the header, and at the end
   abbrev pub headed : Frame Line → Frame Line
@@ -304,11 +344,7 @@ module _ (known : Known) (rest : List Line) (fs : List (Frame Line)) (s : Spot) 
   -- variable x names the cell
   pub names_cell : (at : ℕ) → HasValues known.layout (later at) known.holds known.base (suc n) (x ∷ s.bound)
       (record { variable = x; value = place n } ∷ s.environment) (put x (Some at) s.frame.cells)
-  names_cell at =
-      subst (λ w. HasValues known.layout (later at) known.holds known.base (suc n) (x ∷ s.bound)
-      (record { variable = x; value = place n } ∷ s.environment) (put x (Some w) s.frame.cells))
-      (chosen_same n n at s.address refl)
-      (has_bound (has_cell here.values at) x (place n) making.below (fits_place (known.holds x) n making.holds) (omega arith))
+  names_cell at = names_made known s x c arguments here making at
 
   -- the whole cell is counted
   pub counts : (f : Frame Line) (at : ℕ) (known_words : ℕ → Option ℕ) (cells : Cells) → HandsOf at (last_words known_words) cells
@@ -316,15 +352,8 @@ module _ (known : Known) (rest : List Line) (fs : List (Frame Line)) (s : Spot) 
       (record { variable = x; value = place n } ∷ s.environment) f.cells
       → Here known (made_spot s x c (values_of s.environment arguments) at (ended_frame f) cells)
   counts f at known_words cells whole values =
-      let cell : Cell = record { made_by = c; fields = values_of s.environment arguments } in
-      let counted = built whole at (last_words known_words) cell (chosen_same at at (in_hand (last_words known_words)) s.owners refl)
-      making.older (args_older known s here arguments making.bound)
-      (cell_words known.layout s.address c (values_of s.environment arguments) known_words making.fits) in
-      record {
-        follows = subst (λ o. Follows known.target.pool known.layout (later at) o (record { count = 1; cell = cell } ∷ s.heap)
-            cells) (twice_owner at (in_hand (last_words known_words)) (cell_of n) s.owners) counted;
-        values = has_temporary (has_temporary values known.base header (omega arith)) known.base 1 (omega arith);
-      }
+      counts_made known s x c arguments here making f at (last_words known_words) cells whole
+      (cell_words known.layout s.address c (values_of s.environment arguments) known_words making.fits) values
 
   -- what is set aside stays so, once a cell is counted that was not set aside
   others_aside : (at y : ℕ) → is_aside (s.owners at) ≡ false → is_aside (s.owners y) ≡ true

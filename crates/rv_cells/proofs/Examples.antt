@@ -29,7 +29,7 @@ use Rattle.rv_isa.specs.AsmCode.{Line, Lines}
 use Rattle.rv_lower.specs.Lines.{computes, sets, copies_to, acts}
 use Rattle.rv_lower.specs.Lowered.{returns}
 use Rattle.rv_cells.specs.Layout.{Layout}
-use Rattle.rv_cells.specs.CellLines.{ConstructLines, FillLines, AllLoads, TokenUniqueLines}
+use Rattle.rv_cells.specs.CellLines.{SomeStores, is_kept, ConstructLines, FillingLines, FillLines, AllLoads, TokenUniqueLines}
 use Rattle.rv_cells.specs.CountedLines.{Setting}
 use Rattle.rv_cells.specs.Meaning.{setting_on}
 use Rattle.rv_cells.specs.TokenedLines.{CodeLines, HasSlots, IsFunctionOf, AreFunctionsOf}
@@ -205,14 +205,68 @@ opens = (
   refl,
 )
 
-fills : FillLines 8 6 7 [] 7 513 (4 ∷ 5 ∷ []) filling_lines
-fills = (stores_cons 8 6 4 5, makes 8 6 4 5, refl)
+-- the words of a Cons but those of kept fields: of none, and of the second one
+stores_all : (base x head rest : ℕ) → FillingLines base x 513 (head ∷ rest ∷ []) [] (stores_cons base x head rest)
+stores_all base x head rest = (
+  stores immediate_4 x base,
+  stores immediate_8 x head ∷ stores immediate_12 x rest ∷ [],
+  stores immediate_0 x base,
+  (immediate_4, refl, refl),
+  (
+    stores immediate_8 x head ∷ [],
+    stores immediate_12 x rest ∷ [],
+    (stores immediate_8 x head, (immediate_8, refl, refl), refl),
+    (
+      stores immediate_12 x rest ∷ [],
+      [],
+      (stores immediate_12 x rest, (immediate_12, refl, refl), refl),
+      refl,
+      refl,
+    ),
+    refl,
+  ),
+  (immediate_0, refl, refl),
+  refl,
+)
+
+none_kept : (x head rest : ℕ) → SomeStores (is_kept true []) x 2 0 (head ∷ rest ∷ []) []
+none_kept x head rest = ([], [], refl, ([], [], refl, refl, refl), refl)
+
+fills : FillLines 8 6 7 [] 7 513 (4 ∷ 5 ∷ []) [] filling_lines
+fills = ([], stores_cons 8 6 4 5, none_kept 6 4 5, stores_all 8 6 4 5, refl)
+
+-- the second field is stored where the token is null
+fills_rest : FillLines 8 6 7 [] 7 513 (4 ∷ 5 ∷ []) (1 ∷ [])
+    (copies_to 7 6 ∷ copies_to 6 8 ∷ acts (Branch NotEqual 7) (8 ∷ [])
+    ∷ record { action = Calls Take; args = []; into = Some 6 } ∷ stores immediate_12 6 5 ∷ acts (Label 7) []
+    ∷ sets 513 8 ∷ stores immediate_4 6 8 ∷ stores immediate_8 6 4 ∷ sets 1 8 ∷ stores immediate_0 6 8 ∷ [])
+fills_rest = (
+  stores immediate_12 6 5 ∷ [],
+  sets 513 8 ∷ stores immediate_4 6 8 ∷ stores immediate_8 6 4 ∷ sets 1 8 ∷ stores immediate_0 6 8 ∷ [],
+  (
+    [],
+    stores immediate_12 6 5 ∷ [],
+    refl,
+    (stores immediate_12 6 5 ∷ [], [], (stores immediate_12 6 5, (immediate_12, refl, refl), refl), refl, refl),
+    refl,
+  ),
+  (
+    stores immediate_4 6 8,
+    stores immediate_8 6 4 ∷ [],
+    stores immediate_0 6 8,
+    (immediate_4, refl, refl),
+    (stores immediate_8 6 4 ∷ [], [], (stores immediate_8 6 4, (immediate_8, refl, refl), refl), ([], [], refl, refl, refl), refl),
+    (immediate_0, refl, refl),
+    refl,
+  ),
+  refl,
+)
 
 -- the same of a construction around whose request the token of value 4 is held
-fills_held : FillLines 8 6 7 (4 ∷ []) 7 513 (1 ∷ 2 ∷ [])
+fills_held : FillLines 8 6 7 (4 ∷ []) 7 513 (1 ∷ 2 ∷ []) []
     (copies_to 7 6 ∷ copies_to 6 8 ∷ acts (Branch NotEqual 7) (8 ∷ []) ∷ acts Hold (4 ∷ [])
     ∷ record { action = Calls Take; args = []; into = Some 6 } ∷ acts Unhold (4 ∷ []) ∷ acts (Label 7) [] ∷ stores_cons 8 6 1 2)
-fills_held = (stores_cons 8 6 1 2, makes 8 6 1 2, refl)
+fills_held = ([], stores_cons 8 6 1 2, none_kept 6 1 2, stores_all 8 6 1 2, refl)
 
 -- from the call on
 calls : CodeLines (setting inc_holds 8) 7 returns 7

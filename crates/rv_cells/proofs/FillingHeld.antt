@@ -28,7 +28,7 @@ use Rattle.rv_cells.proofs.Spots.{Spot, Known, Here}
 use Rattle.rv_cells.proofs.LineCosts.{most_moves, row_cost}
 use Rattle.rv_cells.proofs.Values.{HasValues, among_none, has_other}
 use Rattle.rv_cells.proofs.Constructing.{IsMaking}
-use Rattle.rv_cells.proofs.Filling.{put_before, takes, from_label, test_cost, tests_null, named, with_values, Fills, AreSpared, ends}
+use Rattle.rv_cells.proofs.Filling.{put_before, takes, from_kept, test_cost, tests_null, named, with_values, Fills, AreSpared, ends_taken}
 
 -- ---- tokens under other values
 
@@ -279,21 +279,21 @@ puts_same base x word other values (z ∷ zs) apart = (
 )
 
 module _ (known : Known) (rest : List Line) (fs : List (Frame Line)) (s : Spot) (x token c : ℕ) (others : List ℕ) (filled : ℕ)
-    (arguments : List ℕ) (lines : List Line) (here : Here known s) (making : IsMaking known s x c arguments)
-    (are : FillLines known.base x token others filled (header_of known.layout c) arguments lines)
+    (arguments kept : List ℕ) (lines : List Line) (here : Here known s) (making : IsMaking known s x c arguments)
+    (are : FillLines known.base x token others filled (header_of known.layout c) arguments kept lines)
     (null : s.frame.cells token ≡ Some 0) (tokens : AreTokensIn in_hand s.owners s.frame.cells others)
     (out : AllOut s.frame.held others) (apart : AreApartFrom known.base x others) (some : 0 < known.target.pool.first) where
   abbrev label : List Line
-  label = from_label known rest fs s x token c others filled arguments lines here making are
+  label = from_kept known rest fs s x token c others filled arguments kept lines here making are
 
   abbrev back_lines : List Line
   back_lines = unhold_lines others ++ label
 
   abbrev take : Line
-  take = takes known rest fs s x token c others filled arguments lines here making are
+  take = takes known rest fs s x token c others filled arguments kept lines here making are
 
   abbrev pub values1 : ℕ → Option ℕ
-  values1 = named known rest fs s x token c others filled arguments lines here making are s.frame.cells 0 0
+  values1 = named known rest fs s x token c others filled arguments kept lines here making are s.frame.cells 0 0
 
   abbrev pub owners1 : ℕ → Owner
   owners1 = all_held values1 others s.owners
@@ -311,11 +311,11 @@ module _ (known : Known) (rest : List Line) (fs : List (Frame Line)) (s : Spot) 
   tokens1 = tokens_moved in_hand s.owners s.frame.cells values1 others same1 tokens
 
   abbrev pub names : (ℕ → Option ℕ) → ℕ → ℕ → Option ℕ
-  names values at = named known rest fs s x token c others filled arguments lines here making are values 0 at
+  names values at = named known rest fs s x token c others filled arguments kept lines here making are values 0 at
 
   abbrev pub Makes : List (Frame Line) → (ℕ → Owner) → (ℕ → Option ℕ) → ℕ → Type 0
   Makes gs owners values at =
-      Fills known rest fs s x token c others filled arguments lines here making are gs owners values 0 at
+      Fills known rest fs s x token c others filled arguments kept lines here making are gs owners values 0 at
 
   -- the tokens are held
   pub row : (cells : Cells) × Runs known.target (row_cost others (most_moves + 9)) (length others)
@@ -326,7 +326,7 @@ module _ (known : Known) (rest : List Line) (fs : List (Frame Line)) (s : Spot) 
       s.world here.follows tokens1 out
 
   abbrev before : ℕ
-  before = test_cost known rest fs s x token c others filled arguments lines here making are
+  before = test_cost known rest fs s x token c others filled arguments kept lines here making are
 
   to_take : Runs known.target (before + row_cost others (most_moves + 9)) (((1 + 1) + 1) + length others)
       (turn_of (lines ++ rest) s.frame fs s.world)
@@ -336,7 +336,7 @@ module _ (known : Known) (rest : List Line) (fs : List (Frame Line)) (s : Spot) 
       (turn_of (lines ++ rest) s.frame fs s.world)
       (turn_of (hold_lines others ++ (take ∷ back_lines)) (with_all values1 s.frame.held) fs s.world)
       (turn_of (take ∷ back_lines) (with_all values1 held1) fs (with_cells s.world row.0))
-      (tests_null known rest fs s x token c others filled arguments lines here making are null) row.1
+      (tests_null known rest fs s x token c others filled arguments kept lines here making are null) row.1
 
   -- from the request on: the tokens are taken back, and the cell is made
   after_take : (gs : List (Frame Line)) (values : ℕ → Option ℕ) (owners : ℕ → Owner) (next : Cells) (at : ℕ)
@@ -346,11 +346,11 @@ module _ (known : Known) (rest : List Line) (fs : List (Frame Line)) (s : Spot) 
       → Follows known.target.pool known.layout s.address owners s.heap next
       → AreTokensIn kept_aside owners (names values at) others → NoneHas (names values at) at others → owners at ≡ in_hand words
       → HasValues known.layout s.address known.holds known.base (length s.heap) s.bound s.environment values
-      → AreSpared known rest fs s x token c others filled arguments lines here making are values
+      → AreSpared known rest fs s x token c others filled arguments kept lines here making are values
       → Makes gs (all_back (names values at) others owners) values at
   after_take gs values owners next at words took follows tokens2 none hand has spared =
       let f = with_all (names values at) (live (names values at) others ++ s.frame.held) in
-      let last = with_values known rest fs s x token c others filled arguments lines here making are (names values at) in
+      let last = with_values known rest fs s x token c others filled arguments kept lines here making are (names values at) in
       let holds = row_cost others (most_moves + 9) in
       let unholds = row_cost others (most_moves + 7) in
       let back = unhold_row known.target known.layout s.address s.heap gs others label f s.frame.held owners
@@ -360,7 +360,8 @@ module _ (known : Known) (rest : List Line) (fs : List (Frame Line)) (s : Spot) 
       let t2 = turn_of back_lines f gs (with_cells s.world next) in
       let t3 = turn_of label last gs (with_cells s.world back.0) in
       let behind = runs_then known.target (most_moves + 10) unholds 1 (length others) t1 t2 t3 took back.1 in
-      ends known rest fs s x token c others filled arguments lines here making are gs (all_back (names values at) others owners)
+      ends_taken known rest fs s x token c others filled arguments kept lines here making are gs
+      (all_back (names values at) others owners)
       values 0 at ((before + holds) + ((most_moves + 10) + unholds))
       ((((1 + 1) + 1) + length others) + (1 + length others)) words back.0
       (runs_then known.target (before + holds) ((most_moves + 10) + unholds) (((1 + 1) + 1) + length others) (1 + length others)

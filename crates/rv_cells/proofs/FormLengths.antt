@@ -14,7 +14,7 @@ use Rattle.kk_syntax.specs.Shapes.{is_among}
 use Rattle.kk_source.specs.FormEffects.{piece_of}
 use Rattle.kk_counted.specs.Lowerable.{HasArity}
 use Rattle.kk_counted.specs.Marks.{CellMarks, field_marks, HaveMarks, IsFormMarked}
-use Rattle.rv_isa.specs.declared.asm.Action.TheVariants.{Compute, Label, TailCall, Call as CallOf, Routine as Calls, Hold, Unhold}
+use Rattle.rv_isa.specs.declared.asm.Action.TheVariants.{Label, TailCall, Call as CallOf, Routine as Calls, Hold}
 use Rattle.rv_isa.specs.declared.asm.ImmediateOperation.{ImmediateOperation}
 use Rattle.rv_isa.specs.declared.asm.ImmediateOperation.TheVariants.{Addi, Sltiu, Xori}
 use Rattle.rv_isa.specs.declared.asm.Operation.TheVariants as Op
@@ -27,7 +27,7 @@ use Rattle.rv_lower.specs.Lowered.{Goal, returns, joins, goal_lines, tail_lines}
 use Rattle.rv_lower.specs.Lines.{MakesTruth, Compares, ComparesWithOne, BinaryLines, PrintLines, AppliedLines}
 use Rattle.rv_cells.specs.Layout.{header_of}
 use Rattle.rv_cells.specs.CellLines.{Loads, Stores, AllLoads, AllStores, dup_lines, drop_lines, dups_lines, drops_lines}
-use Rattle.rv_cells.specs.CellLines.{ConstructLines, FillLines, TokenUniqueLines, CountLines}
+use Rattle.rv_cells.specs.CellLines.{StoresIf, SomeStores, is_kept, ConstructLines, FillLines, TokenUniqueLines, CountLines}
 use Rattle.rv_cells.specs.CellLines.{hold_lines, unhold_lines}
 use Rattle.rv_cells.specs.CountedLines.{Setting, ComputeLines}
 use Rattle.rv_cells.specs.Written.{end_lines}
@@ -181,20 +181,50 @@ unholds_length : (tokens : List ℕ) → code_length (unhold_lines tokens) ≡ 4
 unholds_length [] = omega arith
 unholds_length (token ∷ tokens) = let more = unholds_length tokens in omega (arith, more)
 
-pub fill_length : (base x token : ℕ) (others : List ℕ) (filled header : ℕ) (arguments : List ℕ) (lines : List Line)
-    → FillLines base x token others filled header arguments lines → length arguments ≤ 6
+-- the stores of the kept fields and those of the others are as many as the fields
+both_length : (cell : ℕ) (kept : List ℕ) (i position : ℕ) (xs : List ℕ) (left fields : List Line)
+    → SomeStores (is_kept true kept) cell i position xs left → SomeStores (is_kept false kept) cell i position xs fields
+    → code_length left + code_length fields ≡ 5 * length xs
+both_length cell kept i position [] left fields one two =
+    let empty = ap code_length one in let empty_too = ap code_length two in omega (arith, empty, empty_too)
+both_length cell kept i position (x ∷ xs) left fields one two =
+    let first = ap code_length one.4 in
+    let second = ap code_length two.4 in
+    let apart = lines_append one.0 one.1 in
+    let apart_too = lines_append two.0 two.1 in
+    let here = by (is_among kept position) one.2 two.2 in
+    let more = both_length cell kept (suc i) (suc position) xs one.1 two.1 one.3 two.3 in
+    omega (arith, first, second, apart, apart_too, here, more)
+  where
+    by : (b : Bool) → StoresIf b cell i x one.0 → StoresIf (not b) cell i x two.0 → code_length one.0 + code_length two.0 ≡ 5
+    by true is empty =
+        let whole = ap code_length is.2 in
+        let store = store_length cell i x is.0 is.1 in
+        let none = ap code_length empty in omega (arith, whole, store, none)
+    by false empty is =
+        let whole = ap code_length is.2 in
+        let store = store_length cell i x is.0 is.1 in
+        let none = ap code_length empty in omega (arith, whole, store, none)
+
+pub fill_length : (base x token : ℕ) (others : List ℕ) (filled header : ℕ) (arguments kept : List ℕ) (lines : List Line)
+    → FillLines base x token others filled header arguments kept lines → length arguments ≤ 6
     → code_length lines ≤ 80 + 8 * length others
-fill_length base x token others filled header arguments lines is few =
+fill_length base x token others filled header arguments kept lines is few =
     let taken : Line = record { action = Calls Take; args = []; into = Some x } in
-    let built : List Line = acts (Label filled) [] ∷ is.0 in
-    let asked : List Line = taken ∷ (unhold_lines others ++ built) in
-    let whole = ap code_length is.2 in
+    let built : List Line = acts (Label filled) [] ∷ is.1 in
+    let asked : List Line = taken ∷ (unhold_lines others ++ (is.0 ++ built)) in
+    let whole = ap code_length is.4 in
     let apart = lines_append (hold_lines others) asked in
-    let back = lines_append (unhold_lines others) built in
+    let back = lines_append (unhold_lines others) (is.0 ++ built) in
+    let behind = lines_append is.0 built in
     let held = holds_length others in
     let taken_back = unholds_length others in
-    let stores = construct_length base x header arguments (taken ∷ is.0) is.1 few in
-    omega (arith, whole, apart, back, held, taken_back, stores)
+    let stores = ap code_length is.3.6 in
+    let fields = lines_append is.3.1 (sets 1 base ∷ is.3.2 ∷ []) in
+    let head = store_length x 1 base is.3.0 is.3.3 in
+    let count = store_length x 0 base is.3.2 is.3.5 in
+    let both = both_length x kept 2 0 arguments is.0 is.3.1 is.2 is.3.4 in
+    omega (arith, whole, apart, back, behind, held, taken_back, stores, fields, head, count, both, few)
 
 -- ---- operators
 

@@ -20,6 +20,7 @@ pub mod Constructing
 pub mod CountOpenings
 pub mod TokenOpenings
 pub mod TokenForms
+pub mod KeptStores
 pub mod Filling
 pub mod FillingHeld
 pub mod Walking
@@ -61,6 +62,7 @@ pub mod OwnLines
 pub mod TokenFrames
 pub mod TokenTaken
 pub mod TokenCells
+pub mod TokenFields
 pub mod TokenLanding
 pub mod TokenGiving
 pub mod TokenEntering

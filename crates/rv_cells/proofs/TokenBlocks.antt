@@ -37,14 +37,15 @@ use Rattle.rv_cells.proofs.Spots.{Spot, saved}
 use Rattle.rv_cells.proofs.Words.{hand_owned, aside_owned}
 use Rattle.rv_cells.proofs.TokenFrames.{slots_moved}
 use Rattle.rv_cells.proofs.TokenLineCosts.{forms}
-use Rattle.rv_cells.proofs.TokenStanding.{SlotIs, IsTokenCell, Lowering, target, setting, upper, Placed, At, IsFitFrom, by_lines, finds, Follows_step}
+use Rattle.rv_cells.proofs.TokenStanding.{SlotIs, IsTokenCell, token_words, Lowering, target, setting, upper, Placed, At, IsFitFrom, by_lines, finds, Follows_step}
 use Rattle.rv_cells.proofs.TokenLanding.{token_at, machine_at, CodeSteps, seen_action, does_by, kept_after, kept_quiet}
 
 -- the cell of a token, whether it is held or in hand
 pub token_cell : {pool : Pool} {layout : Layout} {address : ℕ → ℕ} {owners : ℕ → Owner} {heap : Heap} {cells : Cells}
-    → Follows pool layout address owners heap cells → (linked : Bool) (at : ℕ) → IsTokenCell linked (owners at) → IsCell pool at
-token_cell follows true at is = (aside_owned follows at is.0 is.1).0
-token_cell follows false at is = (hand_owned follows at is.0 is.1).0
+    → Follows pool layout address owners heap cells → (linked : Bool) (ws : List ℕ) (at : ℕ) → IsTokenCell linked ws (owners at)
+    → IsCell pool at
+token_cell follows true ws at is = (aside_owned follows at is.0 is.1).0
+token_cell follows false ws at is = (hand_owned follows at is.0 is.1).0
 
 module _ (program : Lowering) where
   module _ (code : Tokened) (inner : List TokenJoin) (frames : List TokenFrame) (tokens : Tokens) (input : List ℕ) (s : Spot)
@@ -196,7 +197,7 @@ module _ (program : Lowering) where
         = ap (λ (v : Value). goes (machine_at program (if is_true v then positive else negative) s.environment inner frames s.heap
         tokens)) is in
         let kept = subst (AllLead (AreKeptBy program.pool.cells (ListsAfter code inner at.lists))) step
-        (kept_after program code inner frames tokens input s fs left at refl) in
+        (kept_after program code inner frames tokens input s fs left at (fit 0).keeps refl) in
         let lines_are : left ≡ test ++ behind = left_parts ∙ append_assoc test (yes ++ (label ∷ no)) at.does.placed.after in
         turns_to code inner frames tokens input s fs left at idle fit next there tested.cells n cost same_below placed
         (subst (λ (l : Lists). IsJudged program.pool.cells l.left l.unspent l.held l.older next inner frames s.heap tokens)
@@ -274,7 +275,7 @@ module _ (program : Lowering) where
 
   pub at_branch : (x : ℕ) (positive negative : Tokened) → CodeSteps program (Tokened.branch x positive negative)
   at_branch x positive negative idle inner frames tokens input s fs left idle_is at fit =
-      by_truth x positive negative idle inner frames tokens input s fs left idle_is at fit (fit 0).fits.0 (fit 0).fits.1
+      by_truth x positive negative idle inner frames tokens input s fs left idle_is at fit (fit 0).bare.fits.0 (fit 0).bare.fits.1
 
   -- ---- tests of tokens
 
@@ -368,7 +369,7 @@ module _ (program : Lowering) where
         let address = s.address q in
         let value : s.frame.cells (at.shape.variables + y) ≡ Some address
         = subst (λ slot. SlotIs s.address slot (s.frame.cells (at.shape.variables + y))) has (at.has.tokens.are y) in
-        let cell = token_cell at.follows (is_linked n y tokens.chain) address
+        let cell = token_cell at.follows (is_linked n y tokens.chain) (token_words program.layout s.address s.heap q) address
         (at.cells.are n y q (at.judged.are.pooled.marks n y q has)) in
         let behind = cell.behind in
         let some = program.some in

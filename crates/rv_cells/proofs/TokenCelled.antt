@@ -7,6 +7,7 @@ use Rattle.kk_counted.specs.BareForms.{bare}
 use Rattle.kk_counted.specs.CountedMachine.{NotStuck}
 use Rattle.kk_counted.specs.Heaps.{Heap, dup_value, drop_value}
 use Rattle.kk_counted.specs.Lowerable.{AreNumbered}
+use Rattle.kk_counted.specs.References.{cells_of}
 use Rattle.kk_counted.specs.Marks.{HasMark}
 use Rattle.kk_counted.specs.TokenLowerable.{HasPlainForms}
 use Rattle.kk_counted.specs.TokenKeeping.{Lists, IsJudged, ListsAfter, AreKeptBy}
@@ -26,9 +27,10 @@ use Rattle.rv_cells.proofs.Runs.{turn_of}
 use Rattle.rv_cells.proofs.Spots.{Spot, Here, Did, dup_length, drop_length, dup_did, drop_did, did_aside}
 use Rattle.rv_cells.proofs.Values.{Carries, carries_same}
 use Rattle.rv_cells.proofs.TokenCells.{token_aside, cells_stay}
+use Rattle.rv_cells.proofs.TokenFields.{recounted_words, dup_cells, drop_cells}
 use Rattle.rv_cells.proofs.TokenFrames.{none_behind, slots_moved, all_carried}
 use Rattle.rv_cells.proofs.TokenLineCosts.{forms}
-use Rattle.rv_cells.proofs.TokenStanding.{IsTokenCell, Lowering, texts, setting, upper, known_of, At, IsFitFrom, Follows_step}
+use Rattle.rv_cells.proofs.TokenStanding.{IsTokenCell, token_words, Lowering, texts, setting, upper, known_of, At, IsFitFrom, Follows_step}
 use Rattle.rv_cells.proofs.TokenLanding.{lands_did, token_at, machine_at, CodeSteps, IsSilent, silent_goes, seen_action, GoesTo, goes_on, kept_after}
 
 heap_there : (o : Option Heap) (from to : TokenConfiguration) → NotStuck (bare_configuration (to_heap o from to)).control
@@ -44,7 +46,7 @@ module _ (program : Lowering) where
         (rest : Tokened) (own more : List Line) (to : Spot) (later : List ℕ) (most : ℕ)
         (tells : TokenConfiguration → Action TokenConfiguration)
         → (did : Did (known_of program at.shape) most own (more ++ at.does.placed.after) fs s to) → s.address ≡ to.address
-        → length to.heap ≡ length s.heap → at.does.placed.own ≡ own ++ more → (low : ℕ)
+        → length to.heap ≡ length s.heap → cells_of to.heap ≡ cells_of s.heap → at.does.placed.own ≡ own ++ more → (low : ℕ)
         → (lines : CodeLines (record { layout = program.layout; holds = at.shape.holds; base = at.shape.variables + at.shape.slots; texts = texts program })
         at.shape.variables at.does.goal low rest more at.does.placed.high)
         → GoesTo program code inner frames tokens input s fs left at rest own more low lines
@@ -61,7 +63,7 @@ module _ (program : Lowering) where
         → suc (forms rest) ≤ idle → forms rest ≤ program.most
         → Follows_step program idle (token_at program code s.environment inner frames s.heap tokens input)
         (turn_of left s.frame fs s.world)
-    goes_did idle fit rest own more to later most tells did address_is long parts low lines part_is within older below marked_is
+    goes_did idle fit rest own more to later most tells did address_is long recounted parts low lines part_is within older below marked_is
         numbered has plain judged silent cheap is less short =
         let v = at.shape.variables in
         let same : (p : ℕ) → to.address p ≡ s.address p = λ p. ap (λ (g : ℕ → ℕ). g p) (sym address_is) in
@@ -84,7 +86,9 @@ module _ (program : Lowering) where
           plain = plain;
           judged = judged;
           cells = cells_stay at.cells to.address to.owners to.heap (λ f y p is. same p)
-              (λ z linked is. subst (IsTokenCell linked) (sym (did.aside z (token_aside linked (s.owners z) is))) is)
+              (λ f y p is. ap (λ (g : ℕ → ℕ). token_words program.layout g to.heap p) (sym address_is)
+              ∙ recounted_words program.layout s.address s.heap to.heap p recounted)
+              (λ z linked ws is. subst (IsTokenCell linked ws) (sym (did.aside z (token_aside linked ws (s.owners z) is))) is)
               (λ z. did_aside did z) (ap (marked tokens.marks) long);
           slots_are = slots_moved at.has.tokens (λ y p is. same p)
               (λ y few unspent. did.spared (v + y) (omega (arith, few)) (none_behind to.bound v y below));
@@ -101,19 +105,19 @@ module _ (program : Lowering) where
       let from = machine_at program code s.environment inner frames s.heap tokens in
       let there = at_code rest s.environment inner from in
       let here : Here (known_of program at.shape) s = record { follows = at.follows; values = at.has.values } in
-      let counts = (fit 0).counts (bare code) s.environment (map bare_join inner) refl in
-      let next = heap_there (dup_value (value_of s.environment x) s.heap) from there (fit 1).going in
+      let counts = (fit 0).bare.counts (bare code) s.environment (map bare_join inner) refl in
+      let next = heap_there (dup_value (value_of s.environment x) s.heap) from there (fit 1).bare.going in
       let done = dup_did (known_of program at.shape) (p.lines.0 ++ p.after) fs s here x p.marked.0 next.0 next.1
       (λ name. let small = counts name in omega arith) in
       let step : token_code_step (setting program) code s.environment inner from
       ≡ goes (machine_at program rest s.environment inner frames next.0 tokens) = ap (λ o. goes (to_heap o from there)) next.1 in
       let kept = subst (AllLead (AreKeptBy program.pool.cells (ListsAfter code inner at.lists))) step
-      (kept_after program code inner frames tokens input s fs left at refl) in
+      (kept_after program code inner frames tokens input s fs left at (fit 0).keeps refl) in
       let few = p.short in
       goes_did code inner frames tokens input s fs left at idle fit rest (dup_lines at.shape.holds x) p.lines.0
       (record s { heap = next.0; owners = done.0; world = with_cells s.world done.1 }) s.bound (most_moves + 5) goes done.2 refl
-      (dup_length (value_of s.environment x) s.heap next.0 next.1) p.lines.2 p.low p.lines.1
-      (record { way = 0 ∷ []; is_part = inl refl; code_is = refl }) (within_itself s.bound)
+      (dup_length (value_of s.environment x) s.heap next.0 next.1) (dup_cells (value_of s.environment x) s.heap next.0 next.1)
+      p.lines.2 p.low p.lines.1 (record { way = 0 ∷ []; is_part = inl refl; code_is = refl }) (within_itself s.bound)
       (within_itself s.bound) at.has.below p.marked.1 p.numbered p.has p.plain
       (subst (λ (l : Lists). IsJudged program.pool.cells l.left l.unspent l.held l.older rest inner frames next.0 tokens) kept.1.0
       kept.1.1)
@@ -127,18 +131,18 @@ module _ (program : Lowering) where
       let from = machine_at program code s.environment inner frames s.heap tokens in
       let there = at_code rest s.environment inner from in
       let here : Here (known_of program at.shape) s = record { follows = at.follows; values = at.has.values } in
-      let next = heap_there (drop_value (value_of s.environment x) s.heap) from there (fit 1).going in
+      let next = heap_there (drop_value (value_of s.environment x) s.heap) from there (fit 1).bare.going in
       let done = drop_did (known_of program at.shape) (p.lines.0 ++ p.after) fs s here x p.marked.0 next.0 next.1 in
       let step : token_code_step (setting program) code s.environment inner from
       ≡ goes (machine_at program rest s.environment inner frames next.0 tokens) = ap (λ o. goes (to_heap o from there)) next.1 in
       let kept = subst (AllLead (AreKeptBy program.pool.cells (ListsAfter code inner at.lists))) step
-      (kept_after program code inner frames tokens input s fs left at refl) in
+      (kept_after program code inner frames tokens input s fs left at (fit 0).keeps refl) in
       let few = p.short in
       goes_did code inner frames tokens input s fs left at idle fit rest (drop_lines (at.shape.variables + at.shape.slots) at.shape.holds x) p.lines.0
       (record s { heap = next.0; frame = done.0; owners = done.1; world = with_cells s.world done.2 }) s.bound (2 * most_moves + 16)
       goes done.3 refl
-      (drop_length (value_of s.environment x) s.heap next.0 next.1) p.lines.2 p.low p.lines.1
-      (record { way = 0 ∷ []; is_part = inl refl; code_is = refl }) (within_itself s.bound)
+      (drop_length (value_of s.environment x) s.heap next.0 next.1) (drop_cells (value_of s.environment x) s.heap next.0 next.1)
+      p.lines.2 p.low p.lines.1 (record { way = 0 ∷ []; is_part = inl refl; code_is = refl }) (within_itself s.bound)
       (within_itself s.bound) at.has.below p.marked.1 p.numbered p.has p.plain
       (subst (λ (l : Lists). IsJudged program.pool.cells l.left l.unspent l.held l.older rest inner frames next.0 tokens) kept.1.0
       kept.1.1)

@@ -11,23 +11,34 @@ use Rattle.rv_cells.specs.Follows.{Owner, nobody, cell_of, in_hand, kept_aside, 
 use Rattle.rv_cells.proofs.Owners.{chosen_same, chosen_other}
 use Rattle.rv_cells.proofs.Rooms.{same_aside, aside_with, one_aside}
 use Rattle.rv_cells.proofs.Words.{hand_owned, aside_owned}
-use Rattle.rv_cells.proofs.TokenStanding.{IsTokenCell, HaveTokenCells}
+use Rattle.rv_cells.proofs.TokenStanding.{IsTokenCell, token_words, HaveTokenCells}
 
-pub token_aside : (linked : Bool) (owner : Owner) → IsTokenCell linked owner → is_aside owner ≡ true
-token_aside true owner is = ap is_aside is.1
-token_aside false owner is = ap is_aside is.1
+pub token_aside : (linked : Bool) (ws : List ℕ) (owner : Owner) → IsTokenCell linked ws owner → is_aside owner ≡ true
+token_aside true ws owner is = ap is_aside is.1
+token_aside false ws owner is = ap is_aside is.1
 
-module _ {pool : Pool} {address : ℕ → ℕ} {owners : ℕ → Owner} {heap : Heap} {tokens : Tokens}
-    (have : HaveTokenCells pool address owners heap tokens) where
+-- the cell of a name at another address, with words that are the same
+cell_there : (linked : Bool) (ws words : List ℕ) (owners : ℕ → Owner) (at there : ℕ) → words ≡ ws → there ≡ at
+    → IsTokenCell linked ws (owners at) → IsTokenCell linked words (owners there)
+cell_there linked ws words owners at there same_words same is =
+    subst (λ to. IsTokenCell linked words (owners to)) (sym same)
+    (subst (λ list. IsTokenCell linked list (owners at)) (sym same_words) is)
+
+module _ {pool : Pool} {layout : Layout} {address : ℕ → ℕ} {owners : ℕ → Owner} {heap : Heap} {tokens : Tokens}
+    (have : HaveTokenCells pool layout address owners heap tokens) where
   -- the same cells are set aside
   pub cells_stay : (later : ℕ → ℕ) (others : ℕ → Owner) (next : Heap) → ((f y p : ℕ) → tokens.marks p ≡ token_of f y
       → later p ≡ address p)
-      → ((at : ℕ) (linked : Bool) → IsTokenCell linked (owners at) → IsTokenCell linked (others at))
+      → ((f y p : ℕ) → tokens.marks p ≡ token_of f y → token_words layout later next p ≡ token_words layout address heap p)
+      → ((at : ℕ) (linked : Bool) (ws : List ℕ) → IsTokenCell linked ws (owners at) → IsTokenCell linked ws (others at))
       → ((at : ℕ) → is_aside (others at) ≡ is_aside (owners at))
-      → marked tokens.marks (length next) ≡ marked tokens.marks (length heap) → HaveTokenCells pool later others next tokens
-  cells_stay later others next same stay aside many = record {
-    are = λ f y p is. subst (λ at. IsTokenCell (is_linked f y tokens.chain) (others at)) (sym (same f y p is))
-        (stay (address p) (is_linked f y tokens.chain) (have.are f y p is));
+      → marked tokens.marks (length next) ≡ marked tokens.marks (length heap)
+      → HaveTokenCells pool layout later others next tokens
+  cells_stay later others next same same_words stay aside many = record {
+    are = λ f y p is.
+        let ws = token_words layout address heap p in
+        cell_there (is_linked f y tokens.chain) ws (token_words layout later next p) others (address p) (later p)
+        (same_words f y p is) (same f y p is) (stay (address p) (is_linked f y tokens.chain) ws (have.are f y p is));
     apart = λ f y p g z q one two e. have.apart f y p g z q one two (sym (same f y p one) ∙ e ∙ same g z q two);
     number = same_aside pool others owners aside ∙ have.number ∙ sym many;
   }
@@ -38,16 +49,17 @@ module _ {pool : Pool} {address : ℕ → ℕ} {owners : ℕ → Owner} {heap : 
 
   -- a token is held, or taken back
   pub cell_turns : pool.first % 32 ≡ 0 → (f y p : ℕ) (owner : Owner) (links : List Link) → IsCell pool (address p)
-      → tokens.marks p ≡ token_of f y → IsTokenCell (is_linked f y links) owner
+      → tokens.marks p ≡ token_of f y → IsTokenCell (is_linked f y links) (token_words layout address heap p) owner
       → ((g z q : ℕ) → q ≢ p → tokens.marks q ≡ token_of g z → is_linked g z links ≡ is_linked g z tokens.chain)
-      → HaveTokenCells pool address (with_owner (address p) owner owners) heap (record tokens { chain = links })
+      → HaveTokenCells pool layout address (with_owner (address p) owner owners) heap (record tokens { chain = links })
   cell_turns aligned f y p owner links cell mark is same = record {
     are = λ g z q marked_q. by g z q marked_q (q == p) refl;
     apart = have.apart;
     number =
         let change = aside_with pool aligned (address p) owner owners cell in
-        let was = ap bit_of (token_aside (is_linked f y tokens.chain) (owners (address p)) (have.are f y p mark)) in
-        let now = ap bit_of (token_aside (is_linked f y links) owner is) in
+        let ws = token_words layout address heap p in
+        let was = ap bit_of (token_aside (is_linked f y tokens.chain) ws (owners (address p)) (have.are f y p mark)) in
+        let now = ap bit_of (token_aside (is_linked f y links) ws owner is) in
         let number = have.number in
         omega arith;
   }
@@ -56,40 +68,48 @@ module _ {pool : Pool} {address : ℕ → ℕ} {owners : ℕ → Owner} {heap : 
       mark_parts e = (cc, cc)
 
       by : (g z q : ℕ) → tokens.marks q ≡ token_of g z → (b : Bool) → (q == p) ≡ b
-          → IsTokenCell (is_linked g z links) (with_owner (address p) owner owners (address q))
+          → IsTokenCell (is_linked g z links) (token_words layout address heap q) (with_owner (address p) owner owners (address q))
       by g z q marked_q true test =
           let e : q ≡ p = eqb-true q p test in
           let parts = mark_parts (sym mark ∙ ap tokens.marks (sym e) ∙ marked_q) in
-          subst (IsTokenCell (is_linked g z links)) (sym (chosen_same (address q) (address p) owner owners (ap address e)))
-          (subst (λ x. IsTokenCell (is_linked g x links) owner) parts.1
-          (subst (λ h. IsTokenCell (is_linked h y links) owner) parts.0 is))
+          subst (IsTokenCell (is_linked g z links) (token_words layout address heap q))
+          (sym (chosen_same (address q) (address p) owner owners (ap address e)))
+          (subst (λ r. IsTokenCell (is_linked g z links) (token_words layout address heap r) owner) (sym e)
+          (subst (λ x. IsTokenCell (is_linked g x links) (token_words layout address heap p) owner) parts.1
+          (subst (λ h. IsTokenCell (is_linked h y links) (token_words layout address heap p) owner) parts.0 is)))
       by g z q marked_q false test =
           let other : q ≢ p = λ e. let itself : (q == p) ≡ true = grind arith in let both = sym itself ∙ test in cc in
-          subst (IsTokenCell (is_linked g z links))
+          subst (IsTokenCell (is_linked g z links) (token_words layout address heap q))
           (sym (chosen_other (address q) (address p) owner owners (differs f y p g z q mark marked_q other)))
-          (subst (λ b. IsTokenCell b (owners (address q))) (sym (same g z q other marked_q)) (have.are g z q marked_q))
+          (subst (λ b. IsTokenCell b (token_words layout address heap q) (owners (address q))) (sym (same g z q other marked_q))
+          (have.are g z q marked_q))
 
   -- A token goes: its cell is not set aside any more. The other cells that are set aside stay so, and as many names are marked.
   pub cell_goes : pool.first % 32 ≡ 0 → (f y p : ℕ) (later : ℕ → ℕ) (others : ℕ → Owner) (next : Heap) (after : Tokens)
       → IsCell pool (address p) → p < length heap → tokens.marks p ≡ token_of f y → after.marks ≡ marks_with p plain tokens.marks
       → ((g z q : ℕ) → q ≢ p → tokens.marks q ≡ token_of g z → later q ≡ address q)
+      → ((g z q : ℕ) → tokens.marks q ≡ token_of g z → token_words layout later next q ≡ token_words layout address heap q)
       → ((g z q : ℕ) → q ≢ p → tokens.marks q ≡ token_of g z → is_linked g z after.chain ≡ is_linked g z tokens.chain)
-      → ((at : ℕ) (linked : Bool) → at ≢ address p → IsTokenCell linked (owners at) → IsTokenCell linked (others at))
+      → ((at : ℕ) (linked : Bool) (ws : List ℕ) → at ≢ address p → IsTokenCell linked ws (owners at)
+      → IsTokenCell linked ws (others at))
       → is_aside (others (address p)) ≡ false
       → ((at : ℕ) → at ≢ address p → is_aside (others at) ≡ is_aside (owners at))
-      → marked after.marks (length next) ≡ marked after.marks (length heap) → HaveTokenCells pool later others next after
-  cell_goes aligned f y p later others next after cell low mark marks_are same linked stay gone aside many = record {
+      → marked after.marks (length next) ≡ marked after.marks (length heap) → HaveTokenCells pool layout later others next after
+  cell_goes aligned f y p later others next after cell low mark marks_are same same_words linked stay gone aside many = record {
     are = λ g z q is.
         let o = old g z q is in
-        subst (λ at. IsTokenCell (is_linked g z after.chain) (others at)) (sym (same g z q o.0 o.1))
-        (subst (λ b. IsTokenCell b (others (address q))) (sym (linked g z q o.0 o.1))
-        (stay (address q) (is_linked g z tokens.chain) (differs f y p g z q mark o.1 o.0) (have.are g z q o.1)));
+        let ws = token_words layout address heap q in
+        cell_there (is_linked g z after.chain) ws (token_words layout later next q) others (address q) (later q)
+        (same_words g z q o.1) (same g z q o.0 o.1)
+        (subst (λ b. IsTokenCell b ws (others (address q))) (sym (linked g z q o.0 o.1))
+        (stay (address q) (is_linked g z tokens.chain) ws (differs f y p g z q mark o.1 o.0) (have.are g z q o.1)));
     apart = λ g z q h x r one two e.
         let a = old g z q one in let b = old h x r two in
         have.apart g z q h x r a.1 b.1 (sym (same g z q a.0 a.1) ∙ e ∙ same h x r b.0 b.1);
     number =
         let change = one_aside pool aligned (address p) owners others cell aside in
-        let was = ap bit_of (token_aside (is_linked f y tokens.chain) (owners (address p)) (have.are f y p mark)) in
+        let was = ap bit_of (token_aside (is_linked f y tokens.chain) (token_words layout address heap p) (owners (address p))
+        (have.are f y p mark)) in
         let now = ap bit_of gone in
         let one = ap one_if_token mark in
         let fewer = marked_with p (length heap) plain tokens.marks low in
@@ -115,18 +135,25 @@ module _ {pool : Pool} {address : ℕ → ℕ} {owners : ℕ → Owner} {heap : 
   -- A token comes: a cell that was not set aside is in hand.
   pub cell_comes : pool.first % 32 ≡ 0 → (f y p : ℕ) (others : ℕ → Owner) (next : Heap) (after : Tokens) → IsCell pool (address p)
       → p < length heap → tokens.marks p ≡ plain → after.marks ≡ marks_with p (token_of f y) tokens.marks
-      → after.chain ≡ tokens.chain → length next ≡ length heap → IsTokenCell (is_linked f y tokens.chain) (others (address p))
+      → after.chain ≡ tokens.chain → length next ≡ length heap
+      → ((q : ℕ) → token_words layout address next q ≡ token_words layout address heap q)
+      → IsTokenCell (is_linked f y tokens.chain) (token_words layout address heap p) (others (address p))
       → is_aside (owners (address p)) ≡ false
-      → ((at : ℕ) (linked : Bool) → at ≢ address p → IsTokenCell linked (owners at) → IsTokenCell linked (others at))
-      → ((at : ℕ) → at ≢ address p → is_aside (others at) ≡ is_aside (owners at)) → HaveTokenCells pool address others next after
-  cell_comes aligned f y p others next after cell low mark marks_are chain_is long comes free stay aside = record {
-    are = λ g z q is. subst (λ links. IsTokenCell (is_linked g z links) (others (address q))) (sym chain_is)
-        (by_are g z q is (q == p) refl);
+      → ((at : ℕ) (linked : Bool) (ws : List ℕ) → at ≢ address p → IsTokenCell linked ws (owners at)
+      → IsTokenCell linked ws (others at))
+      → ((at : ℕ) → at ≢ address p → is_aside (others at) ≡ is_aside (owners at))
+      → HaveTokenCells pool layout address others next after
+  cell_comes aligned f y p others next after cell low mark marks_are chain_is long same_words comes free stay aside = record {
+    are = λ g z q is. subst (λ links. IsTokenCell (is_linked g z links) (token_words layout address next q) (others (address q)))
+        (sym chain_is)
+        (cell_there (is_linked g z tokens.chain) (token_words layout address heap q) (token_words layout address next q) others
+        (address q) (address q) (same_words q) refl (by_are g z q is (q == p) refl));
     apart = λ g z q h x r one two e. by_apart g z q h x r one two e (q == p) refl (r == p) refl;
     number =
         let change = one_aside pool aligned (address p) owners others cell aside in
         let was = ap bit_of free in
-        let now = ap bit_of (token_aside (is_linked f y tokens.chain) (others (address p)) comes) in
+        let now = ap bit_of (token_aside (is_linked f y tokens.chain) (token_words layout address heap p) (others (address p))
+        comes) in
         let one = ap one_if_token mark in
         let more = marked_with p (length heap) (token_of f y) tokens.marks low in
         let now_many = ap (λ m. marked m (length next)) marks_are in
@@ -146,21 +173,23 @@ module _ {pool : Pool} {address : ℕ → ℕ} {owners : ℕ → Owner} {heap : 
 
       far : (g z q : ℕ) → tokens.marks q ≡ token_of g z → address q ≢ address p
       far g z q is e =
-          let aside_q = token_aside (is_linked g z tokens.chain) (owners (address q)) (have.are g z q is) in
+          let aside_q = token_aside (is_linked g z tokens.chain) (token_words layout address heap q) (owners (address q))
+          (have.are g z q is) in
           let both : true ≡ false = sym aside_q ∙ ap (λ at. is_aside (owners at)) e ∙ free in cc
 
       by_are : (g z q : ℕ) → after.marks q ≡ token_of g z → (b : Bool) → (q == p) ≡ b
-          → IsTokenCell (is_linked g z tokens.chain) (others (address q))
+          → IsTokenCell (is_linked g z tokens.chain) (token_words layout address heap q) (others (address q))
       by_are g z q is true test =
           let e : p ≡ q = sym (eqb-true q p test) in
           let parts = mark_parts (sym (mark_here p (token_of f y) tokens.marks)
           ∙ ap (marks_with p (token_of f y) tokens.marks) e ∙ mark_of g z q is) in
-          subst (λ at. IsTokenCell (is_linked g z tokens.chain) (others at)) (ap address e)
-          (subst (λ x. IsTokenCell (is_linked g x tokens.chain) (others (address p))) parts.1
-          (subst (λ h. IsTokenCell (is_linked h y tokens.chain) (others (address p))) parts.0 comes))
+          subst (λ r. IsTokenCell (is_linked g z tokens.chain) (token_words layout address heap r) (others (address r))) e
+          (subst (λ x. IsTokenCell (is_linked g x tokens.chain) (token_words layout address heap p) (others (address p))) parts.1
+          (subst (λ h. IsTokenCell (is_linked h y tokens.chain) (token_words layout address heap p) (others (address p))) parts.0
+          comes))
       by_are g z q is false test =
           let o = old g z q is test in
-          stay (address q) (is_linked g z tokens.chain) (far g z q o) (have.are g z q o)
+          stay (address q) (is_linked g z tokens.chain) (token_words layout address heap q) (far g z q o) (have.are g z q o)
 
       by_apart : (g z q h x r : ℕ) → after.marks q ≡ token_of g z → after.marks r ≡ token_of h x → address q ≡ address r
           → (b : Bool) → (q == p) ≡ b → (c : Bool) → (r == p) ≡ c → q ≡ r

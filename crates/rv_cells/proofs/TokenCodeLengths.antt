@@ -132,7 +132,7 @@ module _ (setting : Setting) (variables : ℕ) (table : CellMarks) (narrow : (c 
         let few = narrow c in
         let values = values_many variables others in
         let own = fill_length setting.base x (variables + y) (values_of_slots variables others) low (header_of setting.layout c)
-        (first ∷ arguments) is.0 is.2 (omega (arith, many, few)) in
+        (first ∷ arguments) kept is.0 is.2 (omega (arith, many, few)) in
         let more = code_short rest (x ∷ bound) given goal (low + 1) high is.1 left (without (y ∷ []) unspent) [] marked.1.1 arities.1
         plain spends.1.1.1.1 is.3 in
         omega (arith, whole, apart, values, own, more)

@@ -269,7 +269,7 @@ module _ (program : Lowering) where
       (Performing.sets_performs numbers_target (at.shape.variables + at.shape.slots) x lines.0 int32 (integer n) p.lines.0
       s.frame.cells s.world (ap integer (sym lines.1), lines.2) lines.3)
       p.marked.1.0.1
-      (kept_after program (Tokened.compute x (Number n) arguments others rest) inner frames tokens input s fs left at refl)
+      (kept_after program (Tokened.compute x (Number n) arguments others rest) inner frames tokens input s fs left at tt refl)
       refl at.input_is refl at.bytes
   at_plain x Nothing arguments others rest plain idle inner frames tokens input s fs left idle_is at fit =
       let p = at.does.placed in
@@ -278,7 +278,7 @@ module _ (program : Lowering) where
       (Performing.sets_performs numbers_target (at.shape.variables + at.shape.slots) x unit_word unit_type unit p.lines.0
       s.frame.cells s.world (refl, refl) p.lines.3.0)
       p.marked.1.0.1
-      (kept_after program (Tokened.compute x Nothing arguments others rest) inner frames tokens input s fs left at refl)
+      (kept_after program (Tokened.compute x Nothing arguments others rest) inner frames tokens input s fs left at tt refl)
       refl at.input_is refl at.bytes
   at_plain x ReadByte arguments others rest plain idle inner frames tokens input s fs left idle_is at fit =
       let p = at.does.placed in
@@ -288,7 +288,7 @@ module _ (program : Lowering) where
       (Performing.read_performs numbers_target (at.shape.variables + at.shape.slots) x input p.lines.0 s.frame.cells s.world
       at.input_is at.bytes p.lines.3.0)
       p.marked.1.0.1
-      (kept_after program (Tokened.compute x ReadByte arguments others rest) inner frames tokens input s fs left at refl
+      (kept_after program (Tokened.compute x ReadByte arguments others rest) inner frames tokens input s fs left at tt refl
       (Performing.got numbers_target input))
       (reads x arguments others rest s.environment inner frames s.heap tokens input) refl refl
       (bytes_behind numbers_target input at.bytes)
@@ -306,15 +306,15 @@ module _ (program : Lowering) where
       s.world (omega (arith, low)) lines.1 lines.2)
       p.marked.1.0.1
       (print_leads (AreKeptBy program.pool.cells (ListsAfter code inner at.lists)) piece to
-      (kept_after program code inner frames tokens input s fs left at refl))
+      (kept_after program code inner frames tokens input s fs left at tt refl))
       (print_is piece to input) at.input_is refl at.bytes
-  at_plain x (Unary Negate) [] others rest plain idle inner frames tokens input s fs left idle_is at fit = absurd (fit 0).fits
+  at_plain x (Unary Negate) [] others rest plain idle inner frames tokens input s fs left idle_is at fit = absurd (fit 0).bare.fits
   at_plain x (Unary Negate) (a ∷ b ∷ more) others rest plain idle inner frames tokens input s fs left idle_is at fit =
-      absurd (fit 0).fits
+      absurd (fit 0).bare.fits
   at_plain x (Unary Negate) (a ∷ []) others rest plain idle inner frames tokens input s fs left idle_is at fit =
       let p = at.does.placed in
       let base = at.shape.variables + at.shape.slots in
-      let number = (fit 0).fits in
+      let number = (fit 0).bare.fits in
       let bound = p.marked.0.0 in
       let low = p.numbered.0 in
       performed_value x (Unary Negate) (a ∷ []) others rest plain idle inner frames tokens input s fs left idle_is at fit int32
@@ -324,16 +324,16 @@ module _ (program : Lowering) where
       (Performing.unary_performs_negate numbers_target base x a number.0 p.lines.0 s.frame.cells s.world (omega (arith, low))
       (below_among x s.bound a p.numbered.1.0 bound) (number_word at.has.values a bound number) number.2 p.lines.3.0))
       p.marked.1.0.1
-      (kept_after program (Tokened.compute x (Unary Negate) (a ∷ []) others rest) inner frames tokens input s fs left at refl)
+      (kept_after program (Tokened.compute x (Unary Negate) (a ∷ []) others rest) inner frames tokens input s fs left at tt refl)
       refl at.input_is refl at.bytes
-  at_plain x (Unary Not) [] others rest plain idle inner frames tokens input s fs left idle_is at fit = absurd (fit 0).fits
+  at_plain x (Unary Not) [] others rest plain idle inner frames tokens input s fs left idle_is at fit = absurd (fit 0).bare.fits
   at_plain x (Unary Not) (a ∷ b ∷ more) others rest plain idle inner frames tokens input s fs left idle_is at fit =
-      absurd (fit 0).fits
+      absurd (fit 0).bare.fits
   at_plain x (Unary Not) (a ∷ []) others rest plain idle inner frames tokens input s fs left idle_is at fit =
       let p = at.does.placed in
       let base = at.shape.variables + at.shape.slots in
       let lines = p.lines.3.0 in
-      let truth_at = (fit 0).fits in
+      let truth_at = (fit 0).bare.fits in
       let b : Bool = truth_at.0 in
       let bound = p.marked.0.0 in
       let shown = word_follows program.layout program.falsity program.truth_is s.address (length s.heap) bool (truth b)
@@ -347,18 +347,19 @@ module _ (program : Lowering) where
       (at.has.values.words a bound ∙ ap (λ v. Some (word_in program.layout s.address v)) truth_at.1 ∙ ap (λ w. Some w) shown.0)
       lines.1 lines.2))
       p.marked.1.0.1
-      (kept_after program (Tokened.compute x (Unary Not) (a ∷ []) others rest) inner frames tokens input s fs left at refl)
+      (kept_after program (Tokened.compute x (Unary Not) (a ∷ []) others rest) inner frames tokens input s fs left at tt refl)
       refl at.input_is refl at.bytes
-  at_plain x (Binary operator) [] others rest plain idle inner frames tokens input s fs left idle_is at fit = absurd (fit 0).fits
+  at_plain x (Binary operator) [] others rest plain idle inner frames tokens input s fs left idle_is at fit =
+      absurd (fit 0).bare.fits
   at_plain x (Binary operator) (a ∷ []) others rest plain idle inner frames tokens input s fs left idle_is at fit =
-      absurd (fit 0).fits
+      absurd (fit 0).bare.fits
   at_plain x (Binary operator) (a ∷ b ∷ c ∷ more) others rest plain idle inner frames tokens input s fs left idle_is at fit =
-      absurd (fit 0).fits
+      absurd (fit 0).bare.fits
   at_plain x (Binary operator) (a ∷ b ∷ []) others rest plain idle inner frames tokens input s fs left idle_is at fit =
       let p = at.does.placed in
       let base = at.shape.variables + at.shape.slots in
-      let first = (fit 0).fits.0 in
-      let second = (fit 0).fits.1 in
+      let first = (fit 0).bare.fits.0 in
+      let second = (fit 0).bare.fits.1 in
       let bound_a = p.marked.0.0 in
       let bound_b = p.marked.0.1.0 in
       let low = p.numbered.0 in
@@ -375,16 +376,16 @@ module _ (program : Lowering) where
       (number_word at.has.values a bound_a first) (number_word at.has.values b bound_b second) first.2 second.2 p.lines.3.0))
       p.marked.1.0.1
       (kept_after program (Tokened.compute x (Binary operator) (a ∷ b ∷ []) others rest) inner frames tokens input s fs left at
-      refl)
+      tt refl)
       refl at.input_is refl at.bytes
-  at_plain x (Print how) [] others rest plain idle inner frames tokens input s fs left idle_is at fit = absurd (fit 0).fits
+  at_plain x (Print how) [] others rest plain idle inner frames tokens input s fs left idle_is at fit = absurd (fit 0).bare.fits
   at_plain x (Print how) (a ∷ b ∷ more) others rest plain idle inner frames tokens input s fs left idle_is at fit =
-      absurd (fit 0).fits
+      absurd (fit 0).bare.fits
   at_plain x (Print how) (a ∷ []) others rest plain idle inner frames tokens input s fs left idle_is at fit =
       let p = at.does.placed in
       let base = at.shape.variables + at.shape.slots in
       let code = Tokened.compute x (Print how) (a ∷ []) others rest in
-      let number = (fit 0).fits in
+      let number = (fit 0).bare.fits in
       let bound = p.marked.0.0 in
       let low = p.numbered.0 in
       let piece : List ℕ = piece_of how (signed_decimal (signed number.0)) in
@@ -400,7 +401,7 @@ module _ (program : Lowering) where
       p.marked.1.0.1
       (print_leads (AreKeptBy program.pool.cells (ListsAfter code inner at.lists))
       (piece_of how (signed_decimal (integer_of (value_of s.environment a)))) to
-      (kept_after program code inner frames tokens input s fs left at refl))
+      (kept_after program code inner frames tokens input s fs left at tt refl))
       (ap (λ v. seen_action program (print_step (piece_of how (signed_decimal (integer_of v))) to) input) number.1
       ∙ print_is piece to input ∙ ap (λ es. (es, record { machine = to; input = input })) some)
       at.input_is refl at.bytes
@@ -417,7 +418,7 @@ module _ (program : Lowering) where
       (p.lines.1 ++ p.after) s.frame.cells s.frame.into fs s.world [] word (omega arith) refl refl))
       (λ z less other. put_other x z word s.frame.cells other) (put_same x word s.frame.cells)
       (fits_constant (at.shape.holds x) c) tt
-      (kept_after program (Tokened.compute x (Construct c) [] others rest) inner frames tokens input s fs left at refl)
+      (kept_after program (Tokened.compute x (Construct c) [] others rest) inner frames tokens input s fs left at tt refl)
       refl at.input_is refl at.bytes
   at_plain x (Call f) arguments others rest plain idle inner frames tokens input s fs left idle_is at fit = absurd plain
 

@@ -47,12 +47,13 @@ use Rattle.rv_cells.proofs.Words.{aside_owned}
 use Rattle.rv_cells.proofs.TokenCells.{token_aside, cells_stay, cell_goes}
 use Rattle.rv_cells.proofs.TokenEntering.{arguments_fit}
 use Rattle.rv_cells.proofs.TokenFillingCells.{named_before, slots_below, linked_here, linked_behind, marked_more}
+use Rattle.rv_cells.proofs.TokenFields.{grown_words}
 use Rattle.rv_cells.proofs.TokenFrames.{none_behind, slots_moved, all_carried}
 use Rattle.rv_cells.proofs.TokenLineCosts.{forms}
 use Rattle.rv_cells.proofs.TokenLanding.{Lands, lands_did, lands_leads, token_at, machine_at, CodeSteps, seen_action, silent_builds, does_by, goes_on, kept_after}
 use Rattle.rv_cells.proofs.TokenOpenings.{Leads}
 use Rattle.rv_cells.proofs.TokenRequests.{Requested, by_free, by_own, by_older, by_none, requested}
-use Rattle.rv_cells.proofs.TokenStanding.{IsTokenCell, HaveSlotValues, HaveTokenCells, held_values, Lowering, target, setting, upper, known_of, AllWait, At, IsFitFrom, Follows_step, by_lines}
+use Rattle.rv_cells.proofs.TokenStanding.{IsTokenCell, token_words, HaveSlotValues, HaveTokenCells, held_values, Lowering, target, setting, upper, known_of, AllWait, At, IsFitFrom, Follows_step, by_lines}
 use Rattle.rv_cells.proofs.TokenTaken.{taken_from, none_held}
 use Rattle.rv_cells.proofs.TokenUniques.{row_times}
 
@@ -185,7 +186,7 @@ module _ (program : Lowering) (x c a : ℕ) (more : List ℕ) (rest : Tokened) (
         holds = p.marked.1.0.1;
         fits = subst (λ marks. FitFields marks (values_of s.environment (a ∷ more))) (sym (program.fields_are c))
             (arguments_fit at.has.values (a ∷ more) (field_marks program.marks c) all p.marked.1.0.0);
-        older = (fit 0).sound.older;
+        older = (fit 0).bare.sound.older;
       }
 
   asked : (room : Room) → Serves room → token_code_step (setting program) code s.environment inner from
@@ -199,12 +200,19 @@ module _ (program : Lowering) (x c a : ℕ) (more : List ℕ) (rest : Tokened) (
   stays : (one r : ℕ) → r < size → later one r ≡ s.address r
   stays one r less = chosen_other r size one s.address (λ e. omega (arith, e, less))
 
+  -- the fields of the names that are there keep their words
+  made_words : (one r : ℕ) → r < size
+      → token_words program.layout (later one) heap_made r ≡ token_words program.layout s.address s.heap r
+  made_words one r less =
+      grown_words program.layout s.address s.heap (record { count = 1; cell = record { made_by = c; fields = vs } }) one r
+      making.older less
+
   -- the code goes on with a cell that was made
   goes_there : (gs : List (Frame Line)) (one : ℕ) (frame : Frame Line) (cells : Cells) (after : Tokens)
       → Lands known (construct_cost known (a ∷ more)) at.does.placed.lines.0 rest_lines fs gs s (made_spot s x c vs one frame cells)
       → frame.held ≡ s.frame.held
       → ((z : ℕ) → z < at.shape.slots → frame.cells (v + z) ≡ s.frame.cells (v + z)) → Serves (has_room after)
-      → HaveTokenCells program.pool (later one) (with_owner one (cell_of size) s.owners) heap_made after
+      → HaveTokenCells program.pool program.layout (later one) (with_owner one (cell_of size) s.owners) heap_made after
       → HaveSlotValues s.address (after.slots n) v at.shape.slots s.frame.cells
       → AllWait program s.address size after.slots at.lists.older frames gs at.shape.result → Steps_on
   goes_there gs one frame cells after lands held_same spared served cells_are slots_are waiting =
@@ -213,7 +221,7 @@ module _ (program : Lowering) (x c a : ℕ) (more : List ℕ) (rest : Tokened) (
       let step : token_code_step (setting program) code s.environment inner from
       ≡ builds (busy s.heap) (machine_at program rest to.environment inner frames to.heap after) = asked (has_room after) served in
       let kept = subst (AllLead (AreKeptBy program.pool.cells (ListsAfter code inner at.lists))) step
-      (kept_after program code inner frames tokens input s fs left at refl) in
+      (kept_after program code inner frames tokens input s fs left at (fit 0).keeps refl) in
       let judged : IsJudged program.pool.cells at.lists.left at.lists.unspent at.lists.held at.lists.older rest inner frames
       to.heap after
       = subst (λ (l : Lists). IsJudged program.pool.cells l.left l.unspent l.held l.older rest inner frames to.heap after) kept.1.0
@@ -272,7 +280,8 @@ module _ (program : Lowering) (x c a : ℕ) (more : List ℕ) (rest : Tokened) (
       (λ z low. did.spared (v + z) (omega (arith, low)) (slot_spare z)) served
       (cells_stay at.cells (later one) (with_owner one (cell_of size) s.owners) heap_made
       (λ g z r is. stays one r (at.judged.are.pooled.there g z r is))
-      (λ place linked is. subst (IsTokenCell linked) (sym (did.aside place (token_aside linked (s.owners place) is))) is)
+      (λ g z r is. made_words one r (at.judged.are.pooled.there g z r is))
+      (λ place linked ws is. subst (IsTokenCell linked ws) (sym (did.aside place (token_aside linked ws (s.owners place) is))) is)
       (λ place. did_aside did place)
       (marked_more program.pool.cells s.heap tokens at.judged.are.pooled))
       at.has.tokens at.waits
@@ -291,7 +300,8 @@ module _ (program : Lowering) (x c a : ℕ) (more : List ℕ) (rest : Tokened) (
       let older = (chain_top tokens.slots at.lists.older link links all_apart top_is).below in
       let linked : is_linked link.frame link.slot tokens.chain ≡ true = ap (is_linked link.frame link.slot) chain
       ∙ linked_here link.frame link.slot links in
-      let kept = subst (λ b. IsTokenCell b (s.owners place)) linked (at.cells.are link.frame link.slot p mark) in
+      let kept = subst (λ b. IsTokenCell b (token_words program.layout s.address s.heap p) (s.owners place)) linked
+      (at.cells.are link.frame link.slot p mark) in
       let taken = taken_from program s.address size tokens.slots at.lists.older frames fs at.shape.result at.waits all_apart link
       links top_is p has in
       let made = construct_held known rest_lines fs s x c (a ∷ more) at.does.placed.lines.0 here making at.does.placed.lines.3.0
@@ -304,8 +314,9 @@ module _ (program : Lowering) (x c a : ℕ) (more : List ℕ) (rest : Tokened) (
       (cell_goes at.cells program.aligned link.frame link.slot p (later place) owners heap_made after
       (aside_owned at.follows place kept.0 kept.1).0 (pooled.there link.frame link.slot p mark) mark refl
       (λ g w r differ is. stays place r (pooled.there g w r is))
+      (λ g w r is. made_words place r (pooled.there g w r is))
       (λ g w r differ is. linked_behind program.pool.cells s.heap tokens pooled link links chain p has g w r differ is)
-      (λ one held differ is. subst (IsTokenCell held) (sym (chosen_other one place (cell_of size) s.owners differ)) is)
+      (λ one held ws differ is. subst (IsTokenCell held ws) (sym (chosen_other one place (cell_of size) s.owners differ)) is)
       (ap is_aside (chosen_same place place (cell_of size) s.owners refl))
       (λ one differ. ap is_aside (chosen_other one place (cell_of size) s.owners differ))
       (marked_more program.pool.cells s.heap (released link.frame link.slot p null tokens)

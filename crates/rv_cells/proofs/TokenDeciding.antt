@@ -413,7 +413,7 @@ module _ (program : Lowering) (x : ℕ) (decisions : List NodeTree) (arms : Toke
       let begins = starts decisions at.does.placed.lines.4 first.0 first.1 in
       let here_at : choice ++ tail ≡ node_from 0 first.0 begins.0 = begins.1 in
       subst (λ ls. Goes (walk_cost (length decisions) 0) ls there s.frame.cells) (sym here_at)
-      (node_leads (length decisions) 0 row first.0 begins.0 there s.frame.cells first.1 is (fit 0).fits found_arm
+      (node_leads (length decisions) 0 row first.0 begins.0 there s.frame.cells first.1 is (fit 0).bare.fits found_arm
       (at.has.values.words x at.does.placed.marked.0))
     where
       starts : (some : List NodeTree)
@@ -449,7 +449,7 @@ module _ (program : Lowering) (x : ℕ) (decisions : List NodeTree) (arms : Toke
       let code = Tokened.case x decisions arms in
       let from = machine_at program code s.environment inner frames s.heap tokens in
       let there = case_there (and_then (chosen (cell_at s.heap) v decisions) (tokened_arm_at arms)) s.environment inner from input
-      (fit 1).going in
+      (fit 1).bare.going in
       let body = there.0 in
       let choose = then_some (chosen (cell_at s.heap) v decisions) (tokened_arm_at arms) body there.1 in
       let row = choose.0 in
@@ -485,7 +485,7 @@ module _ (program : Lowering) (x : ℕ) (decisions : List NodeTree) (arms : Toke
       ≡ goes (machine_at program body s.environment inner frames s.heap tokens)
       = ap (λ o. token_case_step o s.environment inner from) there.1 in
       let kept = subst (AllLead (AreKeptBy program.pool.cells (ListsAfter code inner at.lists))) step
-      (kept_after program code inner frames tokens input s fs left at refl) in
+      (kept_after program code inner frames tokens input s fs left at (fit 0).keeps refl) in
       let seen = mul-le-mul_right (looks_taken (cell_at s.heap) v decisions) look_within in
       turns_to program code inner frames tokens input s fs left at idle fit body behind leads.later (leads.steps + 1)
       (cost + (m + 0))

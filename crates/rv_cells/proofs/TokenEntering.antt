@@ -229,7 +229,7 @@ module _ (program : Lowering) where
         → IsJudged program.pool.cells [] [] [] helds function.body [] frames s.heap tokens
         → ((y : ℕ) → tokens.slots (length helds) y ≡ spent)
         → Follows program.pool program.layout s.address s.owners s.heap s.world.cells
-        → HaveTokenCells program.pool s.address s.owners s.heap tokens
+        → HaveTokenCells program.pool program.layout s.address s.owners s.heap tokens
         → AllWait program s.address (length s.heap) tokens.slots helds frames fs (result_mark program.marks f)
         → s.world.left ≡ input → All (λ byte. byte < 256) input
         → At program function.body [] frames tokens input (entered_spot entry.values) fs lines.code
@@ -301,7 +301,7 @@ module _ (program : Lowering) where
           let start : TokenState = token_at program code s.environment inner frames s.heap tokens input in
           let waiting : TokenFrame = record { variable = x; rest = rest; joins = inner; environment = s.environment } in
           let all = all_among arguments s.bound p.marked.0 in
-          let there = call_there program (slice_get program.code.functions f) args waiting start.machine input (fit 1).going in
+          let there = call_there program (slice_get program.code.functions f) args waiting start.machine input (fit 1).bare.going in
           let function = there.0 in
           let low = program.lowered f function there.1 in
           let lines = low.0 in
@@ -385,7 +385,7 @@ module _ (program : Lowering) where
           let step_is : (b : Bool) → nat_le program.depth (suc (length frames)) ≡ b
           → (upper program).step start ≡ seen_action program (tell b) input
           = λ b e. ap (λ action. seen_action program action input) (action_is b e) in
-          let kept = kept_after program code inner frames tokens input s fs left at refl in
+          let kept = kept_after program code inner frames tokens input s fs left at (fit 0).keeps refl in
           let handed = temporaries_many base arguments in
           let last_cost = 2 * length (temporaries base arguments) + 8 in
           let cost = row_cost arguments (m + 2) + last_cost in
@@ -457,7 +457,7 @@ module _ (program : Lowering) where
       let code = Tokened.tail_call f arguments in
       let start : TokenState = token_at program code s.environment inner frames s.heap tokens input in
       let all = all_among arguments s.bound p.marked.0 in
-      let there = tail_there (slice_get program.code.functions f) vs start.machine input (fit 1).going in
+      let there = tail_there (slice_get program.code.functions f) vs start.machine input (fit 1).bare.going in
       let function = there.0 in
       let low = program.lowered f function there.1 in
       let lines = low.0 in
@@ -494,7 +494,7 @@ module _ (program : Lowering) where
       let action_is : token_code_step (setting program) code s.environment inner start.machine
       ≡ goes (in_body function vs start.machine) = ap (λ o. token_tail_step o vs start.machine) there.1 in
       let lists = subst (AllLead (AreKeptBy program.pool.cells (ListsAfter code inner at.lists))) action_is
-      (kept_after program code inner frames tokens input s fs left at refl) in
+      (kept_after program code inner frames tokens input s fs left at (fit 0).keeps refl) in
       let judged : IsJudged program.pool.cells [] [] [] at.lists.older function.body [] frames s.heap tokens
       = subst (λ (l : Lists). IsJudged program.pool.cells l.left l.unspent l.held l.older function.body [] frames s.heap tokens)
       lists.1.0 lists.1.1 in

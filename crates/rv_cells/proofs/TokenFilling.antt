@@ -5,10 +5,10 @@ use Rattle.std.proofs.lemmas.List.{length-map}
 use Rattle.kk_syntax.specs.Shapes.{is_among, without}
 use Rattle.kk_source.specs.State.{Value, heap_full}
 use Rattle.kk_source.specs.Actions.{goes, builds}
-use Rattle.kk_counted.specs.Heaps.{Heap, busy}
+use Rattle.kk_counted.specs.Heaps.{Heap, busy, fields_held}
 use Rattle.kk_counted.specs.Keeping.{values_of}
 use Rattle.kk_counted.specs.TokenKeeping.{AreTokens, chain_of, Lists, IsJudged, ListsAfter, AreKeptBy}
-use Rattle.kk_counted.specs.TokenMachine.{token_code_step, make_step, bound_to, token_at_end, token_at_stuck}
+use Rattle.kk_counted.specs.TokenMachine.{token_code_step, make_step, filled, bound_to, token_at_end, token_at_stuck}
 use Rattle.kk_counted.specs.TokenRuns.{AllLead}
 use Rattle.kk_counted.specs.TokenStates.{TokenJoin, TokenFrame, TokenConfiguration, TokenState}
 use Rattle.kk_counted.specs.TokenedCodes.{Tokened}
@@ -42,13 +42,14 @@ use Rattle.rv_cells.proofs.Spots.{Spot, Known, Here, saved}
 use Rattle.rv_cells.proofs.Values.{has_cell as carries_cell, among_by}
 use Rattle.rv_cells.proofs.Words.{hand_owned, aside_owned}
 use Rattle.rv_cells.proofs.TokenCells.{token_aside, cells_stay, cell_goes}
+use Rattle.rv_cells.proofs.TokenFields.{grown_words}
 use Rattle.rv_cells.proofs.TokenFills.{making, Fill_steps, fill_cheap, fills_token}
 use Rattle.rv_cells.proofs.TokenFillingCells.{none_out, slots_apart, slots_unbound, aside_some, slots_tokens, named_before, slots_below, AllKept, same_kept, null_kept, aside_restored, restored, linked_here, linked_behind, marked_more}
 use Rattle.rv_cells.proofs.TokenFrames.{slots_moved, slots_put, all_carried, all_wait_at}
 use Rattle.rv_cells.proofs.TokenLineCosts.{forms}
 use Rattle.rv_cells.proofs.TokenLanding.{lands_leads, token_at, machine_at, CodeSteps, seen_action, silent_builds, does_by, goes_on, kept_after}
 use Rattle.rv_cells.proofs.TokenRequests.{live_slots, Requested, by_free, by_own, by_older, by_none, requested}
-use Rattle.rv_cells.proofs.TokenStanding.{SlotIs, IsTokenCell, HaveSlotValues, HaveTokenCells, held_values, Lowering, target, setting, upper, known_of, AllWait, At, IsFitFrom, by_lines}
+use Rattle.rv_cells.proofs.TokenStanding.{SlotIs, IsTokenCell, token_words, HaveSlotValues, HaveTokenCells, held_values, Lowering, target, setting, upper, known_of, AllWait, At, IsFitFrom, by_lines}
 use Rattle.rv_cells.proofs.TokenTaken.{taken_from, none_held}
 use Rattle.rv_cells.proofs.TokenUniques.{slots_set, another, row_times}
 
@@ -104,7 +105,7 @@ module _ (program : Lowering) (x y c first : ℕ) (arguments kept_at others : Li
       })
       y empty
 
-  have : HaveTokenCells program.pool s.address s.owners s.heap asking
+  have : HaveTokenCells program.pool program.layout s.address s.owners s.heap asking
   have = record { are = at.cells.are; apart = at.cells.apart; number = at.cells.number }
 
   slots_are : HaveSlotValues s.address (asking.slots n) v at.shape.slots s.frame.cells
@@ -122,8 +123,8 @@ module _ (program : Lowering) (x y c first : ℕ) (arguments kept_at others : Li
   free : (z : ℕ) → is_linked n z asking.chain ≡ false
   free z = ap (is_linked n z) now.are.chain ∙ not_linked asking.slots [] at.lists.older z refl
 
-  some : (one : ℕ) (linked : Bool) → IsTokenCell linked (s.owners one) → one ≢ 0
-  some one linked is = aside_some at.follows program.some one linked is
+  some : (one : ℕ) (linked : Bool) (ws : List ℕ) → IsTokenCell linked ws (s.owners one) → one ≢ 0
+  some one linked ws is = aside_some at.follows program.some one linked ws is
 
   here : Here known s
   here = record { follows = at.follows; values = at.has.values }
@@ -133,7 +134,7 @@ module _ (program : Lowering) (x y c first : ℕ) (arguments kept_at others : Li
 
   tokens_are : AreTokensIn in_hand s.owners s.frame.cells zs
   tokens_are =
-      slots_tokens have slots_are (λ z p is. now.are.pooled.marks n z p is) free (λ one is. some one false is) others
+      slots_tokens have slots_are (λ z p is. now.are.pooled.marks n z p is) free (λ one ws is. some one false ws is) others
       at.judged.spends.1.1.0 unspent
 
   out : AllOut s.frame.held zs
@@ -170,10 +171,12 @@ module _ (program : Lowering) (x y c first : ℕ) (arguments kept_at others : Li
       let puts : Value → TokenConfiguration = λ w. bound_to x w rest s.environment inner from in
       ap (λ g. by_token (goes (token_at_stuck from))
       (make_step (request program.pool.cells others g s.heap (blanked g y spent tokens)) c vs puts from)
-      (λ r. make_step (has_room (released g y r spent tokens)) c vs puts from) g y tokens) many
+      (λ r. make_step (has_room (released g y r spent tokens)) c (filled true kept_at (fields_held s.heap r) vs) puts from) g y
+      tokens) many
       ∙ by_null program.pool.cells (goes (token_at_stuck from))
       (make_step (request program.pool.cells others n s.heap asking) c vs puts from)
-      (λ r. make_step (has_room (released n y r spent tokens)) c vs puts from) n y tokens empty
+      (λ r. make_step (has_room (released n y r spent tokens)) c (filled true kept_at (fields_held s.heap r) vs) puts from) n y
+      tokens empty
       ∙ ap (λ o. make_step o c vs puts from) is
 
   -- ---- what the lines do, by what the request gets
@@ -195,8 +198,8 @@ module _ (program : Lowering) (x y c first : ℕ) (arguments kept_at others : Li
 
   abbrev MadeBy : List (Frame Line) → (ℕ → Owner) → (ℕ → Option ℕ) → ℕ → Type 0
   MadeBy gs owners values one =
-      Fills known rest_lines fs s x (v + y) c zs at.does.placed.low (first ∷ arguments) at.does.placed.lines.0 here making_it
-      at.does.placed.lines.2 gs owners values 0 one
+      Fills known rest_lines fs s x (v + y) c zs at.does.placed.low (first ∷ arguments) kept_at at.does.placed.lines.0 here
+      making_it at.does.placed.lines.2 gs owners values 0 one
 
   abbrev later : ℕ → ℕ → ℕ
   later one = assign size one s.address
@@ -204,10 +207,17 @@ module _ (program : Lowering) (x y c first : ℕ) (arguments kept_at others : Li
   stays : (one r : ℕ) → r < size → later one r ≡ s.address r
   stays one r less = chosen_other r size one s.address (λ e. omega (arith, e, less))
 
+  -- the fields of the names that are there keep their words
+  made_words : (one r : ℕ) → r < size
+      → token_words program.layout (later one) heap_made r ≡ token_words program.layout s.address s.heap r
+  made_words one r less =
+      grown_words program.layout s.address s.heap (record { count = 1; cell = record { made_by = c; fields = vs } }) one r
+      making_it.older less
+
   -- the code goes on with a cell that was made
   goes_there : (gs : List (Frame Line)) (owners : ℕ → Owner) (values : ℕ → Option ℕ) (one : ℕ) (after : Tokens)
       → MadeBy gs owners values one → Serves (has_room after)
-      → HaveTokenCells program.pool (later one) (with_owner one (cell_of size) owners) heap_made after
+      → HaveTokenCells program.pool program.layout (later one) (with_owner one (cell_of size) owners) heap_made after
       → HaveSlotValues s.address (after.slots n) v at.shape.slots values
       → AllWait program s.address size after.slots at.lists.older frames gs at.shape.result → Steps_on
   goes_there gs owners values one after made served cells slots_there waiting =
@@ -219,7 +229,7 @@ module _ (program : Lowering) (x y c first : ℕ) (arguments kept_at others : Li
       let step : token_code_step (setting program) code s.environment inner from
       ≡ builds (busy s.heap) (machine_at program rest to.environment inner frames to.heap after) = asked (has_room after) served in
       let kept = subst (AllLead (AreKeptBy program.pool.cells (ListsAfter code inner at.lists))) step
-      (kept_after program code inner frames tokens input s fs left at refl) in
+      (kept_after program code inner frames tokens input s fs left at (fit 0).keeps refl) in
       let judged : IsJudged program.pool.cells at.lists.left (without (y ∷ []) at.lists.unspent) at.lists.held at.lists.older rest
       inner frames to.heap after
       = subst (λ (l : Lists). IsJudged program.pool.cells l.left l.unspent l.held l.older rest inner frames to.heap after) kept.1.0
@@ -277,17 +287,20 @@ module _ (program : Lowering) (x y c first : ℕ) (arguments kept_at others : Li
       put_other base (v + z) 0 (put x (Some 0) s.frame.cells) (λ e. omega (arith, e, low))
       ∙ put_other x (v + z) 0 s.frame.cells (λ e. omega (arith, e, under)))
 
-  hand_of : (z p : ℕ) → asking.slots n z ≡ token p → IsTokenCell false (s.owners (s.address p))
+  abbrev words_of : ℕ → List ℕ
+  words_of p = token_words program.layout s.address s.heap p
+
+  hand_of : (z p : ℕ) → asking.slots n z ≡ token p → IsTokenCell false (words_of p) (s.owners (s.address p))
   hand_of z p is =
-      subst (λ b. IsTokenCell b (s.owners (s.address p))) (free z) (have.are n z p (now.are.pooled.marks n z p is))
+      subst (λ b. IsTokenCell b (words_of p) (s.owners (s.address p))) (free z) (have.are n z p (now.are.pooled.marks n z p is))
 
   live_is : live asked_values zs ≡ held_values (asking.slots n) v others
-  live_is = live_slots slots_asked (λ z p is. some (s.address p) false (hand_of z p is)) others unspent
+  live_is = live_slots slots_asked (λ z p is. some (s.address p) false (words_of p) (hand_of z p is)) others unspent
 
   tokens_asked : AreTokensIn in_hand s.owners asked_values zs
   tokens_asked =
-      tokens1 known rest_lines fs s x (v + y) c zs at.does.placed.low (first ∷ arguments) at.does.placed.lines.0 here making_it
-      at.does.placed.lines.2 value tokens_are out apart program.some
+      tokens1 known rest_lines fs s x (v + y) c zs at.does.placed.low (first ∷ arguments) kept_at at.does.placed.lines.0 here
+      making_it at.does.placed.lines.2 value tokens_are out apart program.some
 
   same_asked : AllSame s.frame.cells asked_values zs
   same_asked = puts_same base x 0 0 s.frame.cells zs apart
@@ -297,12 +310,12 @@ module _ (program : Lowering) (x y c first : ℕ) (arguments kept_at others : Li
 
   -- tokens beside the one that is taken keep their cells
   stays_cell : (values : ℕ → Option ℕ) (one : ℕ) → AllKept one asked_values (named_values values one) zs
-      → (place : ℕ) (linked : Bool) → place ≢ one → IsTokenCell linked (s.owners place)
-      → IsTokenCell linked (owners_made values one place)
-  stays_cell values one kept place linked differ is =
-      subst (IsTokenCell linked) (sym (chosen_other place one (cell_of size) (owners_back values one) differ))
-      (restored s.owners asked_values (named_values values one) zs one (in_hand nothing) place differ linked (some place linked is)
-      kept tokens_asked is)
+      → (place : ℕ) (linked : Bool) (ws : List ℕ) → place ≢ one → IsTokenCell linked ws (s.owners place)
+      → IsTokenCell linked ws (owners_made values one place)
+  stays_cell values one kept place linked ws differ is =
+      subst (IsTokenCell linked ws) (sym (chosen_other place one (cell_of size) (owners_back values one) differ))
+      (restored s.owners asked_values (named_values values one) zs one (in_hand nothing) place differ linked ws
+      (some place linked ws is) kept tokens_asked is)
 
   stays_aside : (values : ℕ → Option ℕ) (one place : ℕ) → place ≢ one
       → is_aside (owners_made values one place) ≡ is_aside (s.owners place)
@@ -325,21 +338,23 @@ module _ (program : Lowering) (x y c first : ℕ) (arguments kept_at others : Li
   steps_free : busy s.heap + marked asking.marks size < program.pool.cells → Serves (has_room asking) → Steps_on
   steps_free room served =
       let number = have.number in
-      let done = fills_free known rest_lines fs s x (v + y) c zs at.does.placed.low (first ∷ arguments) at.does.placed.lines.0 here
-      making_it at.does.placed.lines.2 value tokens_are out apart program.some (omega (arith, room, number)) in
+      let done = fills_free known rest_lines fs s x (v + y) c zs at.does.placed.low (first ∷ arguments) kept_at
+      at.does.placed.lines.0 here making_it at.does.placed.lines.2 value tokens_are out apart program.some (omega (arith, room, number)) in
       let one = done.0 in
       goes_there fs (owners_back s.frame.cells one) s.frame.cells one asking done.2 served
       (cells_stay have (later one) (owners_made s.frame.cells one) heap_made
       (λ g z r is. stays one r (now.are.pooled.there g z r is))
-      (λ place linked is. stays_cell s.frame.cells one (same_values one) place linked (other one done.1 place linked is) is)
+      (λ g z r is. made_words one r (now.are.pooled.there g z r is))
+      (λ place linked ws is. stays_cell s.frame.cells one (same_values one) place linked ws
+      (other one done.1 place linked ws is) is)
       (λ place. same_there one done.1 place)
       (marked_more program.pool.cells s.heap asking now.are.pooled))
       slots_are waits
     where
-      other : (one : ℕ) → is_aside (s.owners one) ≡ false → (place : ℕ) (linked : Bool) → IsTokenCell linked (s.owners place)
-          → place ≢ one
-      other one nobodys place linked is =
-          λ e. let both : true ≡ false = sym (token_aside linked (s.owners place) is) ∙ ap (λ z. is_aside (s.owners z)) e
+      other : (one : ℕ) → is_aside (s.owners one) ≡ false → (place : ℕ) (linked : Bool) (ws : List ℕ)
+          → IsTokenCell linked ws (s.owners place) → place ≢ one
+      other one nobodys place linked ws is =
+          λ e. let both : true ≡ false = sym (token_aside linked ws (s.owners place) is) ∙ ap (λ z. is_aside (s.owners z)) e
           ∙ nobodys in cc
 
       same_there : (one : ℕ) → is_aside (s.owners one) ≡ false → (place : ℕ)
@@ -366,8 +381,8 @@ module _ (program : Lowering) (x y c first : ℕ) (arguments kept_at others : Li
       let values = put (v + z) (Some 0) s.frame.cells in
       let there : asked_values (v + z) ≡ Some place = subst (λ slot. SlotIs s.address slot (asked_values (v + z))) has
       (slots_asked.are z) in
-      let done = fills_newest known rest_lines fs s x (v + y) c zs at.does.placed.low (first ∷ arguments) at.does.placed.lines.0
-      here making_it at.does.placed.lines.2 value tokens_are out apart program.some (v + z) more (live_is ∙ front)
+      let done = fills_newest known rest_lines fs s x (v + y) c zs at.does.placed.low (first ∷ arguments) kept_at
+      at.does.placed.lines.0 here making_it at.does.placed.lines.2 value tokens_are out apart program.some (v + z) more (live_is ∙ front)
       (slots_unbound v s.bound others at.has.below) (omega (arith, full, number)) in
       let same : done.0 ≡ place = some-is (sym done.1 ∙ there) in
       let made : MadeBy fs (owners_back values place) values place =
@@ -378,8 +393,9 @@ module _ (program : Lowering) (x y c first : ℕ) (arguments kept_at others : Li
       (cell_goes have program.aligned n z p (later place) (owners_made values place) heap_made after
       (hand_owned at.follows place hand.0 hand.1).0 below mark refl
       (λ g w r differ is. stays place r (now.are.pooled.there g w r is))
+      (λ g w r is. made_words place r (now.are.pooled.there g w r is))
       (λ g w r differ is. refl)
-      (λ one linked differ is. stays_cell values place kept one linked differ is)
+      (λ one linked ws differ is. stays_cell values place kept one linked ws differ is)
       (is_counted values place)
       (λ one differ. stays_aside values place one differ)
       (marked_more program.pool.cells s.heap after
@@ -404,19 +420,20 @@ module _ (program : Lowering) (x y c first : ℕ) (arguments kept_at others : Li
       let older = (chain_top asking.slots at.lists.older link links all_apart chain_is).below in
       let linked : is_linked link.frame link.slot asking.chain ≡ true = ap (is_linked link.frame link.slot) chain
       ∙ linked_here link.frame link.slot links in
-      let kept = subst (λ b. IsTokenCell b (s.owners place)) linked (have.are link.frame link.slot p mark) in
+      let kept = subst (λ b. IsTokenCell b (words_of p) (s.owners place)) linked (have.are link.frame link.slot p mark) in
       let taken = taken_from program s.address size asking.slots at.lists.older frames fs at.shape.result waits all_apart link links
       chain_is p has in
-      let made = fills_held known rest_lines fs s x (v + y) c zs at.does.placed.low (first ∷ arguments) at.does.placed.lines.0 here
-      making_it at.does.placed.lines.2 value tokens_are out apart program.some taken.gs place kept.0 (live_is ∙ dead) holds_none
+      let made = fills_held known rest_lines fs s x (v + y) c zs at.does.placed.low (first ∷ arguments) kept_at
+      at.does.placed.lines.0 here making_it at.does.placed.lines.2 value tokens_are out apart program.some taken.gs place kept.0 (live_is ∙ dead) holds_none
       taken.newest taken.taken kept.1 (omega (arith, full, number)) in
       let values = s.frame.cells in
       goes_there taken.gs (owners_back values place) values place after made served
       (cell_goes have program.aligned link.frame link.slot p (later place) (owners_made values place) heap_made after
       (aside_owned at.follows place kept.0 kept.1).0 below mark refl
       (λ g w r differ is. stays place r (pooled.there g w r is))
+      (λ g w r is. made_words place r (pooled.there g w r is))
       (λ g w r differ is. linked_behind program.pool.cells s.heap asking pooled link links chain p has g w r differ is)
-      (λ one held differ is. stays_cell values place (same_values place) one held differ is)
+      (λ one held ws differ is. stays_cell values place (same_values place) one held ws differ is)
       (is_counted values place)
       (λ one differ. stays_aside values place one differ)
       (marked_more program.pool.cells s.heap (released link.frame link.slot p null asking)
@@ -434,9 +451,10 @@ module _ (program : Lowering) (x y c first : ℕ) (arguments kept_at others : Li
       let next : TokenState = record { machine = token_at_end heap_full from; input = input } in
       let no_token = none_held program s.address size asking.slots at.lists.older frames fs at.shape.result waits all_apart
       (sym now.are.chain ∙ chain) in
-      let ran = fills_none known rest_lines fs s x (v + y) c zs p.low (first ∷ arguments) p.lines.0 here making_it p.lines.2 value
+      let ran = fills_none known rest_lines fs s x (v + y) c zs p.low (first ∷ arguments) kept_at p.lines.0 here making_it
+      p.lines.2 value
       tokens_are out apart program.some (live_is ∙ dead) holds_none no_token (omega (arith, full, number)) in
-      let held = row known rest_lines fs s x (v + y) c zs p.low (first ∷ arguments) p.lines.0 here making_it p.lines.2 value
+      let held = row known rest_lines fs s x (v + y) c zs p.low (first ∷ arguments) kept_at p.lines.0 here making_it p.lines.2 value
       tokens_are out apart program.some in
       let world : World = with_cells s.world held.0 in
       let cost = (12 + row_cost zs (most_moves + 9)) + (most_moves + 10) in

@@ -18,17 +18,18 @@ use Rattle.cell_heap.specs.Pool.{Pool}
 use Rattle.cell_heap.specs.Blocks.{Cells, past_links}
 use Rattle.rv_lower.proofs.Performing.{put_same, put_other}
 use Rattle.rv_cells.specs.Layout.{Layout}
-use Rattle.rv_cells.specs.Follows.{Owner, nobody, cell_of, in_hand, kept_aside, Follows, with_owner, is_aside}
+use Rattle.rv_cells.specs.Follows.{AreFrom, Owner, nobody, cell_of, in_hand, kept_aside, Follows, with_owner, is_aside}
 use Rattle.rv_cells.specs.TokenedLines.{values_of_slots}
 use Rattle.rv_cells.proofs.Held.{some-is}
 use Rattle.rv_cells.proofs.FillingHeld.{AllSame, AllAre, AreApartFrom, aside_turned, aside_held, none_other}
-use Rattle.rv_cells.proofs.HeldRows.{IsToken, NoneHas, AreTokensIn, neither, as_back, one_turned, turned_cell, all_held, all_back, held_others, back_others, AllOut}
+use Rattle.rv_cells.proofs.HeldRows.{IsToken, NoneHas, AreTokensIn, neither, as_held, as_back, one_turned, turned_cell, all_held, all_back, held_others, back_others, AllOut}
 use Rattle.rv_cells.proofs.Owners.{chosen_by, chosen_same, chosen_other}
 use Rattle.rv_cells.proofs.Values.{among_none}
 use Rattle.rv_cells.proofs.Words.{hand_owned, aside_owned}
 use Rattle.rv_cells.proofs.TokenFills.{beyond_plain, none_more}
 use Rattle.rv_cells.proofs.TokenFrames.{none_behind}
-use Rattle.rv_cells.proofs.TokenStanding.{SlotIs, IsTokenCell, HaveSlotValues, HaveTokenCells}
+use Rattle.rv_cells.proofs.TokenFields.{past_from}
+use Rattle.rv_cells.proofs.TokenStanding.{SlotIs, IsTokenCell, token_words, HaveSlotValues, HaveTokenCells}
 
 -- ---- values of slots
 
@@ -71,33 +72,35 @@ behind y z ys is = by (y == z) refl
 
 -- a cell that is set aside has an address
 pub aside_some : {pool : Pool} {layout : Layout} {address : ℕ → ℕ} {owners : ℕ → Owner} {heap : Heap} {cells : Cells}
-    → Follows pool layout address owners heap cells → 0 < pool.first → (at : ℕ) (linked : Bool) → IsTokenCell linked (owners at)
-    → at ≢ 0
-aside_some follows some at true is =
+    → Follows pool layout address owners heap cells → 0 < pool.first → (at : ℕ) (linked : Bool) (ws : List ℕ)
+    → IsTokenCell linked ws (owners at) → at ≢ 0
+aside_some follows some at true ws is =
     λ e. let far = (aside_owned follows at is.0 is.1).0.behind in absurd (omega (arith, far, e, some))
-aside_some follows some at false is =
+aside_some follows some at false ws is =
     λ e. let far = (hand_owned follows at is.0 is.1).0.behind in absurd (omega (arith, far, e, some))
 
 -- The values of the unspent slots of a function that holds none are tokens in hand.
-module _ {pool : Pool} {address : ℕ → ℕ} {owners : ℕ → Owner} {heap : Heap} {tokens : Tokens} {n variables count : ℕ}
-    {values : ℕ → Option ℕ} (have : HaveTokenCells pool address owners heap tokens)
+module _ {pool : Pool} {layout : Layout} {address : ℕ → ℕ} {owners : ℕ → Owner} {heap : Heap} {tokens : Tokens}
+    {n variables count : ℕ} {values : ℕ → Option ℕ} (have : HaveTokenCells pool layout address owners heap tokens)
     (slots_are : HaveSlotValues address (tokens.slots n) variables count values)
     (marks : (y p : ℕ) → tokens.slots n y ≡ token p → tokens.marks p ≡ token_of n y)
     (free : (y : ℕ) → is_linked n y tokens.chain ≡ false)
-    (some : (at : ℕ) → IsTokenCell false (owners at) → at ≢ 0) where
+    (some : (at : ℕ) (ws : List ℕ) → IsTokenCell false ws (owners at) → at ≢ 0) where
   value_null : (y : ℕ) → tokens.slots n y ≡ null → values (variables + y) ≡ Some 0
   value_null y is = subst (λ slot. SlotIs address slot (values (variables + y))) is (slots_are.are y)
 
   value_cell : (y p : ℕ) → tokens.slots n y ≡ token p → values (variables + y) ≡ Some (address p)
   value_cell y p is = subst (λ slot. SlotIs address slot (values (variables + y))) is (slots_are.are y)
 
-  hand : (y p : ℕ) → tokens.slots n y ≡ token p → IsTokenCell false (owners (address p))
-  hand y p is = subst (λ b. IsTokenCell b (owners (address p))) (free y) (have.are n y p (marks y p is))
+  hand : (y p : ℕ) → tokens.slots n y ≡ token p → IsTokenCell false (token_words layout address heap p) (owners (address p))
+  hand y p is =
+      subst (λ b. IsTokenCell b (token_words layout address heap p) (owners (address p))) (free y) (have.are n y p (marks y p is))
 
   one_token : (y : ℕ) → Has (tokens.slots n y) → IsToken in_hand owners (values (variables + y))
   one_token y (is_null is) = inl (value_null y is)
   one_token y (has_cell p is) =
-      let cell = hand y p is in inr (address p, cell.0, value_cell y p is, some (address p) cell, cell.1)
+      let cell = hand y p is in
+      inr (address p, cell.0, value_cell y p is, some (address p) (token_words layout address heap p) cell, cell.1)
 
   same_slot : {f g y z : ℕ} → token_of f y ≡ token_of g z → y ≡ z
   same_slot e = cc
@@ -150,25 +153,58 @@ aside_back values (z ∷ zs) owners x =
     aside_back values zs (one_turned as_back (values z) owners) x ∙ aside_turned as_back aside_back_one (values z) owners x
 
 -- one that is in hand stays so
-hand_turned : (value : Option ℕ) (x : ℕ) (owners : ℕ → Owner) → IsTokenCell false (owners x)
-    → IsTokenCell false (one_turned as_back value owners x)
-hand_turned None x owners is = is
-hand_turned (Some zero) x owners is = is
-hand_turned (Some (suc n)) x owners is =
-    chosen_by (λ o. IsTokenCell false o) x (suc n) (as_back (owners (suc n))) owners
-    (λ e. (is.0, ap as_back (ap owners (sym e) ∙ is.1))) (λ differ. is)
+hand_turned : (value : Option ℕ) (x : ℕ) (owners : ℕ → Owner) (ws : List ℕ) → IsTokenCell false ws (owners x)
+    → IsTokenCell false ws (one_turned as_back value owners x)
+hand_turned None x owners ws is = is
+hand_turned (Some zero) x owners ws is = is
+hand_turned (Some (suc n)) x owners ws is =
+    chosen_by (λ o. IsTokenCell false ws o) x (suc n) (as_back (owners (suc n))) owners
+    (λ e. (is.0, ap as_back (ap owners (sym e) ∙ is.1), is.2)) (λ differ. is)
 
-hand_stays : (values : ℕ → Option ℕ) (zs : List ℕ) (x : ℕ) (owners : ℕ → Owner) → IsTokenCell false (owners x)
-    → IsTokenCell false (all_back values zs owners x)
-hand_stays values [] x owners is = is
-hand_stays values (z ∷ zs) x owners is =
-    hand_stays values zs x (one_turned as_back (values z) owners) (hand_turned (values z) x owners is)
+hand_stays : (values : ℕ → Option ℕ) (zs : List ℕ) (x : ℕ) (owners : ℕ → Owner) (ws : List ℕ) → IsTokenCell false ws (owners x)
+    → IsTokenCell false ws (all_back values zs owners x)
+hand_stays values [] x owners ws is = is
+hand_stays values (z ∷ zs) x owners ws is =
+    hand_stays values zs x (one_turned as_back (values z) owners) ws (hand_turned (values z) x owners ws is)
 
-aside_hand : (owner : Owner) → is_aside owner ≡ true → IsTokenCell false (as_back owner)
-aside_hand nobody is = cc
-aside_hand (cell_of name) is = cc
-aside_hand (in_hand words) is = (words, refl)
-aside_hand (kept_aside words) is = (past_links words, refl)
+-- a cell that is set aside has fields of these words
+abbrev HasFields : List ℕ → Owner → Type 0
+HasFields ws (in_hand words) = AreFrom words 2 ws
+HasFields ws (kept_aside words) = AreFrom words 2 ws
+HasFields ws _ = ⊥
+
+aside_hand : (owner : Owner) (ws : List ℕ) → HasFields ws owner → IsTokenCell false ws (as_back owner)
+aside_hand nobody ws is = absurd is
+aside_hand (cell_of name) ws is = absurd is
+aside_hand (in_hand words) ws is = (words, refl, is)
+aside_hand (kept_aside words) ws is = (past_links words, refl, past_from words 2 ws (omega arith) is)
+
+held_one : (owner : Owner) (ws : List ℕ) → HasFields ws owner → HasFields ws (as_held owner)
+held_one nobody ws is = absurd is
+held_one (cell_of name) ws is = absurd is
+held_one (in_hand words) ws is = is
+held_one (kept_aside words) ws is = is
+
+back_one : (owner : Owner) (ws : List ℕ) → HasFields ws owner → HasFields ws (as_back owner)
+back_one nobody ws is = absurd is
+back_one (cell_of name) ws is = absurd is
+back_one (in_hand words) ws is = is
+back_one (kept_aside words) ws is = past_from words 2 ws (omega arith) is
+
+fields_turned : (turn : Owner → Owner) → ((owner : Owner) (list : List ℕ) → HasFields list owner → HasFields list (turn owner))
+    → (value : Option ℕ) (x : ℕ) (owners : ℕ → Owner) (ws : List ℕ) → HasFields ws (owners x)
+    → HasFields ws (one_turned turn value owners x)
+fields_turned turn each None x owners ws is = is
+fields_turned turn each (Some zero) x owners ws is = is
+fields_turned turn each (Some (suc n)) x owners ws is =
+    chosen_by (HasFields ws) x (suc n) (turn (owners (suc n))) owners
+    (λ e. each (owners (suc n)) ws (subst (λ at. HasFields ws (owners at)) e is)) (λ differ. is)
+
+fields_held_all : (values : ℕ → Option ℕ) (zs : List ℕ) (x : ℕ) (owners : ℕ → Owner) (ws : List ℕ) → HasFields ws (owners x)
+    → HasFields ws (all_held values zs owners x)
+fields_held_all values [] x owners ws is = is
+fields_held_all values (z ∷ zs) x owners ws is =
+    fields_turned as_held held_one (values z) x (all_held values zs owners) ws (fields_held_all values zs x owners ws is)
 
 -- one of these values is of a cell's address
 abbrev OneHas : (ℕ → Option ℕ) → ℕ → List ℕ → Type 0
@@ -191,16 +227,16 @@ one_or_none values at (z ∷ zs) = by (has_or_not (values z) at) (one_or_none va
     by (inr not) (inr none) = inr (not, none)
 
 -- the cell of one of them comes into hand
-comes_back : (values : ℕ → Option ℕ) (zs : List ℕ) (x : ℕ) (owners : ℕ → Owner) → x ≢ 0 → is_aside (owners x) ≡ true
-    → OneHas values x zs → IsTokenCell false (all_back values zs owners x)
-comes_back values [] x owners some aside one = absurd one
-comes_back values (z ∷ zs) x owners some aside (inl is) =
-    hand_stays values zs x (one_turned as_back (values z) owners)
-    (subst (λ (o : ℕ → Owner). IsTokenCell false (o x)) (sym (turned_cell as_back (values z) x owners is some))
-    (subst (IsTokenCell false) (sym (chosen_same x x (as_back (owners x)) owners refl)) (aside_hand (owners x) aside)))
-comes_back values (z ∷ zs) x owners some aside (inr later) =
-    comes_back values zs x (one_turned as_back (values z) owners) some
-    (aside_turned as_back aside_back_one (values z) owners x ∙ aside) later
+comes_back : (values : ℕ → Option ℕ) (zs : List ℕ) (x : ℕ) (owners : ℕ → Owner) (ws : List ℕ) → x ≢ 0
+    → HasFields ws (owners x) → OneHas values x zs → IsTokenCell false ws (all_back values zs owners x)
+comes_back values [] x owners ws some aside one = absurd one
+comes_back values (z ∷ zs) x owners ws some aside (inl is) =
+    hand_stays values zs x (one_turned as_back (values z) owners) ws
+    (subst (λ (o : ℕ → Owner). IsTokenCell false ws (o x)) (sym (turned_cell as_back (values z) x owners is some))
+    (subst (IsTokenCell false ws) (sym (chosen_same x x (as_back (owners x)) owners refl)) (aside_hand (owners x) ws aside)))
+comes_back values (z ∷ zs) x owners ws some aside (inr later) =
+    comes_back values zs x (one_turned as_back (values z) owners) ws some
+    (fields_turned as_back back_one (values z) x owners ws aside) later
 
 -- ---- all cells but the one that is taken
 
@@ -259,23 +295,23 @@ module _ (owners : ℕ → Owner) (values later : ℕ → Option ℕ) (zs : List
       ∙ aside_held values zs owners x
 
   -- held or in hand as before
-  pub restored : (linked : Bool) → x ≢ 0 → AllKept at values later zs → AreTokensIn in_hand owners values zs
-      → IsTokenCell linked (owners x)
-      → IsTokenCell linked (all_back later zs (with_owner at owner (all_held values zs owners)) x)
-  restored true some kept are is =
+  pub restored : (linked : Bool) (ws : List ℕ) → x ≢ 0 → AllKept at values later zs → AreTokensIn in_hand owners values zs
+      → IsTokenCell linked ws (owners x)
+      → IsTokenCell linked ws (all_back later zs (with_owner at owner (all_held values zs owners)) x)
+  restored true ws some kept are is =
       let none = none_other in_hand owners values zs x some
       (λ words hand. let both : kept_aside is.0 ≡ in_hand words = sym is.1 ∙ hand in cc) are in
-      subst (IsTokenCell true)
+      subst (IsTokenCell true ws)
       (sym (back_others later zs x turned (none_later at x values later zs some kept none)
       ∙ chosen_other x at owner (all_held values zs owners) differ ∙ held_others values zs x owners none)) is
-  restored false some kept are is =
+  restored false ws some kept are is =
       elim (one_or_none later x zs) [
         | inl one ↦
-            comes_back later zs x turned some
-            (ap is_aside (chosen_other x at owner (all_held values zs owners) differ) ∙ aside_held values zs owners x
-            ∙ ap is_aside is.1) one
+            comes_back later zs x turned ws some
+            (subst (HasFields ws) (sym (chosen_other x at owner (all_held values zs owners) differ))
+            (fields_held_all values zs x owners ws (subst (HasFields ws) (sym is.1) is.2))) one
         | inr none ↦
-            subst (IsTokenCell false)
+            subst (IsTokenCell false ws)
             (sym (back_others later zs x turned none ∙ chosen_other x at owner (all_held values zs owners) differ
             ∙ held_others values zs x owners (none_before at x values later zs differ kept none))) is
       ]

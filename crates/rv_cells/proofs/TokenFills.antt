@@ -1,19 +1,20 @@
 -- The lines of a construction in the cell of a token do the step of the machine with tokens.
-use Rattle.std.proofs.Common.{◌≡◌, ℕ, suc, ◌+◌, ◌<◌, ◌≤◌, inl, inr, false, List, [], ◌∷◌, ◌++◌, length, Some, refl, sym, ◌∙◌, ap, subst, arith, ne_eqb, append_assoc}
+use Rattle.std.proofs.Common.{◌≡◌, ℕ, suc, ◌+◌, ◌<◌, ◌≤◌, inl, inr, true, false, List, [], ◌∷◌, ◌++◌, length, Some, refl, sym, ◌∙◌, ap, subst, arith, ne_eqb, append_assoc}
 use Rattle.std.proofs.lemmas.List.{length-map}
 use Rattle.kk_syntax.specs.Shapes.{is_among, without}
 use Rattle.kk_source.specs.State.{Value}
 use Rattle.kk_source.specs.Actions.{goes, builds}
-use Rattle.kk_counted.specs.Heaps.{Heap, busy}
+use Rattle.kk_counted.specs.Heaps.{Heap, busy, fields_held}
 use Rattle.kk_counted.specs.Keeping.{values_of}
 use Rattle.kk_counted.specs.Marks.{field_marks}
 use Rattle.kk_counted.specs.TokenKeeping.{ArePooled, Lists, IsJudged, ListsAfter, AreKeptBy}
-use Rattle.kk_counted.specs.TokenMachine.{token_code_step, make_step, bound_to, token_at_stuck}
+use Rattle.kk_counted.specs.TokenMachine.{token_code_step, make_step, filled, bound_to, token_at_stuck}
 use Rattle.kk_counted.specs.TokenRuns.{AllLead}
 use Rattle.kk_counted.specs.TokenStates.{TokenJoin, TokenFrame, TokenConfiguration}
 use Rattle.kk_counted.specs.TokenedCodes.{Tokened}
 use Rattle.kk_counted.specs.Tokens.{spent, token, Mark, plain, token_of, one_if_token, Tokens, is_linked, by_token, marked, blanked, released, has_room, request}
 use Rattle.kk_counted.proofs.Chaining.{equal_one, frames_many, not_linked}
+use Rattle.kk_counted.proofs.KnownKept.{kept_left}
 use Rattle.kk_counted.proofs.Pooling.{slot_here, slot_there, mark_there, by_cell}
 use Rattle.rv_isa.specs.declared.asm.Action.TheVariants.{Branch, Routine as Calls}
 use Rattle.rv_isa.specs.declared.asm.Condition.TheVariants.{NotEqual}
@@ -28,6 +29,7 @@ use Rattle.rv_cells.specs.CellLines.{hold_lines, unhold_lines}
 use Rattle.rv_cells.proofs.Bound.{within_itself, within_one, all_among, apart_above}
 use Rattle.rv_cells.proofs.Constructing.{IsMaking, made_spot}
 use Rattle.rv_cells.proofs.Filling.{fill_cost, from_label, whole_lines, fills_own}
+use Rattle.rv_cells.proofs.KeptStores.{kept_words}
 use Rattle.rv_cells.proofs.LineCosts.{most_moves}
 use Rattle.rv_cells.proofs.Owners.{chosen_same, chosen_other}
 use Rattle.rv_cells.proofs.Runs.{turn_of}
@@ -37,21 +39,24 @@ use Rattle.rv_cells.proofs.Words.{hand_owned}
 use Rattle.rv_cells.specs.TokenedLines.{values_of_slots}
 use Rattle.rv_cells.proofs.TokenCells.{cell_goes}
 use Rattle.rv_cells.proofs.TokenEntering.{arguments_fit}
+use Rattle.rv_cells.proofs.TokenFields.{grown_words}
 use Rattle.rv_cells.proofs.TokenFrames.{slots_moved, all_carried, all_wait_at}
 use Rattle.rv_cells.proofs.TokenLineCosts.{forms}
 use Rattle.rv_cells.proofs.TokenLanding.{lands_leads, token_at, machine_at, seen_action, silent_builds, goes_on, kept_after}
-use Rattle.rv_cells.proofs.TokenStanding.{SlotIs, IsTokenCell, finds, held_values, Lowering, setting, upper, known_of, At, IsFitFrom, Follows_step}
+use Rattle.rv_cells.proofs.TokenStanding.{SlotIs, IsTokenCell, token_words, finds, held_values, Lowering, setting, upper, known_of, At, IsFitFrom, Follows_step}
 use Rattle.rv_cells.proofs.TokenUniques.{slots_set, another, row_times}
 
 abbrev takes_into : ℕ → Line
 takes_into x = record { action = Calls Take; args = []; into = Some x }
 
--- a label behind the row of tokens that are held and taken back
-label_split : (before hs us label : List Line) (a b c t : Line) → before ++ (a ∷ b ∷ c ∷ (hs ++ (t ∷ (us ++ label))))
-    ≡ (before ++ (a ∷ b ∷ c ∷ (hs ++ (t ∷ us)))) ++ label
-label_split before hs us label a b c t =
-    ap (λ ls. before ++ (a ∷ b ∷ c ∷ ls)) (sym (append_assoc hs (t ∷ us) label))
-    ∙ sym (append_assoc before (a ∷ b ∷ c ∷ (hs ++ (t ∷ us))) label)
+-- a label behind the row of tokens that are held and taken back, and behind stores
+label_split : (before hs us stores label : List Line) (a b c t : Line)
+    → before ++ (a ∷ b ∷ c ∷ (hs ++ (t ∷ (us ++ (stores ++ label)))))
+    ≡ (before ++ (a ∷ b ∷ c ∷ (hs ++ (t ∷ (us ++ stores))))) ++ label
+label_split before hs us stores label a b c t =
+    ap (λ ls. before ++ (a ∷ b ∷ c ∷ (hs ++ (t ∷ ls)))) (sym (append_assoc us stores label))
+    ∙ ap (λ ls. before ++ (a ∷ b ∷ c ∷ ls)) (sym (append_assoc hs (t ∷ (us ++ stores)) label))
+    ∙ sym (append_assoc before (a ∷ b ∷ c ∷ (hs ++ (t ∷ (us ++ stores)))) label)
 
 -- the next name is no token's
 pub beyond_plain : (cells : ℕ) (heap : Heap) (tokens : Tokens) → ArePooled cells heap tokens → tokens.marks (length heap) ≡ plain
@@ -89,7 +94,7 @@ module _ (program : Lowering) (x y c first : ℕ) (arguments kept_at others : Li
         holds = p.marked.1.0.1;
         fits = subst (λ marks. FitFields marks (values_of s.environment (first ∷ arguments))) (sym (program.fields_are c))
             (arguments_fit at.has.values (first ∷ arguments) (field_marks program.marks c) all p.marked.1.0.0);
-        older = (fit 0).sound.older;
+        older = (fit 0).bare.sound.older;
       }
 
   -- the lines weigh no more than the table of costs says
@@ -121,28 +126,31 @@ module _ (program : Lowering) (x y c first : ℕ) (arguments kept_at others : Li
       let here : Here known s = record { follows = at.follows; values = at.has.values } in
       let values_are = values_of_slots v others in
       let rest_lines = p.lines.1 ++ p.after in
-      let whole_is = whole_lines known rest_lines fs s x (v + y) c values_are p.low (first ∷ arguments) p.lines.0 here making
-      p.lines.2 in
+      let whole_is = whole_lines known rest_lines fs s x (v + y) c values_are p.low (first ∷ arguments) kept_at p.lines.0 here
+      making p.lines.2 in
       let mark = pooled.marks n y q has in
       let nothing = at.judged.spends.0 in
       let free : is_linked n y tokens.chain ≡ false = ap (is_linked n y) at.judged.are.chain
       ∙ not_linked tokens.slots at.lists.held at.lists.older y (ap (λ (ys : List ℕ). is_among ys y) nothing) in
-      let hand = subst (λ b. IsTokenCell b (s.owners address)) free (at.cells.are n y q mark) in
+      let hand = subst (λ b. IsTokenCell b (token_words program.layout s.address s.heap q) (s.owners address)) free
+      (at.cells.are n y q mark) in
       let value : s.frame.cells (v + y) ≡ Some address = subst (λ slot. SlotIs s.address slot (s.frame.cells (v + y))) has
       (at.has.tokens.are y) in
       let vs = values_of s.environment (first ∷ arguments) in
       let after : Tokens = released n y q spent tokens in
       let found_at = finds p.low s.frame.whole
       (p.before ++ (copies_to (v + y) x ∷ copies_to x base ∷ acts (Branch NotEqual p.low) (base ∷ [])
-      ∷ (hold_lines values_are ++ (takes_into x ∷ unhold_lines values_are))))
-      (p.lines.2.0 ++ rest_lines) at.has.formed
+      ∷ (hold_lines values_are ++ (takes_into x ∷ (unhold_lines values_are ++ p.lines.2.0)))))
+      (p.lines.2.1 ++ rest_lines) at.has.formed
       (p.place ∙ ap (λ ls. p.before ++ ls) (p.left_is ∙ ap (λ own. own ++ p.after) p.lines.4
       ∙ append_assoc p.lines.0 p.lines.1 p.after ∙ whole_is)
-      ∙ label_split p.before (hold_lines values_are) (unhold_lines values_are)
-      (from_label known rest_lines fs s x (v + y) c values_are p.low (first ∷ arguments) p.lines.0 here making p.lines.2)
+      ∙ label_split p.before (hold_lines values_are) (unhold_lines values_are) p.lines.2.0
+      (from_label known rest_lines fs s x (v + y) c values_are p.low (first ∷ arguments) kept_at p.lines.0 here making p.lines.2)
       (copies_to (v + y) x) (copies_to x base) (acts (Branch NotEqual p.low) (base ∷ [])) (takes_into x)) in
-      let done = fills_own known rest_lines fs s x (v + y) c values_are p.low (first ∷ arguments) p.lines.0 here making p.lines.2
-      address hand.0 value hand.1 program.some found_at in
+      let keeps = (fit 0).keeps q (subst (λ m. tokens.slots m y ≡ token q) (sym many) has) in
+      let known_ones = kept_words program.layout s.address kept_at hand.0 2 0 (fields_held s.heap q) vs keeps hand.2 in
+      let done = fills_own known rest_lines fs s x (v + y) c values_are p.low (first ∷ arguments) kept_at p.lines.0 here making
+      p.lines.2 address hand.0 value hand.1 known_ones program.some found_at in
       let later = assign size address s.address in
       let f : Frame Line = record s.frame {
         cells = put base (Some 1) (put base (Some (header_of program.layout c))
@@ -155,12 +163,15 @@ module _ (program : Lowering) (x y c first : ℕ) (arguments kept_at others : Li
       ≡ builds (busy s.heap) (machine_at program rest to.environment inner frames to.heap after)
       = ap (λ g. by_token (goes (token_at_stuck from))
       (make_step (request program.pool.cells others g s.heap (blanked g y spent tokens)) c vs puts from)
-      (λ r. make_step (has_room (released g y r spent tokens)) c vs puts from) g y tokens) many
+      (λ r. make_step (has_room (released g y r spent tokens)) c (filled true kept_at (fields_held s.heap r) vs) puts from) g y
+      tokens) many
       ∙ by_cell program.pool.cells (goes (token_at_stuck from))
       (make_step (request program.pool.cells others n s.heap (blanked n y spent tokens)) c vs puts from)
-      (λ r. make_step (has_room (released n y r spent tokens)) c vs puts from) n y q s.heap tokens pooled has in
+      (λ r. make_step (has_room (released n y r spent tokens)) c (filled true kept_at (fields_held s.heap r) vs) puts from) n y q
+      s.heap tokens pooled has
+      ∙ ap (λ fields. make_step (has_room after) c fields puts from) (kept_left 0 kept_at (fields_held s.heap q) vs keeps) in
       let kept = subst (AllLead (AreKeptBy program.pool.cells (ListsAfter code inner at.lists))) step
-      (kept_after program code inner frames tokens input s fs left at refl) in
+      (kept_after program code inner frames tokens input s fs left at (fit 0).keeps refl) in
       let stays : (r : ℕ) → r < size → later r ≡ s.address r
       = λ r less. chosen_other r size address s.address (λ e. omega (arith, e, less)) in
       let below = pooled.there n y q mark in
@@ -200,8 +211,11 @@ module _ (program : Lowering) (x y c first : ℕ) (arguments kept_at others : Li
         cells = cell_goes at.cells program.aligned n y q later (with_owner address (cell_of size) s.owners) to.heap after
             (hand_owned at.follows address hand.0 hand.1).0 below mark refl
             (λ g z r differ is. stays r (pooled.there g z r is))
+            (λ g z r is. grown_words program.layout s.address s.heap
+            (record { count = 1; cell = record { made_by = c; fields = vs } }) address r making.older (pooled.there g z r is))
             (λ g z r differ is. refl)
-            (λ one linked differ is. subst (IsTokenCell linked) (sym (chosen_other one address (cell_of size) s.owners differ)) is)
+            (λ one linked ws differ is. subst (IsTokenCell linked ws)
+            (sym (chosen_other one address (cell_of size) s.owners differ)) is)
             (ap is_aside (chosen_same address address (cell_of size) s.owners refl))
             (λ one differ. ap is_aside (chosen_other one address (cell_of size) s.owners differ))
             (ap (λ k. k + marked after.marks size) fresh ∙ none_more (marked after.marks size));

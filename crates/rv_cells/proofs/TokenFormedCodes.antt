@@ -387,7 +387,7 @@ module _ (layout : Layout) (holds : ℕ → Bool) (texts : Texts) (marks : CellM
         (values_apart variables others spends.1.1.0) (values_differ variables x others numbered.0) (header_of layout c)
         (first ∷ arguments)
         (bound_within bound (reads unspent bound) (first ∷ arguments) (variable_there variables slots unspent bound) marked.0) goal
-        low high is.0 is.1 is.2
+        low high kept is.0 is.1 is.2
         (fits_weaker (variables + slots) (reads (without (y ∷ []) unspent) (x ∷ bound)) (x ∷ reads unspent bound) (reads left outer)
         goal (low + 1) high is.1
         (λ v there. bound_behind_value x unspent bound v (slot_spent y unspent (x ∷ bound) v there))

@@ -19,15 +19,10 @@ use Rattle.rv_lower.proofs.Formed.{none_some, readable_small, readable_bound}
 use Rattle.rv_lower.proofs.AbsentLabels.{HasNo, has_no_append, found_past, found_here, alive_at_past, alive_at_here, other_label}
 use Rattle.rv_lower.proofs.Operations.{Leads, only_bound}
 use Rattle.rv_lower.proofs.Codes.{Ahead, Fits, good_label, goal_up}
-use Rattle.rv_cells.specs.CellLines.{ConstructLines, FillLines, hold_lines, unhold_lines}
-use Rattle.rv_cells.proofs.CellForms.{build_leads, bound_later}
+use Rattle.rv_cells.specs.CellLines.{SomeStores, is_kept, FillingLines, FillLines, hold_lines, unhold_lines}
+use Rattle.rv_cells.proofs.CellForms.{filling_leads, some_lead, bound_later}
 use Rattle.rv_cells.proofs.TokenFormedHeld.{holding_none, good_none, holding_weaker, holding_row, back_row, holding_take}
 use Rattle.rv_cells.proofs.TokenFormedHeld.{hold_none, unhold_none}
-
--- the lines behind the first one
-abbrev behind_first : List Line → List Line
-behind_first [] = []
-behind_first (line ∷ lines) = lines
 
 module _ (base : ℕ) (bound outer : List ℕ) (has : HasRoom base bound) (x : ℕ) (less : x < base) (token : ℕ)
     (is_token : is_bound bound token ≡ true) (others : List ℕ) (are_others : AreBound bound others) (apart : AreApart others)
@@ -55,26 +50,37 @@ module _ (base : ℕ) (bound outer : List ℕ) (has : HasRoom base bound) (x : �
       by [] are = tt
       by (y ∷ others) are = (inl (or_right (x == y) (is_bound bound y) are.0), by others are.1)
 
-  abbrev taken : Line
-  taken = record { action = Routine Take; args = []; into = Some x }
-
-  -- the words are stored
-  stores_lead_on : (stores : List Line)
-      → ConstructLines base x header arguments (record { action = Routine Take; args = []; into = Some x } ∷ stores)
+  -- the words are stored, but for the kept fields, and these are
+  stores_lead_on : (kept : List ℕ) (stores : List Line) → FillingLines base x header arguments kept stores
       → Leads With With (4 + length arguments) stores
-  stores_lead_on stores own =
-      subst (Leads With With (4 + length arguments)) (sym (ap behind_first own.6))
-      (build_leads base (x ∷ bound) x header arguments own.0 own.2 own.1 room here (bound_later base bound x arguments are) own.3
-      own.4 own.5)
+  stores_lead_on kept stores own =
+      filling_leads base (x ∷ bound) x header arguments kept stores room here (bound_later base bound x arguments are) own
+
+  kept_lead_on : (kept : List ℕ) (left : List Line) → SomeStores (is_kept true kept) x 2 0 arguments left
+      → Leads With With (length arguments) left
+  kept_lead_on kept left own =
+      some_lead base (is_kept true kept) (x ∷ bound) base x 2 0 arguments left room (omega arith) here
+      (bound_later base bound x arguments are) own
 
   module _ (goal : Goal) (low high : ℕ) (more : List Line) (fits : Fits base (x ∷ bound) outer goal (low + 1) high more)
-      (stores : List Line) (stored : Leads With With (4 + length arguments) stores) where
-    -- a cell is taken while the other tokens are held
+      (left stores : List Line) (left_stored : Leads With With (length arguments) left)
+      (stored : Leads With With (4 + length arguments) stores) where
+    -- a cell is taken while the other tokens are held, and the kept fields are stored
     abbrev asks : List Line
-    asks = hold_lines others ++ (record { action = Routine Take; args = []; into = Some x } ∷ unhold_lines others)
+    asks = hold_lines others ++ (record { action = Routine Take; args = []; into = Some x } ∷ (unhold_lines others ++ left))
 
     asks_none : (l : ℕ) → HasNo l asks
-    asks_none l = has_no_append l (hold_lines others) _ (hold_none others l) (refl, unhold_none others l)
+    asks_none l = has_no_append l (hold_lines others) _ (hold_none others l)
+        (refl, has_no_append l (unhold_lines others) left (unhold_none others l) (left_stored.no_label l))
+
+    asks_then : (tail : List Line) → asks ++ tail
+        ≡ hold_lines others ++ (record { action = Routine Take; args = []; into = Some x }
+        ∷ (unhold_lines others ++ (left ++ tail)))
+    asks_then tail =
+        append_assoc (hold_lines others)
+        (record { action = Routine Take; args = []; into = Some x } ∷ (unhold_lines others ++ left)) tail
+        ∙ ap (λ ls. hold_lines others ++ (record { action = Routine Take; args = []; into = Some x } ∷ ls))
+        (append_assoc (unhold_lines others) left tail)
 
     module _ (tail : List Line) (ahead : Ahead base outer goal low high tail) where
       abbrev built : List Line
@@ -97,16 +103,15 @@ module _ (base : ℕ) (bound outer : List ℕ) (has : HasRoom base bound) (x : �
           (ahead.fresh low (omega arith) (let up = fits.up in omega (arith, up))))) built_good
 
       asked : Good With (hold_lines others ++ (record { action = Routine Take; args = []; into = Some x } ∷ (unhold_lines others ++
-          labelled)))
+          (left ++ labelled))))
       asked = good_none With _ (holding_row With others _ each small apart
           (holding_take base (x ∷ bound) x others _ room less differ
           (holding_weaker others With (Readable base base (x ∷ x ∷ bound)) _ (readable_bound base base (x ∷ bound) x)
-          (back_row With others labelled each small apart (holding_none With labelled labelled_good)))))
+          (back_row With others (left ++ labelled) each small apart
+          (holding_none With (left ++ labelled) (left_stored.good labelled labelled_good))))))
 
       asked_good : Good With (asks ++ labelled)
-      asked_good = subst (Good With)
-          (sym (append_assoc (hold_lines others) (record { action = Routine Take; args = []; into = Some x } ∷ unhold_lines others)
-          labelled)) asked
+      asked_good = subst (Good With) (sym (asks_then labelled)) asked
 
       either : (v : ℕ) → (is_alive v (asks ++ labelled) ≡ true) ⊎ (is_alive_at low v (asks ++ labelled) ≡ true) → With v
       either v (inl alive) = asked_good.alive v alive
@@ -157,15 +162,13 @@ module _ (base : ℕ) (bound outer : List ℕ) (has : HasRoom base bound) (x : �
     }
 
   -- a construction in the cell of a token: its label is the one from `low` on
-  pub fits_fill : (goal : Goal) (low high : ℕ) (own more : List Line) → FillLines base x token others low header arguments own
+  pub fits_fill : (goal : Goal) (low high : ℕ) (kept : List ℕ) (own more : List Line)
+      → FillLines base x token others low header arguments kept own
       → Fits base (x ∷ bound) outer goal (low + 1) high more → Fits base bound outer goal low high (own ++ more)
-  fits_fill goal low high own more is fits =
-      subst (λ (lines : List Line). Fits base bound outer goal low high (lines ++ more)) (sym (is.2 ∙ flat))
-      (fill_fits goal low high more fits is.0 (stores_lead_on is.0 is.1))
-    where
-      flat : (copies_to token x ∷ copies_to x base ∷ acts (Branch NotEqual low) (base ∷ []) ∷ (hold_lines others ++
-          (taken ∷ (unhold_lines others ++ (acts (Label low) [] ∷ is.0)))))
-          ≡ (copies_to token x ∷ copies_to x base ∷ acts (Branch NotEqual low) (base ∷ []) ∷ ((hold_lines others ++
-          (taken ∷ unhold_lines others)) ++ (acts (Label low) [] ∷ is.0)))
-      flat = ap (λ (code : List Line). copies_to token x ∷ copies_to x base ∷ acts (Branch NotEqual low) (base ∷ []) ∷ code)
-          (sym (append_assoc (hold_lines others) (taken ∷ unhold_lines others) (acts (Label low) [] ∷ is.0)))
+  fits_fill goal low high kept own more is fits =
+      let left_stored = kept_lead_on kept is.0 is.2 in
+      let stored = stores_lead_on kept is.1 is.3 in
+      subst (λ (lines : List Line). Fits base bound outer goal low high (lines ++ more))
+      (sym (is.4 ∙ ap (λ (code : List Line). copies_to token x ∷ copies_to x base ∷ acts (Branch NotEqual low) (base ∷ []) ∷ code)
+      (sym (asks_then goal low high more fits is.0 is.1 left_stored stored (acts (Label low) [] ∷ is.1)))))
+      (fill_fits goal low high more fits is.0 is.1 left_stored stored)

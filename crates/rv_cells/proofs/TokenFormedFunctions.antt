@@ -136,6 +136,7 @@ tokened_program_formed shape code texts each lowerable tokens spends form narrow
       each = form.lowered;
       spends = spends;
       plain = λ f function is. (tokens f function is).plain;
+      leaves = λ f function is. (tokens f function is).leaves;
       formed = all_formed code.functions each form.as_many (λ f function is.
           let one = form.lowered f function is in (
             one.0,

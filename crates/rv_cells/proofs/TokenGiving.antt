@@ -68,7 +68,7 @@ module _ (program : Lowering) where
   module _ (x idle : ℕ) (s : Spot) (shape : Shape) (given : Bool) (left_lines : List Line) (tokens : Tokens) (input : List ℕ)
       (some : 1 ≤ idle) (bytes : All (λ byte. byte < 256) input) (input_is : s.world.left ≡ input)
       (stands : Follows program.pool program.layout s.address s.owners s.heap s.world.cells)
-      (cells : HaveTokenCells program.pool s.address s.owners s.heap tokens) where
+      (cells : HaveTokenCells program.pool program.layout s.address s.owners s.heap tokens) where
     abbrev value : Value
     value = value_of s.environment x
 

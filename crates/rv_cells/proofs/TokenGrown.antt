@@ -193,7 +193,7 @@ step_drops {a} facts variables x wrote =
     (λ later goal rest more high is. (more, code_same facts variables goal rest more high refl refl wrote.label is, refl))
 
 pub step_fills : {a b : Lowering} (facts : Facts) (variables x y c first : ℕ) (arguments kept others : List ℕ)
-    → WroteFill x (variables + y) (values_of_slots variables others) (header_of facts.layout c) (first ∷ arguments) a b
+    → WroteFill x (variables + y) (values_of_slots variables others) (header_of facts.layout c) (first ∷ arguments) kept a b
     → WroteTokenedSteps facts variables (TokenedMove.fills x y c first arguments kept others ∷ []) a b
 step_fills facts variables x y c first arguments kept others wrote =
     step_alone facts variables (TokenedMove.fills x y c first arguments kept others) wrote.lines wrote.grows (λ rest. refl)
@@ -201,12 +201,12 @@ step_fills facts variables x y c first arguments kept others wrote =
     (wrote.lines, more, wrote.are, code_same facts variables goal rest more high refl refl wrote.label is, refl))
 
 -- a construction in the cell of the same token, of the same arguments
-pub fill_is : {x token token_too header : ℕ} {others arguments arguments_too : List ℕ} {a b : Lowering} → token ≡ token_too
-    → arguments ≡ arguments_too → WroteFill x token others header arguments a b
-    → WroteFill x token_too others header arguments_too a b
-fill_is {x} {token} {token_too} {header} {others} {arguments} {arguments_too} {a} {b} same same_too wrote =
-    subst (λ y. WroteFill x y others header arguments_too a b) same
-    (subst (λ ys. WroteFill x token others header ys a b) same_too wrote)
+pub fill_is : {x token token_too header : ℕ} {others arguments arguments_too kept : List ℕ} {a b : Lowering} → token ≡ token_too
+    → arguments ≡ arguments_too → WroteFill x token others header arguments kept a b
+    → WroteFill x token_too others header arguments_too kept a b
+fill_is {x} {token} {token_too} {header} {others} {arguments} {arguments_too} {kept} {a} {b} same same_too wrote =
+    subst (λ y. WroteFill x y others header arguments_too kept a b) same
+    (subst (λ ys. WroteFill x token others header ys kept a b) same_too wrote)
 
 pub step_frees : {a b : Lowering} (facts : Facts) (variables y : ℕ) → Wrote (acts (Compute Free) ((variables + y) ∷ []) ∷ []) a b
     → WroteTokenedSteps facts variables (TokenedMove.frees y ∷ []) a b
@@ -290,13 +290,13 @@ asks_alone {a} {b} facts variables x c form arguments others is none wrote =
 -- a construction that names other tokens fills the cell of a null one
 pub asks_held : {a b d : Lowering} (facts : Facts) (variables x c : ℕ) (form : Form) (arguments others : List ℕ)
     → form ≡ Construct c → (arguments ≡ [] → ⊥) → (others ≡ [] → ⊥) → Wrote (sets 0 x ∷ []) a b
-    → WroteFill x x (values_of_slots variables others) (header_of facts.layout c) arguments b d
+    → WroteFill x x (values_of_slots variables others) (header_of facts.layout c) arguments [] b d
     → WroteAsk facts variables x form arguments others a d
 asks_held {a} {b} {d} facts variables x c form arguments others is some some_too null fill =
     subst (λ f. WroteAsk facts variables x f arguments others a d) (sym is) (by arguments others some some_too fill)
   where
     by : (arguments others : List ℕ) → (arguments ≡ [] → ⊥) → (others ≡ [] → ⊥)
-        → WroteFill x x (values_of_slots variables others) (header_of facts.layout c) arguments b d
+        → WroteFill x x (values_of_slots variables others) (header_of facts.layout c) arguments [] b d
         → WroteAsk facts variables x (Construct c) arguments others a d
     by [] others some some_too fill = absurd (some refl)
     by (first ∷ arguments) [] some some_too fill = absurd (some_too refl)
@@ -306,9 +306,9 @@ asks_held {a} {b} {d} facts variables x c form arguments others is some some_too
       are = λ later. (
         fill.lines,
         subst (λ n. FillLines n x x (values_of_slots variables (other ∷ others)) a.next_label (header_of facts.layout c)
-            (first ∷ arguments) fill.lines) null.base
+            (first ∷ arguments) [] fill.lines) null.base
             (subst (λ n. FillLines b.base x x (values_of_slots variables (other ∷ others)) n (header_of facts.layout c)
-            (first ∷ arguments) fill.lines) null.label fill.are),
+            (first ∷ arguments) [] fill.lines) null.label fill.are),
         refl,
         ap (λ n. n + 1) (sym null.label) ∙ sym fill.label,
       );
@@ -614,11 +614,12 @@ step_of_dup step x is = step_is step _ _ is (Views.dup_step x)
 pub step_of_drop : (step : TokenedStep) (x : ℕ) → step ≡ OfStep.Drop x → TokenedMove.drops x ≡ tokened_move step
 step_of_drop step x is = step_is step _ _ is (Views.drop_step x)
 
-pub step_of_fill : (step : TokenedStep) (x y c first : ℕ) (arguments kept others : _) (given named : List ℕ)
-    → step ≡ OfStep.Fill x y c first arguments kept others → given ≡ arguments.items → named ≡ others.items
-    → TokenedMove.fills x y c first given kept.items named ≡ tokened_move step
-step_of_fill step x y c first arguments kept others given named is same same_too =
-    ap (λ (xs : List ℕ). TokenedMove.fills x y c first xs kept.items named) same
+pub step_of_fill : (step : TokenedStep) (x y c first : ℕ) (arguments kept others : _) (given left named : List ℕ)
+    → step ≡ OfStep.Fill x y c first arguments kept others → given ≡ arguments.items → left ≡ kept.items → named ≡ others.items
+    → TokenedMove.fills x y c first given left named ≡ tokened_move step
+step_of_fill step x y c first arguments kept others given left named is same same_left same_too =
+    ap (λ (xs : List ℕ). TokenedMove.fills x y c first xs left named) same
+    ∙ ap (λ (zs : List ℕ). TokenedMove.fills x y c first arguments.items zs named) same_left
     ∙ ap (λ (ys : List ℕ). TokenedMove.fills x y c first arguments.items kept.items ys) same_too
     ∙ step_is step _ _ is (Views.fill_step x y c first arguments kept others)
 

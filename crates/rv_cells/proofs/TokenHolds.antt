@@ -24,7 +24,8 @@ use Rattle.rv_cells.proofs.Runs.{turn_of}
 use Rattle.rv_cells.proofs.Spots.{Spot}
 use Rattle.rv_cells.proofs.Bound.{within_itself}
 use Rattle.rv_cells.proofs.TokenCells.{cell_turns}
-use Rattle.rv_cells.proofs.TokenStanding.{SlotIs, IsTokenCell, HaveSlotValues, held_values, Lowering, AllWait, target, setting, Follows_step}
+use Rattle.rv_cells.proofs.TokenFields.{past_from}
+use Rattle.rv_cells.proofs.TokenStanding.{SlotIs, IsTokenCell, token_words, HaveSlotValues, held_values, Lowering, AllWait, target, setting, Follows_step}
 use Rattle.rv_cells.proofs.TokenLanding.{token_at, machine_at, CodeSteps, silent_goes, seen_action, goes_on, kept_quiet}
 
 -- a slot that is not among the held ones has a value that is not held
@@ -160,7 +161,8 @@ module _ (program : Lowering) (y : ℕ) (rest : Tokened) where
           let kept = kept_quiet program (Tokened.hold y rest) inner frames tokens input s fs left at
           (machine_at program rest s.environment inner frames s.heap after) step refl in
           let mark = pooled.marks n y q has in
-          let hand = subst (λ b. IsTokenCell b (s.owners (s.address q))) free (at.cells.are n y q mark) in
+          let ws = token_words program.layout s.address s.heap q in
+          let hand = subst (λ b. IsTokenCell b ws (s.owners (s.address q))) free (at.cells.are n y q mark) in
           let cell = (hand_owned at.follows (s.address q) hand.0 hand.1).0 in
           let behind = cell.behind in
           let some = program.some in
@@ -199,7 +201,7 @@ module _ (program : Lowering) (y : ℕ) (rest : Tokened) where
             judged = subst (λ (l : Lists). IsJudged program.pool.cells l.left l.unspent l.held l.older rest inner frames s.heap after)
                 kept.1.0 kept.1.1;
             cells = cell_turns at.cells program.aligned n y q (kept_aside hand.0) links cell mark
-                (subst (λ b. IsTokenCell b (kept_aside hand.0)) (sym (linked_here n y tokens.chain)) (hand.0, refl))
+                (subst (λ b. IsTokenCell b ws (kept_aside hand.0)) (sym (linked_here n y tokens.chain)) (hand.0, refl, hand.2))
                 (λ g z r differ is. linked_other n y g z tokens.chain (λ e e2. differ (cell_same (sym (pooled.slots g z r is)
                 ∙ sym (ap (λ h. tokens.slots h z) e) ∙ sym (ap (tokens.slots n) e2) ∙ has))));
             slots_are = at.has.tokens;
@@ -317,7 +319,8 @@ module _ (program : Lowering) (y : ℕ) (rest : Tokened) where
           (at.has.tokens.are y) in
           let mark = pooled.marks n y q has in
           let linked : is_linked n y tokens.chain ≡ true = ap (is_linked n y) chain_is ∙ linked_here n y links in
-          let aside = subst (λ b. IsTokenCell b (s.owners (s.address q))) linked (at.cells.are n y q mark) in
+          let ws = token_words program.layout s.address s.heap q in
+          let aside = subst (λ b. IsTokenCell b ws (s.owners (s.address q))) linked (at.cells.are n y q mark) in
           let cell = (aside_owned at.follows (s.address q) aside.0 aside.1).0 in
           let behind = cell.behind in
           let some = program.some in
@@ -356,8 +359,8 @@ module _ (program : Lowering) (y : ℕ) (rest : Tokened) where
             plain = p.plain;
             judged = kept.1.1;
             cells = cell_turns at.cells program.aligned n y q owner links cell mark
-                (subst (λ b. IsTokenCell b owner) (sym (not_linked tokens.slots older_held at.lists.older y fresh))
-                (past_links aside.0, refl))
+                (subst (λ b. IsTokenCell b ws owner) (sym (not_linked tokens.slots older_held at.lists.older y fresh))
+                (past_links aside.0, refl, past_from aside.0 2 ws (omega arith) aside.2))
                 (λ g z r differ is. sym (ap (is_linked g z) chain_is ∙ linked_other n y g z links
                 (λ e e2. differ (cell_same (sym (pooled.slots g z r is)
                 ∙ sym (ap (λ h. tokens.slots h z) e) ∙ sym (ap (tokens.slots n) e2) ∙ has)))));

@@ -46,7 +46,7 @@ module _ (program : Lowering) where
       = split_at s.frame.whole p.before left part (label ∷ more) p.after p.place is in
       let few = p.short in
       let join : TokenJoin = record { variable = x; rest = rest } in
-      let next = kept_after program code inner frames tokens input s fs left at refl in
+      let next = kept_after program code inner frames tokens input s fs left at (fit 0).keeps refl in
       let nothing = at.judged.spends.1.0 in
       by_lines program 0 0 ((upper program).weight (token_at program code s.environment inner frames s.heap tokens input)) (saved s.heap)
       idle (token_at program block s.environment (join ∷ inner) frames s.heap tokens input)
@@ -137,26 +137,26 @@ module _ (program : Lowering) where
       let from = machine_at program code s.environment inner frames s.heap tokens in
       let here : Here known s = record { follows = at.follows; values = at.has.values } in
       let named = read_there (cell_named c (length fields) s.heap (value_of s.environment x)) fields rest s.environment inner from
-      input (fit 1).going in
+      input (fit 1).bare.going in
       let reads : IsReading known s x c fields named.0 = record {
         bound = p.marked.0.0;
         is = named.1;
         below = below_more v (at.shape.variables + at.shape.slots) fields (omega arith) p.numbered.0.0;
         apart = p.numbered.0.1.0;
         kinds = marks_are at.shape.holds fields (field_marks program.marks c) p.marked.0.1.1 ∙ sym (program.fields_are c);
-        older = (fit 0).sound.older;
+        older = (fit 0).bare.sound.older;
       } in
       let to = with_fields program.layout s fields named.0.fields in
       let step : token_code_step (setting program) code s.environment inner from
       ≡ goes (machine_at program rest to.environment inner frames to.heap tokens)
       = ap (λ o. token_read_step o fields rest s.environment inner from) named.1 in
       let kept = subst (AllLead (AreKeptBy program.pool.cells (ListsAfter code inner at.lists))) step
-      (kept_after program code inner frames tokens input s fs left at refl) in
+      (kept_after program code inner frames tokens input s fs left at (fit 0).keeps refl) in
       let few = p.short in
       let row = row_times fields (most_moves + 2) in
       goes_did program code inner frames tokens input s fs left at idle fit rest p.lines.0 p.lines.1 to (fields ++ s.bound)
       (row_cost fields (most_moves + 2)) goes
-      (read_did known (p.lines.1 ++ p.after) fs s x c fields p.lines.0 named.0 here reads p.lines.2) refl refl p.lines.4 p.low
+      (read_did known (p.lines.1 ++ p.after) fs s x c fields p.lines.0 named.0 here reads p.lines.2) refl refl refl p.lines.4 p.low
       p.lines.3 (record { way = 0 ∷ []; is_part = inl refl; code_is = refl }) (within_fields fields s.bound) (within_front fields s.bound)
       (below_list v fields s.bound p.numbered.0.0 at.has.below) p.marked.1 p.numbered.1 p.has p.plain
       (subst (λ (l : Lists). IsJudged program.pool.cells l.left l.unspent l.held l.older rest inner frames s.heap tokens) kept.1.0

@@ -9,13 +9,14 @@ use Rattle.kk_counted.specs.BareForms.{bare}
 use Rattle.kk_counted.specs.Heaps.{Heap}
 use Rattle.kk_counted.specs.Lowerable.{AreNumbered}
 use Rattle.kk_counted.specs.Marks.{HasMark}
-use Rattle.kk_counted.specs.TokenKeeping.{Lists, IsJudged, ListsAfter, AreKeptBy, FillsAt}
+use Rattle.kk_counted.specs.TokenKeeping.{Lists, IsJudged, ListsAfter, AreKeptBy}
 use Rattle.kk_counted.specs.TokenLowerable.{HasPlainForms}
 use Rattle.kk_counted.specs.TokenMachine.{token_code_step}
 use Rattle.kk_counted.specs.TokenRuns.{is_quiet, AllLead}
 use Rattle.kk_counted.specs.TokenStates.{TokenJoin, TokenFrame, TokenControl, TokenConfiguration, TokenState}
 use Rattle.kk_counted.specs.TokenedCodes.{Tokened}
 use Rattle.kk_counted.specs.Tokens.{Tokens}
+use Rattle.kk_counted.proofs.KnownKept.{KeepsAt, keeps_fills}
 use Rattle.kk_counted.proofs.TokenSteps.{follows}
 use Rattle.kk_counted.proofs.Unseen.{unseen}
 use Rattle.rv_isa.specs.AsmCode.{Line}
@@ -123,16 +124,14 @@ module _ (program : Lowering) where
     from = machine_at code s.environment inner frames s.heap tokens
 
     -- the lists after a form that the bare form has, and after one that it does not have
-    pub kept_after : is_quiet code ≡ false
+    pub kept_after : KeepsAt (machine_at code s.environment inner frames s.heap tokens)
+        (TokenControl.running code s.environment inner) → is_quiet code ≡ false
         → AllLead (AreKeptBy program.pool.cells (ListsAfter code inner at.lists)) (token_code_step (setting program) code s.environment inner
         (machine_at code s.environment inner frames s.heap tokens))
-    kept_after quiet = (follows (setting program) program.spends at.lists code s.environment inner
-        (machine_at code s.environment inner frames s.heap tokens) at.judged (fills code) quiet).keeps
-      where
-        fills : (c : Tokened) → FillsAt false (machine_at code s.environment inner frames s.heap tokens)
-            (TokenControl.running c s.environment inner)
-        fills (Tokened.fill x y k first arguments kept others rest) = λ p is. refl
-        fills _ = tt
+    kept_after keeps quiet = (follows (setting program) program.spends at.lists code s.environment inner
+        (machine_at code s.environment inner frames s.heap tokens) at.judged
+        (keeps_fills true (machine_at code s.environment inner frames s.heap tokens)
+        (TokenControl.running code s.environment inner) keeps) quiet).keeps
 
     pub kept_quiet : (to : TokenConfiguration)
         → token_code_step (setting program) code s.environment inner (machine_at code s.environment inner frames s.heap tokens) ≡ goes to
@@ -173,7 +172,7 @@ module _ (program : Lowering) where
       pub has : HasSlots at.shape.slots rest
       pub plain : HasPlainForms rest
       pub judged : IsJudged program.pool.cells next.left next.unspent next.held next.older rest inner frames to.heap after
-      pub cells : HaveTokenCells program.pool to.address to.owners to.heap after
+      pub cells : HaveTokenCells program.pool program.layout to.address to.owners to.heap after
       pub slots_are : HaveSlotValues to.address (after.slots (length next.older)) at.shape.variables at.shape.slots to.frame.cells
       pub held_is : to.frame.held ≡ held_values (after.slots (length next.older)) at.shape.variables next.held
       pub waits : AllWait program to.address (length to.heap) after.slots next.older frames gs at.shape.result

@@ -1,6 +1,6 @@
 -- A program with tokens whose functions are lowered runs the same as its assembler code: its bare form has room for the work on
 -- tokens, and the assembler's machine does the steps of the machine with tokens.
-use Rattle.std.proofs.Common.{◌≡◌, ℕ, zero, suc, ◌+◌, ◌*◌, ◌%◌, ◌<◌, ◌≤◌, false, List, [], ◌∷◌, Some, All, refl, sym, ◌∙◌, ap, subst, arith}
+use Rattle.std.proofs.Common.{◌≡◌, ℕ, zero, suc, ◌+◌, ◌*◌, ◌%◌, ◌<◌, ◌≤◌, List, [], ◌∷◌, Some, All, refl, sym, ◌∙◌, ap, subst, arith}
 use Rattle.std.specs.Prelude.{slice_get}
 use Rattle.kk_base.specs.Agreements.{Agree}
 use Rattle.kk_base.specs.Machines.{Machine, mapped, state, ending_after}
@@ -18,10 +18,12 @@ use Rattle.kk_counted.specs.Heaps.{busy}
 use Rattle.kk_counted.specs.Keeping.{counted_after}
 use Rattle.kk_counted.specs.Marks.{CellMarks}
 use Rattle.kk_counted.specs.TokenCosts.{token_cost, HasRoom, AreStatesKept}
-use Rattle.kk_counted.specs.TokenKeeping.{FillsAt, FillsAlways, token_after}
+use Rattle.kk_counted.specs.TokenKeeping.{FillsAlways, token_after}
 use Rattle.kk_counted.specs.TokenMachine.{token_machine}
-use Rattle.kk_counted.specs.TokenStates.{TokenControl, TokenConfiguration, TokenState, token_first_state, token_end_at, bare_control, bare_configuration, bare_setting}
-use Rattle.kk_counted.specs.TokenedCodes.{Tokened, TokenedFunction, TokenedProgram}
+use Rattle.kk_counted.specs.TokenStates.{TokenControl, TokenState, token_first_state, token_end_at, bare_control, bare_setting}
+use Rattle.kk_counted.specs.TokenedCodes.{TokenedFunction, TokenedProgram}
+use Rattle.kk_counted.proofs.KnownKept.{keeps_always}
+use Rattle.kk_counted.proofs.KnownRuns.{known_may_be_left}
 use Rattle.kk_counted.proofs.TokenRoom.{costs_within, states_kept}
 use Rattle.rv_isa.specs.Processor.{Ending, exited}
 use Rattle.rv_isa.specs.AsmCode.{Lines}
@@ -36,7 +38,7 @@ use Rattle.rv_cells.specs.TokenedMeaning.{roomy_outside, IsTokenedLowered, Token
 use Rattle.rv_cells.proofs.FormRoots.{lowered_once}
 use Rattle.rv_cells.proofs.Programs.{all_free, lines_formed}
 use Rattle.rv_cells.proofs.TokenLineCosts.{forms}
-use Rattle.rv_cells.proofs.TokenStanding.{Lowering, setting, upper, lower, pace, Passing, HasEnded, StandsFor, IsFitFrom, Related}
+use Rattle.rv_cells.proofs.TokenStanding.{Lowering, setting, upper, lower, pace, Passing, HasEnded, StandsFor, IsFitWith, IsFitFrom, Related}
 use Rattle.rv_cells.proofs.TokenSimulating.{simulates, starts}
 
 -- ---- machines
@@ -72,16 +74,6 @@ forms_within (one ∷ functions) zero function is =
     let few = ap (λ (g : TokenedFunction). forms g.body) same in
     omega arith
 forms_within (one ∷ functions) (suc f) function is = let later = forms_within functions f function is in omega arith
-
--- where no field is left each construction writes its fields
-writes_all : (c : TokenConfiguration) (control : TokenControl) → FillsAt false c control
-writes_all c (TokenControl.running code environment joins) = at code
-  where
-    at : (code : Tokened) → FillsAt false c (TokenControl.running code environment joins)
-    at (Tokened.fill x y k first arguments kept others rest) = λ p is. refl
-    at _ = tt
-writes_all c (TokenControl.stopped by) = tt
-writes_all c TokenControl.stuck = tt
 
 -- a machine that has ended so has stopped so
 stopped_at : (control : TokenControl) (by : End) → token_end_at control ≡ Some by → control ≡ TokenControl.stopped by
@@ -142,10 +134,9 @@ module _ (layout : Layout) (marks : CellMarks) (code : TokenedProgram) (constant
   abbrev pub idle : ℕ
   idle = forms lowered.main.body
 
-  -- all fields are written
+  -- the fields that are left are those that would be written
   pub fills : FillsAlways token_cost (setting lowering) input
-  fills n =
-      let c = token_after token_cost (setting lowering) input n in writes_all c c.control
+  fills = known_may_be_left token_cost (setting lowering) lowered.spends lowered.leaves input
 
   -- each state with tokens is kept, and without them one of the bare form
   states : AreStatesKept token_cost (roomy_cost room) (setting lowering) input
@@ -159,12 +150,15 @@ module _ (layout : Layout) (marks : CellMarks) (code : TokenedProgram) (constant
   pub seen_states : (n : ℕ) → state (upper lowering) n start ≡ state tokened n start
   seen_states n = state_mapped events_of (λ end. exited (exit_of end)) tokened n start
 
-  -- each state with tokens is fit, since it is so without them
+  -- each state with tokens is fit, since it is so without them, and it keeps only fields that are the new ones
   fit_from : IsFitFrom lowering start
   fit_from n =
       let bare_is = states.states n in
-      subst (λ (s : TokenState). IsFit layout (bare_configuration s.machine)) (sym (seen_states n))
-      (subst (λ c. IsFit layout c) (sym bare_is.1) (fits bare_is.0))
+      subst (λ (s : TokenState). IsFitWith lowering s.machine) (sym (seen_states n))
+      (record {
+        bare = subst (λ c. IsFit layout c) (sym bare_is.1) (fits bare_is.0);
+        keeps = keeps_always token_cost (setting lowering) lowered.spends lowered.leaves input n;
+      })
 
   -- the assembler's machine begins where the machine with tokens does
   pub related : Related lowering 0 idle start turn

@@ -17,24 +17,26 @@ use Rattle.rv_isa.specs.Frames.{Frame}
 use Rattle.rv_lower.specs.Lines.{copies_to}
 use Rattle.rv_cells.specs.Follows.{Owner}
 use Rattle.rv_cells.proofs.Acting.{put_in}
+use Rattle.rv_cells.specs.Layout.{Layout}
 use Rattle.rv_cells.proofs.Bound.{within_itself}
 use Rattle.rv_cells.proofs.Runs.{turn_of}
 use Rattle.rv_cells.proofs.Spots.{Spot, Here}
 use Rattle.rv_cells.proofs.TokenForms.{moves_token}
 use Rattle.rv_cells.proofs.TokenFrames.{none_behind, slots_put, all_wait_at}
 use Rattle.rv_cells.proofs.TokenLineCosts.{forms}
-use Rattle.rv_cells.proofs.TokenStanding.{SlotIs, IsTokenCell, HaveTokenCells, HaveSlotValues, held_values, Lowering, AllWait, setting, known_of, At, IsFitFrom, Follows_step}
+use Rattle.rv_cells.proofs.TokenStanding.{SlotIs, IsTokenCell, token_words, HaveTokenCells, HaveSlotValues, held_values, Lowering, AllWait, setting, known_of, At, IsFitFrom, Follows_step}
 use Rattle.rv_cells.proofs.TokenLanding.{lands_leads, token_at, machine_at, CodeSteps, silent_goes, seen_action, goes_on, kept_quiet}
 use Rattle.rv_cells.proofs.TokenUniques.{slots_set, another}
 
 -- the cell of a token becomes that of another slot, which is linked where the first one is
-pub cell_moves : {pool : Pool} {address : ℕ → ℕ} {owners : ℕ → Owner} {heap : Heap} {tokens : Tokens}
-    → HaveTokenCells pool address owners heap tokens → (f y g z p : ℕ) (after : Tokens) → p < length heap
+pub cell_moves : {pool : Pool} {layout : Layout} {address : ℕ → ℕ} {owners : ℕ → Owner} {heap : Heap} {tokens : Tokens}
+    → HaveTokenCells pool layout address owners heap tokens → (f y g z p : ℕ) (after : Tokens) → p < length heap
     → tokens.marks p ≡ token_of f y → after.marks ≡ marks_with p (token_of g z) (marks_with p plain tokens.marks)
     → after.chain ≡ tokens.chain → is_linked g z tokens.chain ≡ is_linked f y tokens.chain
-    → HaveTokenCells pool address owners heap after
-cell_moves {pool} {address} {owners} {heap} {tokens} have f y g z p after low mark marks_are chain_is linked = record {
-  are = λ h x r is. subst (λ links. IsTokenCell (is_linked h x links) (owners (address r))) (sym chain_is)
+    → HaveTokenCells pool layout address owners heap after
+cell_moves {pool} {layout} {address} {owners} {heap} {tokens} have f y g z p after low mark marks_are chain_is linked = record {
+  are = λ h x r is. subst (λ links. IsTokenCell (is_linked h x links) (token_words layout address heap r) (owners (address r)))
+      (sym chain_is)
       (by_are h x r (sym (ap (λ (m : ℕ → Mark). m r) marks_are) ∙ is) (r == p) refl);
   apart = λ h x r h2 x2 r2 one two e.
       let a = was h x r (sym (ap (λ (m : ℕ → Mark). m r) marks_are) ∙ one) (r == p) refl in
@@ -64,15 +66,16 @@ cell_moves {pool} {address} {owners} {heap} {tokens} have f y g z p after low ma
     was h x r is false test = (h, x, old h x r is test)
 
     by_are : (h x r : ℕ) → marks_with p (token_of g z) (marks_with p plain tokens.marks) r ≡ token_of h x → (b : Bool)
-        → (r == p) ≡ b → IsTokenCell (is_linked h x tokens.chain) (owners (address r))
+        → (r == p) ≡ b → IsTokenCell (is_linked h x tokens.chain) (token_words layout address heap r) (owners (address r))
     by_are h x r is true test =
         let e : p ≡ r = sym (eqb-true r p test) in
         let parts = mark_parts (sym (mark_here p (token_of g z) (marks_with p plain tokens.marks))
         ∙ ap (marks_with p (token_of g z) (marks_with p plain tokens.marks)) e ∙ is) in
-        subst (λ at. IsTokenCell (is_linked h x tokens.chain) (owners at)) (ap address e)
-        (subst (λ w. IsTokenCell (is_linked h w tokens.chain) (owners (address p))) parts.1
-        (subst (λ k. IsTokenCell (is_linked k z tokens.chain) (owners (address p))) parts.0
-        (subst (λ b. IsTokenCell b (owners (address p))) (sym linked) (have.are f y p mark))))
+        let ws = token_words layout address heap p in
+        subst (λ q. IsTokenCell (is_linked h x tokens.chain) (token_words layout address heap q) (owners (address q))) e
+        (subst (λ w. IsTokenCell (is_linked h w tokens.chain) ws (owners (address p))) parts.1
+        (subst (λ k. IsTokenCell (is_linked k z tokens.chain) ws (owners (address p))) parts.0
+        (subst (λ b. IsTokenCell b ws (owners (address p))) (sym linked) (have.are f y p mark))))
     by_are h x r is false test = have.are h x r (old h x r is test)
 
 module _ (program : Lowering) (to of : ℕ) (rest : Tokened) where
@@ -84,7 +87,7 @@ module _ (program : Lowering) (to of : ℕ) (rest : Tokened) where
     moves_it : (word : ℕ) (slot : Slot) (after : Tokens) → s.frame.cells (at.shape.variables + of) ≡ Some word
         → moved (length at.lists.older) to of tokens ≡ Some after
         → slots_with (length at.lists.older) to slot (slots_with (length at.lists.older) of spent tokens.slots) ≡ after.slots
-        → SlotIs s.address slot (Some word) → HaveTokenCells program.pool s.address s.owners s.heap after
+        → SlotIs s.address slot (Some word) → HaveTokenCells program.pool program.layout s.address s.owners s.heap after
         → Follows_step program idle (token_at program (Tokened.move to of rest) s.environment inner frames s.heap tokens input)
         (turn_of left s.frame fs s.world)
     moves_it word slot after value moved_is slots_is slot_is cells =

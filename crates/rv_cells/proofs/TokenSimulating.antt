@@ -208,7 +208,7 @@ module _ (program : Lowering) (main : TokenedFunction) (main_is : slice_get prog
   }
 
   -- no cell is a token's
-  no_token_cells : HaveTokenCells program.pool (λ name. 0) (λ at. nobody) [] no_tokens
+  no_token_cells : HaveTokenCells program.pool program.layout (λ name. 0) (λ at. nobody) [] no_tokens
   no_token_cells = record {
     are = λ f y p is. absurd (plain_is_none f y is);
     apart = λ f y p g z q is other same. absurd (plain_is_none f y is);

@@ -23,7 +23,7 @@ use Rattle.rv_cells.proofs.TokenForms.{nulls_token, frees_token, frees_null}
 use Rattle.rv_cells.proofs.Words.{hand_owned}
 use Rattle.rv_cells.proofs.TokenCells.{cell_goes}
 use Rattle.rv_cells.proofs.TokenFrames.{none_behind, slots_put, all_wait_at}
-use Rattle.rv_cells.proofs.TokenStanding.{SlotIs, IsTokenCell, held_values, Lowering, setting, known_of, Follows_step}
+use Rattle.rv_cells.proofs.TokenStanding.{SlotIs, IsTokenCell, token_words, held_values, Lowering, setting, known_of, Follows_step}
 use Rattle.rv_cells.proofs.TokenLanding.{lands_leads, token_at, machine_at, CodeSteps, silent_goes, seen_action, goes_on, kept_quiet}
 use Rattle.rv_cells.proofs.TokenUniques.{slots_set, another}
 
@@ -151,7 +151,8 @@ module _ (program : Lowering) (y : ℕ) (rest : Tokened) where
           let mark = pooled.marks n y q has in
           let free : is_linked n y tokens.chain ≡ false = ap (is_linked n y) at.judged.are.chain
           ∙ not_linked tokens.slots at.lists.held at.lists.older y (ap (λ (ys : List ℕ). is_among ys y) nothing) in
-          let hand = subst (λ b. IsTokenCell b (s.owners (s.address q))) free (at.cells.are n y q mark) in
+          let ws = token_words program.layout s.address s.heap q in
+          let hand = subst (λ b. IsTokenCell b ws (s.owners (s.address q))) free (at.cells.are n y q mark) in
           let done = frees_token (known_of program at.shape) (p.lines.0 ++ p.after) fs s here (v + y) (s.address q) hand.0 value hand.1
           program.some in
           let to : Spot = record s { owners = with_owner (s.address q) nobody s.owners; world = with_cells s.world done.0 } in
@@ -176,8 +177,9 @@ module _ (program : Lowering) (y : ℕ) (rest : Tokened) where
                 kept.1.0 kept.1.1;
             cells = cell_goes at.cells program.aligned n y q s.address (with_owner (s.address q) nobody s.owners) s.heap after
                 (hand_owned at.follows (s.address q) hand.0 hand.1).0 (pooled.there n y q mark) mark refl
-                (λ g z r differ is. refl) (λ g z r differ is. refl)
-                (λ one linked differ is. subst (IsTokenCell linked) (sym (chosen_other one (s.address q) nobody s.owners differ)) is)
+                (λ g z r differ is. refl) (λ g z r is. refl) (λ g z r differ is. refl)
+                (λ one linked list differ is. subst (IsTokenCell linked list)
+                (sym (chosen_other one (s.address q) nobody s.owners differ)) is)
                 (ap is_aside (chosen_same (s.address q) (s.address q) nobody s.owners refl))
                 (λ one differ. ap is_aside (chosen_other one (s.address q) nobody s.owners differ)) refl;
             slots_are = slots_set at.has.tokens y spent p.has.0 (slot_here n y spent tokens.slots) tt

@@ -9,7 +9,7 @@ use Rattle.kk_source.specs.State.{Environment, End, ended as well}
 use Rattle.kk_source.specs.Ends.{exit_of}
 use Rattle.kk_source.specs.Notes.{events_of}
 use Rattle.kk_counted.specs.BareForms.{bare}
-use Rattle.kk_counted.specs.Heaps.{Heap}
+use Rattle.kk_counted.specs.Heaps.{Heap, fields_held}
 use Rattle.kk_counted.specs.Lowerable.{AreNumbered}
 use Rattle.kk_counted.specs.Marks.{CellMarks, field_marks, HasMark}
 use Rattle.kk_counted.specs.TokenCosts.{token_cost}
@@ -19,6 +19,7 @@ use Rattle.kk_counted.specs.TokenMachine.{token_machine}
 use Rattle.kk_counted.specs.TokenSpending.{AreTokensSpent}
 use Rattle.kk_counted.specs.TokenStates.{TokenSetting, TokenJoin, TokenFrame, TokenControl, TokenConfiguration, TokenState, bare_configuration}
 use Rattle.kk_counted.specs.TokenedCodes.{Tokened, TokenedFunction, TokenedProgram}
+use Rattle.kk_counted.proofs.KnownKept.{KeepsAt}
 use Rattle.kk_counted.specs.Tokens.{Slot, spent, null, token, is_unspent, is_token, token_of, Tokens, is_linked, marked}
 use Rattle.rv_isa.specs.declared.asm.Action.TheVariants.{Label}
 use Rattle.rv_isa.specs.Processor.{Ending, exited}
@@ -32,8 +33,8 @@ use Rattle.rv_world.specs.World.{World}
 use Rattle.rv_lower.specs.Lines.{Texts, acts}
 use Rattle.rv_lower.specs.Lowered.{Goal, returns, joins}
 use Rattle.rv_lower.proofs.Labels.{found_label, label_found}
-use Rattle.rv_cells.specs.Layout.{Layout, IsNarrow}
-use Rattle.rv_cells.specs.Follows.{Owner, in_hand, kept_aside, Follows, NoneAside, set_aside}
+use Rattle.rv_cells.specs.Layout.{Layout, IsNarrow, words_in}
+use Rattle.rv_cells.specs.Follows.{AreFrom, Owner, in_hand, kept_aside, Follows, NoneAside, set_aside}
 use Rattle.rv_cells.specs.CountedLines.{Setting}
 use Rattle.rv_cells.specs.TokenedLines.{CodeLines, HasSlots, IsFunctionOf, AreFunctionsOf}
 use Rattle.rv_cells.specs.Fitting.{IsFit}
@@ -87,14 +88,20 @@ held_values slots variables [] = []
 held_values slots variables (y ∷ ys) =
     if is_token (slots y) then (variables + y) ∷ held_values slots variables ys else held_values slots variables ys
 
--- the cell of a token is held where its slot is linked, else it is in hand
-abbrev pub IsTokenCell : Bool → Owner → Type 0
-IsTokenCell true owner = (words : ℕ → Option ℕ) × (owner ≡ kept_aside words)
-IsTokenCell false owner = (words : ℕ → Option ℕ) × (owner ≡ in_hand words)
+-- The cell of a token is held where its slot is linked, else it is in hand. Its fields have these words.
+abbrev pub IsTokenCell : Bool → List ℕ → Owner → Type 0
+IsTokenCell true ws owner = (words : ℕ → Option ℕ) × (owner ≡ kept_aside words) × AreFrom words 2 ws
+IsTokenCell false ws owner = (words : ℕ → Option ℕ) × (owner ≡ in_hand words) × AreFrom words 2 ws
 
--- Each token has a cell of its own, and as many cells are set aside as there are tokens.
-pub record HaveTokenCells (pool : Pool) (address : ℕ → ℕ) (owners : ℕ → Owner) (heap : Heap) (tokens : Tokens) : Type 0 where
-  pub are : (f y p : ℕ) → tokens.marks p ≡ token_of f y → IsTokenCell (is_linked f y tokens.chain) (owners (address p))
+-- the words of the fields that a name has
+abbrev pub token_words : Layout → (ℕ → ℕ) → Heap → ℕ → List ℕ
+token_words layout address heap p = words_in layout address (fields_held heap p)
+
+-- Each token has a cell of its own, with its old fields, and as many cells are set aside as there are tokens.
+pub record HaveTokenCells (pool : Pool) (layout : Layout) (address : ℕ → ℕ) (owners : ℕ → Owner) (heap : Heap) (tokens : Tokens)
+    : Type 0 where
+  pub are : (f y p : ℕ) → tokens.marks p ≡ token_of f y
+      → IsTokenCell (is_linked f y tokens.chain) (token_words layout address heap p) (owners (address p))
   pub apart : (f y p g z q : ℕ) → tokens.marks p ≡ token_of f y → tokens.marks q ≡ token_of g z → address p ≡ address q → p ≡ q
   pub number : set_aside pool owners ≡ marked tokens.marks (length heap)
 
@@ -127,7 +134,7 @@ module _ (program : Lowering) where
   texts = record { literals = program.code.texts; constants = program.constants }
 
   abbrev pub setting : TokenSetting
-  setting = record { program = program.code; cells = program.pool.cells; depth = program.depth; leaves = false }
+  setting = record { program = program.code; cells = program.pool.cells; depth = program.depth; leaves = true }
 
   -- the machine with tokens as an image tells it
   abbrev pub upper : Machine TokenState Event Ending
@@ -297,7 +304,7 @@ module _ (program : Lowering) where
     pub judged : IsJudged program.pool.cells lists.left lists.unspent lists.held lists.older code inner frames s.heap tokens
     pub does : Does shape s.bound s.frame.whole code inner left
     pub follows : Follows program.pool program.layout s.address s.owners s.heap s.world.cells
-    pub cells : HaveTokenCells program.pool s.address s.owners s.heap tokens
+    pub cells : HaveTokenCells program.pool program.layout s.address s.owners s.heap tokens
     pub has : HasFrame shape s.address (length s.heap) (tokens.slots (length lists.older)) lists.held s.bound s.environment s.frame
     pub waits : AllWait s.address (length s.heap) tokens.slots lists.older frames fs shape.result
     pub input_is : s.world.left ≡ input
@@ -334,9 +341,14 @@ module _ (program : Lowering) where
   idle_of (TokenControl.stopped by) = 0
   idle_of TokenControl.stuck = 0
 
-  -- what is asked of a state, and of all states of the run that come later: that it is fit without its tokens
+  -- What is asked of a state: that it is fit without its tokens, and that a construction keeps only fields that are the new ones.
+  pub record IsFitWith (c : TokenConfiguration) : Type 0 where
+    pub bare : IsFit program.layout (bare_configuration c)
+    pub keeps : KeepsAt c c.control
+
+  -- the same of all states of the run that come later
   abbrev pub IsFitFrom : TokenState → Type 0
-  IsFitFrom s = (n : ℕ) → IsFit program.layout (bare_configuration (state upper n s).machine)
+  IsFitFrom s = (n : ℕ) → IsFitWith (state upper n s).machine
 
   -- What the heap has saved for drops is saved.
   pub record Related (credit idle : ℕ) (s : TokenState) (turn : AsmTurn World Ending) : Type 0 where

@@ -9,9 +9,10 @@ use Rattle.kk_source.specs.Live.{value_of}
 use Rattle.kk_source.specs.Actions.{goes, performed}
 use Rattle.kk_core.specs.CoreMachine.{bind_fields}
 use Rattle.kk_counted.specs.CountedMachine.{Named, cell_named, used_values, other_values, unique_heap, NotStuck}
-use Rattle.kk_counted.specs.Heaps.{Heap, count_at, set_count, more, dup_value, dup_all}
+use Rattle.kk_counted.specs.Heaps.{Heap, count_at, set_count, fields_held, more, dup_value, dup_all}
 use Rattle.kk_counted.specs.Lowerable.{AreBelow, bound_list}
 use Rattle.kk_counted.specs.Marks.{field_marks, HaveMarks}
+use Rattle.kk_counted.specs.References.{cells_of}
 use Rattle.kk_counted.specs.TokenKeeping.{Lists, IsJudged, ListsAfter, AreKeptBy}
 use Rattle.kk_counted.specs.TokenMachine.{token_code_step, token_open_step, to_opened, at_code}
 use Rattle.kk_counted.specs.TokenRuns.{AllLead}
@@ -29,7 +30,7 @@ use Rattle.rv_isa.specs.Frames.{Frame}
 use Rattle.cell_heap.specs.Blocks.{Cells}
 use Rattle.rv_lower.specs.Lines.{acts}
 use Rattle.rv_cells.specs.Layout.{words_in}
-use Rattle.rv_cells.specs.Follows.{Owner, cell_of, in_hand, is_aside}
+use Rattle.rv_cells.specs.Follows.{AreFrom, Owner, cell_of, in_hand, is_aside}
 use Rattle.rv_cells.proofs.Held.{some-is}
 use Rattle.rv_cells.proofs.Bound.{AreWithin, marks_are}
 use Rattle.rv_cells.proofs.Rooms.{named_cell}
@@ -42,9 +43,10 @@ use Rattle.rv_cells.proofs.Spots.{Spot, Here}
 use Rattle.rv_cells.proofs.Values.{among_by}
 use Rattle.rv_cells.proofs.TokenOpenings.{HasCell, IsNull, TokenIs, Leads, token_cost, for_shared, shared_lines, head_lines, whole_lines, opens_to_token}
 use Rattle.rv_cells.proofs.TokenCells.{token_aside, cells_stay, cell_comes}
+use Rattle.rv_cells.proofs.TokenFields.{recounted_words, eased_cells, named_fields}
 use Rattle.rv_cells.proofs.TokenFrames.{none_behind, all_wait_at}
 use Rattle.rv_cells.proofs.TokenLineCosts.{forms}
-use Rattle.rv_cells.proofs.TokenStanding.{SlotIs, IsTokenCell, HaveSlotValues, HaveTokenCells, finds, held_values, Lowering, setting, known_of, AllWait, At, IsFitFrom, Follows_step}
+use Rattle.rv_cells.proofs.TokenStanding.{SlotIs, IsTokenCell, token_words, HaveSlotValues, HaveTokenCells, finds, held_values, Lowering, setting, known_of, AllWait, At, IsFitFrom, Follows_step}
 use Rattle.rv_cells.proofs.TokenLanding.{lands_leads, token_at, machine_at, CodeSteps, seen_action, silent_goes, goes_on, kept_after}
 
 -- a slot is given another token, of which a frame has the value, and the values of the other unspent slots are the same
@@ -231,13 +233,13 @@ module _ (program : Lowering) (x c : ℕ) (fields used : List ℕ) (y : ℕ) (re
       → token_code_step (setting program) (Tokened.if_unique x c fields used y rest) s.environment inner from
       ≡ goes (machine_at program rest (bind_fields fields named.fields s.environment) inner frames next after)
       → length next ≡ length s.heap → slots_with n y slot tokens.slots ≡ after.slots → SlotIs s.address slot (frame.cells (v + y))
-      → HaveTokenCells program.pool s.address owners next after → Steps_on
+      → HaveTokenCells program.pool program.layout s.address owners next after → Steps_on
   finish named next frame owners cells leads after slot step long slots_is value token_cells =
       let p = at.does.placed in
       let code = Tokened.if_unique x c fields used y rest in
       let to = opened_to named next frame owners cells in
       let kept = subst (AllLead (AreKeptBy program.pool.cells (ListsAfter code inner at.lists))) step
-      (kept_after program code inner frames tokens input s fs left at refl) in
+      (kept_after program code inner frames tokens input s fs left at (fit 0).keeps refl) in
       let few = p.short in
       let one = row_times fields (most_moves + 2) in
       let two = row_times (filter (is_among used) fields) (most_moves + 5) in
@@ -283,9 +285,11 @@ module _ (program : Lowering) (x c : ℕ) (fields used : List ℕ) (y : ℕ) (re
       → token_code_step (setting program) (Tokened.if_unique x c fields used y rest) s.environment inner from
       ≡ goes (machine_at program rest (bind_fields fields named.fields s.environment) inner frames next
       (opened_tokens (count_at next named.at) (length frames) y named.at tokens))
-      → length next ≡ length s.heap → count_at s.heap named.at ≡ 1 → (words : List ℕ)
-      → HasCell s (opened_to named next frame owners cells) (v + y) (s.address named.at) words → Steps_on
-  gains named next frame owners cells leads step long once words has = by (count_at next named.at) refl
+      → length next ≡ length s.heap → cells_of next ≡ cells_of s.heap → fields_held s.heap named.at ≡ named.fields
+      → count_at s.heap named.at ≡ 1
+      → HasCell s (opened_to named next frame owners cells) (v + y) (s.address named.at)
+      (words_in program.layout s.address named.fields) → Steps_on
+  gains named next frame owners cells leads step long recounted fields_are once has = by (count_at next named.at) refl
     where
       owns : s.owners (s.address named.at) ≡ cell_of named.at
       owns = at.follows.named named.at (omega (arith, once))
@@ -312,9 +316,16 @@ module _ (program : Lowering) (x c : ℕ) (fields used : List ℕ) (y : ℕ) (re
           (cell_comes at.cells program.aligned n y named.at owners next (gained n y named.at tokens)
           (named_cell program.aligned at.follows named.at (omega (arith, once))).cell
           (counted_within s.heap named.at 0 once) (plain_mark (tokens.marks named.at) refl) refl refl long
-          (subst (λ b. IsTokenCell b (owners (s.address named.at))) (sym free_slot) (has.words, has.hand))
+          (λ q. recounted_words program.layout s.address s.heap next q recounted)
+          (subst (λ b. IsTokenCell b (token_words program.layout s.address s.heap named.at) (owners (s.address named.at)))
+          (sym free_slot) (
+            has.words,
+            has.hand,
+            subst (AreFrom has.words 2) (ap (words_in program.layout s.address) (sym fields_are)) has.fields_are,
+          ))
           (ap is_aside owns)
-          (λ z linked differ is. subst (IsTokenCell linked) (sym (has.aside z differ (token_aside linked (s.owners z) is))) is)
+          (λ z linked ws differ is. subst (IsTokenCell linked ws)
+          (sym (has.aside z differ (token_aside linked ws (s.owners z) is))) is)
           (λ z differ. same_bools (is_aside (owners z)) (is_aside (s.owners z))
           (λ is. sym (ap is_aside (has.was z differ is)) ∙ is) (λ is. ap is_aside (has.aside z differ is) ∙ is)))
       by (suc k) counts =
@@ -328,16 +339,17 @@ module _ (program : Lowering) (x c : ℕ) (fields used : List ℕ) (y : ℕ) (re
       → token_code_step (setting program) (Tokened.if_unique x c fields used y rest) s.environment inner from
       ≡ goes (machine_at program rest (bind_fields fields named.fields s.environment) inner frames next
       (opened_tokens (count_at next named.at) (length frames) y named.at tokens))
-      → length next ≡ length s.heap → 1 ≤ count_at next named.at
+      → length next ≡ length s.heap → cells_of next ≡ cells_of s.heap → 1 ≤ count_at next named.at
       → IsNull s (opened_to named next frame owners cells) (v + y) → Steps_on
-  blanks named next frame owners cells leads step long some has = by (count_at next named.at) refl
+  blanks named next frame owners cells leads step long recounted some has = by (count_at next named.at) refl
     where
       by : (count : ℕ) → count_at next named.at ≡ count → Steps_on
       by zero counts = absurd (omega (arith, some, counts))
       by (suc k) counts =
           let many = frames_many tokens.slots at.lists.older frames at.judged.waiting in
           let stay = cells_stay at.cells s.address owners next (λ f z q is. refl)
-          (λ z linked is. subst (IsTokenCell linked) (sym (has.aside z (token_aside linked (s.owners z) is))) is)
+          (λ f z q is. recounted_words program.layout s.address s.heap next q recounted)
+          (λ z linked ws is. subst (IsTokenCell linked ws) (sym (has.aside z (token_aside linked ws (s.owners z) is))) is)
           (λ z. same_bools (is_aside (owners z)) (is_aside (s.owners z))
           (λ is. sym (ap is_aside (has.was z is)) ∙ is) (λ is. ap is_aside (has.aside z is) ∙ is))
           (ap (marked tokens.marks) long) in
@@ -353,14 +365,14 @@ module _ (program : Lowering) (x c : ℕ) (fields used : List ℕ) (y : ℕ) (re
       let p = at.does.placed in
       let code = Tokened.if_unique x c fields used y rest in
       let known = known_of program at.shape in
-      let counts = (fit 0).counts (bare code) s.environment (map bare_join inner) refl in
+      let counts = (fit 0).bare.counts (bare code) s.environment (map bare_join inner) refl in
       let opens = λ (m : Named). unique_heap (count_at s.heap m.at) m.at (used_values used fields m.fields)
       (other_values used fields m.fields) s.heap in
       let named = named_there (cell_named c (length fields) s.heap (value_of s.environment x)) opens fields y rest s.environment inner
-      from input (fit 1).going in
+      from input (fit 1).bare.going in
       let to = at_code rest (bind_fields fields named.0.fields s.environment) inner from in
       let going = subst (λ o. NotStuck (bare_configuration (performed (token_open_step o opens fields y rest s.environment inner from)
-      input).1.machine).control) named.1 (fit 1).going in
+      input).1.machine).control) named.1 (fit 1).bare.going in
       let next = opened_there (opens named.0) named.0.at y from to going in
       let step = ap (λ o. token_open_step o opens fields y rest s.environment inner from) named.1
       ∙ ap (λ o. goes (to_opened o named.0.at y from to)) next.1 in
@@ -371,7 +383,7 @@ module _ (program : Lowering) (x c : ℕ) (fields used : List ℕ) (y : ℕ) (re
         below = below_more v (at.shape.variables + at.shape.slots) fields (omega arith) p.numbered.0.0;
         apart = p.numbered.0.1.0;
         kinds = marks_are at.shape.holds fields (field_marks program.marks c) p.marked.0.1.1 ∙ sym (program.fields_are c);
-        older = (fit 0).sound.older;
+        older = (fit 0).bare.sound.older;
       } in
       let few_used = filter_length (is_among used) fields in
       let most = few_fields at.shape.holds c fields p.marked.0.1.1 in
@@ -398,12 +410,16 @@ module _ (program : Lowering) (x c : ℕ) (fields used : List ℕ) (y : ℕ) (re
       p.numbered.0.1.1 token_low spare p.lines.2 next.1 (λ name. let small = counts name in omega arith)
       (finds p.low s.frame.whole (p.before ++ first) (shared_rest ++ behind) at.has.formed shared_at)
       (finds (p.low + 1) s.frame.whole ((p.before ++ first) ++ shared) after at.has.formed behind_at) in
-      let words = words_in program.layout s.address named.0.fields in
       let used_are = used_values used fields named.0.fields in
       let others_are = other_values used fields named.0.fields in
       let long : length next.0 ≡ length s.heap = eased_length (unique_heap (count_at s.heap named.0.at) named.0.at used_are others_are
       s.heap) next.0 next.1 (eased_unique (count_at s.heap named.0.at) named.0.at used_are others_are s.heap refl) in
-      by named.0 next.0 opened.0 opened.1 opened.2 opened.3 step long words (count_at s.heap named.0.at) refl next.1 opened.4
+      let recounted = eased_cells (unique_heap (count_at s.heap named.0.at) named.0.at used_are others_are s.heap) s.heap next.0
+      next.1 (eased_unique (count_at s.heap named.0.at) named.0.at used_are others_are s.heap refl) in
+      let fields_are : fields_held s.heap named.0.at ≡ named.0.fields = named_fields c (length fields) s.heap
+      (value_of s.environment x) named.0 named.1 in
+      by named.0 next.0 opened.0 opened.1 opened.2 opened.3 step long recounted fields_are (count_at s.heap named.0.at) refl next.1
+      opened.4
     where
       eased_length : (o : Option Heap) (next : Heap) → o ≡ Some next → EasedTo s.heap o → length next ≡ length s.heap
       eased_length None next is eased = cc
@@ -423,15 +439,17 @@ module _ (program : Lowering) (x c : ℕ) (fields used : List ℕ) (y : ℕ) (re
           → token_code_step (setting program) (Tokened.if_unique x c fields used y rest) s.environment inner from
           ≡ goes (machine_at program rest (bind_fields fields named.fields s.environment) inner frames next
           (opened_tokens (count_at next named.at) (length frames) y named.at tokens))
-          → length next ≡ length s.heap → (words : List ℕ) (count : ℕ) → count_at s.heap named.at ≡ count
+          → length next ≡ length s.heap → cells_of next ≡ cells_of s.heap → fields_held s.heap named.at ≡ named.fields
+          → (count : ℕ) → count_at s.heap named.at ≡ count
           → unique_heap count named.at (used_values used fields named.fields) (other_values used fields named.fields) s.heap
           ≡ Some next
-          → TokenIs count s (opened_to named next frame owners cells) (v + y) (s.address named.at) words → Steps_on
-      by named next frame owners cells leads step long words zero counts given is = absurd is
-      by named next frame owners cells leads step long words (suc zero) counts given is =
-          gains named next frame owners cells leads step long counts words is
-      by named next frame owners cells leads step long words (suc (suc m)) counts given is =
-          blanks named next frame owners cells leads step long
+          → TokenIs count s (opened_to named next frame owners cells) (v + y) (s.address named.at)
+          (words_in program.layout s.address named.fields) → Steps_on
+      by named next frame owners cells leads step long recounted fields_are zero counts given is = absurd is
+      by named next frame owners cells leads step long recounted fields_are (suc zero) counts given is =
+          gains named next frame owners cells leads step long recounted fields_are counts is
+      by named next frame owners cells leads step long recounted fields_are (suc (suc m)) counts given is =
+          blanks named next frame owners cells leads step long recounted
           (shared_counted m named.at (used_values used fields named.fields) (other_values used fields named.fields) s.heap next counts
           given) is
 

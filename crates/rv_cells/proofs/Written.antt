@@ -6,6 +6,7 @@ use Rattle.std.proofs.Common.{
   ◌+◌,
   ◌<◌,
   Bool,
+  true,
   not,
   List,
   [],
@@ -42,8 +43,8 @@ use Rattle.rv_lower.specs.Written.{Wrote, WroteLines, TookLabel}
 use Rattle.rv_lower.proofs.Written.{wrote_then}
 use Rattle.rv_lower.proofs.Grown.{grows_of, grows_took, grows_then, grows_more}
 use Rattle.rv_cells.specs.Layout.{Layout}
-use Rattle.rv_cells.specs.CellLines.{Loads, Stores, AllLoads, AllStores, Walks, dups_lines, drops_lines, CountLines, ConstructLines}
-use Rattle.rv_cells.specs.CellLines.{FillLines, hold_lines, unhold_lines}
+use Rattle.rv_cells.specs.CellLines.{Loads, Stores, AllLoads, AllStores, StoresIf, SomeStores, is_kept, Walks, dups_lines, drops_lines, CountLines, ConstructLines}
+use Rattle.rv_cells.specs.CellLines.{FillingLines, FillLines, hold_lines, unhold_lines}
 use Rattle.rv_cells.specs.CountedLines.{
   is_plain,
   answer_word,
@@ -99,6 +100,49 @@ loads_more cell n index xs lines line less is all one =
     subst (λ ys. AllLoads cell 2 ys (lines ++ line ∷ [])) (sym (take_more xs n 0 less))
     (more_loads cell 2 (get_or xs n 0) (take n xs) lines line all
     (subst (λ i. Loads cell i (get_or xs n 0) line) (is ∙ ap (λ m. 2 + m) (sym (length_taken xs n less))) one))
+
+-- so are some of them
+more_some : (takes : ℕ → Bool) (cell i position from : ℕ) (xs : List ℕ) (lines one : List Line)
+    → SomeStores takes cell i position xs lines → StoresIf (takes (position + length xs)) cell (i + length xs) from one
+    → SomeStores takes cell i position (xs ++ from ∷ []) (lines ++ one)
+more_some takes cell i position from [] lines one all last = (
+  one,
+  [],
+  subst (λ b. StoresIf b cell i from one) (ap takes (none_beside position))
+      (subst (λ j. StoresIf (takes (position + 0)) cell j from one) (none_beside i) last),
+  refl,
+  ap (λ ls. ls ++ one) all ∙ sym (append-nil one),
+)
+  where
+    none_beside : (n : ℕ) → n + 0 ≡ n
+    none_beside n = omega arith
+more_some takes cell i position from (x ∷ xs) lines one all last = (
+  all.0,
+  all.1 ++ one,
+  all.2,
+  more_some takes cell (suc i) (suc position) from xs all.1 one all.3
+      (subst (λ b. StoresIf b cell (suc i + length xs) from one) (ap takes (one_on position (length xs)))
+      (subst (λ j. StoresIf (takes (position + suc (length xs))) cell j from one) (one_on i (length xs)) last)),
+  ap (λ ls. ls ++ one) all.4 ∙ append_assoc all.0 all.1 one,
+)
+  where
+    one_on : (n k : ℕ) → n + suc k ≡ suc n + k
+    one_on n k = omega arith
+
+pub some_more : (takes : ℕ → Bool) (cell n index position : ℕ) (xs : List ℕ) (lines one : List Line) → n < length xs
+    → index ≡ 2 + n → position ≡ n → SomeStores takes cell 2 0 (take n xs) lines
+    → StoresIf (takes position) cell index (get_or xs n 0) one
+    → SomeStores takes cell 2 0 (take (n + 1) xs) (lines ++ one)
+some_more takes cell n index position xs lines one less is place all last =
+    subst (λ ys. SomeStores takes cell 2 0 ys (lines ++ one)) (sym (take_more xs n 0 less))
+    (more_some takes cell 2 0 (get_or xs n 0) (take n xs) lines one all
+    (subst (λ b. StoresIf b cell (2 + length (take n xs)) (get_or xs n 0) one)
+    (ap takes (place ∙ sym (length_taken xs n less) ∙ none_before (length (take n xs))))
+    (subst (λ i. StoresIf (takes position) cell i (get_or xs n 0) one)
+    (is ∙ ap (λ m. 2 + m) (sym (length_taken xs n less))) last)))
+  where
+    none_before : (k : ℕ) → k ≡ 0 + k
+    none_before k = omega arith
 
 pub stores_more : (cell n index : ℕ) (xs : List ℕ) (lines : List Line) (line : Line) → n < length xs → index ≡ 2 + n
     → AllStores cell 2 (take n xs) lines → Stores cell index (get_or xs n 0) line
@@ -210,29 +254,35 @@ construction_written {a} {b} {c} x header arguments takes stores = record {
 }
 
 -- a construction in the cell of a token
-pub fill_written : {x token header filled : ℕ} {others arguments : List ℕ} {a b c d e f : Lowering} → TookLabel filled a b
+pub fill_written : {x token header filled : ℕ} {others arguments kept : List ℕ} {a b c d e f g : Lowering} → TookLabel filled a b
     → Wrote (copies_to token x ∷ copies_to x b.base ∷ acts (Branch NotEqual filled) (b.base ∷ []) ∷ []) b c
-    → Wrote (request_lines x others) c d → Wrote (acts (Label filled) [] ∷ []) d e
-    → WroteLines (StoreLines e.base x header arguments) e f → WroteFill x token others header arguments a f
-fill_written {x} {token} {header} {filled} {others} {arguments} {a} {b} {c} {d} {e} {f} took test requests
-    labelled stores = record {
-      lines = test_lines a.base ++ (request_lines x others ++ (acts (Label filled) [] ∷ stores.lines));
+    → Wrote (request_lines x others) c d → WroteLines (SomeStores (is_kept true kept) x 2 0 arguments) d e
+    → Wrote (acts (Label filled) [] ∷ []) e f
+    → WroteLines (FillingLines f.base x header arguments kept) f g → WroteFill x token others header arguments kept a g
+fill_written {x} {token} {header} {filled} {others} {arguments} {kept} {a} {b} {c} {d} {e} {f} {g} took test requests
+    left labelled stores = record {
+      lines = test_lines a.base ++ (request_lines x others ++ behind);
       grows = grows_more (omega arith) (grows_then (grows_took took) (grows_of
           (wrote_then (subst (λ n. Wrote (test_lines n) b c) took.base test)
-          (wrote_then requests (wrote_then labelled stores.wrote)))));
-      label = stores.wrote.label ∙ labelled.label ∙ requests.label ∙ test.label ∙ took.next;
-      are = subst (λ n. FillLines a.base x token others n header arguments
-          (test_lines a.base ++ (request_lines x others ++ (acts (Label filled) [] ∷ stores.lines)))) took.is (
+          (wrote_then requests (wrote_then left.wrote (wrote_then labelled stores.wrote))))));
+      label = stores.wrote.label ∙ labelled.label ∙ left.wrote.label ∙ requests.label ∙ test.label ∙ took.next;
+      are = subst (λ n. FillLines a.base x token others n header arguments kept
+          (test_lines a.base ++ (request_lines x others ++ behind))) took.is (
+            left.lines,
             stores.lines,
-            subst (λ n. StoreLines n x header arguments stores.lines)
-                (labelled.base ∙ requests.base ∙ test.base ∙ took.base) stores.are,
+            left.are,
+            subst (λ n. FillingLines n x header arguments kept stores.lines)
+                (labelled.base ∙ left.wrote.base ∙ requests.base ∙ test.base ∙ took.base) stores.are,
             ap (λ (ls : List Line). test_lines a.base ++ ls)
-                (append_assoc (hold_lines others) (take_line x ∷ unhold_lines others) (acts (Label filled) [] ∷ stores.lines)),
+                (append_assoc (hold_lines others) (take_line x ∷ unhold_lines others) behind),
           );
     }
   where
     test_lines : ℕ → List Line
     test_lines base = copies_to token x ∷ copies_to x base ∷ acts (Branch NotEqual filled) (base ∷ []) ∷ []
+
+    behind : List Line
+    behind = left.lines ++ (acts (Label filled) [] ∷ stores.lines)
 
 -- ---- tests
 

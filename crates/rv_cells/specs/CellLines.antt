@@ -1,6 +1,6 @@
 -- The assembler lines of the counted forms that touch cells. Value x of a function's assembler code is variable x; the values
 -- from `base` on are temporaries.
-use Rattle.std.specs.Prelude.{◌≡◌, ℕ, suc, ◌+◌, ◌*◌, ◌-◌, ◌^◌, Bool, List, [], ◌∷◌, ◌++◌, filter, Some, not, if◌then◌else◌}
+use Rattle.std.specs.Prelude.{◌≡◌, ℕ, suc, ◌+◌, ◌*◌, ◌-◌, ◌^◌, Bool, true, false, List, [], ◌∷◌, ◌++◌, filter, Some, not, if◌then◌else◌}
 use Rattle.kk_syntax.specs.Shapes.{is_among}
 use Rattle.rv_isa.specs.declared.asm.Action.TheVariants.{Compute, Label, Jump, Branch, Routine as Calls, Hold, Unhold}
 use Rattle.rv_isa.specs.declared.asm.Condition.TheVariants.{Equal, NotEqual}
@@ -30,6 +30,23 @@ abbrev pub AllStores : ℕ → ℕ → List ℕ → List Line → Type 0
 AllStores cell i [] lines = lines ≡ []
 AllStores cell i (x ∷ xs) lines = (first : Line) × (more : List Line) × Stores cell i x first × AllStores cell (suc i) xs more
     × (lines ≡ first ∷ more)
+
+-- a value is stored in word i of a cell, or no line is there
+abbrev pub StoresIf : Bool → ℕ → ℕ → ℕ → List Line → Type 0
+StoresIf true cell i from lines = (store : Line) × Stores cell i from store × (lines ≡ store ∷ [])
+StoresIf false cell i from lines = lines ≡ []
+
+-- those of these values are stored there that are at a position which is taken; positions are counted from one on
+abbrev pub SomeStores : (ℕ → Bool) → ℕ → ℕ → ℕ → List ℕ → List Line → Type 0
+SomeStores takes cell i position [] lines = lines ≡ []
+SomeStores takes cell i position (x ∷ xs) lines =
+    (first : List Line) × (more : List Line) × StoresIf (takes position) cell i x first
+    × SomeStores takes cell (suc i) (suc position) xs more × (lines ≡ first ++ more)
+
+-- the positions that are kept, and the others
+abbrev pub is_kept : Bool → List ℕ → ℕ → Bool
+is_kept true kept position = is_among kept position
+is_kept false kept position = not (is_among kept position)
 
 -- ---- references
 
@@ -67,15 +84,23 @@ abbrev pub unhold_lines : List ℕ → List Line
 unhold_lines [] = []
 unhold_lines (token ∷ tokens) = acts Unhold (token ∷ []) ∷ unhold_lines tokens
 
+-- The words of a cell but those of its fields at the kept positions are stored, as in each construction.
+abbrev pub FillingLines : ℕ → ℕ → ℕ → List ℕ → List ℕ → List Line → Type 0
+FillingLines base x header arguments kept lines =
+    (head : Line) × (fields : List Line) × (count : Line) × Stores x 1 base head
+    × SomeStores (is_kept false kept) x 2 0 arguments fields × Stores x 0 base count
+    × (lines ≡ sets header base ∷ head ∷ (fields ++ sets 1 base ∷ count ∷ []))
+
 -- A construction in the cell of a token: variable x has the token's word. Where that is 0 a cell is taken, while the other tokens
--- are held, so that they are tried in their order. From label `filled` on the words are stored as in each construction.
-abbrev pub FillLines : ℕ → ℕ → ℕ → List ℕ → ℕ → ℕ → List ℕ → List Line → Type 0
-FillLines base x token others filled header arguments lines =
-    (stores : List Line)
-    × ConstructLines base x header arguments (record { action = Calls Take; args = []; into = Some x } ∷ stores)
+-- are held, so that they are tried in their order, and the fields at the kept positions are stored. From label `filled` on the
+-- other words are stored: the token's cell has the kept fields.
+abbrev pub FillLines : ℕ → ℕ → ℕ → List ℕ → ℕ → ℕ → List ℕ → List ℕ → List Line → Type 0
+FillLines base x token others filled header arguments kept lines =
+    (left : List Line) × (stores : List Line) × SomeStores (is_kept true kept) x 2 0 arguments left
+    × FillingLines base x header arguments kept stores
     × (lines ≡ copies_to token x ∷ copies_to x base ∷ acts (Branch NotEqual filled) (base ∷ []) ∷
     (hold_lines others ++ (record { action = Calls Take; args = []; into = Some x } ∷
-    (unhold_lines others ++ (acts (Label filled) [] ∷ stores)))))
+    (unhold_lines others ++ (left ++ (acts (Label filled) [] ∷ stores))))))
 
 -- a reading: the fields are loaded
 abbrev pub ReadLines : ℕ → List ℕ → List Line → Type 0

@@ -61,7 +61,7 @@ module _ (slots : ℕ) where
 abbrev pub AskLines : Setting → ℕ → ℕ → ℕ → Form → List ℕ → List ℕ → List Line → ℕ → Type 0
 AskLines setting variables low x (Construct c) (a ∷ more) (other ∷ others) lines high =
     (own : List Line)
-    × FillLines setting.base x x (values_of_slots variables (other ∷ others)) low (header_of setting.layout c) (a ∷ more) own
+    × FillLines setting.base x x (values_of_slots variables (other ∷ others)) low (header_of setting.layout c) (a ∷ more) [] own
     × (lines ≡ sets 0 x ∷ own) × (low + 1 ≡ high)
 AskLines setting variables low x (Construct c) (a ∷ more) [] lines high =
     ComputeLines setting x (Construct c) (a ∷ more) lines × (low ≡ high)
@@ -70,7 +70,7 @@ AskLines setting variables low x (Construct c) [] others lines high =
 AskLines setting variables low x form arguments others lines high = ComputeLines setting x form arguments lines × (low ≡ high)
 
 -- The lines of a code whose value goes to a goal. Its labels are numbers from `low` on, below `high`. The fields that a
--- construction may leave as they are are written too.
+-- construction keeps are written only where its slot is null.
 abbrev mutual
   pub CodeLines : Setting → ℕ → Goal → ℕ → Tokened → List Line → ℕ → Type 0
   CodeLines setting variables goal low (Tokened.give x) lines high = (lines ≡ goal_lines goal x) × (low ≡ high)
@@ -110,7 +110,7 @@ abbrev mutual
   CodeLines setting variables goal low (Tokened.fill x y c first arguments kept others rest) lines high =
       (own : List Line) × (more : List Line)
       × FillLines setting.base x (variables + y) (values_of_slots variables others) low (header_of setting.layout c)
-      (first ∷ arguments) own
+      (first ∷ arguments) kept own
       × CodeLines setting variables goal (low + 1) rest more high × (lines ≡ own ++ more)
   CodeLines setting variables goal low (Tokened.free y rest) lines high =
       (more : List Line) × CodeLines setting variables goal low rest more high

@@ -1,5 +1,5 @@
 -- That assembler code does what a program with tokens does, whose bare form is a program in counted form.
-use Rattle.std.specs.Prelude.{◌≡◌, ◌≢◌, ℕ, List, Some, slice_get}
+use Rattle.std.specs.Prelude.{◌≡◌, ◌≢◌, ℕ, List, [], Some, slice_get}
 use Rattle.kk_base.specs.Trace.{Event}
 use Rattle.kk_base.specs.Agreements.{Agree}
 use Rattle.kk_base.specs.Machines.{Machine, mapped, state}
@@ -12,6 +12,7 @@ use Rattle.kk_counted.specs.CountedStates.{CountedSetting, CountedState, stopped
 use Rattle.kk_counted.specs.CountedMachine.{counted_machine}
 use Rattle.kk_counted.specs.Heaps.{busy}
 use Rattle.kk_counted.specs.Keeping.{counted_after}
+use Rattle.kk_counted.specs.KeptFields.{LeavesKnown}
 use Rattle.kk_counted.specs.Marks.{CellMarks, field_marks}
 use Rattle.kk_counted.specs.TokenLowerable.{HasPlainForms}
 use Rattle.kk_counted.specs.TokenSpending.{AreTokensSpent}
@@ -32,8 +33,8 @@ use Rattle.rv_cells.specs.TokenedLines.{AreFunctionsOf}
 abbrev pub roomy_outside : ℕ → CountedSetting → Machine CountedState Event Ending
 roomy_outside room setting = mapped events_of (λ end. exited (exit_of end)) (counted_machine (roomy_cost room) setting)
 
--- Each function of a program with tokens is lowered to well-formed code, and spends its tokens. Constructors 0 and 1 are `False` and
--- `True`.
+-- Each function of a program with tokens is lowered to well-formed code, spends its tokens, and leaves only fields that are known.
+-- Constructors 0 and 1 are `False` and `True`.
 pub record IsTokenedLowered (layout : Layout) (marks : CellMarks) (code : TokenedProgram) (constants : List (List ℕ))
     (functions : List Lines) : Type 0 where
   pub narrow : IsNarrow layout
@@ -43,6 +44,7 @@ pub record IsTokenedLowered (layout : Layout) (marks : CellMarks) (code : Tokene
   pub each : AreFunctionsOf layout (record { literals = code.texts; constants = constants }) marks code.functions functions
   pub spends : AreTokensSpent code
   pub plain : (f : ℕ) (function : TokenedFunction) → slice_get code.functions f ≡ Some function → HasPlainForms function.body
+  pub leaves : (f : ℕ) (function : TokenedFunction) → slice_get code.functions f ≡ Some function → LeavesKnown [] function.body
   pub formed : AreWellFormed functions
   pub main : TokenedFunction
   pub main_is : slice_get code.functions code.main ≡ Some main

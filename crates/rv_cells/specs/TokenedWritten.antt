@@ -1,5 +1,5 @@
 -- What was written of a function's assembler code, from its code with tokens.
-use Rattle.std.specs.Prelude.{◌≡◌, ℕ, ◌+◌, List, ◌++◌, ◌∷◌, [], Some, length}
+use Rattle.std.specs.Prelude.{◌≡◌, ℕ, ◌+◌, Bool, List, ◌++◌, ◌∷◌, [], Some, length}
 use Rattle.kk_syntax.specs.declared.program.Form.{Form}
 use Rattle.kk_counted.specs.TokenedCodes.{Tokened}
 use Rattle.kk_counted.specs.TokenedForms.{TokenedMove, plug_tokened, tokened_arms}
@@ -15,7 +15,7 @@ use Rattle.rv_lower.specs.declared.lowering.Lowering.{Lowering}
 use Rattle.rv_lower.specs.Lowered.{Goal}
 use Rattle.rv_lower.specs.Written.{texts_written, Grows}
 use Rattle.rv_cells.specs.declared.known.Known.{Known}
-use Rattle.rv_cells.specs.CellLines.{ConstructLines, FillLines, hold_lines, unhold_lines}
+use Rattle.rv_cells.specs.CellLines.{StoresIf, ConstructLines, FillLines, hold_lines, unhold_lines}
 use Rattle.rv_cells.specs.TokenedLines.{AskLines, CodeLines, ArmsLines}
 use Rattle.rv_cells.specs.Written.{Facts, setting_in}
 
@@ -31,6 +31,10 @@ take_line x = record { action = Calls Take; args = []; into = Some x }
 abbrev pub StoreLines : ℕ → ℕ → ℕ → List ℕ → List Line → Type 0
 StoreLines base x header arguments lines = ConstructLines base x header arguments (take_line x ∷ lines)
 
+-- behind other lines one stores a word of a cell, or none does
+abbrev pub PushedStore : Bool → ℕ → ℕ → ℕ → List Line → List Line → Type 0
+PushedStore taken cell i from old new = (one : List Line) × StoresIf taken cell i from one × (new ≡ old ++ one)
+
 -- a cell is taken while tokens are held
 abbrev pub request_lines : ℕ → List ℕ → List Line
 request_lines x tokens = hold_lines tokens ++ (take_line x ∷ unhold_lines tokens)
@@ -40,11 +44,11 @@ abbrev pub token_test_lines : ℕ → ℕ → ℕ → List Line
 token_test_lines base token label = copies_to token base ∷ acts (Branch Equal label) (base ∷ []) ∷ []
 
 -- a construction in the cell of a token was written, with a label
-pub record WroteFill (x token : ℕ) (others : List ℕ) (header : ℕ) (arguments : List ℕ) (old new : Lowering) : Type 0 where
+pub record WroteFill (x token : ℕ) (others : List ℕ) (header : ℕ) (arguments kept : List ℕ) (old new : Lowering) : Type 0 where
   pub lines : List Line
   pub grows : Grows 0 lines old new
   pub label : new.next_label ≡ old.next_label + 1
-  pub are : FillLines old.base x token others old.next_label header arguments lines
+  pub are : FillLines old.base x token others old.next_label header arguments kept lines
 
 -- The lines of a form on variables were written. They are its lines however many texts come later.
 pub record WroteAsk (facts : Facts) (variables x : ℕ) (form : Form) (arguments others : List ℕ) (old new : Lowering) : Type 0 where

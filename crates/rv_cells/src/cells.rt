@@ -1,11 +1,11 @@
 // The lines of the forms that touch cells.
 
-ghost use Rattle.std.specs.Prelude.{◌≡◌, ◌*◌, map, not, filter, IfOk, OnOk};
+ghost use Rattle.std.specs.Prelude.{◌≡◌, ◌*◌, true, map, not, filter, IfOk, OnOk};
 ghost use Rattle.kk_syntax.specs.Shapes.{is_among};
 ghost use Rattle.rv_lower.specs.Written.{short_line, Wrote, WroteLines};
 ghost use Rattle.rv_cells.specs.CellLines.{Loads, Stores, AllLoads, AllStores, dup_lines, drop_lines, dups_lines, drops_lines};
-ghost use Rattle.rv_cells.specs.CellLines.{ConstructLines, ReadLines};
-ghost use Rattle.rv_cells.specs.TokenedWritten.{StoreLines};
+ghost use Rattle.rv_cells.specs.CellLines.{SomeStores, is_kept, ConstructLines, FillingLines, ReadLines};
+ghost use Rattle.rv_cells.specs.TokenedWritten.{StoreLines, PushedStore};
 ghost use Rattle.rv_cells.specs.Written.{holds_known, end_lines, TestsCount, LowersCount, WroteCountOpening};
 
 use crate::known::Known;
@@ -81,6 +81,22 @@ fn stores(alloc: Global, cell: u32, fields: &[u32]) -> Result<Vec<Short>, NoMemo
     Ok(lines)
 }
 
+/// The line that stores a word of a cell behind others, where it is to be stored.
+fn push_store(
+    lines: &mut Vec<Short>,
+    taken: bool,
+    cell: u32,
+    index: u32,
+    from: u32,
+) -> Result<(), NoMemory>
+    ensures { OnOk result (PushedStore taken cell index from (map short_line lines.old.items) (map short_line lines.new.items)) }
+{
+    if taken {
+        lines.push(store(cell, index, from)?)?;
+    }
+    Ok(())
+}
+
 /// Loads the fields of a cell.
 pub fn write_reading(lowering: &mut Lowering, cell: u32, fields: &[u32]) -> Result<(), NoMemory>
     ensures { OnOk result (WroteLines (ReadLines cell fields.now) lowering.old lowering.new) }
@@ -114,6 +130,75 @@ pub fn write_stores(
     let word = lowering.base;
     let (head, count) = (store(into, HEADER, word)?, store(into, COUNT, word)?);
     let fields = stores(lowering.alloc, into, arguments)?;
+    lowering.write(&[set(header, word), head])?;
+    lowering.write(&fields)?;
+    lowering.write(&[set(1, word), count])
+}
+
+/// A position is kept, or it is not.
+fn is_taken(left: bool, kept: &[u32], position: u32) -> bool
+    ensures { result ≡ is_kept left kept.now position }
+{
+    if left {
+        return kept.contains(&position);
+    }
+    !kept.contains(&position)
+}
+
+/// The lines that store the fields of a cell at the positions that are kept, or those at the others.
+fn some_stores(
+    alloc: Global,
+    cell: u32,
+    fields: &[u32],
+    kept: &[u32],
+    left: bool,
+) -> Result<Vec<Short>, NoMemory>
+    ensures { IfOk result (λ lines. SomeStores (is_kept left kept.now) cell 2 0 fields.now (map short_line lines.items)) }
+{
+    let mut lines = Vec::new(alloc);
+    let mut index = FIELDS;
+    let mut position = 0;
+    for field in fields {
+        push_store(
+            &mut lines,
+            is_taken(left, kept, position),
+            cell,
+            index,
+            *field,
+        )?;
+        index = next(index)?;
+        position = next(position)?;
+    }
+    Ok(lines)
+}
+
+/// Stores the fields at the kept positions in a cell.
+pub fn write_kept(
+    lowering: &mut Lowering,
+    into: u32,
+    arguments: &[u32],
+    kept: &[u32],
+) -> Result<(), NoMemory>
+    ensures { OnOk result (WroteLines (SomeStores (is_kept true kept.now) into 2 0 arguments.now) lowering.old lowering.new) }
+{
+    let fields = some_stores(lowering.alloc, into, arguments, kept, true)?;
+    lowering.write(&fields)
+}
+
+/// Stores the words of a construction in a cell that has the fields at the kept positions.
+pub fn write_filling(
+    lowering: &mut Lowering,
+    into: u32,
+    header: u32,
+    arguments: &[u32],
+    kept: &[u32],
+) -> Result<(), NoMemory>
+    ensures { OnOk result (WroteLines (FillingLines lowering.old.base into header arguments.now kept.now) lowering.old
+        lowering.new) }
+{
+    let word = lowering.base;
+    let (head, count) = (store(into, HEADER, word)?, store(into, COUNT, word)?);
+    let fields = some_stores(lowering.alloc, into, arguments, kept, false)?;
     lowering.write(&[set(header, word), head])?;
     lowering.write(&fields)?;
     lowering.write(&[set(1, word), count])

@@ -127,15 +127,17 @@ fn write_filled(
         constructor,
         first,
         arguments,
+        kept,
         others,
-        ..
     } = step
     else {
         return Ok(());
     };
     let (token, made) = (known.slot(*slot)?, *constructor);
     let fields = with_first(lowering.alloc, *first, arguments)?;
-    write_fill(lowering, known, *variable, token, made, &fields, others)
+    write_fill(
+        lowering, known, *variable, token, made, &fields, kept, others,
+    )
 }
 
 /// The code of a block whose value a variable takes.

@@ -12,7 +12,7 @@ ghost use Rattle.rv_cells.specs.TokenedWritten.{variables_known, request_lines, 
 ghost use Rattle.rv_cells.specs.Written.{facts_of, holds_known, layout_known, WroteCountOpening};
 
 use crate::block::write_form;
-use crate::cells::{write_count_opening, write_stores};
+use crate::cells::{write_count_opening, write_filling, write_kept};
 use crate::known::Known;
 use kk_base::NoMemory;
 use kk_syntax::Form;
@@ -76,7 +76,8 @@ fn write_request(lowering: &mut Lowering, into: u32, tokens: &[u32]) -> Result<(
     write_unholds(lowering, tokens)
 }
 
-/// A construction in the cell of a token, while the tokens of the other slots are held.
+/// A construction in the cell of a token, which has the fields at the kept positions. Where the token is null a cell is taken,
+/// while the tokens of the other slots are held, and these fields are stored too.
 pub fn write_fill(
     lowering: &mut Lowering,
     known: &Known<'_>,
@@ -84,10 +85,11 @@ pub fn write_fill(
     token: u32,
     constructor: u32,
     arguments: &[u32],
+    kept: &[u32],
     others: &[u32],
 ) -> Result<(), NoMemory>
     ensures { OnOk result (WroteFill into token (values_of_slots (variables_known known.now) others.now)
-        (header_of (layout_known known.now) constructor) arguments.now lowering.old lowering.new) }
+        (header_of (layout_known known.now) constructor) arguments.now kept.now lowering.old lowering.new) }
 {
     let filled = lowering.take_label()?;
     let header = known.header(constructor)?;
@@ -102,8 +104,9 @@ pub fn write_fill(
         ),
     ])?;
     write_request(lowering, into, &tokens)?;
+    write_kept(lowering, into, arguments, kept)?;
     write_label(lowering, filled)?;
-    write_stores(lowering, into, header, arguments)
+    write_filling(lowering, into, header, arguments, kept)
 }
 
 /// The lines of a form on variables, whose value a variable takes. A construction with fields holds the tokens of the other slots.
@@ -128,7 +131,16 @@ pub fn write_asking(
         return write_form(lowering, known, into, form, arguments);
     }
     lowering.write(&[set(0, into)])?;
-    write_fill(lowering, known, into, into, constructor, arguments, others)
+    write_fill(
+        lowering,
+        known,
+        into,
+        into,
+        constructor,
+        arguments,
+        &[],
+        others,
+    )
 }
 
 /// A branch to a label where the token of a slot is null.

@@ -14,10 +14,10 @@ returns c =
     (λ wrote.
     let whole = step_wrote c.args.step.now
     (step_of_fill c.args.step.now c.in-Fill.variable c.in-Fill.slot c.in-Fill.constructor c.in-Fill.first c.in-Fill.arguments
-    c.in-Fill.kept c.in-Fill.others c.deref.result.now c.deref-3.result.now c.in-Fill.is c.deref.ensures.value
-    c.deref-3.ensures.value)
+    c.in-Fill.kept c.in-Fill.others c.deref.result.now c.deref-3.result.now c.deref-4.result.now c.in-Fill.is c.deref.ensures.value
+    c.deref-3.ensures.value c.deref-4.ensures.value)
     (step_fills (facts_of c.args.known.now) (variables_known c.args.known.now) c.in-Fill.variable c.in-Fill.slot
-    c.in-Fill.constructor c.in-Fill.first c.deref.result.now c.in-Fill.kept.items c.deref-3.result.now
+    c.in-Fill.constructor c.in-Fill.first c.deref.result.now c.deref-3.result.now c.deref-4.result.now
     (fill_is c.in_ok-token.ensures (c.deref-2.ensures.value ∙ c.in_ok-fields.ensures) wrote)) in
     λ x y k first arguments kept others is. whole)
     c.write_fill.ensures
