@@ -1,4 +1,5 @@
--- Where the counted machine is at a call, a print or a construction with fields, the assembler's machine comes to a line of its own.
+-- Where the counted machine is at a call, a print or a construction with fields, the assembler's machine comes to a line of that
+-- form's own.
 use Rattle.std.proofs.Common.{◌≡◌, ℕ, ◌+◌, ◌%◌, ◌<◌, ◌&&◌, not, true, false, List, [], length, drop, Some, All, refl, sym, ◌∙◌, ap, subst, arith, flat_map}
 use Rattle.std.proofs.Math.Seq.{drop-append_seam}
 use Rattle.kk_base.specs.Machines.{state}

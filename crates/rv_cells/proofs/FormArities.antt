@@ -1,5 +1,5 @@
--- Forms with tokens have as many arguments as they take, where their bare forms do; and a call, a print and a construction with fields
--- begins with a line that is no label.
+-- Forms with tokens have as many arguments as they take, where their bare forms do; and a call, a print and a construction with
+-- fields begins with a line that is no label.
 use Rattle.std.proofs.Common.{◌≡◌, ℕ, ◌≤◌, ◌&&◌, not, Bool, true, List, [], ◌∷◌, ◌++◌, length, refl, sym, ◌∙◌, ap, subst, arith}
 use Rattle.kk_syntax.specs.declared.program.Form.{Form}
 use Rattle.kk_syntax.specs.declared.program.Form.TheVariants.{Number, Unit as Nothing, ReadByte, PrintText, Unary, Binary, Print, Construct, Call}
@@ -192,7 +192,7 @@ module _ (setting : Setting) (variables : ℕ) where
   act_own goal low (Tokened.dup x rest) own high lines arity act = cc act
   act_own goal low (Tokened.drop x rest) own high lines arity act = cc act
   act_own goal low (Tokened.fill x y c first arguments kept others rest) own high lines arity act =
-      own_by own lines.0 lines.1 _ _ lines.4 (record { line = _; more = _; is = lines.2.2; no_label = refl })
+      own_by own lines.0 lines.1 _ _ lines.4 (record { line = _; more = _; is = lines.2.4; no_label = refl })
   act_own goal low (Tokened.free y rest) own high lines arity act = cc act
   act_own goal low (Tokened.null y rest) own high lines arity act = cc act
   act_own goal low (Tokened.move to of rest) own high lines arity act = cc act

@@ -71,12 +71,21 @@ module _ (setting : Setting) (variables : ℕ) where
           (
             (label ∷ lines.1, lines.5),
             (
-              (act_own setting variables goal (low + 1) positive lines.0 lines.2 lines.3 a.0, orderly goal (low + 1) positive lines.0 lines.2 lines.3 a.0),
+              (
+                act_own setting variables goal (low + 1) positive lines.0 lines.2 lines.3 a.0,
+                orderly goal (low + 1) positive lines.0 lines.2 lines.3 a.0,
+              ),
               (
                 two_longer test lines.0 label,
                 (
                   ([], behind_two own test lines.0 lines.1 label lines.5),
-                  ((act_own setting variables goal lines.2 negative lines.1 high lines.4 a.1, orderly goal lines.2 negative lines.1 high lines.4 a.1), tt),
+                  (
+                    (
+                      act_own setting variables goal lines.2 negative lines.1 high lines.4 a.1,
+                      orderly goal lines.2 negative lines.1 high lines.4 a.1,
+                    ),
+                    tt,
+                  ),
                 ),
               ),
             ),
@@ -88,7 +97,16 @@ module _ (setting : Setting) (variables : ℕ) where
         (arms_orderly goal low (lines.2 + length decisions) arms lines.1 high 0 lines.0 lines.5 own lines.6 a)
     orderly goal low (Tokened.compute x form arguments others rest) own high lines a = (
       omega arith,
-      (([], before_all own lines.0 lines.1 lines.5), ((act_own setting variables goal lines.2 rest lines.1 high lines.4 a.1, orderly goal lines.2 rest lines.1 high lines.4 a.1), tt)),
+      (
+        ([], before_all own lines.0 lines.1 lines.5),
+        (
+          (
+            act_own setting variables goal lines.2 rest lines.1 high lines.4 a.1,
+            orderly goal lines.2 rest lines.1 high lines.4 a.1,
+          ),
+          tt,
+        ),
+      ),
     )
     orderly goal low (Tokened.inside x block rest) own high lines a =
         let label = acts (Label low) [] in (
@@ -96,12 +114,21 @@ module _ (setting : Setting) (variables : ℕ) where
           (
             (label ∷ lines.1, lines.5),
             (
-              (act_own setting variables (joins x low) (low + 1) block lines.0 lines.2 lines.3 a.0, orderly (joins x low) (low + 1) block lines.0 lines.2 lines.3 a.0),
+              (
+                act_own setting variables (joins x low) (low + 1) block lines.0 lines.2 lines.3 a.0,
+                orderly (joins x low) (low + 1) block lines.0 lines.2 lines.3 a.0,
+              ),
               (
                 (let more = one_longer lines.0 label in omega (arith, more)),
                 (
                   ([], behind_two own [] lines.0 lines.1 label lines.5),
-                  ((act_own setting variables goal lines.2 rest lines.1 high lines.4 a.1, orderly goal lines.2 rest lines.1 high lines.4 a.1), tt),
+                  (
+                    (
+                      act_own setting variables goal lines.2 rest lines.1 high lines.4 a.1,
+                      orderly goal lines.2 rest lines.1 high lines.4 a.1,
+                    ),
+                    tt,
+                  ),
                 ),
               ),
             ),
@@ -109,47 +136,146 @@ module _ (setting : Setting) (variables : ℕ) where
         )
     orderly goal low (Tokened.read x c fields rest) own high lines a = (
       omega arith,
-      (([], before_all own lines.0 lines.1 lines.4), ((act_own setting variables goal low rest lines.1 high lines.3 a, orderly goal low rest lines.1 high lines.3 a), tt)),
+      (
+        ([], before_all own lines.0 lines.1 lines.4),
+        (
+          (
+            act_own setting variables goal low rest lines.1 high lines.3 a,
+            orderly goal low rest lines.1 high lines.3 a,
+          ),
+          tt,
+        ),
+      ),
     )
     orderly goal low (Tokened.open_cell x c fields used y rest) own high lines a = (
       omega arith,
-      (([], before_all own lines.0 lines.1 lines.4), ((act_own setting variables goal (low + 2) rest lines.1 high lines.3 a, orderly goal (low + 2) rest lines.1 high lines.3 a), tt)),
+      (
+        ([], before_all own lines.0 lines.1 lines.4),
+        (
+          (
+            act_own setting variables goal (low + 2) rest lines.1 high lines.3 a,
+            orderly goal (low + 2) rest lines.1 high lines.3 a,
+          ),
+          tt,
+        ),
+      ),
     )
     orderly goal low (Tokened.if_unique x c fields used y rest) own high lines a = (
       omega arith,
-      (([], before_all own lines.0 lines.1 lines.4), ((act_own setting variables goal (low + 2) rest lines.1 high lines.3 a, orderly goal (low + 2) rest lines.1 high lines.3 a), tt)),
+      (
+        ([], before_all own lines.0 lines.1 lines.4),
+        (
+          (
+            act_own setting variables goal (low + 2) rest lines.1 high lines.3 a,
+            orderly goal (low + 2) rest lines.1 high lines.3 a,
+          ),
+          tt,
+        ),
+      ),
     )
     orderly goal low (Tokened.fill x y c first arguments kept others rest) own high lines a = (
       omega arith,
-      (([], before_all own lines.0 lines.1 lines.4), ((act_own setting variables goal (low + 1) rest lines.1 high lines.3 a, orderly goal (low + 1) rest lines.1 high lines.3 a), tt)),
+      (
+        ([], before_all own lines.0 lines.1 lines.4),
+        (
+          (
+            act_own setting variables goal (low + 1) rest lines.1 high lines.3 a,
+            orderly goal (low + 1) rest lines.1 high lines.3 a,
+          ),
+          tt,
+        ),
+      ),
     )
     orderly goal low (Tokened.dup x rest) own high lines a = (
       omega arith,
-      (([], before_all own (dup_lines setting.holds x) lines.0 lines.2), ((act_own setting variables goal low rest lines.0 high lines.1 a, orderly goal low rest lines.0 high lines.1 a), tt)),
+      (
+        ([], before_all own (dup_lines setting.holds x) lines.0 lines.2),
+        (
+          (
+            act_own setting variables goal low rest lines.0 high lines.1 a,
+            orderly goal low rest lines.0 high lines.1 a,
+          ),
+          tt,
+        ),
+      ),
     )
     orderly goal low (Tokened.drop x rest) own high lines a = (
       omega arith,
-      (([], before_all own (drop_lines setting.base setting.holds x) lines.0 lines.2), ((act_own setting variables goal low rest lines.0 high lines.1 a, orderly goal low rest lines.0 high lines.1 a), tt)),
+      (
+        ([], before_all own (drop_lines setting.base setting.holds x) lines.0 lines.2),
+        (
+          (
+            act_own setting variables goal low rest lines.0 high lines.1 a,
+            orderly goal low rest lines.0 high lines.1 a,
+          ),
+          tt,
+        ),
+      ),
     )
     orderly goal low (Tokened.free y rest) own high lines a = (
       omega arith,
-      (([], before_all own (acts (Compute Op.Free) ((variables + y) ∷ []) ∷ []) lines.0 lines.2), ((act_own setting variables goal low rest lines.0 high lines.1 a, orderly goal low rest lines.0 high lines.1 a), tt)),
+      (
+        ([], before_all own (acts (Compute Op.Free) ((variables + y) ∷ []) ∷ []) lines.0 lines.2),
+        (
+          (
+            act_own setting variables goal low rest lines.0 high lines.1 a,
+            orderly goal low rest lines.0 high lines.1 a,
+          ),
+          tt,
+        ),
+      ),
     )
     orderly goal low (Tokened.null y rest) own high lines a = (
       omega arith,
-      (([], before_all own (sets 0 (variables + y) ∷ []) lines.0 lines.2), ((act_own setting variables goal low rest lines.0 high lines.1 a, orderly goal low rest lines.0 high lines.1 a), tt)),
+      (
+        ([], before_all own (sets 0 (variables + y) ∷ []) lines.0 lines.2),
+        (
+          (
+            act_own setting variables goal low rest lines.0 high lines.1 a,
+            orderly goal low rest lines.0 high lines.1 a,
+          ),
+          tt,
+        ),
+      ),
     )
     orderly goal low (Tokened.move to of rest) own high lines a = (
       omega arith,
-      (([], before_all own (copies_to (variables + of) (variables + to) ∷ []) lines.0 lines.2), ((act_own setting variables goal low rest lines.0 high lines.1 a, orderly goal low rest lines.0 high lines.1 a), tt)),
+      (
+        ([], before_all own (copies_to (variables + of) (variables + to) ∷ []) lines.0 lines.2),
+        (
+          (
+            act_own setting variables goal low rest lines.0 high lines.1 a,
+            orderly goal low rest lines.0 high lines.1 a,
+          ),
+          tt,
+        ),
+      ),
     )
     orderly goal low (Tokened.hold y rest) own high lines a = (
       omega arith,
-      (([], before_all own (acts Hold ((variables + y) ∷ []) ∷ []) lines.0 lines.2), ((act_own setting variables goal low rest lines.0 high lines.1 a, orderly goal low rest lines.0 high lines.1 a), tt)),
+      (
+        ([], before_all own (acts Hold ((variables + y) ∷ []) ∷ []) lines.0 lines.2),
+        (
+          (
+            act_own setting variables goal low rest lines.0 high lines.1 a,
+            orderly goal low rest lines.0 high lines.1 a,
+          ),
+          tt,
+        ),
+      ),
     )
     orderly goal low (Tokened.unhold y rest) own high lines a = (
       omega arith,
-      (([], before_all own (acts Unhold ((variables + y) ∷ []) ∷ []) lines.0 lines.2), ((act_own setting variables goal low rest lines.0 high lines.1 a, orderly goal low rest lines.0 high lines.1 a), tt)),
+      (
+        ([], before_all own (acts Unhold ((variables + y) ∷ []) ∷ []) lines.0 lines.2),
+        (
+          (
+            act_own setting variables goal low rest lines.0 high lines.1 a,
+            orderly goal low rest lines.0 high lines.1 a,
+          ),
+          tt,
+        ),
+      ),
     )
     orderly goal low (Tokened.if_token y there absent) own high lines a =
         let test : List Line = copies_to (variables + y) setting.base ∷ acts (Branch Equal low) (setting.base ∷ []) ∷ [] in
@@ -158,12 +284,21 @@ module _ (setting : Setting) (variables : ℕ) where
           (
             (label ∷ lines.1, lines.5),
             (
-              (act_own setting variables goal (low + 1) there lines.0 lines.2 lines.3 a.0, orderly goal (low + 1) there lines.0 lines.2 lines.3 a.0),
+              (
+                act_own setting variables goal (low + 1) there lines.0 lines.2 lines.3 a.0,
+                orderly goal (low + 1) there lines.0 lines.2 lines.3 a.0,
+              ),
               (
                 two_longer test lines.0 label,
                 (
                   ([], behind_two own test lines.0 lines.1 label lines.5),
-                  ((act_own setting variables goal lines.2 absent lines.1 high lines.4 a.1, orderly goal lines.2 absent lines.1 high lines.4 a.1), tt),
+                  (
+                    (
+                      act_own setting variables goal lines.2 absent lines.1 high lines.4 a.1,
+                      orderly goal lines.2 absent lines.1 high lines.4 a.1,
+                    ),
+                    tt,
+                  ),
                 ),
               ),
             ),
@@ -188,7 +323,10 @@ module _ (setting : Setting) (variables : ℕ) where
           (
             (lines.1, behind),
             (
-              (act_own setting variables goal low body lines.0 lines.2 lines.3 a.0, orderly goal low body lines.0 lines.2 lines.3 a.0),
+              (
+                act_own setting variables goal low body lines.0 lines.2 lines.3 a.0,
+                orderly goal low body lines.0 lines.2 lines.3 a.0,
+              ),
               orderly_less whole (length (before ++ (line ∷ lines.0))) (length (before ++ (line ∷ [])) + length lines.0)
                   (arms_in setting variables goal (label + 1) lines.2 rest lines.1 high (suc row) (before ++ (line ∷ lines.0))
                   lines.4)

@@ -1,5 +1,5 @@
--- The lines of a function at which the calls, prints and constructions with fields begin that one way of its bare form leads to: one, or
--- one for each side of the tests of tokens on the way.
+-- The lines of a function at which the calls, prints and constructions with fields begin that one way of its bare form leads to: one,
+-- or one for each side of the tests of tokens on the way.
 use Rattle.std.proofs.Common.{◌≡◌, inl, inr, ℕ, zero, suc, ◌+◌, ◌==◌, ◌&&◌, ◌||◌, Bool, true, false, List, [], ◌∷◌, ◌++◌, length, Some, refl, sym, ◌∙◌, ap, subst, arith, append_assoc, eqb-true}
 use Rattle.std.proofs.lemmas.List.{append-nil}
 use Rattle.kk_source.specs.Matching.{and_then}
@@ -230,7 +230,8 @@ module _ (setting : Setting) (variables : ℕ) where
         reaches_itself (tree_in setting variables goal low (Tokened.compute x form arguments others rest) own high lines)
         (act_here (bare (Tokened.compute x form arguments others rest)) act is does)
     way_there goal low (Tokened.compute x form arguments others rest) own high lines (zero ∷ way) act is does =
-        reaches_behind (tree_in setting variables goal low (Tokened.compute x form arguments others rest) own high lines) _ way (inl refl)
+        reaches_behind (tree_in setting variables goal low (Tokened.compute x form arguments others rest) own high lines) _ way
+        (inl refl)
         (way_there goal lines.2 rest lines.1 high lines.4 way act is does)
     way_there goal low (Tokened.compute x form arguments others rest) own high lines (suc n ∷ way) act is does = cc is
     way_there goal low (Tokened.inside x block rest) own high lines [] act is does =
@@ -251,13 +252,15 @@ module _ (setting : Setting) (variables : ℕ) where
     way_there goal low (Tokened.open_cell x c fields used y rest) own high lines [] act is does =
         absurd (false_not (act_here (bare (Tokened.open_cell x c fields used y rest)) act is does))
     way_there goal low (Tokened.open_cell x c fields used y rest) own high lines (zero ∷ way) act is does =
-        reaches_behind (tree_in setting variables goal low (Tokened.open_cell x c fields used y rest) own high lines) _ way (inl refl)
+        reaches_behind (tree_in setting variables goal low (Tokened.open_cell x c fields used y rest) own high lines) _ way
+        (inl refl)
         (way_there goal (low + 2) rest lines.1 high lines.3 way act is does)
     way_there goal low (Tokened.open_cell x c fields used y rest) own high lines (suc n ∷ way) act is does = cc is
     way_there goal low (Tokened.if_unique x c fields used y rest) own high lines [] act is does =
         absurd (false_not (act_here (bare (Tokened.if_unique x c fields used y rest)) act is does))
     way_there goal low (Tokened.if_unique x c fields used y rest) own high lines (zero ∷ way) act is does =
-        reaches_behind (tree_in setting variables goal low (Tokened.if_unique x c fields used y rest) own high lines) _ way (inl refl)
+        reaches_behind (tree_in setting variables goal low (Tokened.if_unique x c fields used y rest) own high lines) _ way
+        (inl refl)
         (way_there goal (low + 2) rest lines.1 high lines.3 way act is does)
     way_there goal low (Tokened.if_unique x c fields used y rest) own high lines (suc n ∷ way) act is does = cc is
     way_there goal low (Tokened.dup x rest) own high lines [] act is does =
@@ -276,7 +279,8 @@ module _ (setting : Setting) (variables : ℕ) where
         reaches_itself (tree_in setting variables goal low (Tokened.fill x y c first arguments kept others rest) own high lines)
         (act_here (bare (Tokened.fill x y c first arguments kept others rest)) act is does)
     way_there goal low (Tokened.fill x y c first arguments kept others rest) own high lines (zero ∷ way) act is does =
-        reaches_behind (tree_in setting variables goal low (Tokened.fill x y c first arguments kept others rest) own high lines) _ way (inl refl)
+        reaches_behind (tree_in setting variables goal low (Tokened.fill x y c first arguments kept others rest) own high lines) _ way
+        (inl refl)
         (way_there goal (low + 1) rest lines.1 high lines.3 way act is does)
     way_there goal low (Tokened.fill x y c first arguments kept others rest) own high lines (suc n ∷ way) act is does = cc is
     way_there goal low (Tokened.free y rest) own high lines way act is does =

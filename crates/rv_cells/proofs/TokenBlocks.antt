@@ -259,7 +259,8 @@ module _ (program : Lowering) where
           lines = p.lines.4;
           left_is = refl;
           place = label_at ∙ sym (append_assoc ((p.before ++ test) ++ yes) (label ∷ []) there);
-          stands = stands_behind_three p.stands test yes (label ∷ []) (record { way = 1 ∷ []; is_part = inr (inl refl); code_is = refl });
+          stands = stands_behind_three p.stands test yes (label ∷ [])
+              (record { way = 1 ∷ []; is_part = inr (inl refl); code_is = refl });
           marked = p.marked.1.1.1;
           numbered = p.numbered.1;
           has = p.has.1;

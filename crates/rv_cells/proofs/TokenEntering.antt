@@ -511,7 +511,8 @@ module _ (program : Lowering) where
         environment_is = refl;
         heap_is = refl;
         turn_is = refl;
-        at = body_at s at.shape slots at.lists.held at.has f arguments all p.marked.1.0 function lines of low.1 there.1 (function, (there.1, refl)) frames tokens
+        at = body_at s at.shape slots at.lists.held at.has f arguments all p.marked.1.0 function lines of low.1 there.1
+            (function, (there.1, refl)) frames tokens
             at.lists.older input fs judged
             (λ y. not_unspent (slots y) (at.judged.slots_are y ∙ at.judged.spends.1 y)) at.follows at.cells
             (subst (AllWait program s.address (length s.heap) tokens.slots at.lists.older frames fs) (sym p.marked.1.1) at.waits)

@@ -107,8 +107,8 @@ pub record HaveTokenCells (pool : Pool) (layout : Layout) (address : ℕ → ℕ
 
 -- ---- functions
 
--- What is known of a function: its number, where the parts of its code stand among its lines, which of its variables are of types with
--- cells, how many variables and slots it has, and the mark of its result.
+-- What is known of a function: its number, where the parts of its code stand among its lines, which of its variables are of types
+-- with cells, how many variables and slots it has, and the mark of its result.
 pub record Shape : Type 0 where
   pub function : ℕ
   pub root : Tree
