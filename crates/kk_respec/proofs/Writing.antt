@@ -1,4 +1,4 @@
--- Respecialised code as its steps, its arms and its end are written.
+-- Respecialised code as its steps, its arms and its end are marked.
 use Rattle.std.proofs.Common.{◌≡◌, ◌≤◌, ◌<◌, ◌+◌, ℕ, List, [], ◌∷◌, ◌++◌, map, length, take, drop, get_or, refl, sym, ap, ◌∙◌, arith}
 use Rattle.std.proofs.lemmas.List.{take_more_set, drop-set-lt, with_items_is}
 use Rattle.std.proofs.Math.ListN.{set, drop_of_length-le}
@@ -33,7 +33,7 @@ respec_put known (TokenedMove.moves to of) rest = refl
 respec_put known (TokenedMove.holds y) rest = refl
 respec_put known (TokenedMove.unholds y) rest = refl
 
--- a step is written
+-- a step is marked, behind others
 pub step_written : (known behind : List KnownFields) (before after : List TokenedStep) (made step : TokenedStep)
     (steps : List TokenedStep) (i : ℕ) (last total : Tokened)
     → i < length steps → step ≡ get_or steps i step → after ≡ before ++ made ∷ []
