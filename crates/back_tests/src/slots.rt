@@ -22,16 +22,18 @@ fn statement(
     Ok(Statement { action, args, into })
 }
 
-/// A function that returns the sum of its two parameters.
+/// A function that returns the sum of its two parameters and, once more, of the first.
 fn sum_of_two(alloc: Global) -> Result<Asm, NoMemory>
     ensures { IfOk result (λ asm. AreWellFormed (asm_functions asm)) }
 {
     let add = Action::Compute(Operation::Register(RegisterOperation::Add));
     let first = statement(alloc, add, &[0, 1], Some(2))?;
-    let second = statement(alloc, Action::Return, &[2], None)?;
+    let second = statement(alloc, add, &[2, 0], Some(3))?;
+    let third = statement(alloc, Action::Return, &[3], None)?;
     let mut code = Vec::new(alloc);
     code.push(first)?;
     code.push(second)?;
+    code.push(third)?;
     let params = Vec::from_slice(alloc, &[0, 1])?;
     let mut functions = Vec::new(alloc);
     functions.push(AsmFunction { params, code })?;
@@ -48,7 +50,7 @@ fn way_of(item: &Item) -> Option<Way> {
     }
 }
 
-/// Parameters are stored, arguments loaded, and a result that is alive is stored.
+/// Parameters are stored, arguments loaded, and a result that is alive is stored. An argument that is alive is not stored again.
 #[test]
 fn values_stand_in_slots(rt: HostRuntime) -> Result<(), Fail> {
     let asm = sum_of_two(rt.alloc())?;
@@ -65,7 +67,11 @@ fn values_stand_in_slots(rt: HostRuntime) -> Result<(), Fail> {
         Some(Way::Load { from: 0, to: t0 }),
         None,
         Some(Way::Store { from: t2, to: 2 }),
-        Some(Way::Load { from: 2, to: a0 }),
+        Some(Way::Load { from: 0, to: t1 }),
+        Some(Way::Load { from: 2, to: t0 }),
+        None,
+        Some(Way::Store { from: t2, to: 3 }),
+        Some(Way::Load { from: 3, to: a0 }),
         None,
     ];
     assert_eq!(rt; code.len(), ways.len());
