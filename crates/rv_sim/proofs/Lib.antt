@@ -5,6 +5,7 @@ pub mod Parts
 pub mod Reading
 pub mod Stepping
 pub mod Loading
+pub mod Words
 pub mod Chains
 pub mod Events
 pub mod Running

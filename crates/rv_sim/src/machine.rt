@@ -1,9 +1,11 @@
-ghost use Rattle.std.specs.Prelude.{◌≡◌, ℕ, ◌+◌, ◌*◌, ◌%◌, ◌<◌, ◌≤◌, ◌^◌, List, [], length, true, false, Option, IfOk};
+ghost use Rattle.std.specs.Prelude.{◌≡◌, ℕ, ◌+◌, ◌*◌, ◌%◌, ◌<◌, ◌≤◌, ◌^◌, List, [], length, true, false, Option, IfOk, Some, None, if◌then◌else◌, ◌&&◌, ◌==◌};
 ghost use Rattle.std.specs.Bool.{then_some};
 ghost use Rattle.kk_base.specs.Faults.{Rises};
+ghost use Rattle.kk_base.specs.Memory.{byte_loaded};
 ghost use Rattle.kk_base.specs.Source.{SourceState};
 ghost use Rattle.kk_base.specs.Sink.{SinkState};
 ghost use Rattle.rv_isa.specs.Processor.{start, going, exited, goes, traps, value, put, can_load, can_store};
+ghost use Rattle.rv_isa.specs.Bytes.{number_at};
 ghost use Rattle.rv_isa.specs.Environment.{stepped, calls, reads, writes};
 ghost use Rattle.rv_isa.specs.Arithmetic.{widened};
 ghost use Rattle.rv_isa.specs.Execution.{acts, executes, step};
@@ -135,6 +137,18 @@ impl Machine {
     {
         let chained = self.free_chain(cells);
         chained + self.border_size().min(cells - chained)
+    }
+
+    /// The word at an address that is a multiple of 4, where it may be loaded.
+    pub fn word(&self, at: u32) -> Option<u32>
+        ensures { result
+            ≡ (if (at % 4 == 0) && can_load self.now.parts at 4 then Some (number_at (byte_loaded self.now.parts) at 4) else None) }
+    {
+        if at % 4 == 0 && self.memory.can(Access::Load, at, 4) {
+            self.memory.word(at)
+        } else {
+            None
+        }
     }
 
     /// How many cells the chain from x8 through the first word of each has, at most `cells`.

@@ -67,7 +67,7 @@ fun main()
 ";
 
 /// The text of examples/shared-pair.kk.
-const SHARED_PAIR: &str = "type list<a> { Nil; Cons(head: a, tail: list<a>) }
+pub(crate) const SHARED_PAIR: &str = "type list<a> { Nil; Cons(head: a, tail: list<a>) }
 fun build(n: int32): list<int32>
   if n == 0 then Nil else Cons(n, build(n - 1))
 fun len(xs: list<a>): int32
@@ -94,7 +94,7 @@ fun main()
 ";
 
 /// The cells of the list are held as tokens while `summed` goes down it.
-const HELD: &str = "type list<a> { Nil; Cons(head: a, tail: list<a>) }
+pub(crate) const HELD: &str = "type list<a> { Nil; Cons(head: a, tail: list<a>) }
 fun build(n: int32): list<int32>
   if n == 0 then Nil else Cons(n, build(n - 1))
 fun sum(xs: list<int32>): int32

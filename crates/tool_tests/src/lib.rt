@@ -11,4 +11,10 @@ mod devices;
 #[cfg(test)]
 mod layers;
 #[cfg(test)]
+mod same_cells;
+#[cfg(test)]
+mod token_heap;
+#[cfg(test)]
+mod token_machine;
+#[cfg(test)]
 mod tokens;
