@@ -16,7 +16,7 @@ use Rattle.rv_isa.specs.PlacedMachine.{PlacedTurn, placed_machine, placed_start}
 use Rattle.rv_isa.specs.FreeTouches.{TouchesNoFreeCell}
 use Rattle.rv_isa.specs.LinePlaces.{AsmIsAt, PlacedIsAt, AsmHasLine, PlacedHasLine}
 use Rattle.rv_isa.specs.Primitives.{go, ended, stuck}
-use Rattle.rv_isa.specs.Processor.{Ending, start, goes}
+use Rattle.rv_isa.specs.Processor.{Processor, Ending, start, goes}
 use Rattle.rv_isa.specs.Execution.{rv32im, run}
 use Rattle.rv_isa.specs.ProcessorMachine.{processor_machine}
 use Rattle.rv_isa.specs.Costs.{functions_length, placed_functions_length}
@@ -131,9 +131,10 @@ pub record PlacedTextComes : Type 0 where
       → (n f j : ℕ) → PlacedHasLine (placed_functions program) f j
       → PlacedIsAt (placed_functions program) f j
       (state (machine_of cells depth runtime program) n (start_of cells runtime program main input))
-      → (count : ℕ) × (((run count (first_processor text runtime.memory.size input)).processor.pc ≡ address_of runtime program f j)
+      → (count : ℕ) × ((s : Processor) × ((run count (first_processor text runtime.memory.size input) ≡ goes s)
+      × ((s.pc ≡ address_of runtime program f j)
       × (trace (processor_machine rv32im) count (goes (first_processor text runtime.memory.size input))
-      ≡ trace (machine_of cells depth runtime program) n (start_of cells runtime program main input)))
+      ≡ trace (machine_of cells depth runtime program) n (start_of cells runtime program main input)))))
   pub apart : (cells depth : ℕ) (runtime program : Placed) (words : Words) (text : List ℕ) (main : PlacedLines)
       → IsPlacedImage cells depth runtime program words text main
       → (f j g i : ℕ) → PlacedHasLine (placed_functions program) f j → PlacedHasLine (placed_functions program) g i
@@ -281,11 +282,12 @@ module _ {cells depth : ℕ} {asm : Asm} {placed runtime : Placed} {words : Word
     abbrev asm_begins : AsmTurn World Ending
     asm_begins = asm_start main (first_world pool input)
 
-    -- where it is at a line, there is a number of instructions behind which pc is at the line's address
+    -- where it is at a line, there is a number of instructions behind which the run goes on at the line's address
     pub comes : PlacedTextComes → (n f k : ℕ) → AsmHasLine (asm_functions asm) f k
         → AsmIsAt (asm_functions asm) f k (state asm_runs n asm_begins)
-        → (count : ℕ) × (((run count (first_processor text runtime.memory.size input)).processor.pc ≡ address f k)
-        × (trace (processor_machine rv32im) count (goes (first_processor text runtime.memory.size input)) ≡ trace asm_runs n asm_begins))
+        → (count : ℕ) × ((s : Processor) × ((run count (first_processor text runtime.memory.size input) ≡ goes s)
+        × ((s.pc ≡ address f k)
+        × (trace (processor_machine rv32im) count (goes (first_processor text runtime.memory.size input)) ≡ trace asm_runs n asm_begins))))
     comes text_comes n f k has is =
         let high = comes_to_lines (primitives constants pool) depth (asm_functions asm) (placed_functions placed) main
         (first_world pool input) makes.valid.functions makes.plain.few_moves makes.made.main_is makes.made.main_params never in
@@ -297,7 +299,8 @@ module _ {cells depth : ℕ} {asm : Asm} {placed runtime : Placed} {words : Word
         (state (placed_machine (primitives c pool) depth (placed_functions placed)) there.0 begins)) (sym same_constants) there.1 in
         let low = text_comes.comes cells depth runtime placed words text input high.0 (image_by high.0 high.1.0) bytes
         (placed_never high.0 high.1.0) there.0 f (line f k) (is_there f k has) on_constants.1 in
-        (low.0, (low.1.0, low.1.1 ∙ on_constants.0))
+        let last = low.1.1 in
+        (low.0, (low.1.0, (last.0, (last.1.0, last.1.1 ∙ on_constants.0))))
 
     pub does : PlacedTextAgrees
         → (up : ℕ → ℕ) × Agree (asm_machine (primitives constants pool) depth (asm_functions asm)) (processor_machine rv32im) outside_lines up
@@ -380,9 +383,9 @@ image_of {cells} {depth} {asm} {placed} {runtime} {words} {text} makes text_agre
         comes = λ input bytes never n f k has is.
             let whole = comes makes input bytes never text_comes n f k has is in (
               whole.0,
-              subst (λ (s : _). ((run whole.0 (s input)).processor.pc ≡ address makes f k)
-                  × (trace (processor_machine rv32im) whole.0 (goes (s input))
-                  ≡ trace (asm_runs makes input bytes never) n (asm_begins makes input bytes never))) (sym there) whole.1,
+              subst (λ (begun : _). (s : Processor) × ((run whole.0 (begun input) ≡ goes s) × ((s.pc ≡ address makes f k)
+                  × (trace (processor_machine rv32im) whole.0 (goes (begun input))
+                  ≡ trace (asm_runs makes input bytes never) n (asm_begins makes input bytes never))))) (sym there) whole.1,
             );
       };
     }

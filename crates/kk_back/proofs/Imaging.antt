@@ -31,6 +31,7 @@ use Rattle.rv_isa.specs.Processor.{start, goes}
 use Rattle.rv_isa.specs.ProcessorMachine.{processor_machine}
 use Rattle.rv_lower.specs.Lowered.{from_to}
 use Rattle.rv_cells.specs.Fitting.{IsFit}
+use Rattle.rv_cells.specs.FormLines.{HaveOwnLines, ComesToItsLines}
 use Rattle.rv_cells.specs.Layout.{Layout, IsNarrow}
 use Rattle.rv_cells.specs.Meaning.{setting_on}
 use Rattle.rv_cells.specs.Tables.{table_of, layout_in}
@@ -45,6 +46,7 @@ use Rattle.kk_back.specs.FreeCells.{AreAllFree}
 use Rattle.kk_back.specs.Sizes.{FitsText}
 use Rattle.kk_back.proofs.Assembling.{same_some}
 use Rattle.kk_back.proofs.FreeCells.{all_are_free}
+use Rattle.kk_back.proofs.OwnAddresses.{own_addresses}
 
 -- the law that assembler code does what a program with tokens does, with room for these
 abbrev pub RunTheSame : Type 0
@@ -55,6 +57,18 @@ RunTheSame =
     → All (λ byte. byte < 256) input
     → ((n : ℕ) → IsFit layout (counted_after (roomy_cost room) (setting_on (bare_program code) pool depth) input n))
     → TokenedRunsTheSame code room constants functions lowered.main_lines pool depth first input
+
+-- the law that each form has lines of its own in assembler code, to which that code comes where the program is at the form
+abbrev pub ComeToTheirLines : Type 0
+ComeToTheirLines =
+    (layout : Layout) (marks : CellMarks) (code : TokenedProgram) (constants : List (List ℕ)) (functions : List Lines)
+    → (lowered : IsTokenedLowered layout marks code constants functions)
+    → AreLowerable marks (bare_program code).functions → code.main ≡ 0
+    → (own : HaveOwnLines (bare_program code) functions) × ((room : ℕ) → HasRoom room code
+    → (pool : Pool) (depth first : ℕ) (input : List ℕ) → pool.first % 32 ≡ 0 → 0 < pool.first
+    → All (λ byte. byte < 256) input
+    → ((n : ℕ) → IsFit layout (counted_after (roomy_cost room) (setting_on (bare_program code) pool depth) input n))
+    → ComesToItsLines (bare_program code) room constants functions lowered.main_lines pool depth first input own)
 
 -- the law that a program that can be lowered with its tokens, and is so, is one whose assembler code is well formed
 abbrev pub AreWellLowered : Type 0
@@ -126,7 +140,7 @@ module _ (shape : Shape) (code : TokenedProgram) (functions : List Lines) (texts
     pub is_program : IsProgramImage entry parts
     is_program = image.program
 
-    module _ (run_the_same : RunTheSame) (room : ℕ) (enough : HasRoom room code) where
+    module _ (run_the_same : RunTheSame) (come_to_their_lines : ComeToTheirLines) (room : ℕ) (enough : HasRoom room code) where
       abbrev constants : Constants
       constants = record { first = image.first; texts = texts }
 
@@ -140,18 +154,37 @@ module _ (shape : Shape) (code : TokenedProgram) (functions : List Lines) (texts
       same_setting : setting_on bare_code image.pool depth ≡ setting
       same_setting = ap (λ n. counted_setting bare_code n depth) image.cells_are
 
+      -- each state of the program without its tokens is fit
+      are_fit : (input : List ℕ) → All (λ byte. byte < 256) input → (n : ℕ)
+          → IsFit (layout_in shape) (counted_after (roomy_cost room) (setting_on bare_code image.pool depth) input n)
+      are_fit input bytes n =
+          subst (λ (s : CountedSetting). IsFit (layout_in shape) (counted_after (roomy_cost room) s input n))
+          (sym same_setting) (runnable.fit (roomy_cost room) input bytes n)
+
       runs : (input : List ℕ) → All (λ byte. byte < 256) input
           → TokenedRunsTheSame code room texts functions lowered.main_lines image.pool depth image.first input
       runs input bytes =
           run_the_same (layout_in shape) (table_of shape) code texts functions lowered room enough image.pool depth image.first input
-          image.aligned image.behind bytes
-          (λ n. subst (λ (s : CountedSetting). IsFit (layout_in shape) (counted_after (roomy_cost room) s input n))
-          (sym same_setting) (runnable.fit (roomy_cost room) input bytes n))
+          image.aligned image.behind bytes (are_fit input bytes)
 
       never : (input : List ℕ) → All (λ byte. byte < 256) input → (n : ℕ)
           → state (asm_machine (primitives constants image.pool) depth functions) n (asm_start lowered.main_lines (first_world image.pool input))
           ≢ stuck
       never input bytes n = (runs input bytes).never_stuck n
+
+      -- each form has lines of its own
+      own : HaveOwnLines bare_code functions
+      own =
+          (come_to_their_lines (layout_in shape) (table_of shape) code texts functions lowered runnable.lowerable
+          runnable.main_first).0
+
+      comes : (input : List ℕ) → All (λ byte. byte < 256) input
+          → ComesToItsLines bare_code room texts functions lowered.main_lines image.pool depth image.first input own
+      unfolding own
+      comes input bytes =
+          (come_to_their_lines (layout_in shape) (table_of shape) code texts functions lowered runnable.lowerable
+          runnable.main_first).1 room enough image.pool depth image.first input image.aligned image.behind bytes
+          (are_fit input bytes)
 
       -- the image does what the program does without its tokens
       pub image_is : IsImageOf bare_code room cells depth entry parts
@@ -185,4 +218,5 @@ module _ (shape : Shape) (code : TokenedProgram) (functions : List Lines) (texts
               ),
             );
         touches_no_free = λ input bytes. image.touches_no_free input bytes (never input bytes);
+        own = own_addresses functions texts lowered.main_lines cells depth entry parts image bare_code own room comes never;
       }

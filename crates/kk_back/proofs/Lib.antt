@@ -2,4 +2,5 @@ pub mod Placeable
 pub mod Plain
 pub mod Assembling
 pub mod FreeCells
+pub mod OwnAddresses
 pub mod Imaging

@@ -13,7 +13,7 @@ use Rattle.rv_isa.specs.Execution.{rv32im, run}
 use Rattle.rv_isa.specs.FreeTouches.{TouchesNoFreeCell}
 use Rattle.rv_isa.specs.LinePlaces.{AsmIsAt, AsmHasLine}
 use Rattle.rv_isa.specs.Primitives.{ended, stuck}
-use Rattle.rv_isa.specs.Processor.{Ending, start, goes}
+use Rattle.rv_isa.specs.Processor.{Processor, Ending, start, goes}
 use Rattle.rv_isa.specs.ProcessorMachine.{processor_machine}
 use Rattle.rv_isa.specs.WellFormed.{AreWellFormed}
 use Rattle.rv_place.specs.Images.{EndsWithCells, outside_lines}
@@ -31,8 +31,8 @@ pub record IsPlaceable (functions : List Lines) (texts : List (List ℕ)) : Type
   pub main_params : main.params ≡ []
 
 -- The lines of assembler code in its image. Each line that is no label has an address of its own, behind the runtime's words, which
--- stand at the entry. On each input on which that code never is at a loss, where its machine is at such a line, there is a number of
--- instructions behind which the program counter is at the line's address, and the same events are told.
+-- stand at the entry. On each input on which that code never is at a loss, where its machine is at such a line, there is a number
+-- of instructions behind which the program counter is at the line's address, the run goes on there, and the same events are told.
 pub record HasLineAddresses (functions : List Lines) (main : Lines) (constants : Constants) (pool : Pool) (depth entry : ℕ)
     (parts : List Part) : Type 0 where
   pub address : ℕ → ℕ → ℕ
@@ -40,13 +40,14 @@ pub record HasLineAddresses (functions : List Lines) (main : Lines) (constants :
       → (f ≡ g) × (k ≡ j)
   pub outside : (f k : ℕ) → AsmHasLine functions f k → entry + 4 * TEXT_WORDS ≤ address f k
   pub comes : (input : List ℕ) → All (λ byte. byte < 256) input
-      → ((n : ℕ) → state (asm_machine (primitives constants pool) depth functions) n (asm_start main (first_world pool input)) ≢ stuck)
+      → ((n : ℕ) → state (asm_machine (primitives constants pool) depth functions) n (asm_start main (first_world pool input))
+      ≢ stuck)
       → (n f k : ℕ) → AsmHasLine functions f k
       → AsmIsAt functions f k (state (asm_machine (primitives constants pool) depth functions) n
       (asm_start main (first_world pool input)))
-      → (count : ℕ) × (((run count (start (memory_of parts) entry input)).processor.pc ≡ address f k)
+      → (count : ℕ) × ((s : Processor) × ((run count (start (memory_of parts) entry input) ≡ goes s) × ((s.pc ≡ address f k)
       × (trace (processor_machine rv32im) count (goes (start (memory_of parts) entry input))
-      ≡ trace (asm_machine (primitives constants pool) depth functions) n (asm_start main (first_world pool input))))
+      ≡ trace (asm_machine (primitives constants pool) depth functions) n (asm_start main (first_world pool input))))))
 
 -- An image of assembler code, for so many cells and such a depth, by where its cells and its constants stand. On each input on which
 -- that code never is at a loss, the processor's machine agrees with the code's; where the code ends, so does the processor, whose

@@ -1,12 +1,15 @@
 -- The image of a program in counted form with tokens: the loaded image does what the program without its tokens does.
-use Rattle.std.specs.Prelude.{◌≡◌, ℕ, ◌+◌, ◌<◌, ◌≤◌, List, All, Some, length, slice_get}
+use Rattle.std.specs.Prelude.{◌≡◌, ℕ, ◌+◌, ◌*◌, ◌<◌, ◌≤◌, true, List, All, Some, length, slice_get}
 use Rattle.kk_base.specs.Agreements.{Agree}
+use Rattle.kk_base.specs.Machines.{trace}
+use Rattle.kk_syntax.specs.Shapes.{is_among}
 use Rattle.kk_source.specs.Ends.{exit_of}
-use Rattle.kk_source.specs.State.{ended as well}
+use Rattle.kk_source.specs.State.{Environment, ended as well}
 use Rattle.kk_counted.specs.BareForms.{bare_program}
-use Rattle.kk_counted.specs.CountedCodes.{CountedProgram}
+use Rattle.kk_counted.specs.CodePlaces.{is_act, IsActAt}
+use Rattle.kk_counted.specs.CountedCodes.{Counted, CountedProgram}
 use Rattle.kk_counted.specs.CountedCosts.{roomy_cost}
-use Rattle.kk_counted.specs.CountedStates.{CountedSetting, CountedState, stopped, counted_first_state}
+use Rattle.kk_counted.specs.CountedStates.{CountedSetting, CountedState, CountedJoin, running, stopped, counted_first_state}
 use Rattle.kk_counted.specs.Heaps.{busy}
 use Rattle.kk_counted.specs.Keeping.{counted_after}
 use Rattle.kk_counted.specs.Lowerable.{AreLowerable}
@@ -25,7 +28,7 @@ use Rattle.rv_cells.specs.Tables.{table_of, layout_in}
 use Rattle.rv_cells.specs.TokenedMeaning.{roomy_outside}
 use Rattle.rv_isa.specs.Execution.{rv32im, run}
 use Rattle.rv_isa.specs.FreeTouches.{TouchesNoFreeCell}
-use Rattle.rv_isa.specs.Processor.{Ending, exited, Progress, start, goes}
+use Rattle.rv_isa.specs.Processor.{Processor, Ending, exited, Progress, start, goes}
 use Rattle.rv_isa.specs.ProcessorMachine.{ended, processor_machine}
 use Rattle.rv_place.specs.Images.{outside_lines}
 use Rattle.kk_back.specs.FreeCells.{AreAllFree}
@@ -58,11 +61,32 @@ pub record IsRunnable (shape : Shape) (code : TokenedProgram) (cells depth : ℕ
 abbrev pub LeavesAll : ℕ → Ending → Progress → Type 0
 LeavesAll cells how last = (ended last.ending ≡ Some how) × AreAllFree cells last.processor
 
+-- The addresses of the forms of a program in counted form in its image. Each call, print and construction with fields has an
+-- instruction address of its own, behind the runtime's words, which stand at the entry; or two or more, where its code stands more
+-- than once, behind tests of tokens. No two forms share an address. Where the counted machine is at such a form, there is a number
+-- of instructions behind which the program counter is at an address of this form, the run goes on there, and the same events are
+-- told.
+pub record HasOwnAddresses (code : CountedProgram) (room cells depth entry : ℕ) (parts : List Part) : Type 0 where
+  pub addresses : ℕ → List ℕ → List ℕ
+  pub some : (f : ℕ) (way : List ℕ) (act : Counted) → IsActAt code f way act → (at : ℕ) × (is_among (addresses f way) at ≡ true)
+  pub apart : (f g : ℕ) (way other : List ℕ) (at : ℕ) → is_among (addresses f way) at ≡ true
+      → is_among (addresses g other) at ≡ true → (f ≡ g) × (way ≡ other)
+  pub outside : (f : ℕ) (way : List ℕ) (at : ℕ) → is_among (addresses f way) at ≡ true → entry + 4 * TEXT_WORDS ≤ at
+  pub comes : (input : List ℕ) → All (λ byte. byte < 256) input
+      → (n : ℕ) (act : Counted) (environment : Environment) (joins : List CountedJoin)
+      → (counted_after (roomy_cost room) (counted_setting code cells depth) input n).control ≡ running act environment joins
+      → is_act act ≡ true
+      → (f : ℕ) × ((way : List ℕ) × (IsActAt code f way act × ((at : ℕ) × ((is_among (addresses f way) at ≡ true)
+      × ((count : ℕ) × ((s : Processor) × ((run count (start (memory_of parts) entry input) ≡ goes s) × ((s.pc ≡ at)
+      × (trace (processor_machine rv32im) count (goes (start (memory_of parts) entry input))
+      ≡ trace (roomy_outside room (counted_setting code cells depth)) n
+      (counted_first_state (counted_setting code cells depth) input))))))))))
+
 -- An image of a program in counted form, with so many cells and such a depth, and with so much room for tokens. On each input of
 -- bytes the processor's machine agrees with the counted one: the image tells the same events and exits with the number of the end.
 -- It executes no more instructions than the steps of the counted machine cost with that room, and the room once and `outside_lines`
 -- more. Where the program ends by itself and no cell is counted then, all cells are free at its exit. Outside of the runtime's
--- words, which stand at the entry, it touches no free cell.
+-- words, which stand at the entry, it touches no free cell. Each call, print and construction with fields has addresses of its own.
 pub record IsImageOf (code : CountedProgram) (room cells depth entry : ℕ) (parts : List Part) : Type 0 where
   pub does : (input : List ℕ) → All (λ byte. byte < 256) input
       → (up : ℕ → ℕ) × Agree (roomy_outside room (counted_setting code cells depth)) (processor_machine rv32im)
@@ -74,6 +98,7 @@ pub record IsImageOf (code : CountedProgram) (room cells depth entry : ℕ) (par
       → (count : ℕ) × LeavesAll cells (exited (exit_of well)) (run count (start (memory_of parts) entry input))
   pub touches_no_free : (input : List ℕ) → All (λ byte. byte < 256) input → (count : ℕ)
       → TouchesNoFreeCell entry TEXT_WORDS cells (run count (start (memory_of parts) entry input))
+  pub own : HasOwnAddresses code room cells depth entry parts
 
 -- an image of a program with tokens: one of its bare form, with each room that is enough for its tokens
 abbrev pub IsImageOfTokened : TokenedProgram → ℕ → ℕ → ℕ → List Part → Type 0

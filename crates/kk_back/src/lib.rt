@@ -16,7 +16,7 @@ use kk_counted::Tokened;
 use kk_syntax::StringLiteral;
 use rv_cells::{
     lower_tokened, lowered_tokened_programs_are_short, lowered_tokened_programs_are_well_formed,
-    lowered_tokened_programs_run_the_same,
+    lowered_tokened_programs_come_to_their_lines, lowered_tokened_programs_run_the_same,
 };
 use std::alloc::Global;
 
@@ -26,6 +26,10 @@ use std::alloc::Global;
 /// The loaded image does what the program does without its tokens: on every input it tells the same events, and exits with 0, 101
 /// or 102 as the program ends by itself, with the heap full or with the stack full. Where it ends by itself and no cell is counted
 /// then, all its cells are free. Outside of the runtime's words no instruction loads or stores a byte of a free cell.
+///
+/// Each call, print and construction with fields of the program has an instruction address of its own behind these words; or two or
+/// more, where its code stands more than once, behind tests of tokens. Where the program comes to such a form, the program counter
+/// comes to an address of this form, the run goes on there, and the same events are told.
 pub fn image(
     alloc: Global,
     tokened: &Tokened,
@@ -43,6 +47,7 @@ pub fn image(
     lowered_tokened_programs_are_well_formed();
     lowered_tokened_programs_are_short();
     lowered_tokened_programs_run_the_same();
+    lowered_tokened_programs_come_to_their_lines();
     let made = assembled(alloc, &asm, cells, depth)?;
     Ok(made)
 }

@@ -66,12 +66,12 @@ module _ (map : Map) (pool : Pool) (functions : List PlacedLines) (depth stop : 
       let frames = subst (FramesAt map code (most_lines functions) stop _ s.memory s.pc running.base) frames_are running.frames in
       frame_address functions f j function frames.0 function_is behind.function behind.whole behind.left
 
-  -- where the machine is at a line, the program counter of what stands for it is at the address of the line
+  -- where the machine is at a line, what stands for it goes on at the address of the line
   turn_address : (credit idle : ℕ) (turn : PlacedTurn World Ending) (progress : Progress)
       → StandsFor map pool functions depth stop code parts credit idle turn progress → PlacedIsAt functions f j turn
-      → progress.processor.pc ≡ line_address map functions f j
+      → (s : Processor) × ((progress ≡ goes s) × (s.pc ≡ line_address map functions f j))
   turn_address credit idle (go t) progress (s, progress_is, saved, left, running) at_line =
-      ap (λ (p : Progress). p.processor.pc) progress_is ∙ running_address t s running at_line
+      (s, (progress_is, running_address t s running at_line))
   turn_address credit idle (ended how world) progress stands at_line = absurd at_line
   turn_address credit idle stuck progress stands at_line = absurd at_line
 
@@ -113,10 +113,10 @@ module _ {cells depth : ℕ} {runtime program : Placed} {words : Words} {text : 
     abbrev first : Processor
     first = first_processor text runtime.memory.size input
 
-    -- where the machine is at a line, the image comes to the address of the line, with the same events
+    -- where the machine is at a line, the image comes to the address of the line and goes on there, with the same events
     pub image-arrives : (n f j : ℕ) → PlacedIsAt functions f j (state machine n start)
-        → (count : ℕ) × (((run count first).processor.pc ≡ line_address map functions f j)
-        × (trace (processor_machine rv32im) count (goes first) ≡ trace machine n start))
+        → (count : ℕ) × ((s : Processor) × ((run count first ≡ goes s) × ((s.pc ≡ line_address map functions f j)
+        × (trace (processor_machine rv32im) count (goes first) ≡ trace machine n start))))
     image-arrives n f j at_line =
         let before : ℕ = first_steps image input input_bytes in
         let begins = image-begins image input input_bytes in
@@ -128,15 +128,21 @@ module _ {cells depth : ℕ} {runtime program : Placed} {words : Words} {text : 
         let begun : state (processor_machine rv32im) before (goes first) ≡ goes begins.after
         = state-run rv32im before first ∙ Leads-run begins.walks.leads in
         let silent : trace (processor_machine rv32im) before (goes first) ≡ []
-        = silent_instructions begins.walks.leads begins.told in (
+        = silent_instructions begins.walks.leads begins.told in
+        let goes_on = turn_address map pool functions depth stop_address (code_in words) (parts_of text runtime) f j
+        reaches.credit_after reaches.idle_after _ last reaches.related.1 at_line in (
           before + reaches.steps,
           (
-            ap (λ (p : Progress). p.processor.pc) there
-                ∙ turn_address map pool functions depth stop_address (code_in words) (parts_of text runtime) f j
-                reaches.credit_after reaches.idle_after _ last reaches.related.1 at_line,
-            trace-add (processor_machine rv32im) before reaches.steps (goes first)
-                ∙ ap (λ events. events ++ trace (processor_machine rv32im) reaches.steps (state (processor_machine rv32im) before
-                (goes first))) silent
-                ∙ ap (trace (processor_machine rv32im) reaches.steps) begun ∙ reaches.events_are,
+            goes_on.0,
+            (
+              there ∙ goes_on.1.0,
+              (
+                goes_on.1.1,
+                trace-add (processor_machine rv32im) before reaches.steps (goes first)
+                    ∙ ap (λ events. events ++ trace (processor_machine rv32im) reaches.steps
+                    (state (processor_machine rv32im) before (goes first))) silent
+                    ∙ ap (trace (processor_machine rv32im) reaches.steps) begun ∙ reaches.events_are,
+              ),
+            ),
           ),
         )

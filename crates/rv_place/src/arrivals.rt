@@ -7,7 +7,7 @@ ghost use Rattle.rv_isa.specs.Execution.{rv32im, run};
 ghost use Rattle.rv_isa.specs.LinePlaces.{PlacedIsAt, PlacedHasLine};
 ghost use Rattle.rv_isa.specs.PlacedCode.{PlacedLines, placed_functions};
 ghost use Rattle.rv_isa.specs.PlacedMachine.{placed_machine, placed_start};
-ghost use Rattle.rv_isa.specs.Processor.{goes};
+ghost use Rattle.rv_isa.specs.Processor.{Processor, goes};
 ghost use Rattle.rv_isa.specs.ProcessorMachine.{processor_machine};
 ghost use Rattle.elf_image.specs.Program.{text_start};
 ghost use Rattle.cell_runtime.specs.declared.start.TheConstants.{TEXT_WORDS};
@@ -21,9 +21,9 @@ ghost use Rattle.rv_place.specs.Texts.{pool_in, constants_of, map_of};
 /// The image of a placed text comes to the lines of its program.
 ///
 /// Where the machine of the placed form is at a line that is no label, there is a number of instructions behind which the
-/// program counter is at the address of the line, and the image has told the same events. No two such lines have the same
-/// address, and none stands among the runtime's words. A run of the placed form must never come to a state in which it can
-/// do nothing more. It is a law, and does nothing.
+/// program counter is at the address of the line, the run goes on there, and the image has told the same events. No two such
+/// lines have the same address, and none stands among the runtime's words. A run of the placed form must never come to a state
+/// in which it can do nothing more. It is a law, and does nothing.
 pub fn placed_text_comes_to_its_lines()
     ensures comes { (cells depth : ℕ) (runtime program : Placed) (words : Words) (text input : List ℕ) (main : PlacedLines)
         → IsPlacedImage cells depth runtime program words text main → All (λ byte. byte < 256) input
@@ -33,11 +33,11 @@ pub fn placed_text_comes_to_its_lines()
         → PlacedIsAt (placed_functions program) f j
         (state (placed_machine (primitives (constants_of runtime program) (pool_in cells runtime program)) depth
         (placed_functions program)) n (placed_start main (first_world (pool_in cells runtime program) input)))
-        → (count : ℕ) × (((run count (first_processor text runtime.memory.size input)).processor.pc
-        ≡ line_address (map_of runtime program) (placed_functions program) f j)
+        → (count : ℕ) × ((s : Processor) × ((run count (first_processor text runtime.memory.size input) ≡ goes s)
+        × ((s.pc ≡ line_address (map_of runtime program) (placed_functions program) f j)
         × (trace (processor_machine rv32im) count (goes (first_processor text runtime.memory.size input))
         ≡ trace (placed_machine (primitives (constants_of runtime program) (pool_in cells runtime program)) depth
-        (placed_functions program)) n (placed_start main (first_world (pool_in cells runtime program) input)))) }
+        (placed_functions program)) n (placed_start main (first_world (pool_in cells runtime program) input)))))) }
     ensures apart { (cells depth : ℕ) (runtime program : Placed) (words : Words) (text : List ℕ) (main : PlacedLines)
         → IsPlacedImage cells depth runtime program words text main
         → (f j g i : ℕ) → PlacedHasLine (placed_functions program) f j → PlacedHasLine (placed_functions program) g i
