@@ -43,8 +43,8 @@ unfused_steps most m = m * suc most + most
 abbrev pub inserted_steps : ProgramTree → ℕ → ℕ
 inserted_steps instances m = (m * pace + pace + 1) * (greatest_nodes instances + 1) + greatest_nodes instances + 1
 
--- Within how many steps the store machine does what the counted machine does in m steps, by the greatest body of the instances. The
--- steps that fusion leaves out are counted first: no body has more forms than a program within the limits has instructions.
+-- Within how many steps the store machine does what the counted machine does in m steps, by the greatest body of the instances. m is
+-- first turned into steps of the code before fusion: no body has more forms than a program within the limits has instructions.
 abbrev pub store_steps : ProgramTree → ℕ → ℕ
 store_steps instances m = inserted_steps instances (unfused_steps most_length m)
 

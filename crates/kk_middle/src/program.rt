@@ -25,9 +25,10 @@ use std::alloc::Global;
 
 /// The counted form of an accepted program with its tokens. Five passes make it of the core form of its instances. `kk_insert` puts
 /// in dups and drops, so that each variable that owns a reference is used up once on each path. `kk_dropspec` makes each opening of
-/// a cell go by the cell's count. `kk_fuse` cancels each dup with the next drop of its variable, where nothing between them can see
-/// the count. `kk_reuse` lets a construction with fields take the newest token that its function has left, if there is one: so it
-/// uses that cell again, where the cell had no other reference. `kk_respec` lets it leave the fields that the cell has already.
+/// a cell go by the cell's count. `kk_fuse` cancels each dup with the next drop of its variable, where only dups, drops and readings
+/// of other variables and plain forms stand between them. `kk_reuse` lets a construction with fields take the newest token that its
+/// function has left, if there is one: so it uses that cell again, where the cell had no other reference. `kk_respec` lets it leave
+/// each field whose argument is still the variable that the opening bound.
 ///
 /// The recursion is as deep as the deepest expression.
 pub fn compile(alloc: Global, accepted: &Accepted) -> Result<Tokened, NoMemory>
