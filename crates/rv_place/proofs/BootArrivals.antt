@@ -1,5 +1,5 @@
 -- The image comes to each line of the program that the machine of the placed form comes to.
-use Rattle.std.proofs.Common.{◌≡◌, ◌≤◌, ◌<◌, ℕ, ◌+◌, ◌*◌, List, [], ◌++◌, length, All, Some, take, drop, slice_get}
+use Rattle.std.proofs.Common.{◌≡◌, ◌≤◌, ◌<◌, ℕ, ◌+◌, ◌*◌, ◌%◌, List, [], ◌++◌, length, All, Some, take, drop, slice_get}
 use Rattle.std.proofs.Common.{refl, sym, ap, ◌∙◌, subst, arith}
 use Rattle.kk_base.specs.Memory.{Part}
 use Rattle.kk_base.specs.Trace.{Event}
@@ -31,7 +31,7 @@ use Rattle.rv_place.specs.Lines.{Map}
 use Rattle.rv_place.specs.Texts.{pool_in, constants_of, map_of}
 use Rattle.rv_place.specs.Images.{first_processor, parts_of, code_in, IsPlacedImage}
 use Rattle.rv_place.specs.Running.{most_lines, IsIn, FramesAt, links_of, Running, HasCells, StandsFor, NeverStuck, Related, Passing}
-use Rattle.rv_place.proofs.LineRanges.{words_split, address_of, line_alone, line_behind}
+use Rattle.rv_place.proofs.LineRanges.{words_split, address_of, line_alone, line_behind, line_within}
 use Rattle.rv_place.proofs.BootAgreements.{silent_instructions}
 use Rattle.rv_place.proofs.BootGround.{stop_address}
 use Rattle.rv_place.proofs.BootRuns.{first_steps, image-begins}
@@ -112,6 +112,14 @@ module _ {cells depth : ℕ} {runtime program : Placed} {words : Words} {text : 
   image-outside f j has =
       subst (λ n. text_start + 4 * n ≤ line_address map functions f j) image.runtime_is.words
       (line_behind map (code_in words) functions image.words_are.functions behind_runtime refl f j has)
+
+  pub image-inside : (f j : ℕ) → PlacedHasLine functions f j
+      → (line_address map functions f j % 4 ≡ 0)
+      × (line_address map functions f j + 4 ≤ text_start + 4 * length words.instructions.items)
+  image-inside f j has =
+      let within = line_within map (code_in words) functions image.words_are.functions behind_runtime refl f j has (omega arith) in
+      let size = image.words_are.size in
+      (within.0, omega (arith, within.1, size))
 
   abbrev machine : Machine (PlacedTurn World Ending) Event Ending
   machine = placed_machine (primitives (constants_of runtime program) pool) depth functions

@@ -1,6 +1,6 @@
 // The lines of a program have addresses of their own in the image of a placed text, and the image comes to them.
 
-ghost use Rattle.std.specs.Prelude.{◌≡◌, ℕ, ◌+◌, ◌*◌, ◌≤◌, ◌<◌, List, All};
+ghost use Rattle.std.specs.Prelude.{◌≡◌, ℕ, ◌+◌, ◌*◌, ◌%◌, ◌≤◌, ◌<◌, List, length, All};
 ghost use Rattle.kk_base.specs.Machines.{state, trace};
 ghost use Rattle.rv_isa.specs.declared.placed.Placed.{Placed};
 ghost use Rattle.rv_isa.specs.Execution.{rv32im, run};
@@ -24,8 +24,8 @@ ghost use Rattle.rv_place.specs.Texts.{pool_in, constants_of, map_of};
 /// Where the machine of the placed form is at a line that is no label, there is a number of instructions behind which the
 /// program counter is at the address of the line, the run goes on there, the image has told the same events, and memory has the
 /// cells of the machine's world. At each other state there is such a number too, but for the program counter. No two such lines
-/// have the same address, and none stands among the runtime's words. A run of the placed form must never come to a state
-/// in which it can do nothing more. It is a law, and does nothing.
+/// have the same address, each address is that of a word of the text, and none is among the runtime's words. A run of the placed
+/// form must never come to a state in which it can do nothing more. It is a law, and does nothing.
 pub fn placed_text_comes_to_its_lines()
     ensures comes { (cells depth : ℕ) (runtime program : Placed) (words : Words) (text input : List ℕ) (main : PlacedLines)
         → IsPlacedImage cells depth runtime program words text main → All (λ byte. byte < 256) input
@@ -62,4 +62,10 @@ pub fn placed_text_comes_to_its_lines()
         → IsPlacedImage cells depth runtime program words text main
         → (f j : ℕ) → PlacedHasLine (placed_functions program) f j
         → text_start + 4 * TEXT_WORDS ≤ line_address (map_of runtime program) (placed_functions program) f j }
+    ensures inside { (cells depth : ℕ) (runtime program : Placed) (words : Words) (text : List ℕ) (main : PlacedLines)
+        → IsPlacedImage cells depth runtime program words text main
+        → (f j : ℕ) → PlacedHasLine (placed_functions program) f j
+        → (line_address (map_of runtime program) (placed_functions program) f j % 4 ≡ 0)
+        × (line_address (map_of runtime program) (placed_functions program) f j + 4
+        ≤ text_start + 4 * length words.instructions.items) }
 {}

@@ -4,7 +4,7 @@ use Rattle.rv_isa.specs.PlacedCode.{placed_functions}
 use Rattle.rv_place.specs.Running.{most_lines}
 use Rattle.rv_place.proofs.RunningSimulating.{simulates}
 use Rattle.rv_place.proofs.BootRuns.{image-ground}
-use Rattle.rv_place.proofs.BootArrivals.{image-arrives, image-follows, image-apart, image-outside}
+use Rattle.rv_place.proofs.BootArrivals.{image-arrives, image-follows, image-apart, image-outside, image-inside}
 use Rattle.rv_place.proofs.arrivals.placed_text_comes_to_its_lines.Goals as goal
 
 pub returns-clause-comes : goal.returns-clause-comes
@@ -23,3 +23,6 @@ returns-clause-apart c = λ cells depth runtime program words text main image f 
 
 pub returns-clause-outside : goal.returns-clause-outside
 returns-clause-outside c = λ cells depth runtime program words text main image f j has. image-outside image f j has
+
+pub returns-clause-inside : goal.returns-clause-inside
+returns-clause-inside c = λ cells depth runtime program words text main image f j has. image-inside image f j has
