@@ -185,7 +185,7 @@ module _ {cells depth : ℕ} {runtime program : Placed} {words : Words} {text : 
         × ((trace (processor_machine rv32im) count (goes first) ≡ trace machine n start) × HasCells pool t.shared.cells s)))
     image-follows n t state_is =
         let there = meets n in
-        let goes_on = turn_cells map pool functions depth stop_address (code_in words) (parts_of text runtime) there.credit there.idle t
-        (run there.count first) (subst (λ turn. StandsFor map pool functions depth stop_address (code_in words)
+        let goes_on = turn_cells map pool functions depth stop_address (code_in words) (parts_of text runtime)
+        there.credit there.idle t (run there.count first) (subst (λ turn. StandsFor map pool functions depth stop_address (code_in words)
         (parts_of text runtime) there.credit there.idle turn (run there.count first)) state_is there.stands) in
         (there.count, (goes_on.0, (goes_on.1.0, (there.events, goes_on.1.1))))

@@ -23,9 +23,9 @@ ghost use Rattle.rv_place.specs.Texts.{pool_in, constants_of, map_of};
 ///
 /// Where the machine of the placed form is at a line that is no label, there is a number of instructions behind which the
 /// program counter is at the address of the line, the run goes on there, the image has told the same events, and memory has the
-/// cells of the machine's world. At each other state there is such a number too, but for the program counter. No two such lines
-/// have the same address, each address is that of a word of the text, and none is among the runtime's words. A run of the placed
-/// form must never come to a state in which it can do nothing more. It is a law, and does nothing.
+/// cells of the machine's world. For each state that goes on there is such a number, where the program counter is left open. No
+/// two such lines have the same address, each address is that of a word of the text, and none is among the runtime's words. A run
+/// of the placed form must never come to a state in which it can do nothing more. It is a law, and does nothing.
 pub fn placed_text_comes_to_its_lines()
     ensures comes { (cells depth : ℕ) (runtime program : Placed) (words : Words) (text input : List ℕ) (main : PlacedLines)
         → IsPlacedImage cells depth runtime program words text main → All (λ byte. byte < 256) input
