@@ -1,5 +1,5 @@
 -- The image of assembler code does what that code does, layer by layer: the placed code and the processor.
-use Rattle.std.proofs.Common.{◌≡◌, ◌+◌, ◌*◌, ◌%◌, ◌^◌, ◌<◌, ◌≤◌, ◌≢◌, ℕ, List, All, Some, length, slice_get, refl, sym, ap, subst, ◌∙◌, arith}
+use Rattle.std.proofs.Common.{◌≡◌, ◌+◌, ◌*◌, ◌%◌, ◌^◌, ◌<◌, ◌≤◌, ◌≢◌, ℕ, true, List, All, Some, length, slice_get, refl, sym, ap, subst, ◌∙◌, arith}
 use Rattle.kk_base.specs.Agreements.{Agree}
 use Rattle.kk_base.specs.Machines.{Machine, state, trace}
 use Rattle.kk_base.specs.Sizes.{AreSizes}
@@ -10,13 +10,13 @@ use Rattle.rv_isa.specs.declared.asm.Asm.{Asm}
 use Rattle.rv_isa.specs.declared.placed.DataSection.{DataSection}
 use Rattle.rv_isa.specs.declared.placed.Placed.{Placed}
 use Rattle.rv_isa.specs.AsmCode.{Lines, asm_functions, asm_constants}
-use Rattle.rv_isa.specs.AsmMachine.{AsmTurn, asm_machine, asm_start}
+use Rattle.rv_isa.specs.AsmMachine.{AsmState, AsmTurn, asm_machine, asm_start}
 use Rattle.rv_isa.specs.PlacedCode.{PlacedLines, placed_functions, placed_constants}
-use Rattle.rv_isa.specs.PlacedMachine.{PlacedTurn, placed_machine, placed_start}
+use Rattle.rv_isa.specs.PlacedMachine.{PlacedState, PlacedTurn, placed_machine, placed_start}
 use Rattle.rv_isa.specs.FreeTouches.{TouchesNoFreeCell}
 use Rattle.rv_isa.specs.LinePlaces.{AsmIsAt, PlacedIsAt, AsmHasLine, PlacedHasLine}
 use Rattle.rv_isa.specs.Primitives.{go, ended, stuck}
-use Rattle.rv_isa.specs.Processor.{Processor, Ending, start, goes}
+use Rattle.rv_isa.specs.Processor.{Processor, Ending, can_fetch, start, goes}
 use Rattle.rv_isa.specs.Execution.{rv32im, run}
 use Rattle.rv_isa.specs.ProcessorMachine.{processor_machine}
 use Rattle.rv_isa.specs.Costs.{functions_length, placed_functions_length}
@@ -35,16 +35,17 @@ use Rattle.rv_regs.specs.Shape.{IsPlainlyPlaced}
 use Rattle.rv_regs.specs.Relation.{NeverStuck as RegsNeverStuck, StandsFor as RegsStandsFor, Related as RegsRelated, IsNotStuck}
 use Rattle.rv_regs.specs.LinesReached.{line_of}
 use Rattle.rv_regs.proofs.LinesReached.{lines_there, lines_apart}
-use Rattle.rv_regs.proofs.Reaching.{comes_to_lines}
+use Rattle.rv_regs.proofs.Reaching.{comes_to_lines, follows_each_state}
 use Rattle.rv_regs.proofs.Steps.{callee_both}
 use Rattle.rv_regs.proofs.Simulating.{agrees, starts, simulates, never_stuck}
 use Rattle.rv_place.specs.Addresses.{frame_size}
 use Rattle.rv_place.specs.Bytes.{IsTextOf}
 use Rattle.rv_place.specs.Images.{IsPlacedImage, EndsWithCells, first_processor, outside_lines}
 use Rattle.rv_place.specs.LineAddresses.{line_address}
-use Rattle.rv_place.specs.Running.{NeverStuck}
+use Rattle.rv_place.specs.Running.{HasCells, NeverStuck}
 use Rattle.rv_place.specs.Texts.{ArePlaceable, ArePlacedWords, map_of, pool_in, constants_of, text_bytes, most_text_words, most_constant_bytes}
 use Rattle.rv_place.proofs.BootFits.{FitsImage, fits-image}
+use Rattle.rv_place.proofs.BootLoaded.{text-fetched}
 use Rattle.rv_place.proofs.BootSizes.{bytes_most, page_multiple}
 use Rattle.rv_place.specs.declared.words.Words.{Words}
 use Rattle.kk_back.specs.Assembled.{IsPlaceable, IsAsmImage}
@@ -128,13 +129,24 @@ pub record PlacedTextComes : Type 0 where
       → IsPlacedImage cells depth runtime program words text main → All (λ byte. byte < 256) input
       → NeverStuck (map_of runtime program) (pool_in cells runtime program) (placed_functions program) depth
       (start_of cells runtime program main input)
-      → (n f j : ℕ) → PlacedHasLine (placed_functions program) f j
-      → PlacedIsAt (placed_functions program) f j
+      → (n f j : ℕ) (shared : World) → PlacedHasLine (placed_functions program) f j
+      → PlacedIsAt (placed_functions program) f j shared
       (state (machine_of cells depth runtime program) n (start_of cells runtime program main input))
       → (count : ℕ) × ((s : Processor) × ((run count (first_processor text runtime.memory.size input) ≡ goes s)
       × ((s.pc ≡ address_of runtime program f j)
-      × (trace (processor_machine rv32im) count (goes (first_processor text runtime.memory.size input))
-      ≡ trace (machine_of cells depth runtime program) n (start_of cells runtime program main input)))))
+      × ((trace (processor_machine rv32im) count (goes (first_processor text runtime.memory.size input))
+      ≡ trace (machine_of cells depth runtime program) n (start_of cells runtime program main input))
+      × HasCells (pool_in cells runtime program) shared.cells s))))
+  pub follows : (cells depth : ℕ) (runtime program : Placed) (words : Words) (text input : List ℕ) (main : PlacedLines)
+      → IsPlacedImage cells depth runtime program words text main → All (λ byte. byte < 256) input
+      → NeverStuck (map_of runtime program) (pool_in cells runtime program) (placed_functions program) depth
+      (start_of cells runtime program main input)
+      → (n : ℕ) (t : PlacedState World)
+      → state (machine_of cells depth runtime program) n (start_of cells runtime program main input) ≡ go t
+      → (count : ℕ) × ((s : Processor) × ((run count (first_processor text runtime.memory.size input) ≡ goes s)
+      × ((trace (processor_machine rv32im) count (goes (first_processor text runtime.memory.size input))
+      ≡ trace (machine_of cells depth runtime program) n (start_of cells runtime program main input))
+      × HasCells (pool_in cells runtime program) t.shared.cells s)))
   pub apart : (cells depth : ℕ) (runtime program : Placed) (words : Words) (text : List ℕ) (main : PlacedLines)
       → IsPlacedImage cells depth runtime program words text main
       → (f j g i : ℕ) → PlacedHasLine (placed_functions program) f j → PlacedHasLine (placed_functions program) g i
@@ -142,6 +154,11 @@ pub record PlacedTextComes : Type 0 where
   pub outside : (cells depth : ℕ) (runtime program : Placed) (words : Words) (text : List ℕ) (main : PlacedLines)
       → IsPlacedImage cells depth runtime program words text main
       → (f j : ℕ) → PlacedHasLine (placed_functions program) f j → text_start + 4 * TEXT_WORDS ≤ address_of runtime program f j
+  pub inside : (cells depth : ℕ) (runtime program : Placed) (words : Words) (text : List ℕ) (main : PlacedLines)
+      → IsPlacedImage cells depth runtime program words text main
+      → (f j : ℕ) → PlacedHasLine (placed_functions program) f j
+      → (address_of runtime program f j % 4 ≡ 0)
+      × (address_of runtime program f j + 4 ≤ text_start + 4 * length words.instructions.items)
 
 -- Assembler code, its runtime and the text that is made of both.
 pub record Makes (cells depth : ℕ) (asm : Asm) (placed runtime : Placed) (words : Words) (text : List ℕ) : Type 0 where
@@ -173,6 +190,11 @@ ended_alike : (how : Ending) (world : World) (t : PlacedTurn World Ending) → R
 ended_alike how world (go t) stands = absurd stands
 ended_alike how world (ended other shared) stands = cc (stands.0, stands.1)
 ended_alike how world stuck stands = absurd stands
+
+-- a word of a text can be fetched from the memory of its image
+fetched : (text : List ℕ) (size at : ℕ) → text_start ≤ at → at + 4 ≤ text_start + length text
+    → can_fetch (memory_of (program_parts text size)) at 4 ≡ true
+fetched text size at low high = text-fetched (length text) (memory_start (length text)) size at 4 low high
 
 module _ {cells depth : ℕ} {asm : Asm} {placed runtime : Placed} {words : Words} {text : List ℕ} (makes : Makes cells depth asm placed runtime words text) where
   pub can_be_placed : ArePlaceable runtime placed
@@ -249,6 +271,16 @@ module _ {cells depth : ℕ} {asm : Asm} {placed runtime : Placed} {words : Word
   lines_are_outside text_comes f k has =
       text_comes.outside cells depth runtime placed words text some_image.0 some_image.1 f (line f k) (is_there f k has)
 
+  -- a word can be fetched at each, of memory that begins with the text
+  pub lines_are_inside : PlacedTextComes → (f k : ℕ) → AsmHasLine (asm_functions asm) f k
+      → (address f k % 4 ≡ 0) × (can_fetch (memory_of (program_parts text runtime.memory.size)) (address f k) 4 ≡ true)
+  lines_are_inside text_comes f k has =
+      let within = text_comes.inside cells depth runtime placed words text some_image.0 some_image.1 f (line f k) (is_there f k has) in
+      let low : text_start + 4 * TEXT_WORDS ≤ address f k = lines_are_outside text_comes f k has in
+      let high : address f k + 4 ≤ text_start + 4 * length words.instructions.items = within.1 in
+      let size : length text ≡ 4 * length words.instructions.items + length words.constants.items = makes.text_is.size in
+      (within.0, fetched text runtime.memory.size (address f k) (omega (arith, low)) (omega (arith, high, size)))
+
   -- ---- runs
 
   module _ (input : List ℕ) (bytes : All (λ byte. byte < 256) input)
@@ -282,25 +314,49 @@ module _ {cells depth : ℕ} {asm : Asm} {placed runtime : Placed} {words : Word
     abbrev asm_begins : AsmTurn World Ending
     asm_begins = asm_start main (first_world pool input)
 
-    -- where it is at a line, there is a number of instructions behind which the run goes on at the line's address
-    pub comes : PlacedTextComes → (n f k : ℕ) → AsmHasLine (asm_functions asm) f k
-        → AsmIsAt (asm_functions asm) f k (state asm_runs n asm_begins)
+    -- where it is at a line, there is a number of instructions behind which the run goes on at the line's address, and memory has
+    -- the cells of the world
+    pub comes : PlacedTextComes → (n f k : ℕ) (world : World) → AsmHasLine (asm_functions asm) f k
+        → AsmIsAt (asm_functions asm) f k world (state asm_runs n asm_begins)
         → (count : ℕ) × ((s : Processor) × ((run count (first_processor text runtime.memory.size input) ≡ goes s)
         × ((s.pc ≡ address f k)
-        × (trace (processor_machine rv32im) count (goes (first_processor text runtime.memory.size input)) ≡ trace asm_runs n asm_begins))))
-    comes text_comes n f k has is =
+        × ((trace (processor_machine rv32im) count (goes (first_processor text runtime.memory.size input)) ≡ trace asm_runs n asm_begins)
+        × HasCells pool world.cells s))))
+    comes text_comes n f k world has is =
         let high = comes_to_lines (primitives constants pool) depth (asm_functions asm) (placed_functions placed) main
         (first_world pool input) makes.valid.functions makes.plain.few_moves makes.made.main_is makes.made.main_params never in
         let begins : PlacedTurn World Ending = start_of cells runtime placed high.0 input in
-        let there = high.1.1 n f k has is in
+        let there = high.1.1 n f k world has is in
         let on_constants = subst (λ (c : Constants).
         (trace (placed_machine (primitives c pool) depth (placed_functions placed)) there.0 begins ≡ trace asm_runs n asm_begins)
-        × PlacedIsAt (placed_functions placed) f (line f k)
+        × PlacedIsAt (placed_functions placed) f (line f k) world
         (state (placed_machine (primitives c pool) depth (placed_functions placed)) there.0 begins)) (sym same_constants) there.1 in
         let low = text_comes.comes cells depth runtime placed words text input high.0 (image_by high.0 high.1.0) bytes
-        (placed_never high.0 high.1.0) there.0 f (line f k) (is_there f k has) on_constants.1 in
+        (placed_never high.0 high.1.0) there.0 f (line f k) world (is_there f k has) on_constants.1 in
         let last = low.1.1 in
-        (low.0, (low.1.0, (last.0, (last.1.0, last.1.1 ∙ on_constants.0))))
+        (low.0, (low.1.0, (last.0, (last.1.0, (last.1.1.0 ∙ on_constants.0, last.1.1.1)))))
+
+    -- and for each state in which it goes on there is a number behind which the run goes on, and memory has the cells
+    pub follows : PlacedTextComes → (n : ℕ) (high : AsmState World) → state asm_runs n asm_begins ≡ go high
+        → (count : ℕ) × ((s : Processor) × ((run count (first_processor text runtime.memory.size input) ≡ goes s)
+        × ((trace (processor_machine rv32im) count (goes (first_processor text runtime.memory.size input)) ≡ trace asm_runs n asm_begins)
+        × HasCells pool high.shared.cells s)))
+    follows text_comes n high is =
+        let each = follows_each_state (primitives constants pool) depth (asm_functions asm) (placed_functions placed) main
+        (first_world pool input) makes.valid.functions makes.plain.few_moves makes.made.main_is makes.made.main_params never in
+        let begins : PlacedTurn World Ending = start_of cells runtime placed each.0 input in
+        let there = each.1.1 n high is in
+        let middle : PlacedState World = there.1.0 in
+        let on_constants = subst (λ (c : Constants).
+        (state (placed_machine (primitives c pool) depth (placed_functions placed)) there.0 begins ≡ go middle)
+        × ((trace (placed_machine (primitives c pool) depth (placed_functions placed)) there.0 begins ≡ trace asm_runs n asm_begins)
+        × (middle.shared ≡ high.shared))) (sym same_constants) there.1.1 in
+        let low = text_comes.follows cells depth runtime placed words text input each.0 (image_by each.0 each.1.0) bytes
+        (placed_never each.0 each.1.0) there.0 middle on_constants.0 in
+        let last = low.1.1 in
+        let has : HasCells pool high.shared.cells low.1.0
+        = subst (λ (w : World). HasCells pool w.cells low.1.0) on_constants.1.1 last.1.1 in
+        (low.0, (low.1.0, (last.0, (last.1.0 ∙ on_constants.1.0, has))))
 
     pub does : PlacedTextAgrees
         → (up : ℕ → ℕ) × Agree (asm_machine (primitives constants pool) depth (asm_functions asm)) (processor_machine rv32im) outside_lines up
@@ -380,12 +436,24 @@ image_of {cells} {depth} {asm} {placed} {runtime} {words} {text} makes text_agre
         apart = lines_are_apart makes text_comes;
         outside = λ f k has.
             subst (λ (e : ℕ). e + 4 * TEXT_WORDS ≤ address makes f k) (sym entry_is) (lines_are_outside makes text_comes f k has);
-        comes = λ input bytes never n f k has is.
-            let whole = comes makes input bytes never text_comes n f k has is in (
+        inside = λ f k has.
+            subst (λ (p : List Part). (address makes f k % 4 ≡ 0) × (can_fetch (memory_of p) (address makes f k) 4 ≡ true))
+            (sym parts_are) (lines_are_inside makes text_comes f k has);
+        comes = λ input bytes never n f k world has is.
+            let whole = comes makes input bytes never text_comes n f k world has is in (
               whole.0,
               subst (λ (begun : _). (s : Processor) × ((run whole.0 (begun input) ≡ goes s) × ((s.pc ≡ address makes f k)
-                  × (trace (processor_machine rv32im) whole.0 (goes (begun input))
-                  ≡ trace (asm_runs makes input bytes never) n (asm_begins makes input bytes never))))) (sym there) whole.1,
+                  × ((trace (processor_machine rv32im) whole.0 (goes (begun input))
+                  ≡ trace (asm_runs makes input bytes never) n (asm_begins makes input bytes never))
+                  × HasCells (pool makes) world.cells s)))) (sym there) whole.1,
+            );
+        follows = λ input bytes never n high is.
+            let whole = follows makes input bytes never text_comes n high is in (
+              whole.0,
+              subst (λ (begun : _). (s : Processor) × ((run whole.0 (begun input) ≡ goes s)
+                  × ((trace (processor_machine rv32im) whole.0 (goes (begun input))
+                  ≡ trace (asm_runs makes input bytes never) n (asm_begins makes input bytes never))
+                  × HasCells (pool makes) high.shared.cells s))) (sym there) whole.1,
             );
       };
     }

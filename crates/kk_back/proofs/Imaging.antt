@@ -31,7 +31,7 @@ use Rattle.rv_isa.specs.Processor.{start, goes}
 use Rattle.rv_isa.specs.ProcessorMachine.{processor_machine}
 use Rattle.rv_lower.specs.Lowered.{from_to}
 use Rattle.rv_cells.specs.Fitting.{IsFit}
-use Rattle.rv_cells.specs.FormLines.{HaveOwnLines, ComesToItsLines}
+use Rattle.rv_cells.specs.FormLines.{HaveOwnLines, ComesToItsLines, FollowsEachState}
 use Rattle.rv_cells.specs.Layout.{Layout, IsNarrow}
 use Rattle.rv_cells.specs.Meaning.{setting_on}
 use Rattle.rv_cells.specs.Tables.{table_of, layout_in}
@@ -41,7 +41,7 @@ use Rattle.rv_place.specs.Images.{outside_lines}
 use Rattle.rv_world.specs.Operations.{Constants, all_bytes}
 use Rattle.rv_world.specs.World.{first_world, primitives}
 use Rattle.kk_back.specs.Assembled.{IsPlaceable, IsAsmImage, IsImageOfAsm}
-use Rattle.kk_back.specs.Images.{counted_setting, IsRunnable, IsImageOf}
+use Rattle.kk_back.specs.Images.{counted_setting, IsRunnable, IsImageOf, HasOwnAddresses}
 use Rattle.kk_back.specs.FreeCells.{AreAllFree}
 use Rattle.kk_back.specs.Sizes.{FitsText}
 use Rattle.kk_back.proofs.Assembling.{same_some}
@@ -58,7 +58,8 @@ RunTheSame =
     → ((n : ℕ) → IsFit layout (counted_after (roomy_cost room) (setting_on (bare_program code) pool depth) input n))
     → TokenedRunsTheSame code room constants functions lowered.main_lines pool depth first input
 
--- the law that each form has lines of its own in assembler code, to which that code comes where the program is at the form
+-- the law that each form has lines of its own in assembler code, to which that code comes where the program is at the form, and that
+-- its cells follow the counted heap
 abbrev pub ComeToTheirLines : Type 0
 ComeToTheirLines =
     (layout : Layout) (marks : CellMarks) (code : TokenedProgram) (constants : List (List ℕ)) (functions : List Lines)
@@ -68,7 +69,8 @@ ComeToTheirLines =
     → (pool : Pool) (depth first : ℕ) (input : List ℕ) → pool.first % 32 ≡ 0 → 0 < pool.first
     → All (λ byte. byte < 256) input
     → ((n : ℕ) → IsFit layout (counted_after (roomy_cost room) (setting_on (bare_program code) pool depth) input n))
-    → ComesToItsLines (bare_program code) room constants functions lowered.main_lines pool depth first input own)
+    → ComesToItsLines layout (bare_program code) room constants functions lowered.main_lines pool depth first input own
+    × FollowsEachState layout (bare_program code) room constants functions lowered.main_lines pool depth first input)
 
 -- the law that a program that can be lowered with its tokens, and is so, is one whose assembler code is well formed
 abbrev pub AreWellLowered : Type 0
@@ -140,83 +142,92 @@ module _ (shape : Shape) (code : TokenedProgram) (functions : List Lines) (texts
     pub is_program : IsProgramImage entry parts
     is_program = image.program
 
-    module _ (run_the_same : RunTheSame) (come_to_their_lines : ComeToTheirLines) (room : ℕ) (enough : HasRoom room code) where
-      abbrev constants : Constants
-      constants = record { first = image.first; texts = texts }
+    abbrev constants : Constants
+    constants = record { first = image.first; texts = texts }
 
-      -- the program without its tokens
-      abbrev bare_code : CountedProgram
-      bare_code = bare_program code
+    -- the program without its tokens
+    abbrev bare_code : CountedProgram
+    bare_code = bare_program code
 
-      abbrev setting : CountedSetting
-      setting = counted_setting bare_code cells depth
+    abbrev setting : CountedSetting
+    setting = counted_setting bare_code cells depth
 
-      same_setting : setting_on bare_code image.pool depth ≡ setting
-      same_setting = ap (λ n. counted_setting bare_code n depth) image.cells_are
+    same_setting : setting_on bare_code image.pool depth ≡ setting
+    same_setting = ap (λ n. counted_setting bare_code n depth) image.cells_are
 
-      -- each state of the program without its tokens is fit
-      are_fit : (input : List ℕ) → All (λ byte. byte < 256) input → (n : ℕ)
-          → IsFit (layout_in shape) (counted_after (roomy_cost room) (setting_on bare_code image.pool depth) input n)
-      are_fit input bytes n =
-          subst (λ (s : CountedSetting). IsFit (layout_in shape) (counted_after (roomy_cost room) s input n))
-          (sym same_setting) (runnable.fit (roomy_cost room) input bytes n)
+    module _ (run_the_same : RunTheSame) where
+      module _ (room : ℕ) (enough : HasRoom room code) where
+        -- each state of the program without its tokens is fit
+        are_fit : (input : List ℕ) → All (λ byte. byte < 256) input → (n : ℕ)
+            → IsFit (layout_in shape) (counted_after (roomy_cost room) (setting_on bare_code image.pool depth) input n)
+        are_fit input bytes n =
+            subst (λ (s : CountedSetting). IsFit (layout_in shape) (counted_after (roomy_cost room) s input n))
+            (sym same_setting) (runnable.fit (roomy_cost room) input bytes n)
 
-      runs : (input : List ℕ) → All (λ byte. byte < 256) input
-          → TokenedRunsTheSame code room texts functions lowered.main_lines image.pool depth image.first input
-      runs input bytes =
-          run_the_same (layout_in shape) (table_of shape) code texts functions lowered room enough image.pool depth image.first input
-          image.aligned image.behind bytes (are_fit input bytes)
+        runs : (input : List ℕ) → All (λ byte. byte < 256) input
+            → TokenedRunsTheSame code room texts functions lowered.main_lines image.pool depth image.first input
+        runs input bytes =
+            run_the_same (layout_in shape) (table_of shape) code texts functions lowered room enough image.pool depth image.first
+            input image.aligned image.behind bytes (are_fit input bytes)
 
-      never : (input : List ℕ) → All (λ byte. byte < 256) input → (n : ℕ)
-          → state (asm_machine (primitives constants image.pool) depth functions) n (asm_start lowered.main_lines (first_world image.pool input))
-          ≢ stuck
-      never input bytes n = (runs input bytes).never_stuck n
+        never : (input : List ℕ) → All (λ byte. byte < 256) input → (n : ℕ)
+            → state (asm_machine (primitives constants image.pool) depth functions) n
+            (asm_start lowered.main_lines (first_world image.pool input))
+            ≢ stuck
+        never input bytes n = (runs input bytes).never_stuck n
 
-      -- each form has lines of its own
-      own : HaveOwnLines bare_code functions
-      own =
-          (come_to_their_lines (layout_in shape) (table_of shape) code texts functions lowered runnable.lowerable
-          runnable.main_first).0
+        -- the image does what the program does without its tokens
+        pub image_is : IsImageOf bare_code room cells depth entry parts
+        image_is = record {
+          does = λ input bytes.
+              let upper = (runs input bytes).agrees in
+              let low = image.does input bytes (never input bytes) in (
+                (λ m. upper.0 (low.0 m)),
+                subst (λ (s : CountedSetting). Agree (roomy_outside room s) (processor_machine rv32im) (room + outside_lines)
+                    (λ m. upper.0 (low.0 m)) (counted_first_state s input) (goes (start (memory_of parts) entry input))) same_setting
+                    (agree_through (roomy_outside room (setting_on bare_code image.pool depth))
+                    (asm_machine (primitives constants image.pool) depth functions) (processor_machine rv32im) room
+                    outside_lines upper.0 low.0
+                    (counted_first_state (setting_on bare_code image.pool depth) input)
+                    (asm_start lowered.main_lines (first_world image.pool input))
+                    (goes (start (memory_of parts) entry input)) upper.1 low.1),
+              );
+          leaves_cells = λ input bytes n stops empty.
+              let ends = (runs input bytes).ends n well
+              (subst (λ (s : CountedSetting). (counted_after (roomy_cost room) s input n).control ≡ stopped well) (sym same_setting)
+              stops) in
+              let last = image.ends input bytes (never input bytes) ends.0 _ ends.1 ends.2 in
+              let all = ends.3 refl (subst (λ (s : CountedSetting). busy (counted_after (roomy_cost room) s input n).heap ≡ 0)
+              (sym same_setting) empty) in (
+                last.0,
+                (
+                  last.1.ending,
+                  subst (λ n. AreAllFree n (run last.0 (start (memory_of parts) entry input)).processor) image.cells_are
+                      (all_are_free image.pool ends.1.cells (run last.0 (start (memory_of parts) entry input)).processor all
+                      last.1.memory),
+                ),
+              );
+          touches_no_free = λ input bytes. image.touches_no_free input bytes (never input bytes);
+        }
 
-      comes : (input : List ℕ) → All (λ byte. byte < 256) input
-          → ComesToItsLines bare_code room texts functions lowered.main_lines image.pool depth image.first input own
-      unfolding own
-      comes input bytes =
-          (come_to_their_lines (layout_in shape) (table_of shape) code texts functions lowered runnable.lowerable
-          runnable.main_first).1 room enough image.pool depth image.first input image.aligned image.behind bytes
-          (are_fit input bytes)
+      module _ (come_to_their_lines : ComeToTheirLines) where
+        -- each form has lines of its own
+        own : HaveOwnLines bare_code functions
+        own =
+            (come_to_their_lines (layout_in shape) (table_of shape) code texts functions lowered runnable.lowerable
+            runnable.main_first).0
 
-      -- the image does what the program does without its tokens
-      pub image_is : IsImageOf bare_code room cells depth entry parts
-      image_is = record {
-        does = λ input bytes.
-            let upper = (runs input bytes).agrees in
-            let low = image.does input bytes (never input bytes) in (
-              (λ m. upper.0 (low.0 m)),
-              subst (λ (s : CountedSetting). Agree (roomy_outside room s) (processor_machine rv32im) (room + outside_lines)
-                  (λ m. upper.0 (low.0 m)) (counted_first_state s input) (goes (start (memory_of parts) entry input))) same_setting
-                  (agree_through (roomy_outside room (setting_on bare_code image.pool depth))
-                  (asm_machine (primitives constants image.pool) depth functions) (processor_machine rv32im) room
-                  outside_lines upper.0 low.0
-                  (counted_first_state (setting_on bare_code image.pool depth) input)
-                  (asm_start lowered.main_lines (first_world image.pool input))
-                  (goes (start (memory_of parts) entry input)) upper.1 low.1),
-            );
-        leaves_cells = λ input bytes n stops empty.
-            let ends = (runs input bytes).ends n well
-            (subst (λ (s : CountedSetting). (counted_after (roomy_cost room) s input n).control ≡ stopped well) (sym same_setting)
-            stops) in
-            let last = image.ends input bytes (never input bytes) ends.0 _ ends.1 ends.2 in
-            let all = ends.3 refl (subst (λ (s : CountedSetting). busy (counted_after (roomy_cost room) s input n).heap ≡ 0)
-            (sym same_setting) empty) in (
-              last.0,
-              (
-                last.1.ending,
-                subst (λ n. AreAllFree n (run last.0 (start (memory_of parts) entry input)).processor) image.cells_are
-                    (all_are_free image.pool ends.1.cells (run last.0 (start (memory_of parts) entry input)).processor all
-                    last.1.memory),
-              ),
-            );
-        touches_no_free = λ input bytes. image.touches_no_free input bytes (never input bytes);
-        own = own_addresses functions texts lowered.main_lines cells depth entry parts image bare_code own room comes never;
-      }
+        comes : (room : ℕ) → HasRoom room code → (input : List ℕ) → All (λ byte. byte < 256) input
+            → ComesToItsLines (layout_in shape) bare_code room texts functions lowered.main_lines image.pool depth image.first input
+            own
+            × FollowsEachState (layout_in shape) bare_code room texts functions lowered.main_lines image.pool depth image.first input
+        unfolding own
+        comes room enough input bytes =
+            (come_to_their_lines (layout_in shape) (table_of shape) code texts functions lowered runnable.lowerable
+            runnable.main_first).1 room enough image.pool depth image.first input image.aligned image.behind bytes
+            (are_fit room enough input bytes)
+
+        -- the forms of the program have addresses of their own in the image, which follows the counted machine
+        pub own_is : HasOwnAddresses (layout_in shape) code cells depth entry parts
+        own_is =
+            own_addresses functions texts lowered.main_lines cells depth entry parts image (layout_in shape) code own comes never

@@ -1,32 +1,37 @@
--- Each form that has lines of its own in assembler code has the addresses of these lines in its image, and the image comes to them.
-use Rattle.std.proofs.Common.{◌≡◌, ◌≢◌, ◌+◌, ◌*◌, ◌<◌, ◌≤◌, ℕ, Bool, true, false, ◌||◌, List, [], ◌∷◌, All, map, ◌⊎◌, inl, inr}
+-- Each form that has lines of its own in assembler code has the addresses of these lines in its image. The image comes to them, and
+-- follows the counted machine.
+use Rattle.std.proofs.Common.{◌≡◌, ◌≢◌, ◌+◌, ◌*◌, ◌%◌, ◌<◌, ◌≤◌, ℕ, Bool, true, false, ◌||◌, List, [], ◌∷◌, All, map, ◌⊎◌, inl, inr}
 use Rattle.std.proofs.Common.{refl, sym, ap, subst, ◌∙◌}
 use Rattle.std.specs.Prelude.{◌==◌}
 use Rattle.std.proofs.lemmas.Bool.{both_ways, eqb-true, eq-eqb}
 use Rattle.kk_base.specs.Machines.{state, trace}
 use Rattle.kk_syntax.specs.Shapes.{is_among}
 use Rattle.kk_source.specs.State.{Environment}
+use Rattle.kk_counted.specs.BareForms.{bare_program}
 use Rattle.kk_counted.specs.CodePlaces.{is_act, IsActAt}
 use Rattle.kk_counted.specs.CountedCodes.{Counted, CountedProgram}
 use Rattle.kk_counted.specs.CountedCosts.{roomy_cost}
 use Rattle.kk_counted.specs.CountedStates.{CountedSetting, CountedJoin, running, counted_first_state}
 use Rattle.kk_counted.specs.Keeping.{counted_after}
+use Rattle.kk_counted.specs.TokenCosts.{HasRoom}
+use Rattle.kk_counted.specs.TokenedCodes.{TokenedProgram}
 use Rattle.cell_runtime.specs.declared.start.TheConstants.{TEXT_WORDS}
 use Rattle.elf_image.specs.Parts.{memory_of}
 use Rattle.elf_image.specs.declared.part.Part.{Part}
-use Rattle.rv_cells.specs.FormLines.{HaveOwnLines, ComesToItsLines}
+use Rattle.rv_cells.specs.FormLines.{HaveOwnLines, ComesToItsLines, FollowsEachState}
+use Rattle.rv_cells.specs.Layout.{Layout}
 use Rattle.rv_cells.specs.Meaning.{setting_on}
 use Rattle.rv_cells.specs.TokenedMeaning.{roomy_outside}
 use Rattle.rv_isa.specs.AsmCode.{Lines}
 use Rattle.rv_isa.specs.AsmMachine.{asm_machine, asm_start}
 use Rattle.rv_isa.specs.Execution.{rv32im, run}
 use Rattle.rv_isa.specs.Primitives.{stuck}
-use Rattle.rv_isa.specs.Processor.{Processor, start, goes}
+use Rattle.rv_isa.specs.Processor.{Processor, can_fetch, start, goes}
 use Rattle.rv_isa.specs.ProcessorMachine.{processor_machine}
 use Rattle.rv_world.specs.Operations.{Constants}
 use Rattle.rv_world.specs.World.{first_world, primitives}
 use Rattle.kk_back.specs.Assembled.{IsAsmImage}
-use Rattle.kk_back.specs.Images.{counted_setting, HasOwnAddresses}
+use Rattle.kk_back.specs.Images.{counted_setting, HasHeap, HasOwnAddresses}
 
 -- ---- numbers that are made of numbers
 
@@ -63,8 +68,12 @@ module _ (h : ℕ → ℕ) where
 -- ---- the addresses of the lines of forms
 
 module _ (functions : List Lines) (texts : List (List ℕ)) (main : Lines) (cells depth entry : ℕ) (parts : List Part)
-    (image : IsAsmImage functions texts main cells depth entry parts) (code : CountedProgram)
-    (own : HaveOwnLines code functions) where
+    (image : IsAsmImage functions texts main cells depth entry parts) (layout : Layout) (tokened : TokenedProgram)
+    (own : HaveOwnLines (bare_program tokened) functions) where
+  -- the program without its tokens
+  abbrev code : CountedProgram
+  code = bare_program tokened
+
   -- the addresses of the lines of a form
   abbrev addresses : ℕ → List ℕ → List ℕ
   addresses f way = map (image.lines.address f) (own.lines f way)
@@ -106,65 +115,108 @@ module _ (functions : List Lines) (texts : List (List ℕ)) (main : Lines) (cell
       subst (λ (a : ℕ). entry + 4 * TEXT_WORDS ≤ a) line.1.1
       (image.lines.outside f line.0 (own.there f way line.0 line.1.0))
 
+  -- and a word can be fetched at each
+  addresses_inside : (f : ℕ) (way : List ℕ) (at : ℕ) → is_among (addresses f way) at ≡ true
+      → (at % 4 ≡ 0) × (can_fetch (memory_of parts) at 4 ≡ true)
+  addresses_inside f way at among =
+      let line = line_at f way at among in
+      subst (λ (a : ℕ). (a % 4 ≡ 0) × (can_fetch (memory_of parts) a 4 ≡ true)) line.1.1
+      (image.lines.inside f line.0 (own.there f way line.0 line.1.0))
+
   -- ---- runs
 
-  module _ (room : ℕ) where
-    abbrev constants : Constants
-    constants = record { first = image.first; texts = texts }
+  abbrev constants : Constants
+  constants = record { first = image.first; texts = texts }
 
-    abbrev on_pool : CountedSetting
-    on_pool = setting_on code image.pool depth
+  abbrev on_pool : CountedSetting
+  on_pool = setting_on code image.pool depth
 
-    abbrev setting : CountedSetting
-    setting = counted_setting code cells depth
+  abbrev setting : CountedSetting
+  setting = counted_setting code cells depth
 
-    same_setting : on_pool ≡ setting
-    same_setting = ap (λ n. counted_setting code n depth) image.cells_are
+  same_setting : on_pool ≡ setting
+  same_setting = ap (λ n. counted_setting code n depth) image.cells_are
 
-    -- where the counted machine is at a form, the run comes to an address of the form, goes on there, and has told the same events
-    abbrev IsThere : List ℕ → ℕ → Counted → CountedSetting → Type 0
-    IsThere input n act counted =
-        (f : ℕ) × ((way : List ℕ) × (IsActAt code f way act × ((at : ℕ) × ((is_among (addresses f way) at ≡ true)
-        × ((count : ℕ) × ((s : Processor) × ((run count (start (memory_of parts) entry input) ≡ goes s) × ((s.pc ≡ at)
-        × (trace (processor_machine rv32im) count (goes (start (memory_of parts) entry input))
-        ≡ trace (roomy_outside room counted) n (counted_first_state counted input))))))))))
+  -- the run has told the same events as the counted machine, and memory has the cells of the counted heap
+  abbrev IsLike : ℕ → List ℕ → ℕ → CountedSetting → ℕ → Processor → Type 0
+  IsLike room input n counted count s =
+      (trace (processor_machine rv32im) count (goes (start (memory_of parts) entry input))
+      ≡ trace (roomy_outside room counted) n (counted_first_state counted input))
+      × HasHeap image.pool layout (counted_after (roomy_cost room) counted input n).heap s
 
-    module _ (comes : (input : List ℕ) → All (λ byte. byte < 256) input
-        → ComesToItsLines code room texts functions main image.pool depth image.first input own)
-        (never : (input : List ℕ) → All (λ byte. byte < 256) input → (n : ℕ)
-        → state (asm_machine (primitives constants image.pool) depth functions) n (asm_start main (first_world image.pool input))
-        ≢ stuck) where
-      arrives : (input : List ℕ) → All (λ byte. byte < 256) input
-          → (n : ℕ) (act : Counted) (environment : Environment) (joins : List CountedJoin)
-          → (counted_after (roomy_cost room) on_pool input n).control ≡ running act environment joins → is_act act ≡ true
-          → IsThere input n act on_pool
-      arrives input bytes n act environment joins runs acts =
-          let (f, (way, (is_act_at, (k, (among, (m, (at_line, told))))))) = comes input bytes n act environment joins runs acts in
-          let (count, (s, (goes_on, (pc_is, events)))) =
-          image.lines.comes input bytes (never input bytes) m f k (own.there f way k among) at_line in (
-            f,
+  -- where the counted machine is at a form, the run comes to an address of the form, goes on there, and is like that machine
+  abbrev IsThere : ℕ → List ℕ → ℕ → Counted → CountedSetting → Type 0
+  IsThere room input n act counted =
+      (f : ℕ) × ((way : List ℕ) × (IsActAt code f way act × ((at : ℕ) × ((is_among (addresses f way) at ≡ true)
+      × ((count : ℕ) × ((s : Processor) × ((run count (start (memory_of parts) entry input) ≡ goes s) × ((s.pc ≡ at)
+      × IsLike room input n counted count s))))))))
+
+  -- the run goes on, and is like the counted machine
+  abbrev KeepsUp : ℕ → List ℕ → ℕ → CountedSetting → Type 0
+  KeepsUp room input n counted =
+      (count : ℕ) × ((s : Processor) × ((run count (start (memory_of parts) entry input) ≡ goes s)
+      × IsLike room input n counted count s))
+
+  module _ (comes : (room : ℕ) → HasRoom room tokened → (input : List ℕ) → All (λ byte. byte < 256) input
+      → ComesToItsLines layout code room texts functions main image.pool depth image.first input own
+      × FollowsEachState layout code room texts functions main image.pool depth image.first input)
+      (never : (room : ℕ) → HasRoom room tokened → (input : List ℕ) → All (λ byte. byte < 256) input → (n : ℕ)
+      → state (asm_machine (primitives constants image.pool) depth functions) n (asm_start main (first_world image.pool input))
+      ≢ stuck) where
+    arrives : (room : ℕ) → HasRoom room tokened → (input : List ℕ) → All (λ byte. byte < 256) input
+        → (n : ℕ) (act : Counted) (environment : Environment) (joins : List CountedJoin)
+        → (counted_after (roomy_cost room) on_pool input n).control ≡ running act environment joins → is_act act ≡ true
+        → IsThere room input n act on_pool
+    arrives room enough input bytes n act environment joins runs acts =
+        let (f, (way, (is_act_at, (k, (among, (m, (world, (at_line, (told, heap)))))))))
+        = (comes room enough input bytes).0 n act environment joins runs acts in
+        let (count, (s, (goes_on, (pc_is, (events, has))))) =
+        image.lines.comes input bytes (never room enough input bytes) m f k world (own.there f way k among) at_line in (
+          f,
+          (
+            way,
             (
-              way,
+              is_act_at,
               (
-                is_act_at,
-                (
-                  image.lines.address f k,
-                  (address_among f way k among, (count, (s, (goes_on, (pc_is, events ∙ told))))),
-                ),
+                image.lines.address f k,
+                (address_among f way k among, (count, (s, (goes_on, (pc_is, (events ∙ told, (world.cells, (has, heap)))))))),
               ),
             ),
-          )
+          ),
+        )
 
-      -- so the image has addresses for the forms
-      pub own_addresses : HasOwnAddresses code room cells depth entry parts
-      own_addresses = record {
-        addresses = addresses;
-        some = some_address;
-        apart = addresses_apart;
-        outside = addresses_outside;
-        comes = λ input bytes n act environment joins runs acts.
-            subst (IsThere input n act) same_setting
-            (arrives input bytes n act environment joins
-            (subst (λ (counted : CountedSetting). (counted_after (roomy_cost room) counted input n).control
-            ≡ running act environment joins) (sym same_setting) runs) acts);
-      }
+    keeps_up : (room : ℕ) → HasRoom room tokened → (input : List ℕ) → All (λ byte. byte < 256) input
+        → (n : ℕ) (form : Counted) (environment : Environment) (joins : List CountedJoin)
+        → (counted_after (roomy_cost room) on_pool input n).control ≡ running form environment joins
+        → KeepsUp room input n on_pool
+    keeps_up room enough input bytes n form environment joins runs =
+        let (m, (high, (there, (told, heap)))) = (comes room enough input bytes).1 n form environment joins runs in
+        let (count, (s, (goes_on, (events, has)))) =
+        image.lines.follows input bytes (never room enough input bytes) m high there in
+        (count, (s, (goes_on, (events ∙ told, (high.shared.cells, (has, heap))))))
+
+    -- a state of the one setting is one of the other
+    on_that : (room : ℕ) (input : List ℕ) (n : ℕ) (form : Counted) (environment : Environment) (joins : List CountedJoin)
+        → (counted_after (roomy_cost room) setting input n).control ≡ running form environment joins
+        → (counted_after (roomy_cost room) on_pool input n).control ≡ running form environment joins
+    on_that room input n form environment joins runs =
+        subst (λ (counted : CountedSetting). (counted_after (roomy_cost room) counted input n).control
+        ≡ running form environment joins) (sym same_setting) runs
+
+    -- so the image has addresses for the forms
+    pub own_addresses : HasOwnAddresses layout tokened cells depth entry parts
+    own_addresses = record {
+      pool = image.pool;
+      cells_are = image.cells_are;
+      addresses = addresses;
+      some = some_address;
+      apart = addresses_apart;
+      outside = addresses_outside;
+      inside = addresses_inside;
+      comes = λ room enough input bytes n act environment joins runs acts.
+          subst (IsThere room input n act) same_setting
+          (arrives room enough input bytes n act environment joins (on_that room input n act environment joins runs) acts);
+      follows = λ room enough input bytes n form environment joins runs.
+          subst (KeepsUp room input n) same_setting
+          (keeps_up room enough input bytes n form environment joins (on_that room input n form environment joins runs));
+    }

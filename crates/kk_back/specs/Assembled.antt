@@ -1,5 +1,5 @@
 -- The image of assembler code: the loaded image does what the machine of assembler code does. Only private functions speak of it.
-use Rattle.std.specs.Prelude.{◌≡◌, ◌≢◌, ℕ, ◌+◌, ◌*◌, ◌%◌, ◌^◌, ◌<◌, ◌≤◌, List, [], All, Some, length, slice_get}
+use Rattle.std.specs.Prelude.{◌≡◌, ◌≢◌, ℕ, ◌+◌, ◌*◌, ◌%◌, ◌^◌, ◌<◌, ◌≤◌, true, List, [], All, Some, length, slice_get}
 use Rattle.kk_base.specs.Agreements.{Agree}
 use Rattle.kk_base.specs.Machines.{state, trace}
 use Rattle.cell_heap.specs.Pool.{Pool}
@@ -8,15 +8,16 @@ use Rattle.elf_image.specs.Parts.{memory_of}
 use Rattle.elf_image.specs.Program.{IsProgramImage}
 use Rattle.elf_image.specs.declared.part.Part.{Part}
 use Rattle.rv_isa.specs.AsmCode.{Lines}
-use Rattle.rv_isa.specs.AsmMachine.{asm_machine, asm_start}
+use Rattle.rv_isa.specs.AsmMachine.{AsmState, asm_machine, asm_start}
 use Rattle.rv_isa.specs.Execution.{rv32im, run}
 use Rattle.rv_isa.specs.FreeTouches.{TouchesNoFreeCell}
 use Rattle.rv_isa.specs.LinePlaces.{AsmIsAt, AsmHasLine}
-use Rattle.rv_isa.specs.Primitives.{ended, stuck}
-use Rattle.rv_isa.specs.Processor.{Processor, Ending, start, goes}
+use Rattle.rv_isa.specs.Primitives.{go, ended, stuck}
+use Rattle.rv_isa.specs.Processor.{Processor, Ending, can_fetch, start, goes}
 use Rattle.rv_isa.specs.ProcessorMachine.{processor_machine}
 use Rattle.rv_isa.specs.WellFormed.{AreWellFormed}
 use Rattle.rv_place.specs.Images.{EndsWithCells, outside_lines}
+use Rattle.rv_place.specs.Running.{HasCells}
 use Rattle.rv_world.specs.Operations.{Constants, all_bytes}
 use Rattle.rv_world.specs.World.{World, first_world, primitives}
 use Rattle.kk_back.specs.Sizes.{FitsText}
@@ -30,24 +31,38 @@ pub record IsPlaceable (functions : List Lines) (texts : List (List ℕ)) : Type
   pub main_is : slice_get functions 0 ≡ Some main
   pub main_params : main.params ≡ []
 
--- The lines of assembler code in its image. Each line that is no label has an address of its own, behind the runtime's words, which
--- stand at the entry. On each input on which that code never is at a loss, where its machine is at such a line, there is a number
--- of instructions behind which the program counter is at the line's address, the run goes on there, and the same events are told.
+-- The lines of assembler code in its image. Each line that is no label has an address of its own, a multiple of 4 behind the
+-- runtime's words, which stand at the entry, and a word can be fetched there as an instruction. On each input on which that code
+-- never is at a loss, the image follows the code's machine: for each state that goes on there is a number of instructions behind
+-- which the run goes on, memory has the cells of the world, and the same events are told. Where the machine is at a line that is no
+-- label, there is such a number behind which the program counter is at the line's address.
 pub record HasLineAddresses (functions : List Lines) (main : Lines) (constants : Constants) (pool : Pool) (depth entry : ℕ)
     (parts : List Part) : Type 0 where
   pub address : ℕ → ℕ → ℕ
   pub apart : (f k g j : ℕ) → AsmHasLine functions f k → AsmHasLine functions g j → address f k ≡ address g j
       → (f ≡ g) × (k ≡ j)
   pub outside : (f k : ℕ) → AsmHasLine functions f k → entry + 4 * TEXT_WORDS ≤ address f k
+  pub inside : (f k : ℕ) → AsmHasLine functions f k
+      → (address f k % 4 ≡ 0) × (can_fetch (memory_of parts) (address f k) 4 ≡ true)
   pub comes : (input : List ℕ) → All (λ byte. byte < 256) input
       → ((n : ℕ) → state (asm_machine (primitives constants pool) depth functions) n (asm_start main (first_world pool input))
       ≢ stuck)
-      → (n f k : ℕ) → AsmHasLine functions f k
-      → AsmIsAt functions f k (state (asm_machine (primitives constants pool) depth functions) n
+      → (n f k : ℕ) (world : World) → AsmHasLine functions f k
+      → AsmIsAt functions f k world (state (asm_machine (primitives constants pool) depth functions) n
       (asm_start main (first_world pool input)))
       → (count : ℕ) × ((s : Processor) × ((run count (start (memory_of parts) entry input) ≡ goes s) × ((s.pc ≡ address f k)
-      × (trace (processor_machine rv32im) count (goes (start (memory_of parts) entry input))
-      ≡ trace (asm_machine (primitives constants pool) depth functions) n (asm_start main (first_world pool input))))))
+      × ((trace (processor_machine rv32im) count (goes (start (memory_of parts) entry input))
+      ≡ trace (asm_machine (primitives constants pool) depth functions) n (asm_start main (first_world pool input)))
+      × HasCells pool world.cells s))))
+  pub follows : (input : List ℕ) → All (λ byte. byte < 256) input
+      → ((n : ℕ) → state (asm_machine (primitives constants pool) depth functions) n (asm_start main (first_world pool input))
+      ≢ stuck)
+      → (n : ℕ) (high : AsmState World)
+      → state (asm_machine (primitives constants pool) depth functions) n (asm_start main (first_world pool input)) ≡ go high
+      → (count : ℕ) × ((s : Processor) × ((run count (start (memory_of parts) entry input) ≡ goes s)
+      × ((trace (processor_machine rv32im) count (goes (start (memory_of parts) entry input))
+      ≡ trace (asm_machine (primitives constants pool) depth functions) n (asm_start main (first_world pool input)))
+      × HasCells pool high.shared.cells s)))
 
 -- An image of assembler code, for so many cells and such a depth, by where its cells and its constants stand. On each input on which
 -- that code never is at a loss, the processor's machine agrees with the code's; where the code ends, so does the processor, whose

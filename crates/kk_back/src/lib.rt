@@ -7,7 +7,8 @@ ghost use Rattle.std.specs.Prelude.{IfOk};
 ghost use Rattle.kk_base.specs.Sizes.{AreSizes};
 ghost use Rattle.kk_counted.specs.TokenedForms.{tokened_program};
 ghost use Rattle.elf_image.specs.Program.{IsProgramImage};
-ghost use Rattle.kk_back.specs.Images.{IsRunnable, IsImageOfTokened};
+ghost use Rattle.rv_cells.specs.Tables.{layout_in};
+ghost use Rattle.kk_back.specs.Images.{IsRunnable, IsImageOfTokened, HasOwnAddresses};
 
 use assembled::assembled;
 use elf_image::Image;
@@ -27,9 +28,11 @@ use std::alloc::Global;
 /// or 102 as the program ends by itself, with the heap full or with the stack full. Where it ends by itself and no cell is counted
 /// then, all its cells are free. Outside of the runtime's words no instruction loads or stores a byte of a free cell.
 ///
-/// Each call, print and construction with fields of the program has an instruction address of its own behind these words; or two or
-/// more, where its code stands more than once, behind tests of tokens. Where the program comes to such a form, the program counter
-/// comes to an address of this form, the run goes on there, and the same events are told.
+/// The image follows the program without its tokens: where that is at a form, there is a number of instructions behind which the
+/// same events are told and memory has the cells of the program's heap. Each call, print and construction with fields has one
+/// instruction address of its own behind these words, or more, where its code stands more than once, behind tests of tokens. Where
+/// the program is at such a form, there is such a number behind which the program counter is at an address of a place with this
+/// form's code: where two places have the same code, it is one of them.
 pub fn image(
     alloc: Global,
     tokened: &Tokened,
@@ -42,6 +45,8 @@ pub fn image(
     ensures program { IfOk result (λ image. IsProgramImage image.entry image.parts) }
     ensures does { IfOk result (λ image. IsImageOfTokened (tokened_program tokened.now.functions.items texts.now) cells depth
         image.entry image.parts) }
+    ensures own { IfOk result (λ image. HasOwnAddresses (layout_in tokened.now.shape)
+        (tokened_program tokened.now.functions.items texts.now) cells depth image.entry image.parts) }
 {
     let asm = lower_tokened(alloc, tokened, texts)?;
     lowered_tokened_programs_are_well_formed();

@@ -48,7 +48,9 @@ returns c main there =
     (record {
       comes = c.placed_text_comes_to_its_lines.ensures.comes;
       apart = c.placed_text_comes_to_its_lines.ensures.apart;
+      follows = c.placed_text_comes_to_its_lines.ensures.follows;
       outside = c.placed_text_comes_to_its_lines.ensures.outside;
+      inside = c.placed_text_comes_to_its_lines.ensures.inside;
     })
     c.in_ok-image.image.entry c.in_ok-image.image.parts c.in_ok-image.ensures.is_program c.in_ok-image.ensures.entry
     (c.in_ok-image.ensures.parts ∙ ap (λ (text : List ℕ). program_parts text c.in_ok-runtime.runtime.memory.size) c.from_vec.ensures))
