@@ -1,4 +1,5 @@
--- Places in the code of a program, and which forms have machine code of their own: calls, prints, and constructions with fields.
+-- Places in the code of a program, and the forms whose lines and addresses are told apart: calls, prints, and constructions with
+-- fields.
 use Rattle.std.specs.Prelude.{◌≡◌, ℕ, zero, suc, Bool, true, false, List, [], ◌∷◌, Option, Some, None, slice_get}
 use Rattle.kk_source.specs.Matching.{and_then}
 use Rattle.kk_syntax.specs.declared.program.Form.TheVariants.{PrintText, Print, Construct, Call}

@@ -17,7 +17,7 @@ fields_in (one ∷ known) y = if one.slot == y then one.fields else fields_in kn
 abbrev pub forget_slot : ℕ → List KnownFields → List KnownFields
 forget_slot y known = filter (λ one. not (one.slot == y)) known
 
--- a variable is bound, and variables are
+-- where a variable is bound; where several are
 abbrev pub forget_variable : ℕ → List KnownFields → List KnownFields
 forget_variable x known = filter (λ one. not (is_among one.fields x)) known
 

@@ -23,8 +23,8 @@ pub use law::{
     counted_cells_are_live, drops_pay_for_themselves, judged_code_is_never_stuck,
     judged_code_keeps_its_heap_sound, judged_code_leaves_no_cell, judged_code_uses_counted_cells,
     known_fields_may_be_left, names_have_cells_of_a_pool, numbers_stay_in_32_bits,
-    reuse_takes_no_cell, sound_heaps_are_functions, tokens_cost_what_they_have_room_for,
-    tokens_follow_their_forms, tokens_keep_runs_the_same,
+    reuse_takes_no_cell, sound_heaps_are_functions, tokens_come_to_each_state,
+    tokens_cost_what_they_have_room_for, tokens_follow_their_forms, tokens_keep_runs_the_same,
 };
 pub use shape::{InstanceShape, Parameter, Shape};
 pub use tokened::{Tokened, TokenedBlock, TokenedFun, TokenedLast, TokenedStep};
