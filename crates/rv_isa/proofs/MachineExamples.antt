@@ -91,7 +91,7 @@ abbrev at : ℕ → Place → Operand
 at value place = record { value = value; place = place }
 
 abbrev alive_at : ℕ → Place → Listed
-alive_at value place = record { value = value; place = place; held = false }
+alive_at value place = record { value = value; place = place; held = false; copy = None }
 
 abbrev placed_adder : List PlacedLine
 placed_adder =

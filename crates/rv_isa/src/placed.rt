@@ -47,12 +47,15 @@ pub struct Operand {
     pub place: Place,
 }
 
-/// A value that is alive, and where it stands. It is held where it may stand on the chain of held tokens.
+/// A value that is alive, and where it stands; besides, a register may have it too. It is held where it may stand on the chain
+/// of held tokens.
 #[derive(Clone, Copy, PartialEq, Eq, Debug)]
 pub struct Listed {
     pub value: u32,
     pub place: Place,
     pub held: bool,
+    /// A register that has the value too.
+    pub copy: Option<Register>,
 }
 
 /// A way from one place to another: on one side there is a register.

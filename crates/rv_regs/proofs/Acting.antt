@@ -1,7 +1,7 @@
 -- A line between its loads and its stores: its operands stand where its action takes and gives them, and it fits.
-use Rattle.std.proofs.Common.{◌≡◌, ◌≢◌, ◌==◌, ◌&&◌, ◌⊎◌, ◌<◌, ◌≤◌, ◌+◌, ℕ, zero, suc, List, [], ◌∷◌, ◌++◌, Option, Some, None, Bool, true, false, not, All, refl, sym, ◌∙◌, ap, subst, inl, inr, arith, eq-eqb, map, option_map, length, is_some}
+use Rattle.std.proofs.Common.{◌≡◌, ◌==◌, ◌&&◌, ◌⊎◌, ◌<◌, ◌≤◌, ◌+◌, ℕ, zero, suc, List, [], ◌∷◌, Option, Some, None, Bool, true, false, not, All, refl, sym, ◌∙◌, ap, subst, inl, inr, arith, eq-eqb, map, option_map, length, is_some}
 use Rattle.std.specs.List.{AllByRecursion}
-use Rattle.std.proofs.lemmas.Bool.{eqb-true, eqb-false, cond-true, or_cases, or_left, or_right, and_from, and_parts, not-true, not_from_false, false≢true, cases_Bool, cond_both, false_from_ne_true, le-leb}
+use Rattle.std.proofs.lemmas.Bool.{eqb-true, eqb-false, cond-true, or_cases, or_left, or_right, and_from, and_parts, not-true, not_from_false, false≢true, cases_Bool, cond_both, le-leb}
 use Rattle.rv_isa.specs.declared.asm.Action.{Action}
 use Rattle.rv_isa.specs.declared.asm.Action.TheVariants.{Compute, Label, Jump, Branch, Call, TailCall, Return, Routine, Hold, Unhold}
 use Rattle.rv_isa.specs.declared.asm.Operation.TheVariants.{Register, Immediate, Shift, Li, Mv, La, Lw, Sw, Dup, Free}
@@ -14,19 +14,19 @@ use Rattle.rv_isa.specs.AsmCode.{Line}
 use Rattle.rv_isa.specs.AsmMachine.{is_label}
 use Rattle.rv_isa.specs.PlacedCode.{PlacedLine, does}
 use Rattle.rv_isa.specs.PlacedMachine.{is_label_line}
-use Rattle.rv_isa.specs.Conventions.{is_handed_out, is_register, is_slot, takes_at, gives_at, take_from, gives_into, conforms, spoils}
+use Rattle.rv_isa.specs.Conventions.{is_handed_out, is_register, is_slot, takes_at, gives_at, take_from, gives_into, conforms}
 use Rattle.rv_isa.specs.Frames.{is_among, found}
-use Rattle.rv_isa.specs.WellFormed.{is_written, is_alive, is_alive_at, is_alive_behind, most_args, has_value, may_give, hands_over, goes_straight_on, AreDistinct, IsSpent, IsLineFormed}
+use Rattle.rv_isa.specs.WellFormed.{is_written, is_alive, is_alive_at, is_alive_behind, most_args, has_value, may_give, hands_over, goes_straight_on, AreDistinct, IsLineFormed}
 use Rattle.rv_regs.specs.declared.slots.Loaded.{Loaded}
 use Rattle.rv_regs.specs.Alive.{values_before, values_behind, alive_values, alive_values_at, held_values, PointLists, lists_before}
 use Rattle.rv_regs.specs.Listings.{first_alive, listed_as, both_of, marks}
-use Rattle.rv_regs.specs.Conditions.{IsAtPlace, IsNeeded, IsListed, IsListedIn, IsWritten, IsNew, IsClearOf, IsSafe, IsKept, StaysHeld, WriteIsHandedOut, Fits, LineFits}
-use Rattle.rv_regs.specs.Plain.{numbered, place_in, listing_at, listings, operand_at, first_register, result_register, load_from, loaded_for, falls_to, given, stays, left_in, pending}
-use Rattle.rv_regs.proofs.Lists.{all_made, each_among, among_with_values}
+use Rattle.rv_regs.specs.Conditions.{IsAtPlace, IsNeeded, IsListed, IsListedIn, IsWritten, IsNew, IsClearOf, IsKept, StaysHeld, WriteIsHandedOut, Fits, LineFits}
+use Rattle.rv_regs.specs.Plain.{numbered, place_in, copy_in, listing_at, stored_later, copied_in, operand_at, first_register, result_register, load_from, loaded_for, pending}
+use Rattle.rv_regs.proofs.Lists.{all_made, among_with_values}
 use Rattle.rv_regs.proofs.Aliveness.{alive_exact, alive_behind_exact, among_before, alive_distinct}
-use Rattle.rv_regs.proofs.InRegisters.{all_weaker, all_both, all_kept, none_kept, Differ, AreLoads, AreAmong, place_same, place_other, place_ne, place_slot, no_slot, places_apart, places_handed, loads_kept, place_left, left_among, left_unwritten, load_values, load_numbers, number_is, loads_are, place_loaded, once_loaded}
-use Rattle.rv_regs.proofs.Held.{HoldsRight, ReadsNoneHeld, AreFree, read_among, marked, none_behind, free_behind, result_free, held_in_slot}
-use Rattle.rv_regs.proofs.Fitting.{is_listed, listed_there, stands_there, Stays, all_kept_next, safe_place, in_slot, act_fits}
+use Rattle.rv_regs.proofs.InRegisters.{AreLoads, AreAmong, place_same, place_other, no_slot, slot_number, copies_handed, stands_in, load_values, number_is, loads_are, place_loaded, once_loaded}
+use Rattle.rv_regs.proofs.Held.{HoldsRight, ReadsNoneHeld, AreFree, listing_with, read_among, marked, none_behind, free_behind, result_free, held_in_slot, held_no_copy}
+use Rattle.rv_regs.proofs.Fitting.{is_listed, listed_there, stands_there, old_kept, act_fits}
 
 -- ---- the registers of an action
 
@@ -70,11 +70,6 @@ pub loaded_values : (P : ℕ → Type 0) (action : Action) (args : List ℕ) →
 loaded_values P Hold args h = tt
 loaded_values P Unhold args h = tt
 loaded_values P action args h = load_values P (first_register action) args h
-
--- a value that is no argument is in its slot
-unloaded : (action : Action) (args : List ℕ) (v : ℕ) → is_among v args ≡ false → place_in (loaded_for action args) v ≡ slot v
-unloaded action args v none =
-    place_slot v (loaded_for action args) (loaded_values (λ u. v ≢ u) action args (λ u there same. false≢true (sym none ∙ ap (λ w. is_among w args) same ∙ there)))
 
 pub action_loads : (action : Action) (args : List ℕ) → length args ≤ most_args action → AreLoads (loaded_for action args)
 action_loads Hold args few = tt
@@ -184,64 +179,48 @@ pub none_given : (action : Action) (into : Option ℕ) → may_give action ≡ f
 none_given action None none gives = refl
 none_given action (Some v) none gives = absurd (false≢true (sym none ∙ gives refl))
 
--- ---- what is alive behind a line
-
-pub alive_falling : (action : Action) (rest : List Line) (v : ℕ) → is_among v (falls_to action (alive_values rest)) ≡ true → is_alive_behind v action rest ≡ true
-alive_falling (Jump l) rest v t = absurd (false≢true t)
-alive_falling (TailCall f) rest v t = absurd (false≢true t)
-alive_falling Return rest v t = absurd (false≢true t)
-alive_falling (Branch condition l) rest v t = or_left (is_alive v rest) (is_alive_at l v rest) (sym (alive_exact v rest) ∙ t)
-alive_falling (Compute operation) rest v t = sym (alive_exact v rest) ∙ t
-alive_falling (Label l) rest v t = sym (alive_exact v rest) ∙ t
-alive_falling (Call f) rest v t = sym (alive_exact v rest) ∙ t
-alive_falling (Routine routine) rest v t = sym (alive_exact v rest) ∙ t
-alive_falling Hold rest v t = sym (alive_exact v rest) ∙ t
-alive_falling Unhold rest v t = sym (alive_exact v rest) ∙ t
-
 written_is : (f : ℕ → Place) (into : Option ℕ) (v : ℕ) → IsWritten (option_map (operand_at f) into) v → is_written into v ≡ true
 written_is f None v w = absurd w
 written_is f (Some x) v w = eq-eqb x v w
-
--- not in the register of the result
-clear_of_result : (action : Action) (args : List ℕ) (u : ℕ) → length args ≤ most_args action → (hands_over action ≡ true → place_in (loaded_for action args) u ≡ slot u)
-    → register (numbered (result_register action)) ≢ place_in (loaded_for action args) u
-clear_of_result (Compute operation) args u few at_slot same =
-    place_ne (numbered 7) (load_from 5 args) u (load_numbers (λ k. 7 ≢ k) 5 args (λ k low high e. omega (arith, e, number_is k (omega (arith, high, few)), high, few))) (sym same)
-clear_of_result Hold args u few at_slot same = no_slot (numbered 10) u (sym same)
-clear_of_result Unhold args u few at_slot same = no_slot (numbered 10) u (sym same)
-clear_of_result action args u few at_slot same = no_slot (numbered (result_register action)) u (sym (same ∙ at_slot refl))
-
-safe_in : (action : Action) (args : List ℕ) (u : ℕ) → (hands_over action ≡ true → place_in (loaded_for action args) u ≡ slot u) → IsSafe (spoils action) (place_in (loaded_for action args) u)
-safe_in (Compute operation) args u at_slot = safe_place (place_in (load_from 5 args) u)
-safe_in Hold args u at_slot = tt
-safe_in Unhold args u at_slot = tt
-safe_in action args u at_slot = subst (IsSafe (spoils action)) (sym (at_slot refl)) tt
 
 -- what is alive at a label, where nothing is held
 abbrev pub lists_at : ℕ → List Line → PointLists
 lists_at l code = record { alive = alive_values_at l code; held = [] }
 
--- what is stored behind a line is not held there
-pub pending_free : (line : Line) (rest : List Line) → IsLineFormed line rest → HoldsRight line rest
-    → AreFree (held_values rest) (pending line.action line.into (alive_values rest) (loaded_for line.action line.args))
+-- ---- what is stored behind a line
+
+pub pending_loads : (action : Action) (into : Option ℕ) (behind : List ℕ) → AreLoads (pending action into behind)
+pending_loads action None behind = tt
+pending_loads action (Some v) behind =
+    cond_both (is_among v behind) (record { value = v; register = numbered (result_register action) } ∷ []) [] AreLoads (λ t. (tt, (result_handed action (Some v), tt))) (λ t. tt)
+
+pub pending_among : (action : Action) (into : Option ℕ) (behind : List ℕ) → AreAmong behind (pending action into behind)
+pending_among action None behind = tt
+pending_among action (Some v) behind =
+    cond_both (is_among v behind) (record { value = v; register = numbered (result_register action) } ∷ []) [] (AreAmong behind) (λ t. (t, tt)) (λ t. tt)
+
+-- it is not held there
+pub pending_free : (line : Line) (rest : List Line) → IsLineFormed line rest → HoldsRight line rest → AreFree (held_values rest) (pending line.action line.into (alive_values rest))
 pending_free line rest formed right = go line.into refl
   where
-    kept : (o : Option ℕ) → AreFree (held_values rest) (left_in o (falls_to line.action (alive_values rest)) (loaded_for line.action line.args))
-    kept o =
-        all_kept (λ (l : Loaded). is_among l.value (held_values rest) ≡ false) (stays o (falls_to line.action (alive_values rest))) (loaded_for line.action line.args)
-        (free_behind line.action line.args (held_values (line ∷ rest)) (held_values rest) right.changes (λ v before behind. (right.leaves v before behind).0))
-
-    go : (o : Option ℕ) → line.into ≡ o
-        → AreFree (held_values rest) (given line.action o (falls_to line.action (alive_values rest)) ++ left_in o (falls_to line.action (alive_values rest)) (loaded_for line.action line.args))
-    go None is = kept None
+    go : (o : Option ℕ) → line.into ≡ o → AreFree (held_values rest) (pending line.action o (alive_values rest))
+    go None is = tt
     go (Some v) is =
-        cond_both (is_among v (falls_to line.action (alive_values rest))) (record { value = v; register = numbered (result_register line.action) } ∷ []) []
-        (λ (ls : List Loaded). AreFree (held_values rest) (ls ++ left_in (Some v) (falls_to line.action (alive_values rest)) (loaded_for line.action line.args)))
+        cond_both (is_among v (alive_values rest)) (record { value = v; register = numbered (result_register line.action) } ∷ []) [] (AreFree (held_values rest))
         (λ t. (
           result_free line.action line.args (held_values (line ∷ rest)) (held_values rest) line.into v formed.gives right.changes right.leaves (ap (λ o. is_written o v) is ∙ eq-eqb v v refl),
-          kept (Some v),
+          tt,
         ))
-        (λ t. kept (Some v))
+        (λ t. tt)
+
+-- a value that is not written is in its slot behind the line
+pending_slot : (action : Action) (into : Option ℕ) (behind : List ℕ) (u : ℕ) → is_written into u ≡ false → place_in (pending action into behind) u ≡ slot u
+pending_slot action None behind u unwritten = refl
+pending_slot action (Some v) behind u unwritten =
+    let l : Loaded = record { value = v; register = numbered (result_register action) } in
+    cond_both (is_among v behind) (l ∷ []) [] (λ (ls : List Loaded). place_in ls u ≡ slot u) (λ t. place_other l [] u (eqb-false v u unwritten)) (λ t. refl)
+
+-- ---- the line
 
 module _ (action : Action) (args : List ℕ) (into : Option ℕ) (rest : List Line) (formed : IsLineFormed (record { action = action; args = args; into = into }) rest)
     (right : HoldsRight (record { action = action; args = args; into = into }) rest) where
@@ -263,21 +242,22 @@ module _ (action : Action) (args : List ℕ) (into : Option ℕ) (rest : List Li
   abbrev reads_here : List Operand
   reads_here = map (operand_at (place_in loaded_here)) args
 
-  -- a value that is handed over is alive behind the line only if it is written there
-  spent_there : hands_over action ≡ true → (u : ℕ) → is_among u args ≡ true → is_alive_behind u action rest ≡ true → is_written into u ≡ false → ⊥
-  spent_there over u arg alive unwritten =
-      false≢true (sym (each_among (IsSpent line_here rest) args u (formed.spent over) arg)
-      ∙ and_from (not (is_written into u)) (is_alive_behind u action rest) (not_from_false (is_written into u) unwritten) alive)
+  abbrev pending_here : List Loaded
+  pending_here = pending action into (alive_values rest)
 
-  at_slot : (u : ℕ) → is_alive_behind u action rest ≡ true → is_written into u ≡ false → hands_over action ≡ true → place_in loaded_here u ≡ slot u
-  at_slot u alive unwritten over = unloaded action args u (false_from_ne_true (is_among u args) (λ arg. spent_there over u arg alive unwritten))
+  abbrev KeptIs : Listed → Type 0
+  KeptIs l = IsKept (copied_in loaded_here point_here) (Some action) reads_here (result_of action into) l
 
-  clear_here : (held : List ℕ) (u : ℕ) → is_alive_behind u action rest ≡ true → is_written into u ≡ false → IsClearOf (result_of action into) (listing_at (place_in loaded_here) held u)
-  clear_here held u alive unwritten = go into unwritten (clear_of_result action args u formed.few (at_slot u alive unwritten))
+  abbrev KeptBy : List Listed → Type 0
+  KeptBy next = All KeptIs next
+
+  -- a value in its slot is not in the register of the result
+  clear_here : (held : Bool) (u : ℕ) → is_written into u ≡ false → IsClearOf (result_of action into) (listing_with u (slot u) None held)
+  clear_here held u unwritten = go into unwritten
     where
-      go : (o : Option ℕ) → is_written o u ≡ false → register (numbered (result_register action)) ≢ place_in loaded_here u → IsClearOf (result_of action o) (listing_at (place_in loaded_here) held u)
-      go None none clear = tt
-      go (Some v) none clear = (eqb-false v u none, clear)
+      go : (o : Option ℕ) → is_written o u ≡ false → IsClearOf (result_of action o) (listing_with u (slot u) None held)
+      go None none = tt
+      go (Some v) none = (eqb-false v u none, ((λ e. no_slot (numbered (result_register action)) u (sym e)), tt))
 
   stays_before : (u : ℕ) → is_alive_behind u action rest ≡ true → is_written into u ≡ false → is_among u before_here ≡ true
   stays_before u alive unwritten =
@@ -285,113 +265,88 @@ module _ (action : Action) (args : List ℕ) (into : Option ℕ) (rest : List Li
       ∙ or_right (is_among u args) (not (is_written into u) && is_among u behind_here)
       (and_from (not (is_written into u)) (is_among u behind_here) (not_from_false (is_written into u) unwritten) (alive_behind_exact u action rest ∙ alive))
 
-  -- a value that is not written stays where it is, if it is there
-  stays_here : (held : List ℕ) (place_next : ℕ → Place) (u : ℕ) → is_alive_behind u action rest ≡ true → is_written into u ≡ false → place_next u ≡ place_in loaded_here u
-      → Stays before_here (place_in loaded_here) (result_of action into) (spoils action) held place_next u
-  stays_here held place_next u alive unwritten same =
-      inr (stays_before u alive unwritten, same, clear_here held u alive unwritten, safe_in action args u (at_slot u alive unwritten))
+  reads_none : ReadsNoneHeld args point_here.held (held_values rest)
+  reads_none v before behind = (right.leaves v before behind).0
 
-  abbrev pending_here : List Loaded
-  pending_here = pending action into (alive_values rest) loaded_here
+  marks_here : (v : ℕ) → marks (Some action) reads_here (listing_at (place_in []) (copy_in loaded_here) point_here.held v) ≡ listing_at (place_in []) (copy_in loaded_here) (held_values rest) v
+  marks_here v = marked action args point_here.held (held_values rest) (place_in []) (copy_in loaded_here) (place_in loaded_here) right.changes reads_none v
+
+  -- a value that is not written stays in its slot, and its copy is forgotten
+  stays_here : (u : ℕ) → is_alive_behind u action rest ≡ true → is_written into u ≡ false → KeptIs (listing_at (place_in []) (copy_in []) (held_values rest) u)
+  stays_here u alive unwritten =
+      old_kept (place_in []) (copy_in loaded_here) point_here (Some action) reads_here (result_of action into) (held_values rest) u (slot u) None (marks_here u)
+      (stays_before u alive unwritten) refl (inr refl) (clear_here (is_among u (held_values rest)) u unwritten) (tt, tt)
 
   -- what is alive at the next line
-  at_next : (u : ℕ) → is_among u (falls_to action (alive_values rest)) ≡ true
-      → Stays before_here (place_in loaded_here) (result_of action into) (spoils action) (held_values rest) (place_in pending_here) u
-  at_next u there = by_case (cases_Bool (is_written into u))
+  at_next : (u : ℕ) → is_among u (alive_values rest) ≡ true → is_alive_behind u action rest ≡ true → KeptIs (listing_at (place_in pending_here) (copy_in []) (held_values rest) u)
+  at_next u there alive = by_case (cases_Bool (is_written into u))
     where
-      next : List ℕ
-      next = falls_to action (alive_values rest)
-
-      alive : is_alive_behind u action rest ≡ true
-      alive = alive_falling action rest u there
-
       new : (o : Option ℕ) → is_written o u ≡ true → is_among u (held_values rest) ≡ false
-          → IsNew (result_of action o) (listing_at (place_in (given action o next ++ left_in o next loaded_here)) (held_values rest) u)
+          → IsNew (result_of action o) (listing_at (place_in (pending action o (alive_values rest))) (copy_in []) (held_values rest) u)
       new None w free = absurd (false≢true w)
       new (Some v) w free =
           let same : v ≡ u = eqb-true v u w in
           let l : Loaded = record { value = v; register = numbered (result_register action) } in
-          let is_given : given action (Some v) next ≡ l ∷ [] = cond-true (is_among v next) (l ∷ []) [] (ap (λ x. is_among x next) same ∙ there) in
-          (same, sym (ap (λ (ls : List Loaded). place_in (ls ++ left_in (Some v) next loaded_here) u) is_given ∙ place_same l (left_in (Some v) next loaded_here) u same), free)
+          let is_given : pending action (Some v) (alive_values rest) ≡ l ∷ [] = cond-true (is_among v (alive_values rest)) (l ∷ []) [] (ap (λ x. is_among x (alive_values rest)) same ∙ there) in
+          (same, (sym (ap (λ (ls : List Loaded). place_in ls u) is_given ∙ place_same l [] u same), (free, refl)))
 
-      old : (o : Option ℕ) → is_written o u ≡ false → place_in (given action o next ++ left_in o next loaded_here) u ≡ place_in loaded_here u
-      old None w = place_left None next loaded_here u there w
-      old (Some v) w =
-          let l : Loaded = record { value = v; register = numbered (result_register action) } in
-          cond_both (is_among v next) (l ∷ []) [] (λ (ls : List Loaded). place_in (ls ++ left_in (Some v) next loaded_here) u ≡ place_in loaded_here u)
-          (λ t. place_other l (left_in (Some v) next loaded_here) u (eqb-false v u w) ∙ place_left (Some v) next loaded_here u there w)
-          (λ t. place_left (Some v) next loaded_here u there w)
-
-      by_case : (is_written into u ≡ true) ⊎ (is_written into u ≡ false)
-          → Stays before_here (place_in loaded_here) (result_of action into) (spoils action) (held_values rest) (place_in pending_here) u
+      by_case : (is_written into u ≡ true) ⊎ (is_written into u ≡ false) → KeptIs (listing_at (place_in pending_here) (copy_in []) (held_values rest) u)
       by_case (inl written) = inl (new into written (result_free action args point_here.held (held_values rest) into u formed.gives right.changes right.leaves written))
-      by_case (inr unwritten) = stays_here (held_values rest) (place_in pending_here) u alive unwritten (old into unwritten)
+      by_case (inr unwritten) =
+          subst (λ (place : Place). KeptIs (listing_with u place None (is_among u (held_values rest)))) (sym (pending_slot action into (alive_values rest) u unwritten)) (stays_here u alive unwritten)
 
-  abbrev KeptBy : List Listed → Type 0
-  KeptBy next = All (IsKept (listings (place_in loaded_here) point_here) (marks (Some action) reads_here) (result_of action into) (spoils action)) next
-
-  reads_none : ReadsNoneHeld args point_here.held (held_values rest)
-  reads_none v before behind = (right.leaves v before behind).0
-
-  marks_here : (v : ℕ) → marks (Some action) reads_here (listing_at (place_in loaded_here) point_here.held v) ≡ listing_at (place_in loaded_here) (held_values rest) v
-  marks_here v = marked action args point_here.held (held_values rest) (place_in loaded_here) (place_in loaded_here) right.changes reads_none v
-
-  kept_at_next : (next : List Listed) → next ≡ listings (place_in pending_here) (lists_before rest) → falls_to action (alive_values rest) ≡ alive_values rest → KeptBy next
-  kept_at_next next is falls =
-      subst KeptBy (sym is)
-      (all_kept_next point_here (lists_before rest) (place_in loaded_here) (place_in pending_here) (marks (Some action) reads_here) (result_of action into) (spoils action)
-      marks_here (λ v there. at_next v (ap (is_among v) falls ∙ there)))
+  kept_at_next : (next : List Listed) → next ≡ stored_later pending_here (lists_before rest) → ((u : ℕ) → is_among u (alive_values rest) ≡ true → is_alive_behind u action rest ≡ true) → KeptBy next
+  kept_at_next next is alive =
+      subst KeptBy (sym is) (all_made KeptIs (listing_at (place_in pending_here) (copy_in []) (held_values rest)) (alive_values rest) (λ v there. at_next v there (alive v there)))
 
   -- what is alive at a label where the line may go on
-  kept_at_label : (l : ℕ) (next : List Listed) → next ≡ listings (place_in []) (lists_at l rest) → ((u : ℕ) → is_among u (alive_values_at l rest) ≡ true → is_alive_behind u action rest ≡ true)
-      → hands_over action ≡ true → may_give action ≡ false → goes_straight_on action ≡ false → KeptBy next
-  kept_at_label l next is alive over none bent =
+  kept_at_label : (l : ℕ) (next : List Listed) → next ≡ stored_later [] (lists_at l rest) → ((u : ℕ) → is_among u (alive_values_at l rest) ≡ true → is_alive_behind u action rest ≡ true)
+      → may_give action ≡ false → goes_straight_on action ≡ false → KeptBy next
+  kept_at_label l next is alive none bent =
       subst KeptBy (sym is)
-      (all_kept_next point_here (lists_at l rest) (place_in loaded_here) (place_in []) (marks (Some action) reads_here) (result_of action into) (spoils action)
-      (λ v. marks_here v ∙ ap (λ (held : List ℕ). listing_at (place_in loaded_here) held v) (none_behind action args point_here.held (held_values rest) right.changes bent))
+      (all_made KeptIs (listing_at (place_in []) (copy_in []) []) (alive_values_at l rest)
       (λ v there.
       let unwritten : is_written into v ≡ false = ap (λ o. is_written o v) (none_given action into none formed.gives) in
-      stays_here [] (place_in []) v (alive v there) unwritten (sym (at_slot v (alive v there) unwritten over))))
+      subst (λ (held : List ℕ). KeptIs (listing_at (place_in []) (copy_in []) held v)) (none_behind action args point_here.held (held_values rest) right.changes bent)
+      (stays_here v (alive v there) unwritten)))
 
   -- what is held behind the line is listed so at each next point
   abbrev ListHeld : List (List Listed) → Type 0
-  ListHeld nexts = (v : ℕ) → is_among v (held_values rest) ≡ true → AllByRecursion (λ next. listed_as v next ≡ Some (listing_at (place_in loaded_here) (held_values rest) v)) nexts
+  ListHeld nexts = (v : ℕ) → is_among v (held_values rest) ≡ true → AllByRecursion (λ next. listed_as v next ≡ Some (listing_at (place_in []) (copy_in []) (held_values rest) v)) nexts
 
-  loaded_slot : (v : ℕ) → is_among v (held_values rest) ≡ true → place_in loaded_here v ≡ slot v
-  loaded_slot v held = held_in_slot (held_values rest) loaded_here v (free_behind action args point_here.held (held_values rest) right.changes reads_none) held
-
-  held_at_next : (next : List Listed) → next ≡ listings (place_in pending_here) (lists_before rest) → ListHeld (next ∷ [])
-  held_at_next next is v held =
-      let same : place_in pending_here v ≡ place_in loaded_here v = held_in_slot (held_values rest) pending_here v (pending_free line_here rest formed right) held ∙ sym (loaded_slot v held) in (
-        subst (λ (ls : List Listed). listed_as v ls ≡ Some (listing_at (place_in loaded_here) (held_values rest) v)) (sym is)
-            (listed_there (place_in pending_here) (lists_before rest) v (alive_exact v rest ∙ right.alive v held)
-            ∙ ap (λ (place : Place). Some (listing_at (λ (u : ℕ). place) (held_values rest) v)) same),
-        tt,
-      )
+  held_at_next : (next : List Listed) → next ≡ stored_later pending_here (lists_before rest) → ListHeld (next ∷ [])
+  held_at_next next is v held = (
+    subst (λ (ls : List Listed). listed_as v ls ≡ Some (listing_at (place_in []) (copy_in []) (held_values rest) v)) (sym is)
+        (listed_there (place_in pending_here) (copy_in []) (lists_before rest) v (alive_exact v rest ∙ right.alive v held)
+        ∙ ap (λ (place : Place). Some (listing_with v place None (is_among v (held_values rest)))) (held_in_slot (held_values rest) pending_here v (pending_free line_here rest formed right) held)),
+    tt,
+  )
 
   none_is_held : (nexts : List (List Listed)) → goes_straight_on action ≡ false → ListHeld nexts
   none_is_held nexts bent v held =
       absurd (false≢true (sym (ap (is_among v) (none_behind action args point_here.held (held_values rest) right.changes bent)) ∙ held))
 
-  stays_held : (nexts : List (List Listed)) → ListHeld nexts → (v : ℕ) → StaysHeld (marks (Some action) reads_here) nexts (listing_at (place_in loaded_here) point_here.held v)
+  stays_held : (nexts : List (List Listed)) → ListHeld nexts → (v : ℕ) → StaysHeld (marks (Some action) reads_here) nexts (listing_at (place_in []) (copy_in loaded_here) point_here.held v)
   stays_held nexts lists v held =
-      let there : is_among v (held_values rest) ≡ true = sym (ap (λ (l : Listed). l.held) (marks_here v)) ∙ held in (
-        in_slot (place_in loaded_here v) v (loaded_slot v there),
-        subst (λ (l : Listed). AllByRecursion (λ next. listed_as v next ≡ Some l) nexts) (sym (marks_here v)) (lists v there),
-      )
+      let there : is_among v (held_values rest) ≡ true = sym (ap (λ (l : Listed). l.held) (marks_here v)) ∙ held in
+      let alone : copy_in loaded_here v ≡ None =
+      held_no_copy (held_values rest) loaded_here v (free_behind action args point_here.held (held_values rest) right.changes reads_none) there in
+      let is : marks (Some action) reads_here (listing_at (place_in []) (copy_in loaded_here) point_here.held v) ≡ listing_at (place_in []) (copy_in []) (held_values rest) v =
+      marks_here v ∙ ap (λ copy. listing_with v (slot v) copy (is_among v (held_values rest))) alone in
+      (tt, (alone, subst (λ (l : Listed). AllByRecursion (λ next. listed_as v next ≡ Some l) nexts) (sym is) (lists v there)))
 
   abbrev FitsHere : List (List Listed) → Type 0
-  FitsHere nexts = (conforms action reads_here (result_of action into) ≡ true) × Fits (listings (place_in loaded_here) point_here) reads_here (result_of action into) (Some action) nexts
+  FitsHere nexts = (conforms action reads_here (result_of action into) ≡ true) × Fits (copied_in loaded_here point_here) reads_here (result_of action into) (Some action) nexts
 
   fits_by : (nexts : List (List Listed)) → ((v : ℕ) → is_among v behind_here ≡ true → IsListedIn nexts v) → AllByRecursion KeptBy nexts → ListHeld nexts → FitsHere nexts
   fits_by nexts listed kept lists = (
     and_from _ _ (takes_args action args formed.few formed.distinct) (gives_result action into formed.gives),
-    act_fits point_here (place_in loaded_here) reads_here (result_of action into) (Some action) nexts (alive_distinct (line_here ∷ rest))
-        (places_apart loaded_here (action_loads action args formed.few)) (λ v. places_handed loaded_here v (action_loads action args formed.few)) (result_handed action into)
+    act_fits (place_in []) (copy_in loaded_here) point_here reads_here (result_of action into) (Some action) nexts (alive_distinct (line_here ∷ rest))
+        (λ u v e. slot_number u v e) (λ v. tt) (λ v. copies_handed loaded_here v (action_loads action args formed.few)) (result_handed action into)
         (λ v there. stays_held nexts lists v)
         (λ v there. needed v (or_cases (is_among v args) (not (is_written into v) && is_among v behind_here) (sym (among_before args into behind_here v) ∙ there)))
-        (all_made (IsAtPlace (listings (place_in loaded_here) point_here)) (operand_at (place_in loaded_here)) args
-        (λ v arg. stands_there (place_in loaded_here) point_here v (args_before v arg)))
+        (all_made (IsAtPlace (copied_in loaded_here point_here)) (operand_at (place_in loaded_here)) args
+        (λ v arg. stands_there (place_in []) (copy_in loaded_here) point_here v (place_in loaded_here v) (args_before v arg) (stands_in loaded_here v)))
         kept,
   )
     where
@@ -399,7 +354,7 @@ module _ (action : Action) (args : List ℕ) (into : Option ℕ) (rest : List Li
       args_before v arg = among_before args into behind_here v ∙ or_left (is_among v args) (not (is_written into v) && is_among v behind_here) arg
 
       needed : (v : ℕ) → (is_among v args ≡ true) ⊎ ((not (is_written into v) && is_among v behind_here) ≡ true)
-          → IsNeeded reads_here (result_of action into) nexts (listing_at (place_in loaded_here) point_here.held v)
+          → IsNeeded reads_here (result_of action into) nexts (listing_at (place_in []) (copy_in loaded_here) point_here.held v)
       needed v (inl arg) = inl (read_among (place_in loaded_here) args v ∙ arg)
       needed v (inr later) =
           let parts = and_parts (not (is_written into v)) (is_among v behind_here) later in
@@ -411,112 +366,47 @@ module _ (action : Action) (args : List ℕ) (into : Option ℕ) (rest : List Li
 -- a line fits between its loads and its stores
 pub line_fits : (whole after : List PlacedLine) (action : Action) (args : List ℕ) (into : Option ℕ) (rest : List Line) (formed : IsLineFormed (record { action = action; args = args; into = into }) rest)
     (right : HoldsRight (record { action = action; args = args; into = into }) rest)
-    → ((l : ℕ) → is_some (found (λ line. is_label l line.action) rest) ≡ true → option_map first_alive (found (is_label_line l) whole) ≡ Some (listings (place_in []) (lists_at l rest)))
-    → first_alive after ≡ listings (place_in (pending action into (alive_values rest) (loaded_for action args))) (lists_before rest)
+    → ((l : ℕ) → is_some (found (λ line. is_label l line.action) rest) ≡ true → option_map first_alive (found (is_label_line l) whole) ≡ Some (stored_later [] (lists_at l rest)))
+    → first_alive after ≡ stored_later (pending action into (alive_values rest)) (lists_before rest)
     → LineFits whole after
-    (does (listings (place_in (loaded_for action args)) (lists_before (record { action = action; args = args; into = into } ∷ rest))) action
+    (does (copied_in (loaded_for action args) (lists_before (record { action = action; args = args; into = into } ∷ rest))) action
     (map (operand_at (place_in (loaded_for action args))) args) (result_of action into))
 line_fits whole after (Jump l) args into rest formed right labels first =
     let here = labels l formed.labels in
     subst (λ (o : Option (List Listed)). FitsHere (Jump l) args into rest formed right (both_of None o)) (sym here)
-    (fits_by (Jump l) args into rest formed right (listings (place_in []) (lists_at l rest) ∷ []) (λ v there. inl (is_listed (place_in []) (lists_at l rest) v there))
-    (kept_at_label (Jump l) args into rest formed right l (listings (place_in []) (lists_at l rest)) refl (λ u there. sym (alive_behind_exact u (Jump l) rest) ∙ there) refl refl refl, tt)
-    (none_is_held (Jump l) args into rest formed right (listings (place_in []) (lists_at l rest) ∷ []) refl))
+    (fits_by (Jump l) args into rest formed right (stored_later [] (lists_at l rest) ∷ []) (λ v there. inl (is_listed (place_in []) (copy_in []) (lists_at l rest) v there))
+    (kept_at_label (Jump l) args into rest formed right l (stored_later [] (lists_at l rest)) refl (λ u there. sym (alive_behind_exact u (Jump l) rest) ∙ there) refl refl, tt)
+    (none_is_held (Jump l) args into rest formed right (stored_later [] (lists_at l rest) ∷ []) refl))
 line_fits whole after (Branch condition l) args into rest formed right labels first =
     let here = labels l formed.labels in
     subst (λ (o : Option (List Listed)). FitsHere (Branch condition l) args into rest formed right (both_of (Some (first_alive after)) o)) (sym here)
-    (fits_by (Branch condition l) args into rest formed right (first_alive after ∷ listings (place_in []) (lists_at l rest) ∷ [])
+    (fits_by (Branch condition l) args into rest formed right (first_alive after ∷ stored_later [] (lists_at l rest) ∷ [])
     (λ v there.
     listed_in_two v (or_cases (is_among v (alive_values rest)) (is_among v (alive_values_at l rest)) (sym (among_with_values (alive_values rest) (alive_values_at l rest) v) ∙ there))) (
-      kept_at_next (Branch condition l) args into rest formed right (first_alive after) first refl,
+      kept_at_next (Branch condition l) args into rest formed right (first_alive after) first (λ u there. or_left (is_alive u rest) (is_alive_at l u rest) (sym (alive_exact u rest) ∙ there)),
       (
-        kept_at_label (Branch condition l) args into rest formed right l (listings (place_in []) (lists_at l rest)) refl
+        kept_at_label (Branch condition l) args into rest formed right l (stored_later [] (lists_at l rest)) refl
             (λ u there.
             sym (alive_behind_exact u (Branch condition l) rest) ∙ among_with_values (alive_values rest) (alive_values_at l rest) u
             ∙ or_right (is_among u (alive_values rest)) (is_among u (alive_values_at l rest)) there)
-            refl refl refl,
+            refl refl,
         tt,
       ),
-    ) (none_is_held (Branch condition l) args into rest formed right (first_alive after ∷ listings (place_in []) (lists_at l rest) ∷ []) refl))
+    ) (none_is_held (Branch condition l) args into rest formed right (first_alive after ∷ stored_later [] (lists_at l rest) ∷ []) refl))
   where
     listed_in_two : (v : ℕ) → (is_among v (alive_values rest) ≡ true) ⊎ (is_among v (alive_values_at l rest) ≡ true)
-        → IsListedIn (first_alive after ∷ listings (place_in []) (lists_at l rest) ∷ []) v
+        → IsListedIn (first_alive after ∷ stored_later [] (lists_at l rest) ∷ []) v
     listed_in_two v (inl there) =
-        inl (subst (λ (ls : List Listed). IsListed ls v) (sym first) (is_listed (place_in (pending_here (Branch condition l) args into rest formed right)) (lists_before rest) v there))
-    listed_in_two v (inr there) = inr (inl (is_listed (place_in []) (lists_at l rest) v there))
+        inl (subst (λ (ls : List Listed). IsListed ls v) (sym first) (is_listed (place_in (pending_here (Branch condition l) args into rest formed right)) (copy_in []) (lists_before rest) v there))
+    listed_in_two v (inr there) = inr (inl (is_listed (place_in []) (copy_in []) (lists_at l rest) v there))
 line_fits whole after (TailCall f) args into rest formed right labels first =
     fits_by (TailCall f) args into rest formed right [] (λ v there. absurd (false≢true there)) tt (none_is_held (TailCall f) args into rest formed right [] refl)
 line_fits whole after Return args into rest formed right labels first =
     fits_by Return args into rest formed right [] (λ v there. absurd (false≢true there)) tt (none_is_held Return args into rest formed right [] refl)
 line_fits whole after action args into rest formed right labels first =
     fits_by action args into rest formed right (first_alive after ∷ [])
-    (λ v there. inl (subst (λ (ls : List Listed). IsListed ls v) (sym first) (is_listed (place_in (pending_here action args into rest formed right)) (lists_before rest) v there)))
-    (kept_at_next action args into rest formed right (first_alive after) first refl, tt) (held_at_next action args into rest formed right (first_alive after) first)
-
--- ---- what is stored behind a line
-
--- what an action that hands its arguments over leaves in registers is its result alone
-pub none_left : (action : Action) (args : List ℕ) (into : Option ℕ) (rest : List Line) (formed : IsLineFormed (record { action = action; args = args; into = into }) rest) → hands_over action ≡ true
-    → left_in into (falls_to action (alive_values rest)) (loaded_for action args) ≡ []
-none_left action args into rest formed over =
-    none_kept (stays into (falls_to action (alive_values rest))) (loaded_for action args)
-    (loaded_values (λ u. (is_among u (falls_to action (alive_values rest)) && not (is_written into u)) ≡ false) action args
-    (λ u arg. false_from_ne_true (is_among u (falls_to action (alive_values rest)) && not (is_written into u))
-    (λ t.
-    let parts = and_parts (is_among u (falls_to action (alive_values rest))) (not (is_written into u)) t in
-    false≢true (sym (each_among (IsSpent (record { action = action; args = args; into = into }) rest) args u (formed.spent over) arg)
-    ∙ and_from (not (is_written into u)) (is_alive_behind u action rest) parts.1 (alive_falling action rest u parts.0)))))
-
-result_differs : (action : Action) (args : List ℕ) (into : Option ℕ) (rest : List Line) (formed : IsLineFormed (record { action = action; args = args; into = into }) rest) (v : ℕ) → into ≡ Some v
-    → AllByRecursion (Differ (record { value = v; register = numbered (result_register action) })) (left_in into (falls_to action (alive_values rest)) (loaded_for action args))
-result_differs (Compute operation) args into rest formed v is =
-    let l : Loaded = record { value = v; register = numbered 7 } in
-    all_both (λ (m : Loaded). is_written into m.value ≡ false) (λ (m : Loaded). 7 ≢ m.register.number) (Differ l) (left_in into (alive_values rest) (load_from 5 args))
-    (λ m unwritten other. (eqb-false v m.value (ap (λ o. is_written o m.value) (sym is) ∙ unwritten), other))
-    (left_unwritten into (alive_values rest) (load_from 5 args))
-    (all_kept (λ (m : Loaded). 7 ≢ m.register.number) (stays into (alive_values rest)) (load_from 5 args)
-    (load_numbers (λ k. 7 ≢ k) 5 args (λ k low high e. omega (arith, e, number_is k (omega (arith, high, formed.few)), high, formed.few))))
-result_differs Hold args into rest formed v is = tt
-result_differs Unhold args into rest formed v is = tt
-result_differs action args into rest formed v is =
-    subst (AllByRecursion (Differ (record { value = v; register = numbered (result_register action) }))) (sym (none_left action args into rest formed refl)) tt
-
-pub pending_loads : (action : Action) (args : List ℕ) (into : Option ℕ) (rest : List Line) (formed : IsLineFormed (record { action = action; args = args; into = into }) rest)
-    → AreLoads (pending action into (alive_values rest) (loaded_for action args))
-pending_loads action args into rest formed = go into refl
-  where
-    kept : (o : Option ℕ) → AreLoads (left_in o (falls_to action (alive_values rest)) (loaded_for action args))
-    kept o = loads_kept (stays o (falls_to action (alive_values rest))) (loaded_for action args) (action_loads action args formed.few)
-
-    go : (o : Option ℕ) → into ≡ o → AreLoads (given action o (falls_to action (alive_values rest)) ++ left_in o (falls_to action (alive_values rest)) (loaded_for action args))
-    go None is = kept None
-    go (Some v) is =
-        let l : Loaded = record { value = v; register = numbered (result_register action) } in
-        let left : List Loaded = left_in (Some v) (falls_to action (alive_values rest)) (loaded_for action args) in
-        cond_both (is_among v (falls_to action (alive_values rest))) (l ∷ []) [] (λ (ls : List Loaded). AreLoads (ls ++ left))
-        (λ t. (
-          subst (λ (x : Option ℕ). AllByRecursion (Differ l) (left_in x (falls_to action (alive_values rest)) (loaded_for action args))) is (result_differs action args into rest formed v is),
-          (result_handed action (Some v), kept (Some v)),
-        ))
-        (λ t. kept (Some v))
-
-falls_among : (action : Action) (next : List ℕ) (v : ℕ) → is_among v (falls_to action next) ≡ true → is_among v next ≡ true
-falls_among (Jump l) next v t = absurd (false≢true t)
-falls_among (TailCall f) next v t = absurd (false≢true t)
-falls_among Return next v t = absurd (false≢true t)
-falls_among action next v t = t
-
-pub pending_among : (action : Action) (into : Option ℕ) (behind : List ℕ) (loaded : List Loaded) → AreAmong behind (pending action into behind loaded)
-pending_among action into behind loaded =
-    all_weaker (λ (l : Loaded). is_among l.value (falls_to action behind) ≡ true) (λ (l : Loaded). is_among l.value behind ≡ true) (pending action into behind loaded)
-    (λ l t. falls_among action behind l.value t) (go into)
-  where
-    go : (o : Option ℕ) → AreAmong (falls_to action behind) (given action o (falls_to action behind) ++ left_in o (falls_to action behind) loaded)
-    go None = left_among None (falls_to action behind) loaded
-    go (Some v) =
-        let l : Loaded = record { value = v; register = numbered (result_register action) } in
-        cond_both (is_among v (falls_to action behind)) (l ∷ []) [] (λ (ls : List Loaded). AreAmong (falls_to action behind) (ls ++ left_in (Some v) (falls_to action behind) loaded))
-        (λ t. (t, left_among (Some v) (falls_to action behind) loaded)) (λ t. left_among (Some v) (falls_to action behind) loaded)
+    (λ v there. inl (subst (λ (ls : List Listed). IsListed ls v) (sym first) (is_listed (place_in (pending_here action args into rest formed right)) (copy_in []) (lists_before rest) v there)))
+    (kept_at_next action args into rest formed right (first_alive after) first (λ u there. sym (alive_exact u rest) ∙ there), tt) (held_at_next action args into rest formed right (first_alive after) first)
 
 -- the arguments of a line are alive before it
 pub args_alive : (line : Line) (rest : List Line) → AreAmong (alive_values (line ∷ rest)) (loaded_for line.action line.args)

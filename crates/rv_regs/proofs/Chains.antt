@@ -4,19 +4,20 @@ use Rattle.std.specs.List.{AllByRecursion}
 use Rattle.std.proofs.lemmas.Bool.{eqb-true, eqb-false, ne_eqb, cond-true, cond-false, cases_eq, or_parts, or_right, or_left, or_from, false≢true}
 use Rattle.rv_isa.specs.declared.asm.Action.{Action}
 use Rattle.rv_isa.specs.declared.asm.Action.TheVariants.{Hold, Unhold}
+use Rattle.rv_isa.specs.declared.placed.Place.{Place}
 use Rattle.rv_isa.specs.declared.placed.Place.TheVariants.{Slot as slot}
 use Rattle.rv_isa.specs.declared.placed.Operand.{Operand}
 use Rattle.rv_isa.specs.declared.placed.Listed.{Listed}
 use Rattle.rv_isa.specs.Frames.{put, is_among, holding, unholding, off_top}
 use Rattle.rv_isa.specs.PlacedMachine.{read_at, number_of}
 use Rattle.rv_regs.specs.Listings.{listed_as, marks, is_read_in}
-use Rattle.rv_regs.specs.Conditions.{StaysHeld, Apart}
+use Rattle.rv_regs.specs.Conditions.{AtBoth, StaysHeld, Apart}
 use Rattle.rv_regs.specs.Relation.{Holds, HeldAs, IsSlotOf, WaitsFor}
-use Rattle.rv_regs.proofs.Placing.{listed_has, read_other, put_same, put_other, one_place}
+use Rattle.rv_regs.proofs.Placing.{listed_has, read_other, put_same, put_other, one_place, on_copy_then}
 
 -- the listing of a held token
 abbrev pub token : ℕ → ℕ → Listed
-token v k = record { value = v; place = slot k; held = true }
+token v k = record { value = v; place = slot k; held = true; copy = None }
 
 -- a listing of next points
 abbrev pub IsNext : List Listed → List (List Listed) → Type 0
@@ -34,7 +35,7 @@ token_next : (alive next : List Listed) (nexts : List (List Listed)) (action : O
 token_next alive next nexts action reads v k is all marked listed =
     let has = listed_has (StaysHeld (marks action reads) nexts) alive v (token v k) all listed in
     let stays = has.0 (ap (λ (l : Listed). l.held) marked) in
-    all_next (λ n. listed_as v n ≡ Some (marks action reads (token v k))) next nexts stays.1 is ∙ ap (λ (l : Listed). Some l) marked
+    all_next (λ n. listed_as v n ≡ Some (marks action reads (token v k))) next nexts stays.1.1 is ∙ ap (λ (l : Listed). Some l) marked
 
 -- the chain stays
 pub held_next : (alive next : List Listed) (nexts : List (List Listed)) (action : Option Action) (reads : List Operand) → IsNext next nexts
@@ -84,8 +85,8 @@ module _ (alive next : List Listed) (nexts : List (List Listed)) (arg : Operand)
       let has = listed_has (StaysHeld (marks (Some Hold) (arg ∷ [])) nexts) alive arg.value l all listed in
       let marked : marks (Some Hold) (arg ∷ []) l ≡ record l { held = true } = mark_held arg l (sym has.1) in
       let stays = has.0 (ap (λ (m : Listed). m.held) marked) in
-      let is_token : marks (Some Hold) (arg ∷ []) l ≡ token arg.value k = marked ∙ cc (has.1, place) in
-      let there : listed_as l.value next ≡ Some (marks (Some Hold) (arg ∷ []) l) = all_next (λ n. listed_as l.value n ≡ Some (marks (Some Hold) (arg ∷ []) l)) next nexts stays.1 is in
+      let is_token : marks (Some Hold) (arg ∷ []) l ≡ token arg.value k = marked ∙ cc (has.1, place, stays.1.0) in
+      let there : listed_as l.value next ≡ Some (marks (Some Hold) (arg ∷ []) l) = all_next (λ n. listed_as l.value n ≡ Some (marks (Some Hold) (arg ∷ []) l)) next nexts stays.1.1 is in
       let there' : listed_as arg.value next ≡ Some (token arg.value k) = ap (λ v. listed_as v next) (sym has.1) ∙ there ∙ ap (λ (m : Listed). Some m) is_token in
       (k ∷ ks, refl, subst (λ us. HeldAs next us (k ∷ ks)) same (there', (among ∙ none, held_next alive next nexts (Some Hold) (arg ∷ []) is all vs ks (λ v j t. mark_hold (arg ∷ []) v j) held)))
 
@@ -102,7 +103,7 @@ module _ (alive next : List Listed) (nexts : List (List Listed)) (arg : Operand)
 
 other_unmarked : (arg : Operand) (u j : ℕ) → (arg.value ≡ u → ⊥) → marks (Some Unhold) (arg ∷ []) (token u j) ≡ token u j
 other_unmarked arg u j ne =
-    cond-false ((arg.value == u) || false) (record { value = u; place = slot j; held = false }) (token u j) (or_from (arg.value == u) false (ne_eqb arg.value u ne) refl)
+    cond-false ((arg.value == u) || false) (record { value = u; place = slot j; held = false; copy = None }) (token u j) (or_from (arg.value == u) false (ne_eqb arg.value u ne) refl)
 
 -- A token that is taken back is off both chains.
 module _ (alive next : List Listed) (nexts : List (List Listed)) (arg : Operand) (k : ℕ) (l : Listed) (is : IsNext next nexts) (apart : Apart alive)
@@ -149,10 +150,10 @@ module _ (alive next : List Listed) (nexts : List (List Listed)) (arg : Operand)
 pub token_waits : (alive : List Listed) (into into' : Option ℕ) (values slots : ℕ → Option ℕ) → WaitsFor alive into into' values slots
     → (v k : ℕ) → listed_as v alive ≡ Some (token v k) → values v ≡ slots k
 token_waits alive None None values slots waits v k listed =
-    let s = waits v (token v k) listed in let same : k ≡ s.0 = cc (s.1) in s.2 ∙ ap slots (sym same)
+    let s = (waits v (token v k) listed).1 in let same : k ≡ s.0 = cc (s.1) in s.2 ∙ ap slots (sym same)
 token_waits alive None (Some x) values slots waits v k listed = absurd waits
 token_waits alive (Some u) None values slots waits v k listed = absurd waits
-token_waits alive (Some u) (Some x) values slots waits v k listed = go (waits v (token v k) listed)
+token_waits alive (Some u) (Some x) values slots waits v k listed = go (waits v (token v k) listed).1
   where
     go : ((v ≡ u) × (number_of (slot k) ≡ Some x)) ⊎ ((v ≢ u) × IsSlotOf values slots v (slot k)) → values v ≡ slots k
     go (inl awaited) = absurd (cc (awaited.1))
@@ -176,10 +177,10 @@ zero_slot alive values slots u k v l apart zeroed listed s = (s.0, s.1, go (case
 -- a slot of a frame that waits becomes 0, and so does its value
 pub zero_waits : (alive : List Listed) (into into' : Option ℕ) (values slots : ℕ → Option ℕ) (u k : ℕ) → Apart alive → listed_as u alive ≡ Some (token u k)
     → WaitsFor alive into into' values slots → WaitsFor alive into into' (put u (Some 0) values) (put k (Some 0) slots)
-zero_waits alive None None values slots u k apart zeroed waits = λ v l listed. zero_slot alive values slots u k v l apart zeroed listed (waits v l listed)
+zero_waits alive None None values slots u k apart zeroed waits = λ v l listed. ((waits v l listed).0, zero_slot alive values slots u k v l apart zeroed listed (waits v l listed).1)
 zero_waits alive None (Some x) values slots u k apart zeroed waits = waits
 zero_waits alive (Some r) None values slots u k apart zeroed waits = waits
-zero_waits alive (Some r) (Some x) values slots u k apart zeroed waits = λ v l listed. go v l listed (waits v l listed)
+zero_waits alive (Some r) (Some x) values slots u k apart zeroed waits = λ v l listed. ((waits v l listed).0, go v l listed (waits v l listed).1)
   where
     go : (v : ℕ) (l : Listed) → listed_as v alive ≡ Some l → ((v ≡ r) × (number_of l.place ≡ Some x)) ⊎ ((v ≢ r) × IsSlotOf values slots v l.place)
         → ((v ≡ r) × (number_of l.place ≡ Some x)) ⊎ ((v ≢ r) × IsSlotOf (put u (Some 0) values) (put k (Some 0) slots) v l.place)
@@ -191,11 +192,16 @@ pub zero_holds : (alive : List Listed) (values registers slots : ℕ → Option 
     → Holds alive values registers slots → Holds alive (put u (Some 0) values) registers (put k (Some 0) slots)
 zero_holds alive values registers slots u k apart zeroed holds v l listed = go (cases_eq v u)
   where
-    go : (v ≡ u) ⊎ (v ≡ u → ⊥) → put u (Some 0) values v ≡ read_at registers (put k (Some 0) slots) l.place
+    HasWord : Place → Type 0
+    HasWord place = put u (Some 0) values v ≡ read_at registers (put k (Some 0) slots) place
+
+    go : (v ≡ u) ⊎ (v ≡ u → ⊥) → AtBoth HasWord l
     go (inl same) =
         let there : listed_as v alive ≡ Some (token u k) = ap (λ w. listed_as w alive) same ∙ zeroed in
         let is_l : l ≡ token u k = cc in
-        ap (put u (Some 0) values) same ∙ put_same u (Some 0) values ∙ sym (ap (λ (m : Listed). read_at registers (put k (Some 0) slots) m.place) is_l ∙ put_same k (Some 0) slots)
-    go (inr ne) =
-        put_other u (Some 0) values v ne ∙ holds v l listed
-        ∙ sym (read_other (slot k) l.place (Some 0) registers slots (λ same. ne (one_place alive v u l (token u k) apart listed zeroed (sym same))))
+        subst (AtBoth HasWord) (sym is_l) (ap (put u (Some 0) values) same ∙ put_same u (Some 0) values ∙ sym (put_same k (Some 0) slots), tt)
+    go (inr ne) = (
+      put_other u (Some 0) values v ne ∙ (holds v l listed).0
+          ∙ sym (read_other (slot k) l.place (Some 0) registers slots (λ same. ne (one_place alive v u l (token u k) apart listed zeroed (sym same)))),
+      on_copy_then (λ place. values v ≡ read_at registers slots place) HasWord l.copy (λ r e. put_other u (Some 0) values v ne ∙ e) (holds v l listed).1,
+    )

@@ -7,6 +7,7 @@ use Rattle.rv_isa.specs.declared.asm.Action.TheVariants.{Compute, Label, Jump, B
 use Rattle.rv_isa.specs.declared.asm.Operation.{Operation}
 use Rattle.rv_isa.specs.declared.asm.Condition.{Condition}
 use Rattle.rv_isa.specs.declared.routine.Routine.{Routine as RoutineName}
+use Rattle.rv_isa.specs.declared.register.Register.{Register}
 use Rattle.rv_isa.specs.declared.placed.Place.{Place}
 use Rattle.rv_isa.specs.declared.placed.Place.TheVariants.{Register as register, Slot as slot}
 use Rattle.rv_isa.specs.declared.placed.Operand.{Operand}
@@ -19,9 +20,9 @@ use Rattle.rv_isa.specs.Frames.{Frame, empty, put, put_into, found, top, taken_i
 use Rattle.rv_isa.specs.AsmMachine.{AsmTurn, is_label, bound, asm_entered, asm_goes, asm_jumps, asm_returns, asm_gives, asm_served, asm_acts}
 use Rattle.rv_isa.specs.PlacedMachine.{PlacedTurn, is_label_line, read_at, registers_with, slots_with, kept_by, passed, number_of, awaited, slot_of, placed_entered, placed_goes, placed_gives, placed_jumps, placed_returns, placed_answered, placed_served, placed_acts}
 use Rattle.rv_regs.specs.Listings.{first_alive, alive_behind, alive_at_label, both_of, listed_as, spoils_by, marks}
-use Rattle.rv_regs.specs.Conditions.{value_of, without_moves, IsAtPlace, IsKept, StaysListed, IsSafe, Fits, AllFit, IsPlacing, ArePlacings}
+use Rattle.rv_regs.specs.Conditions.{value_of, without_moves, OnCopy, AtBoth, IsAtPlace, IsKept, StaysListed, IsSafe, Fits, AllFit, IsPlacing, ArePlacings}
 use Rattle.rv_regs.specs.Relation.{Holds, HeldAs, SameCode, Stands, WaitsFor, IsSlotOf, Waits, AllWait, StandsFor}
-use Rattle.rv_regs.proofs.Placing.{listed_has, put_same, put_other}
+use Rattle.rv_regs.proofs.Placing.{listed_has, put_same, put_other, at_one, stands_slot}
 use Rattle.rv_regs.proofs.Changing.{Changes, holds_next, change_nothing, change_one, stayed}
 use Rattle.rv_regs.proofs.Chains.{token, IsNext, all_next, held_next, held_both, unheld_both}
 use Rattle.rv_regs.proofs.Tokens.{apart_first, as_many_wait, top_same, Left, left_over}
@@ -30,14 +31,14 @@ use Rattle.rv_regs.proofs.Steps.{both_go, same_go, cond_go, held_go, read_listed
 -- A line that fits leads to frames that stand for each other, by what it changes.
 lands : (alive : List Listed) (action : Action) (args : List Operand) (into : Option Operand) (nexts : List (List Listed)) (values registers slots registers' : ℕ → Option ℕ)
     (f : Frame Line) (g : Frame PlacedLine) → Fits alive args into (Some action) nexts → Holds alive values registers slots
-    → SameCode f g → IsNext (first_alive g.code) nexts → Changes into (spoils_by (Some action)) values registers slots f.cells registers' g.cells
+    → SameCode f g → IsNext (first_alive g.code) nexts → Changes (Some action) into values registers slots f.cells registers' g.cells
     → HeldAs (first_alive g.code) f.held g.held → Stands (first_alive g.code) registers' f g
 lands alive action args into nexts values registers slots registers' f g fits holds same is changes held =
     record {
       same = same;
       apart = apart_first g.whole g.code same.code_fits;
-      holds = holds_next alive (Some action) args into (spoils_by (Some action)) values registers slots f.cells registers' g.cells (first_alive g.code)
-          (all_next (All (IsKept alive (marks (Some action) args) into (spoils_by (Some action)))) (first_alive g.code) nexts fits.kept is) holds changes;
+      holds = holds_next alive (Some action) args into values registers slots f.cells registers' g.cells (first_alive g.code)
+          (all_next (All (IsKept alive (Some action) args into)) (first_alive g.code) nexts fits.kept is) holds changes;
       held = held;
     }
 
@@ -59,7 +60,7 @@ nothing_given action (Some o) none gives = absurd (cc (none o.place))
 -- a frame goes on where a label is found
 jumps : {H : Type 0} (W : Type 0) (l : ℕ) (alive : List Listed) (action : Action) (args : List Operand) (into : Option Operand) (nexts : List (List Listed)) (registers registers' : ℕ → Option ℕ) (shared : H)
     (f : Frame Line) (fs : List (Frame Line)) (g : Frame PlacedLine) (gs : List (Frame PlacedLine)) → Fits alive args into (Some action) nexts → Stands alive registers f g → AllWait fs gs
-    → Changes into (spoils_by (Some action)) f.cells registers g.cells f.cells registers' g.cells
+    → Changes (Some action) into f.cells registers g.cells f.cells registers' g.cells
     → ((k : List PlacedLine) → found (is_label_line l) g.whole ≡ Some k → IsNext (first_alive k) nexts × HeldAs (first_alive k) f.held g.held)
     → StandsFor {W = W} (asm_jumps l f fs shared) (placed_jumps l g gs registers' shared)
 jumps W l alive action args into nexts registers registers' shared f fs g gs fits stands waits changes at_label =
@@ -77,34 +78,41 @@ safe_slot : (place : Place) → IsSafe (λ r. true) place → (k : ℕ) × (plac
 safe_slot (register r) safe = absurd (cc safe)
 safe_slot (slot k) safe = (k, refl)
 
+safe_copy : (copy : Option Register) → OnCopy (IsSafe (λ r. true)) copy → copy ≡ None
+safe_copy None safe = refl
+safe_copy (Some r) safe = absurd (cc safe)
+
 kept_in_slot : (alive : List Listed) (action : Option Action) (args : List Operand) (values registers slots : ℕ → Option ℕ) (v : ℕ) (l : Listed) → Holds alive values registers slots → l.value ≡ v
-    → StaysListed alive (marks action args) l → IsSafe (λ r. true) l.place → IsSlotOf values slots v l.place
+    → StaysListed alive (marks action args) l → AtBoth (IsSafe (λ r. true)) l → (l.copy ≡ None) × IsSlotOf values slots v l.place
 kept_in_slot alive action args values registers slots v l holds same stays safe =
     let s = stayed alive action args l stays in
-    let k = safe_slot l.place safe in
-    (k.0, k.1, ap values (sym same) ∙ holds l.value s.0 s.1 ∙ ap (read_at registers slots) (s.2 ∙ k.1))
+    let k = safe_slot l.place safe.0 in
+    (safe_copy l.copy safe.1, (k.0, k.1, ap values (sym same) ∙ (holds l.value s.m s.listed).0 ∙ ap (read_at registers slots) (s.place ∙ k.1)))
 
 -- what a call leaves alive waits in slots, but for its result
-awaits_call : (alive : List Listed) (action : Option Action) (args : List Operand) (into : Option Operand) (values registers slots : ℕ → Option ℕ) (next : List Listed) → Holds alive values registers slots
-    → ((o : Operand) → into ≡ Some o → is_in 10 o.place ≡ true) → All (IsKept alive (marks action args) into (λ r. true)) next → WaitsFor next (option_map value_of into) (awaited into) values slots
-awaits_call alive action args None values registers slots next holds given kept = λ v l listed.
-    let has = listed_has (IsKept alive (marks action args) None (λ r. true)) next v l kept listed in
+awaits_call : (alive : List Listed) (f : ℕ) (args : List Operand) (into : Option Operand) (values registers slots : ℕ → Option ℕ) (next : List Listed) → Holds alive values registers slots
+    → ((o : Operand) → into ≡ Some o → is_in 10 o.place ≡ true) → All (IsKept alive (Some (Call f)) args into) next → WaitsFor next (option_map value_of into) (awaited into) values slots
+awaits_call alive f args None values registers slots next holds given kept = λ v l listed.
+    let has = listed_has (IsKept alive (Some (Call f)) args None) next v l kept listed in
     one v l has.1 has.0
   where
-    one : (v : ℕ) (m : Listed) → m.value ≡ v → IsKept alive (marks action args) None (λ r. true) m → IsSlotOf values slots v m.place
+    one : (v : ℕ) (m : Listed) → m.value ≡ v → IsKept alive (Some (Call f)) args None m → (m.copy ≡ None) × IsSlotOf values slots v m.place
     one v m same (inl new) = absurd new
-    one v m same (inr stays) = kept_in_slot alive action args values registers slots v m holds same stays.0 stays.1.1
-awaits_call alive action args (Some o) values registers slots next holds given kept = by_place o.place refl (given o refl)
+    one v m same (inr (inl copied)) = absurd copied
+    one v m same (inr (inr stays)) = kept_in_slot alive (Some (Call f)) args values registers slots v m holds same stays.0 stays.1.1
+awaits_call alive f args (Some o) values registers slots next holds given kept = by_place o.place refl (given o refl)
   where
-    one : (x : ℕ) (v : ℕ) (m : Listed) → number_of o.place ≡ Some x → m.value ≡ v → IsKept alive (marks action args) (Some o) (λ r. true) m
-        → ((v ≡ o.value) × (number_of m.place ≡ Some x)) ⊎ ((v ≢ o.value) × IsSlotOf values slots v m.place)
-    one x v m at same (inl new) = inl (sym same ∙ sym new.0, ap number_of (sym new.1) ∙ at)
-    one x v m at same (inr stays) =
-        inr ((λ e. stays.1.0.0 (sym e ∙ sym same)), kept_in_slot alive action args values registers slots v m holds same stays.0 stays.1.1)
+    one : (x : ℕ) (v : ℕ) (m : Listed) → number_of o.place ≡ Some x → m.value ≡ v → IsKept alive (Some (Call f)) args (Some o) m
+        → (m.copy ≡ None) × (((v ≡ o.value) × (number_of m.place ≡ Some x)) ⊎ ((v ≢ o.value) × IsSlotOf values slots v m.place))
+    one x v m at same (inl new) = (new.1.1.1, inl (sym same ∙ sym new.0, ap number_of (sym new.1.0) ∙ at))
+    one x v m at same (inr (inl copied)) = absurd copied
+    one x v m at same (inr (inr stays)) =
+        let k = kept_in_slot alive (Some (Call f)) args values registers slots v m holds same stays.0 stays.1.1 in
+        (k.0, inr ((λ e. stays.1.0.0 (sym e ∙ sym same)), k.1))
 
     by_place : (place : Place) → o.place ≡ place → is_in 10 place ≡ true → WaitsFor next (Some o.value) (number_of place) values slots
     by_place (register r) at is = λ v l listed.
-        let has = listed_has (IsKept alive (marks action args) (Some o) (λ r. true)) next v l kept listed in
+        let has = listed_has (IsKept alive (Some (Call f)) args (Some o)) next v l kept listed in
         one r.number v l (ap number_of at) has.1 has.0
     by_place (slot k) at is = cc is
 
@@ -127,7 +135,7 @@ gives : {H : Type 0} (W : Type 0) (alive : List Listed) (action : Action) (args 
 gives W alive action args None nexts registers shared w f fs g gs fits stands waits is marked = (
   (
     lands alive action args None nexts f.cells registers g.cells (λ x. cond (spoils_by (Some action) x) None (registers x)) f g fits stands.holds stands.same is
-        (change_nothing (spoils_by (Some action)) f.cells registers g.cells)
+        (change_nothing (Some action) f.cells registers g.cells)
         (held_next alive (first_alive g.code) nexts (Some action) args is fits.held f.held g.held (λ v k among. marked v k) stands.held),
     waits,
   ),
@@ -139,7 +147,7 @@ gives W alive action args (Some o) nexts registers shared w f fs g gs fits stand
     let g' : Frame PlacedLine = record g { cells = slots_with o.place (Some w) g.cells } in (
       (
         lands alive action args (Some o) nexts f.cells registers g.cells (registers_with o.place (Some w) left) f' g' fits stands.holds (same_code f f' g g' stands.same refl refl refl refl refl refl) is
-            (change_one o (Some w) (spoils_by (Some action)) f.cells registers g.cells)
+            (change_one o (Some w) action f.cells registers g.cells)
             (held_next alive (first_alive g.code) nexts (Some action) args is fits.held f.held g.held (λ v k among. marked v k) stands.held),
         waits,
       ),
@@ -154,14 +162,22 @@ only_go (Some a) next t meets = meets a refl
 received_both : (next : List Listed) (into into' : Option ℕ) (result : Option ℕ) (values slots : ℕ → Option ℕ) → WaitsFor next into into' values slots → (cells : ℕ → Option ℕ) → received into result values ≡ Some cells
     → (registers : ℕ → Option ℕ) × (received into' result empty ≡ Some registers) × Holds next cells registers slots
 received_both next None None result values slots waits cells e =
-    let same : values ≡ cells = cc in
-    (empty, refl, subst (λ c. Holds next c empty slots) same (λ v l listed. let s = waits v l listed in s.2 ∙ sym (ap (read_at empty slots) s.1)))
+    let same : values ≡ cells = cc in (
+      empty,
+      refl,
+      subst (λ c. Holds next c empty slots) same (λ v l listed. let s = waits v l listed in
+          at_one (λ place. values v ≡ read_at empty slots place) l s.0 (s.1.2 ∙ sym (ap (read_at empty slots) s.1.1))),
+    )
 received_both next None (Some x) result values slots waits cells e = absurd waits
 received_both next (Some u) None result values slots waits cells e = absurd waits
 received_both next (Some u) (Some x) None values slots waits cells e = cc
 received_both next (Some u) (Some x) (Some w) values slots waits cells e =
-    let same : put u (Some w) values ≡ cells = cc in
-    (put x (Some w) empty, refl, subst (λ c. Holds next c (put x (Some w) empty) slots) same (λ v l listed. one v l (waits v l listed)))
+    let same : put u (Some w) values ≡ cells = cc in (
+      put x (Some w) empty,
+      refl,
+      subst (λ c. Holds next c (put x (Some w) empty) slots) same
+          (λ v l listed. let s = waits v l listed in at_one (λ place. put u (Some w) values v ≡ read_at (put x (Some w) empty) slots place) l s.0 (one v l s.1)),
+    )
   where
     at_register : (place : Place) → number_of place ≡ Some x → read_at (put x (Some w) empty) slots place ≡ Some w
     at_register (register r) at = let here : r.number ≡ x = cc in ap (put x (Some w) empty) here ∙ put_same x (Some w) empty
@@ -192,7 +208,7 @@ module _ {H E W : Type 0} (m : Primitives H E W) (depth : ℕ) (asm : List Lines
   jumps_to : (l : ℕ) (into : Option Operand) → Follows (Jump l) into
   jumps_to l None ok fits =
       let nexts : List (List Listed) = both_of None (option_map first_alive (found (is_label_line l) g.whole)) in
-      jumps W l alive (Jump l) args None nexts registers registers shared f fs g gs fits stands waits (change_nothing (spoils_by (Some (Jump l))) f.cells registers g.cells)
+      jumps W l alive (Jump l) args None nexts registers registers shared f fs g gs fits stands waits (change_nothing (Some (Jump l)) f.cells registers g.cells)
       (λ k e. let is = label_next k None (found (is_label_line l) g.whole) e in
       (is, held_next alive (first_alive k) nexts (Some (Jump l)) args is fits.held f.held g.held (λ v j among. refl) stands.held))
   jumps_to l (Some o) ok fits = absurd (no_write (Jump l) args o refl ok)
@@ -202,7 +218,7 @@ module _ {H E W : Type 0} (m : Primitives H E W) (depth : ℕ) (asm : List Lines
       let nexts : List (List Listed) = both_of (Some (first_alive g.code)) (option_map first_alive (found (is_label_line l) g.whole)) in
       same_go (m.holds condition words) (λ taken. cond taken (asm_jumps l f fs shared) (asm_goes f fs shared)) (λ taken. cond taken (placed_jumps l g gs registers shared) (placed_goes g gs registers shared))
       (λ taken e. cond_go taken (asm_jumps l f fs shared) (asm_goes f fs shared) (placed_jumps l g gs registers shared) (placed_goes g gs registers shared)
-      (jumps W l alive (Branch condition l) args None nexts registers registers shared f fs g gs fits stands waits (change_nothing (spoils_by (Some (Branch condition l))) f.cells registers g.cells)
+      (jumps W l alive (Branch condition l) args None nexts registers registers shared f fs g gs fits stands waits (change_nothing (Some (Branch condition l)) f.cells registers g.cells)
       (λ k e. let is = label_next k (Some (first_alive g.code)) (found (is_label_line l) g.whole) e in
       (is, held_next alive (first_alive k) nexts (Some (Branch condition l)) args is fits.held f.held g.held (λ v j among. refl) stands.held)))
       (gives W alive (Branch condition l) args None nexts registers shared 0 f fs g gs fits stands waits (inl refl) (λ v k. refl)))
@@ -218,7 +234,7 @@ module _ {H E W : Type 0} (m : Primitives H E W) (depth : ℕ) (asm : List Lines
       waiting : Waits (record f { into = option_map value_of into }) (record g { into = awaited into })
       waiting = record {
         same = same_code f (record f { into = option_map value_of into }) g (record g { into = awaited into }) stands.same refl refl refl refl refl refl;
-        awaits = awaits_call alive (Some (Call n)) args into f.cells registers g.cells (first_alive g.code) stands.holds (λ o is. given_at (Call n) args into o ok is) fits.kept.0;
+        awaits = awaits_call alive n args into f.cells registers g.cells (first_alive g.code) stands.holds (λ o is. given_at (Call n) args into o ok is) fits.kept.0;
         held = held_next alive (first_alive g.code) (first_alive g.code ∷ []) (Some (Call n)) args (inl refl) fits.held f.held g.held (λ v j among. refl) stands.held;
       }
 
@@ -310,7 +326,7 @@ in_slot : (alive : List Listed) (arg : Operand) → IsAtPlace alive arg → is_s
 in_slot alive arg stand is =
     let s = slot_place arg.place is in
     let r = read_listed alive arg stand in
-    record { k = s.0; l = r.0; slot_is = s.1; listed = r.1; place = r.2 ∙ s.2 }
+    record { k = s.0; l = r.0; slot_is = s.1; listed = r.1; place = stands_slot r.0 arg.place s.0 r.2 s.2 }
 
 -- a frame whose chain changes goes on
 chained : {H : Type 0} (W : Type 0) (alive : List Listed) (action : Action) (arg : Operand) (registers : ℕ → Option ℕ) (shared : H) (f : Frame Line) (fs : List (Frame Line)) (g : Frame PlacedLine) (gs : List (Frame PlacedLine))
@@ -320,7 +336,7 @@ chained W alive action arg registers shared f fs g gs fits stands waits held hel
   (
     lands alive action (arg ∷ []) None (first_alive g.code ∷ []) f.cells registers g.cells (λ x. cond (spoils_by (Some action) x) None (registers x)) (record f { held = held }) (record g { held = held' }) fits stands.holds
         (same_code f (record f { held = held }) g (record g { held = held' }) stands.same refl refl refl refl refl refl) (inl refl)
-        (change_nothing (spoils_by (Some action)) f.cells registers g.cells) chain,
+        (change_nothing (Some action) f.cells registers g.cells) chain,
     waits,
   ),
   refl,

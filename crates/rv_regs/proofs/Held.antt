@@ -4,6 +4,7 @@ use Rattle.std.specs.List.{AllByRecursion}
 use Rattle.std.proofs.Math.Seq.{drop-append_seam}
 use Rattle.std.proofs.lemmas.Bool.{or_cases, or_left, or_right, and_from, not_from_false, false≢true, false_from_ne_true}
 use Rattle.std.proofs.lemmas.List.Folds.{list_any-append}
+use Rattle.rv_isa.specs.declared.register.Register.{Register}
 use Rattle.rv_isa.specs.declared.asm.Action.{Action}
 use Rattle.rv_isa.specs.declared.asm.Action.TheVariants.{Compute, Label, Jump, Branch, Call, TailCall, Return, Routine, Hold, Unhold}
 use Rattle.rv_isa.specs.declared.placed.Place.{Place}
@@ -15,8 +16,8 @@ use Rattle.rv_isa.specs.WellFormed.{is_written, is_alive, is_alive_behind, goes_
 use Rattle.rv_regs.specs.declared.slots.Loaded.{Loaded}
 use Rattle.rv_regs.specs.Alive.{held_before, held_values}
 use Rattle.rv_regs.specs.Listings.{is_read_in, marks}
-use Rattle.rv_regs.specs.Plain.{place_in, listing_at, operand_at, first_register, loaded_for}
-use Rattle.rv_regs.proofs.InRegisters.{all_weaker, place_slot, load_values}
+use Rattle.rv_regs.specs.Plain.{place_in, copy_in, listing_at, operand_at, first_register, loaded_for}
+use Rattle.rv_regs.proofs.InRegisters.{all_weaker, place_slot, copy_none, load_values}
 
 among_append : (v : ℕ) (xs ys : List ℕ) → is_among v (xs ++ ys) ≡ (is_among v xs || is_among v ys)
 among_append v xs ys = list_any-append (λ (other : ℕ). other == v) xs ys
@@ -116,35 +117,35 @@ pub read_among : (place_of : ℕ → Place) (args : List ℕ) (v : ℕ) → is_r
 read_among place_of [] v = refl
 read_among place_of (x ∷ xs) v = ap (λ b. (x == v) || b) (read_among place_of xs v)
 
-abbrev pub listing_with : ℕ → Place → Bool → Listed
-listing_with v place held = record { value = v; place = place; held = held }
+abbrev pub listing_with : ℕ → Place → Option Register → Bool → Listed
+listing_with v place copy held = record { value = v; place = place; held = held; copy = copy }
 
-marked_as : (v : ℕ) (place : Place) (held mark is read : Bool) → (read ≡ true → mark ≡ is) → (read ≡ false → held ≡ is)
-    → cond read (listing_with v place mark) (listing_with v place held) ≡ listing_with v place is
-marked_as v place held mark is true on off = ap (listing_with v place) (on refl)
-marked_as v place held mark is false on off = ap (listing_with v place) (off refl)
+marked_as : (v : ℕ) (place : Place) (copy : Option Register) (held mark is read : Bool) → (read ≡ true → mark ≡ is) → (read ≡ false → held ≡ is)
+    → cond read (listing_with v place copy mark) (listing_with v place copy held) ≡ listing_with v place copy is
+marked_as v place copy held mark is true on off = ap (listing_with v place copy) (on refl)
+marked_as v place copy held mark is false on off = ap (listing_with v place copy) (off refl)
 
 -- a value that is read and held before the line and behind it is none
 abbrev pub ReadsNoneHeld : List ℕ → List ℕ → List ℕ → Type 0
 ReadsNoneHeld args before behind = (v : ℕ) → is_among v before ≡ true → is_among v behind ≡ true → is_among v args ≡ false
 
 -- the marks of an action are what is held behind it
-pub marked : (action : Action) (args before behind : List ℕ) (place_of stands : ℕ → Place) → ChangesHeld action args before behind → ReadsNoneHeld args before behind → (v : ℕ)
-    → marks (Some action) (map (operand_at stands) args) (listing_at place_of before v) ≡ listing_at place_of behind v
-marked Hold args before behind place_of stands changes none v =
+pub marked : (action : Action) (args before behind : List ℕ) (place_of : ℕ → Place) (copy_of : ℕ → Option Register) (stands : ℕ → Place) → ChangesHeld action args before behind → ReadsNoneHeld args before behind → (v : ℕ)
+    → marks (Some action) (map (operand_at stands) args) (listing_at place_of copy_of before v) ≡ listing_at place_of copy_of behind v
+marked Hold args before behind place_of copy_of stands changes none v =
     let read : is_read_in (map (operand_at stands) args) v ≡ is_among v args = read_among stands args v in
     let is : is_among v behind ≡ (is_among v args || is_among v before) = ap (is_among v) changes ∙ among_append v args before in
-    marked_as v (place_of v) (is_among v before) true (is_among v behind) (is_read_in (map (operand_at stands) args) v)
+    marked_as v (place_of v) (copy_of v) (is_among v before) true (is_among v behind) (is_read_in (map (operand_at stands) args) v)
     (λ t. sym (is ∙ or_left (is_among v args) (is_among v before) (sym read ∙ t)))
     (λ f. sym (is ∙ ap (λ b. b || is_among v before) (sym read ∙ f)))
-marked Unhold args before behind place_of stands changes none v =
+marked Unhold args before behind place_of copy_of stands changes none v =
     let read : is_read_in (map (operand_at stands) args) v ≡ is_among v args = read_among stands args v in
     let is : is_among v before ≡ (is_among v args || is_among v behind) = ap (is_among v) changes ∙ among_append v args behind in
-    marked_as v (place_of v) (is_among v before) false (is_among v behind) (is_read_in (map (operand_at stands) args) v)
+    marked_as v (place_of v) (copy_of v) (is_among v before) false (is_among v behind) (is_read_in (map (operand_at stands) args) v)
     (λ t. sym (false_from_ne_true (is_among v behind)
     (λ there. false≢true (sym (none v (is ∙ or_left (is_among v args) (is_among v behind) (sym read ∙ t)) there) ∙ (sym read ∙ t)))))
     (λ f. is ∙ ap (λ b. b || is_among v behind) (sym read ∙ f))
-marked action args before behind place_of stands changes none v = ap (λ (vs : List ℕ). listing_at place_of vs v) changes.0
+marked action args before behind place_of copy_of stands changes none v = ap (λ (vs : List ℕ). listing_at place_of copy_of vs v) changes.0
 
 -- ---- registers
 
@@ -156,6 +157,12 @@ AreFree held loaded = AllByRecursion (λ (l : Loaded). is_among l.value held ≡
 pub held_in_slot : (held : List ℕ) (loaded : List Loaded) (v : ℕ) → AreFree held loaded → is_among v held ≡ true → place_in loaded v ≡ slot v
 held_in_slot held loaded v free there =
     place_slot v loaded
+    (all_weaker (λ (l : Loaded). is_among l.value held ≡ false) (λ (l : Loaded). (v ≡ l.value) → ⊥) loaded (λ l none same. false≢true (sym none ∙ ap (λ w. is_among w held) (sym same) ∙ there)) free)
+
+-- and has no copy
+pub held_no_copy : (held : List ℕ) (loaded : List Loaded) (v : ℕ) → AreFree held loaded → is_among v held ≡ true → copy_in loaded v ≡ None
+held_no_copy held loaded v free there =
+    copy_none v loaded
     (all_weaker (λ (l : Loaded). is_among l.value held ≡ false) (λ (l : Loaded). (v ≡ l.value) → ⊥) loaded (λ l none same. false≢true (sym none ∙ ap (λ w. is_among w held) (sym same) ∙ there)) free)
 
 -- what is loaded for a line is not held before it

@@ -1,18 +1,17 @@
 -- Where values stand of which some are in registers.
-use Rattle.std.proofs.Common.{◌≡◌, ◌≢◌, ◌==◌, ◌&&◌, ◌⊎◌, ◌<◌, ◌≤◌, ◌+◌, ℕ, suc, List, [], ◌∷◌, Option, Some, Bool, true, false, not, cond, refl, sym, ◌∙◌, ap, inl, inr, arith, eq-eqb, length}
+use Rattle.std.proofs.Common.{◌≡◌, ◌≢◌, ◌==◌, ◌⊎◌, ◌<◌, ◌≤◌, ◌+◌, ℕ, suc, List, [], ◌∷◌, Option, Some, None, Bool, true, false, cond, refl, sym, ◌∙◌, ap, inl, inr, arith, eq-eqb, length}
 use Rattle.std.specs.List.{AllByRecursion, filter}
 use Rattle.std.proofs.Math.Nat.{mod-eq_of_lt}
-use Rattle.std.proofs.lemmas.Bool.{eqb-true, ne_eqb, cond-true, cond-false, cases_eq, or_cases, or_right, or_left, and_from, and_parts, not-true, not_from_false, false≢true, cases_Bool, cond_both}
+use Rattle.std.proofs.lemmas.Bool.{eqb-true, ne_eqb, cond-true, cond-false, cases_eq, or_cases, or_right, or_left, false≢true, cases_Bool, cond_both}
 use Rattle.rv_isa.specs.declared.register.Register.{Register}
 use Rattle.rv_isa.specs.declared.placed.Place.{Place}
 use Rattle.rv_isa.specs.declared.placed.Place.TheVariants.{Register as register, Slot as slot}
-use Rattle.rv_isa.specs.Conventions.{is_handed_out, is_register}
+use Rattle.rv_isa.specs.Conventions.{is_handed_out, is_register, argument}
 use Rattle.rv_isa.specs.Frames.{is_among}
 use Rattle.rv_isa.specs.PlacedMachine.{number_of}
-use Rattle.rv_isa.specs.WellFormed.{is_written}
 use Rattle.rv_regs.specs.declared.slots.Loaded.{Loaded}
-use Rattle.rv_regs.specs.Conditions.{IsHandedOut}
-use Rattle.rv_regs.specs.Plain.{numbered, place_in, load_from, stays, left_in}
+use Rattle.rv_regs.specs.Conditions.{OnCopy, IsCopyAt, IsHandedOut}
+use Rattle.rv_regs.specs.Plain.{numbered, place_in, copy_in, load_from, alive_params}
 
 -- ---- facts of each element
 
@@ -34,10 +33,6 @@ all_pass test [] = tt
 all_pass {A} test (x ∷ xs) =
     cond_both (test x) (x ∷ filter test xs) (filter test xs) (λ (ys : List A). AllByRecursion (λ x. test x ≡ true) ys) (λ t. (t, all_pass test xs)) (λ t. all_pass test xs)
 
-pub none_kept : {A : Type 0} (test : A → Bool) (xs : List A) → AllByRecursion (λ x. test x ≡ false) xs → filter test xs ≡ []
-none_kept test [] all = refl
-none_kept test (x ∷ xs) all = cond-false (test x) (x ∷ filter test xs) (filter test xs) all.0 ∙ none_kept test xs all.1
-
 -- ---- values and registers that differ
 
 abbrev pub Differ : Loaded → Loaded → Type 0
@@ -54,7 +49,7 @@ AreAmong values loaded = AllByRecursion (λ (l : Loaded). is_among l.value value
 register_number : (a b : Register) → register a ≡ register b → a.number ≡ b.number
 register_number a b e = let s : Some a.number ≡ Some b.number = ap number_of e in cc
 
-slot_number : (a b : ℕ) → slot a ≡ slot b → a ≡ b
+pub slot_number : (a b : ℕ) → slot a ≡ slot b → a ≡ b
 slot_number a b e = cc
 
 pub no_slot : (r : Register) (k : ℕ) → slot k ≡ register r → ⊥
@@ -124,19 +119,44 @@ place_kept test [] u t = refl
 place_kept test (l ∷ loaded) u t =
     kept_step l (filter (λ (m : Loaded). test m.value) loaded) loaded u (test l.value) (λ e. ap test e ∙ t) (place_kept test loaded u t)
 
-pub place_left : (into : Option ℕ) (behind : List ℕ) (loaded : List Loaded) (u : ℕ) → is_among u behind ≡ true → is_written into u ≡ false → place_in (left_in into behind loaded) u ≡ place_in loaded u
-place_left into behind loaded u there unwritten =
-    place_kept (λ v. is_among v behind && not (is_written into v)) loaded u (and_from (is_among u behind) (not (is_written into u)) there (not_from_false (is_written into u) unwritten))
+-- the parameters that are alive
+pub params_among : (params alive : List ℕ) → AreAmong alive (alive_params params alive)
+params_among params alive = all_pass (λ (l : Loaded). is_among l.value alive) (load_from (argument 0) params)
 
-pub left_among : (into : Option ℕ) (behind : List ℕ) (loaded : List Loaded) → AreAmong behind (left_in into behind loaded)
-left_among into behind loaded =
-    all_weaker (λ (l : Loaded). stays into behind l ≡ true) (λ (l : Loaded). is_among l.value behind ≡ true) (left_in into behind loaded)
-    (λ l t. (and_parts (is_among l.value behind) (not (is_written into l.value)) t).0) (all_pass (stays into behind) loaded)
+-- ---- copies
 
-pub left_unwritten : (into : Option ℕ) (behind : List ℕ) (loaded : List Loaded) → AllByRecursion (λ (l : Loaded). is_written into l.value ≡ false) (left_in into behind loaded)
-left_unwritten into behind loaded =
-    all_weaker (λ (l : Loaded). stays into behind l ≡ true) (λ (l : Loaded). is_written into l.value ≡ false) (left_in into behind loaded)
-    (λ l t. not-true (is_written into l.value) (and_parts (is_among l.value behind) (not (is_written into l.value)) t).1) (all_pass (stays into behind) loaded)
+pub copy_same : (l : Loaded) (loaded : List Loaded) (v : ℕ) → l.value ≡ v → copy_in (l ∷ loaded) v ≡ Some l.register
+copy_same l loaded v e = cond-true (l.value == v) (Some l.register) (copy_in loaded v) (eq-eqb l.value v e)
+
+pub copy_other : (l : Loaded) (loaded : List Loaded) (v : ℕ) → (l.value ≡ v → ⊥) → copy_in (l ∷ loaded) v ≡ copy_in loaded v
+copy_other l loaded v ne = cond-false (l.value == v) (Some l.register) (copy_in loaded v) (ne_eqb l.value v ne)
+
+-- a value that is not in a register has no copy
+pub copy_none : (v : ℕ) (loaded : List Loaded) → AllByRecursion (λ (m : Loaded). v ≢ m.value) loaded → copy_in loaded v ≡ None
+copy_none v [] all = refl
+copy_none v (m ∷ loaded) all = copy_other m loaded v (λ e. all.0 (sym e)) ∙ copy_none v loaded all.1
+
+-- copies are where values may be
+pub copies_handed : (loaded : List Loaded) (v : ℕ) → AreLoads loaded → OnCopy IsHandedOut (copy_in loaded v)
+copies_handed [] v are = tt
+copies_handed (l ∷ loaded) v are =
+    cond_both (l.value == v) (Some l.register) (copy_in loaded v) (OnCopy IsHandedOut) (λ t. are.1.0) (λ t. copies_handed loaded v are.1.1)
+
+-- no copy is in another register
+pub copy_ne : (r : Register) (loaded : List Loaded) (v : ℕ) → AllByRecursion (λ (m : Loaded). r.number ≢ m.register.number) loaded → OnCopy (λ place. register r ≢ place) (copy_in loaded v)
+copy_ne r [] v all = tt
+copy_ne r (m ∷ loaded) v all =
+    cond_both (m.value == v) (Some m.register) (copy_in loaded v) (OnCopy (λ place. register r ≢ place)) (λ t e. all.0 (register_number r m.register e)) (λ t. copy_ne r loaded v all.1)
+
+stands_step : (r : Register) (copy : Option Register) (place : Place) (v : ℕ) (b : Bool) → (slot v ≡ place) ⊎ IsCopyAt copy place
+    → (slot v ≡ cond b (register r) place) ⊎ IsCopyAt (cond b (Some r) copy) (cond b (register r) place)
+stands_step r copy place v true stands = inr refl
+stands_step r copy place v false stands = stands
+
+-- a value is read in its slot, or in the register of its copy
+pub stands_in : (loaded : List Loaded) (v : ℕ) → (slot v ≡ place_in loaded v) ⊎ IsCopyAt (copy_in loaded v) (place_in loaded v)
+stands_in [] v = inl refl
+stands_in (l ∷ loaded) v = stands_step l.register (copy_in loaded v) (place_in loaded v) v (l.value == v) (stands_in loaded v)
 
 -- ---- the loads of values into registers in a row
 

@@ -1,6 +1,6 @@
 -- Listings of values, and words at places.
-use Rattle.std.proofs.Common.{◌≡◌, ◌≢◌, ◌==◌, ℕ, List, [], ◌∷◌, Option, Some, Bool, true, false, cond, All, refl, sym, ◌∙◌, ap, subst, eq-eqb}
-use Rattle.std.proofs.lemmas.Bool.{eqb-true, ne_eqb, cond-true, cond-false}
+use Rattle.std.proofs.Common.{◌≡◌, ◌≢◌, ◌==◌, ◌⊎◌, ℕ, List, [], ◌∷◌, Option, Some, None, Bool, true, false, cond, All, refl, sym, ◌∙◌, ap, subst, inl, inr, eq-eqb}
+use Rattle.std.proofs.lemmas.Bool.{eqb-true, ne_eqb, cond-true, cond-false, cases_eq}
 use Rattle.std.proofs.lemmas.List.Elements.{All-head, All-tail}
 use Rattle.rv_isa.proofs.Same.{same_register}
 use Rattle.rv_isa.specs.declared.register.Register.{Register}
@@ -10,7 +10,7 @@ use Rattle.rv_isa.specs.declared.placed.Listed.{Listed}
 use Rattle.rv_isa.specs.Frames.{put}
 use Rattle.rv_isa.specs.PlacedMachine.{read_at, registers_with, slots_with}
 use Rattle.rv_regs.specs.Listings.{listed_as}
-use Rattle.rv_regs.specs.Conditions.{AreApart, Apart}
+use Rattle.rv_regs.specs.Conditions.{OnCopy, AtBoth, IsCopyAt, StandsAt, AreApart, Apart}
 
 listed_step : (P : Listed → Type 0) (x : Listed) (rest : Option Listed) (v : ℕ) (l : Listed) (b : Bool) → P x → (x.value == v) ≡ b
     → (rest ≡ Some l → P l × (l.value ≡ v)) → cond b (Some x) rest ≡ Some l → P l × (l.value ≡ v)
@@ -59,3 +59,50 @@ read_other (register r) (register s) w registers slots ne = put_other r.number w
 read_other (register r) (slot k) w registers slots ne = refl
 read_other (slot j) (register s) w registers slots ne = refl
 read_other (slot j) (slot k) w registers slots ne = put_other j w slots k (λ e. ne (ap (λ (x : ℕ). slot x) (sym e)))
+
+-- ---- copies
+
+-- what holds of each register holds of a copy's
+pub on_copy : (P : Place → Type 0) (copy : Option Register) → ((r : Register) → P (register r)) → OnCopy P copy
+on_copy P None all = tt
+on_copy P (Some r) all = all r
+
+-- what follows in each register follows in a copy's
+pub on_copy_then : (P Q : Place → Type 0) (copy : Option Register) → ((r : Register) → P (register r) → Q (register r)) → OnCopy P copy → OnCopy Q copy
+on_copy_then P Q None next p = tt
+on_copy_then P Q (Some r) next p = next r p
+
+pub on_copy_both : (P Q R : Place → Type 0) (copy : Option Register) → ((r : Register) → P (register r) → Q (register r) → R (register r)) → OnCopy P copy → OnCopy Q copy → OnCopy R copy
+on_copy_both P Q R None next p q = tt
+on_copy_both P Q R (Some r) next p q = next r p q
+
+-- a place is a register or is none
+pub is_or_not : (r : Register) (place : Place) → (place ≡ register r) ⊎ (register r ≢ place)
+is_or_not r (slot k) = inr (λ e. cc e)
+is_or_not r (register s) = go (cases_eq s.number r.number)
+  where
+    go : (s.number ≡ r.number) ⊎ (s.number ≡ r.number → ⊥) → (register s ≡ register r) ⊎ (register r ≢ register s)
+    go (inl same) = inl (ap (λ (x : Register). register x) (same_register s r same))
+    go (inr other) = inr (λ e. let back : r ≡ s = cc in other (ap (λ (x : Register). x.number) (sym back)))
+
+-- a value without a copy stands at its place alone
+pub at_one : (P : Place → Type 0) (l : Listed) → l.copy ≡ None → P l.place → AtBoth P l
+at_one P l none here = (here, subst (OnCopy P) (sym none) tt)
+
+copy_has : (P : Place → Type 0) (copy : Option Register) (place : Place) → OnCopy P copy → IsCopyAt copy place → P place
+copy_has P None place all at = absurd at
+copy_has P (Some r) place all at = subst P at all
+
+-- what holds where a value stands holds of the place where it is read
+pub stands_has : (P : Place → Type 0) (l : Listed) (place : Place) → AtBoth P l → StandsAt place l → P place
+stands_has P l place both (inl at) = subst P at both.0
+stands_has P l place both (inr at) = copy_has P l.copy place both.1 at
+
+copy_no_slot : (copy : Option Register) (place : Place) (k : ℕ) → IsCopyAt copy place → place ≡ slot k → ⊥
+copy_no_slot None place k at is = at
+copy_no_slot (Some r) place k at is = let none : register r ≡ slot k = at ∙ is in cc none
+
+-- what is read in a slot is listed there
+pub stands_slot : (l : Listed) (place : Place) (k : ℕ) → StandsAt place l → place ≡ slot k → l.place ≡ slot k
+stands_slot l place k (inl at) is = at ∙ is
+stands_slot l place k (inr at) is = absurd (copy_no_slot l.copy place k at is)

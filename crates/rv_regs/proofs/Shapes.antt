@@ -1,5 +1,5 @@
 -- The shape of code in the plainest places.
-use Rattle.std.proofs.Common.{◌≡◌, ◌<◌, ◌≤◌, ◌+◌, ◌*◌, ℕ, suc, List, [], ◌∷◌, Option, Some, None, Bool, true, All, refl, sym, subst, arith, map, length, length-append}
+use Rattle.std.proofs.Common.{◌≡◌, ◌<◌, ◌≤◌, ◌+◌, ◌*◌, ℕ, suc, List, [], ◌∷◌, Option, Some, None, Bool, true, All, refl, sym, subst, arith, map, length}
 use Rattle.std.specs.List.{AllByRecursion, filter}
 use Rattle.std.proofs.lemmas.Bool.{cond_both}
 use Rattle.std.proofs.lemmas.List.{length-map}
@@ -14,17 +14,17 @@ use Rattle.rv_isa.specs.Conventions.{argument}
 use Rattle.rv_isa.specs.Frames.{is_among}
 use Rattle.rv_isa.specs.declared.placed.Placed.{Placed}
 use Rattle.rv_isa.specs.PlacedCode.{PlacedLine, moves, PlacedLines, placed_functions}
-use Rattle.rv_isa.specs.WellFormed.{IsLineFormed, AreLinesFormed, IsWellFormed, AreWellFormed, most_args, most_values}
+use Rattle.rv_isa.specs.WellFormed.{AreLinesFormed, IsWellFormed, AreWellFormed, most_args, most_values}
 use Rattle.rv_isa.specs.Costs.{argument_moves, result_moves, move_instructions, code_length, functions_length, placed_code_length, placed_functions_length}
 use Rattle.rv_regs.specs.declared.slots.Loaded.{Loaded}
 use Rattle.rv_regs.specs.Alive.{alive_values, PointLists, lists_before}
-use Rattle.rv_regs.specs.Plain.{numbered, place_in, listing_at, listings, operand_at, first_register, result_register, load_from, loaded_for, falls_to, given, left_in, stays, pending, loads, stores, line_and_stores, placed_code, placed_function}
+use Rattle.rv_regs.specs.Plain.{numbered, place_in, copy_in, listing_at, listings, copied_in, operand_at, first_register, result_register, load_from, loaded_for, pending, alive_params, loads, stores, line_and_stores, placed_code, placed_function}
 use Rattle.rv_regs.specs.Relation.{leading, first_args, stores_behind, FewMoves, FunctionFewMoves, AllFewMoves}
 use Rattle.rv_regs.specs.Shape.{IsBelow, IsResultBelow, AllSlotsBelow, IsPlainlyPlaced}
 use Rattle.rv_regs.proofs.Lists.{all_made, each_among}
 use Rattle.rv_regs.proofs.Aliveness.{alive_small}
-use Rattle.rv_regs.proofs.InRegisters.{AreAmong, left_among}
-use Rattle.rv_regs.proofs.Acting.{result_of, most_registers, none_left, pending_among, args_alive}
+use Rattle.rv_regs.proofs.InRegisters.{AreAmong, params_among}
+use Rattle.rv_regs.proofs.Acting.{result_of, most_registers, pending_among, args_alive}
 
 -- ---- how many
 
@@ -49,38 +49,16 @@ pub few_args : (action : Action) (args : List ℕ) → length args ≤ most_args
 few_args (Compute operation) args few = omega (arith, few)
 few_args action args few = omega (arith, few, most_registers action)
 
-few_given : (action : Action) (into : Option ℕ) (behind : List ℕ) → length (given action into behind) ≤ result_moves into
-few_given action None behind = omega arith
-few_given action (Some v) behind =
+few_pending : (action : Action) (into : Option ℕ) (behind : List ℕ) → length (pending action into behind) ≤ result_moves into
+few_pending action None behind = omega arith
+few_pending action (Some v) behind =
     cond_both (is_among v behind) (record { value = v; register = numbered (result_register action) } ∷ []) [] (λ (ls : List Loaded). length ls ≤ 1) (λ t. omega arith) (λ t. omega arith)
 
--- what is stored again behind a line: what a computation has read
-abbrev left_stores : Action → ℕ → ℕ
-left_stores (Compute operation) count = count
-left_stores _ count = 0
-
-moves_enough : (action : Action) (count : ℕ) → count + left_stores action count ≤ argument_moves action count
+moves_enough : (action : Action) (count : ℕ) → count ≤ argument_moves action count
 moves_enough (Compute operation) count = omega arith
 moves_enough (Call f) count = omega arith
 moves_enough (TailCall f) count = omega arith
 moves_enough action count = omega arith
-
-few_left : (action : Action) (args : List ℕ) (into : Option ℕ) (rest : List Line) → IsLineFormed (record { action = action; args = args; into = into }) rest
-    → length (left_in into (falls_to action (alive_values rest)) (loaded_for action args)) ≤ left_stores action (length args)
-few_left (Compute operation) args into rest formed = omega (arith, few_kept (stays into (alive_values rest)) (load_from 5 args), few_loads 5 args)
-few_left Hold args into rest formed = omega arith
-few_left Unhold args into rest formed = omega arith
-few_left action args into rest formed = subst (λ (ls : List Loaded). length ls ≤ left_stores action (length args)) (sym (none_left action args into rest formed refl)) (omega arith)
-
-few_pending : (line : Line) (rest : List Line) → IsLineFormed line rest
-    → length (pending line.action line.into (alive_values rest) (loaded_for line.action line.args)) ≤ left_stores line.action (length line.args) + result_moves line.into
-few_pending line rest formed =
-    omega (
-      arith,
-      few_given line.action line.into (falls_to line.action (alive_values rest)),
-      few_left line.action line.args line.into rest formed,
-      length-append (given line.action line.into (falls_to line.action (alive_values rest))) (left_in line.into (falls_to line.action (alive_values rest)) (loaded_for line.action line.args)),
-    )
 
 -- ---- moves in a row
 
@@ -90,7 +68,7 @@ leading_stores point (l ∷ ls) next = omega (arith, leading_stores point ls nex
 
 leading_loads : (point : PointLists) (ls : List Loaded) (after : List PlacedLine) → leading (loads point ls after) ≡ length ls + leading after
 leading_loads point [] after = omega arith
-leading_loads point (l ∷ ls) after = omega (arith, leading_loads point ls (moves (listings (place_in ls) point) l.value (Load l.value l.register) ∷ after))
+leading_loads point (l ∷ ls) after = omega (arith, leading_loads point ls (moves (copied_in ls point) l.value (Load l.value l.register) ∷ after))
 
 args_stores : (point : PointLists) (ls : List Loaded) (next : List PlacedLine) → first_args (stores point ls next) ≡ first_args next
 args_stores point [] next = refl
@@ -98,7 +76,7 @@ args_stores point (l ∷ ls) next = args_stores point ls next
 
 args_loads : (point : PointLists) (ls : List Loaded) (after : List PlacedLine) → first_args (loads point ls after) ≡ first_args after
 args_loads point [] after = refl
-args_loads point (l ∷ ls) after = args_loads point ls (moves (listings (place_in ls) point) l.value (Load l.value l.register) ∷ after)
+args_loads point (l ∷ ls) after = args_loads point ls (moves (copied_in ls point) l.value (Load l.value l.register) ∷ after)
 
 few_stores : (point : PointLists) (ls : List Loaded) (next : List PlacedLine) → FewMoves next → FewMoves (stores point ls next)
 few_stores point [] next few = few
@@ -106,7 +84,7 @@ few_stores point (l ∷ ls) next few = few_stores point ls next few
 
 few_loaded : (point : PointLists) (ls : List Loaded) (after : List PlacedLine) → FewMoves after → FewMoves (loads point ls after)
 few_loaded point [] after few = few
-few_loaded point (l ∷ ls) after few = few_loaded point ls (moves (listings (place_in ls) point) l.value (Load l.value l.register) ∷ after) few
+few_loaded point (l ∷ ls) after few = few_loaded point ls (moves (copied_in ls point) l.value (Load l.value l.register) ∷ after) few
 
 abbrev line_and_more : Line → List Line → List PlacedLine
 line_and_more line rest = line_and_stores line.action line.args line.into (lists_before (line ∷ rest)) (lists_before rest) (placed_code rest)
@@ -131,25 +109,25 @@ same_given : (action : Action) (into : Option ℕ) → result_moves (result_of a
 same_given action None = refl
 same_given action (Some v) = refl
 
--- the stores behind a line are within those that may stand there, unless it is a call, whose arguments its callee stores
-stores_enough : (action : Action) (args : List Operand) (into : Option Operand) (count results : ℕ) → length args ≡ count → result_moves into ≡ results → left_stores action count + results ≤ stores_behind action args into
-stores_enough (Compute operation) args into count results many same = omega (arith, many, same)
-stores_enough action args into count results many same = omega (arith, same)
+-- the stores behind a line are within those that may stand there
+stores_enough : (action : Action) (args : List Operand) (into : Option Operand) (results : ℕ) → result_moves into ≡ results → results ≤ stores_behind action args into
+stores_enough (Compute operation) args into results same = omega (arith, same)
+stores_enough action args into results same = omega (arith, same)
 
 few_code : (code : List Line) → AreLinesFormed code → FewMoves (placed_code code)
 few_code [] formed = tt
 few_code (line ∷ rest) formed =
     let loaded : List Loaded = loaded_for line.action line.args in
     let operands : List Operand = map (operand_at (place_in loaded)) line.args in
-    let behind : left_stores line.action (length line.args) + result_moves line.into ≤ stores_behind line.action operands (result_of line.action line.into) =
-    stores_enough line.action operands (result_of line.action line.into) (length line.args) (result_moves line.into) (length-map line.args (operand_at (place_in loaded))) (same_given line.action line.into) in
+    let behind : result_moves line.into ≤ stores_behind line.action operands (result_of line.action line.into) =
+    stores_enough line.action operands (result_of line.action line.into) (result_moves line.into) (same_given line.action line.into) in
     few_loaded (lists_before (line ∷ rest)) loaded (line_and_more line rest) (
-      leading_both (lists_before rest) (pending line.action line.into (alive_values rest) loaded) (stores_behind line.action operands (result_of line.action line.into)) rest (omega (arith, few_pending line rest formed.0, behind)),
-      few_stores (lists_before rest) (pending line.action line.into (alive_values rest) loaded) (placed_code rest) (few_code rest formed.1),
+      leading_both (lists_before rest) (pending line.action line.into (alive_values rest)) (stores_behind line.action operands (result_of line.action line.into)) rest (omega (arith, few_pending line.action line.into (alive_values rest), behind)),
+      few_stores (lists_before rest) (pending line.action line.into (alive_values rest)) (placed_code rest) (few_code rest formed.1),
     )
 
-few_start : (params alive : List ℕ) → length (left_in None alive (load_from (argument 0) params)) ≤ length params
-few_start params alive = omega (arith, few_kept (stays None alive) (load_from (argument 0) params), few_loads (argument 0) params)
+few_start : (params alive : List ℕ) → length (alive_params params alive) ≤ length params
+few_start params alive = omega (arith, few_kept (λ (l : Loaded). is_among l.value alive) (load_from (argument 0) params), few_loads (argument 0) params)
 
 -- ---- how long
 
@@ -159,7 +137,7 @@ length_stores point (l ∷ ls) next = omega (arith, length_stores point ls next)
 
 length_loads : (point : PointLists) (ls : List Loaded) (after : List PlacedLine) → placed_code_length (loads point ls after) ≡ length ls * move_instructions + placed_code_length after
 length_loads point [] after = omega arith
-length_loads point (l ∷ ls) after = omega (arith, length_loads point ls (moves (listings (place_in ls) point) l.value (Load l.value l.register) ∷ after))
+length_loads point (l ∷ ls) after = omega (arith, length_loads point ls (moves (copied_in ls point) l.value (Load l.value l.register) ∷ after))
 
 length_code : (code : List Line) → AreLinesFormed code → placed_code_length (placed_code code) ≤ code_length code
 length_code [] formed = omega arith
@@ -169,8 +147,8 @@ length_code (line ∷ rest) formed =
       length_loads (lists_before (line ∷ rest)) (loaded_for line.action line.args) (line_and_more line rest),
       few_loaded_for line.action line.args,
       moves_enough line.action (length line.args),
-      few_pending line rest formed.0,
-      length_stores (lists_before rest) (pending line.action line.into (alive_values rest) (loaded_for line.action line.args)) (placed_code rest),
+      few_pending line.action line.into (alive_values rest),
+      length_stores (lists_before rest) (pending line.action line.into (alive_values rest)) (placed_code rest),
       length_code rest formed.1,
     )
 
@@ -178,7 +156,7 @@ length_function : (f : Lines) → IsWellFormed f → placed_code_length (placed_
 length_function f formed =
     omega (
       arith,
-      length_stores (lists_before f.code) (left_in None (alive_values f.code) (load_from (argument 0) f.params)) (placed_code f.code),
+      length_stores (lists_before f.code) (alive_params f.params (alive_values f.code)) (placed_code f.code),
       few_start f.params (alive_values f.code),
       length_code f.code formed.lines,
     )
@@ -193,17 +171,19 @@ below_place : (most : ℕ) (ls : List Loaded) (v : ℕ) → v < most → IsBelow
 below_place most [] v small = small
 below_place most (l ∷ ls) v small = cond_both _ (register l.register) (place_in ls v) (IsBelow most) (λ t. tt) (λ t. below_place most ls v small)
 
-below_listed : (most : ℕ) (ls : List Loaded) (point : PointLists) → ((v : ℕ) → is_among v point.alive ≡ true → v < most) → All (λ (l : Listed). IsBelow most l.place) (listings (place_in ls) point)
-below_listed most ls point small = all_made (λ (l : Listed). IsBelow most l.place) (listing_at (place_in ls) point.held) point.alive (λ v there. below_place most ls v (small v there))
+below_listed : (most : ℕ) (ls copied : List Loaded) (point : PointLists) → ((v : ℕ) → is_among v point.alive ≡ true → v < most)
+    → All (λ (l : Listed). IsBelow most l.place) (listings (place_in ls) (copy_in copied) point)
+below_listed most ls copied point small =
+    all_made (λ (l : Listed). IsBelow most l.place) (listing_at (place_in ls) (copy_in copied) point.held) point.alive (λ v there. below_place most ls v (small v there))
 
 below_stores : (most : ℕ) (point : PointLists) (ls : List Loaded) (next : List PlacedLine) → ((v : ℕ) → is_among v point.alive ≡ true → v < most) → AreAmong point.alive ls → AllSlotsBelow most next → AllSlotsBelow most (stores point ls next)
 below_stores most point [] next small among below = below
-below_stores most point (l ∷ ls) next small among below = ((below_listed most (l ∷ ls) point small, (tt, small l.value among.0)), below_stores most point ls next small among.1 below)
+below_stores most point (l ∷ ls) next small among below = ((below_listed most (l ∷ ls) [] point small, (tt, small l.value among.0)), below_stores most point ls next small among.1 below)
 
 below_loads : (most : ℕ) (point : PointLists) (ls : List Loaded) (after : List PlacedLine) → ((v : ℕ) → is_among v point.alive ≡ true → v < most) → AreAmong point.alive ls → AllSlotsBelow most after → AllSlotsBelow most (loads point ls after)
 below_loads most point [] after small among below = below
 below_loads most point (l ∷ ls) after small among below =
-    below_loads most point ls (moves (listings (place_in ls) point) l.value (Load l.value l.register) ∷ after) small among.1 ((below_listed most ls point small, (small l.value among.0, tt)), below)
+    below_loads most point ls (moves (copied_in ls point) l.value (Load l.value l.register) ∷ after) small among.1 ((below_listed most [] ls point small, (small l.value among.0, tt)), below)
 
 below_result : (most : ℕ) (action : Action) (into : Option ℕ) → IsResultBelow most (result_of action into)
 below_result most action None = tt
@@ -217,13 +197,13 @@ below_code (line ∷ rest) formed =
     let loaded : List Loaded = loaded_for line.action line.args in
     below_loads most_values (lists_before (line ∷ rest)) loaded (line_and_more line rest) small_before (args_alive line rest) (
       (
-        below_listed most_values loaded (lists_before (line ∷ rest)) small_before,
+        below_listed most_values [] loaded (lists_before (line ∷ rest)) small_before,
         (
           all_made (λ (arg : Operand). IsBelow most_values arg.place) (operand_at (place_in loaded)) line.args (λ v arg. below_place most_values loaded v (each_among (λ u. u < most_values) line.args v formed.0.args_small arg)),
           below_result most_values line.action line.into,
         ),
       ),
-      below_stores most_values (lists_before rest) (pending line.action line.into (alive_values rest) loaded) (placed_code rest) small (pending_among line.action line.into (alive_values rest) loaded) (below_code rest formed.1),
+      below_stores most_values (lists_before rest) (pending line.action line.into (alive_values rest)) (placed_code rest) small (pending_among line.action line.into (alive_values rest)) (below_code rest formed.1),
     )
 
 -- ---- all of it
@@ -242,14 +222,14 @@ plain_shape functions formed =
     record {
       few_moves = of_each FunctionFewMoves functions
           (λ f well. (
-            leading_both (lists_before f.code) (left_in None (alive_values f.code) (load_from (argument 0) f.params)) (length f.params) f.code (few_start f.params (alive_values f.code)),
-            few_stores (lists_before f.code) (left_in None (alive_values f.code) (load_from (argument 0) f.params)) (placed_code f.code) (few_code f.code well.lines),
+            leading_both (lists_before f.code) (alive_params f.params (alive_values f.code)) (length f.params) f.code (few_start f.params (alive_values f.code)),
+            few_stores (lists_before f.code) (alive_params f.params (alive_values f.code)) (placed_code f.code) (few_code f.code well.lines),
           ))
           formed;
       slots = of_each (λ (p : PlacedLines). AllSlotsBelow most_values p.code) functions
           (λ f well.
-          below_stores most_values (lists_before f.code) (left_in None (alive_values f.code) (load_from (argument 0) f.params)) (placed_code f.code) (λ v there. alive_small v f.code well.lines there)
-          (left_among None (alive_values f.code) (load_from (argument 0) f.params)) (below_code f.code well.lines))
+          below_stores most_values (lists_before f.code) (alive_params f.params (alive_values f.code)) (placed_code f.code) (λ v there. alive_small v f.code well.lines there)
+          (params_among f.params (alive_values f.code)) (below_code f.code well.lines))
           formed;
       short = all_length functions formed;
     }

@@ -1,5 +1,5 @@
 -- The placed form's machine simulates the assembler form's: the moves that stand before a statement, and then the statement.
-use Rattle.std.proofs.Common.{◌≡◌, ◌≢◌, ◌==◌, ◌+◌, ◌-◌, ◌*◌, ◌≤◌, ◌<◌, ℕ, zero, suc, List, [], ◌∷◌, ◌++◌, Option, Some, None, Bool, false, All, slice_get, length, drop, inl, inr, refl, sym, ◌∙◌, ap, subst, arith, map, option_map}
+use Rattle.std.proofs.Common.{◌≡◌, ◌≢◌, ◌==◌, ◌+◌, ◌-◌, ◌*◌, ◌≤◌, ◌<◌, ℕ, zero, suc, List, [], ◌∷◌, ◌++◌, Option, Some, None, false, All, slice_get, length, drop, inl, inr, refl, sym, ◌∙◌, ap, subst, arith, map, option_map}
 use Rattle.std.proofs.Math.Seq.{drop-length}
 use Rattle.std.proofs.lemmas.List.{append-nil, length-map}
 use Rattle.std.proofs.lemmas.List.Elements.{All-head}
@@ -22,8 +22,8 @@ use Rattle.rv_isa.specs.Costs.{instructions_of, move_instructions, argument_move
 use Rattle.rv_isa.specs.Frames.{Frame, empty, all_of, top, is_among}
 use Rattle.rv_isa.specs.AsmMachine.{AsmTurn, asm_acts, asm_line, asm_machine, asm_told, asm_line_weight, asm_start, bound}
 use Rattle.rv_isa.specs.PlacedMachine.{PlacedState, PlacedTurn, read_at, registers_with, slots_with, is_held, placed_acts, placed_line, placed_next, placed_machine, placed_told, placed_weight, placed_line_weight, placed_start}
-use Rattle.rv_regs.specs.Listings.{first_alive, marks}
-use Rattle.rv_regs.specs.Conditions.{value_of, without_moves, IsAtPlace, IsKept, AllFit, ArePlacings}
+use Rattle.rv_regs.specs.Listings.{first_alive}
+use Rattle.rv_regs.specs.Conditions.{value_of, without_moves, IsAtPlace, HasCopyIn, IsCopied, IsKept, AllFit, ArePlacings}
 use Rattle.rv_regs.specs.Relation.{HeldAs, Stands, AllWait, FramesStand, StandsFor, NeverStuck, leading, first_args, FewMoves, FunctionFewMoves, AllFewMoves, FramesFewMoves, stores_before, HasFewMoves, Related, IsNotStuck}
 use Rattle.rv_regs.proofs.Changing.{holds_next, change_place}
 use Rattle.rv_regs.proofs.Chains.{token, IsNext, held_next}
@@ -53,7 +53,7 @@ moved alive value way rest registers f g at stands =
         whole_fits = stands.same.whole_fits;
       };
       apart = apart_first g.whole rest fit.1;
-      holds = holds_next alive None (read ∷ []) (Some write) (λ x. false) f.cells registers g.cells f.cells
+      holds = holds_next alive None (read ∷ []) (Some write) f.cells registers g.cells f.cells
           (registers_with (to_of way) (read_at registers g.cells (from_of way)) registers) (slots_with (to_of way) (read_at registers g.cells (from_of way)) g.cells)
           (first_alive rest) fit.0.kept.0 stands'.holds (change_place value (from_of way) (to_of way) f.cells registers g.cells word);
       held = held_next alive (first_alive rest) (first_alive rest ∷ []) None (read ∷ []) (inl_refl (first_alive rest)) fit.0.held f.held g.held (λ v k among. refl) stands'.held;
@@ -62,21 +62,27 @@ moved alive value way rest registers f g at stands =
     inl_refl : (next : List Listed) → IsNext next (next ∷ [])
     inl_refl next = inl refl
 
+-- a copy is not in a slot
+copied_aside : (alive : List Listed) (action : Option Action) (write : Operand) (l : Listed) (k : ℕ) → IsCopied alive action (Some write) l → write.place ≡ slot k → ⊥
+copied_aside alive None write l k copied same = subst (λ (place : Place). HasCopyIn alive place l) same copied.1
+copied_aside alive (Some action) write l k copied same = copied
+
 -- what is written is not at the slot of a token that is listed as held behind the line
-clear_of_held : (alive next : List Listed) (marking : Listed → Listed) (write : Operand) (spoilt : ℕ → Bool) → All (IsKept alive marking (Some write) spoilt) next
+clear_of_held : (alive next : List Listed) (action : Option Action) (reads : List Operand) (write : Operand) → All (IsKept alive action reads (Some write)) next
     → (vs ks : List ℕ) → HeldAs next vs ks → is_held ks write.place ≡ false
-clear_of_held alive next marking write spoilt kept vs ks held = by write.place refl
+clear_of_held alive next action reads write kept vs ks held = by write.place refl
   where
     none : (j : ℕ) → write.place ≡ slot j → (vs ks : List ℕ) → HeldAs next vs ks → is_among j ks ≡ false
     none j at [] [] held = refl
     none j at [] (k ∷ ks) held = absurd held
     none j at (v ∷ vs) [] held = absurd held
     none j at (v ∷ vs) (k ∷ ks) held =
-        or_from (k == j) (is_among j ks) (ne_eqb k j (λ same. aside (listed_has (IsKept alive marking (Some write) spoilt) next v (token v k) kept held.0).0 (at ∙ sym (ap (λ x. slot x) same)))) (none j at vs ks held.1.1)
+        or_from (k == j) (is_among j ks) (ne_eqb k j (λ same. aside (listed_has (IsKept alive action reads (Some write)) next v (token v k) kept held.0).0 (at ∙ sym (ap (λ x. slot x) same)))) (none j at vs ks held.1.1)
       where
-        aside : IsKept alive marking (Some write) spoilt (token v k) → write.place ≢ slot k
-        aside (inl new) same = false≢true (sym new.2)
-        aside (inr stays) same = stays.1.0.1 same
+        aside : IsKept alive action reads (Some write) (token v k) → write.place ≢ slot k
+        aside (inl new) same = false≢true (sym new.1.1.0)
+        aside (inr (inl copied)) same = copied_aside alive action write (token v k) k copied same
+        aside (inr (inr stays)) same = stays.1.0.1.0 same
 
     by : (place : Place) → write.place ≡ place → is_held ks place ≡ false
     by (register r) at = refl
@@ -224,7 +230,7 @@ module _ {H E W : Type 0} (m : Primitives H E W) (depth : ℕ) (asm : List Lines
       let fit : AllFit g.whole (moves alive value way ∷ rest) = subst (λ (c : List PlacedLine). AllFit g.whole c) at stands.same.code_fits in
       let stands' = moved alive value way rest registers f g at stands in
       let write : Operand = record { value = value; place = to_of way } in
-      let free : is_held g.held (to_of way) ≡ false = clear_of_held alive (first_alive rest) (marks None (record { value = value; place = from_of way } ∷ [])) write (λ x. false) fit.0.kept.0 f.held g.held stands'.held in
+      let free : is_held g.held (to_of way) ≡ false = clear_of_held alive (first_alive rest) None (record { value = value; place = from_of way } ∷ []) write fit.0.kept.0 f.held g.held stands'.held in
       let on : placed_next m depth placed (go t) ≡ go t' = ap (placed_line m depth placed g gs registers shared) at ∙ cond-false (is_held g.held (to_of way)) stuck (go t') free in
       let few' : FramesFewMoves (g' ∷ gs) = ((subst FewMoves at few.0.0, few.0.1), few.1) in
       let later = arrives weight rest registers' shared f fs g' gs all_few refl stands' waits few' goes pays in

@@ -15,9 +15,9 @@ use Rattle.rv_isa.specs.Frames.{empty, put, found}
 use Rattle.rv_isa.specs.AsmMachine.{AsmTurn, is_label, bound, asm_entered, unless_held}
 use Rattle.rv_isa.specs.PlacedMachine.{PlacedTurn, is_label_line, read_at, passed, placed_entered}
 use Rattle.rv_regs.specs.Listings.{first_alive, listed_as}
-use Rattle.rv_regs.specs.Conditions.{value_of, without_moves, IsAtPlace, IsPassed, AllFit, IsPlacing, ArePlacings}
+use Rattle.rv_regs.specs.Conditions.{value_of, without_moves, AtBoth, StandsAt, IsAtPlace, IsPassed, AllFit, IsPlacing, ArePlacings}
 use Rattle.rv_regs.specs.Relation.{Holds, HeldAs, Stands, StandsFor}
-use Rattle.rv_regs.proofs.Placing.{listed_has, put_same, put_other}
+use Rattle.rv_regs.proofs.Placing.{listed_has, put_same, put_other, at_one, stands_has}
 use Rattle.rv_regs.proofs.Tokens.{apart_first}
 
 -- a turn on a value that is there in one machine, and then in the other
@@ -40,19 +40,19 @@ held_go alive [] [] s t held stands = stands
 held_go alive [] (k ∷ ks) s t held stands = absurd held
 held_go alive (v ∷ vs) ks s t held stands = tt
 
-at_place : (o : Option Listed) (place : Place) → option_map (λ (l : Listed). l.place) o ≡ Some place → (l : Listed) × (o ≡ Some l) × (l.place ≡ place)
-at_place None place e = cc
-at_place (Some l) place e = (l, refl, cc)
+at_place : (o : Option Listed) (place : Place) → IsSomeAnd o (StandsAt place) → (l : Listed) × (o ≡ Some l) × StandsAt place l
+at_place None place at = absurd at
+at_place (Some l) place at = (l, refl, at)
 
--- what is read stands in its place, and is listed there
-pub read_listed : (alive : List Listed) (read : Operand) → IsAtPlace alive read → (l : Listed) × (listed_as read.value alive ≡ Some l) × (l.place ≡ read.place)
+-- what is read is listed, and stands where it is read
+pub read_listed : (alive : List Listed) (read : Operand) → IsAtPlace alive read → (l : Listed) × (listed_as read.value alive ≡ Some l) × StandsAt read.place l
 read_listed alive read stands = at_place (listed_as read.value alive) read.place stands
 
 pub word_at : (alive : List Listed) (values registers slots : ℕ → Option ℕ) (read : Operand) → Holds alive values registers slots → IsAtPlace alive read
     → values read.value ≡ read_at registers slots read.place
 word_at alive values registers slots read holds stands =
     let l = read_listed alive read stands in
-    holds read.value l.0 l.1 ∙ ap (read_at registers slots) l.2
+    stands_has (λ place. values read.value ≡ read_at registers slots place) l.0 read.place (holds read.value l.0 l.1) l.2
 
 -- the words of the arguments are the same
 pub words_at : (alive : List Listed) (values registers slots : ℕ → Option ℕ) (args : List Operand) → Holds alive values registers slots → All (IsAtPlace alive) args
@@ -125,11 +125,13 @@ passed_at : (registers slots : ℕ → Option ℕ) (x : ℕ) (place : Place) →
 passed_at registers slots x (register r) is = ap registers (eqb-true r.number x is)
 passed_at registers slots x (slot k) is = absurd (cc is)
 
-start_at : (params words : List ℕ) (cells : ℕ → Option ℕ) (v : ℕ) (l : Listed) → bound params words ≡ Some cells → IsPassed params l → l.value ≡ v → cells v ≡ read_at (passed 0 words) empty l.place
+start_at : (params words : List ℕ) (cells : ℕ → Option ℕ) (v : ℕ) (l : Listed) → bound params words ≡ Some cells → IsPassed params l → l.value ≡ v
+    → AtBoth (λ place. cells v ≡ read_at (passed 0 words) empty place) l
 unfolding IsPassed
 start_at params words cells v l e passes same =
-    let n = some_and (position_from (λ (param : ℕ). param == l.value) 0 params) (λ n. IsTrue (is_in (argument n) l.place) × (l.held ≡ false)) passes in
-    ap cells (sym same) ∙ (bound_at params words cells l.value n.0 0 e n.1).1 ∙ sym (passed_at (passed 0 words) empty (argument n.0) l.place n.2.0)
+    let n = some_and (position_from (λ (param : ℕ). param == l.value) 0 params) (λ n. IsTrue (is_in (argument n) l.place) × ((l.held ≡ false) × (l.copy ≡ None))) passes in
+    at_one (λ place. cells v ≡ read_at (passed 0 words) empty place) l n.2.1.1
+    (ap cells (sym same) ∙ (bound_at params words cells l.value n.0 0 e n.1).1 ∙ sym (passed_at (passed 0 words) empty (argument n.0) l.place n.2.0))
 
 -- a function begins alike
 pub enters : (n : ℕ) (function : Lines) (placed : PlacedLines) (words : List ℕ) (cells : ℕ → Option ℕ) → IsPlacing function placed → bound function.params words ≡ Some cells

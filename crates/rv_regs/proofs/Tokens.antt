@@ -39,7 +39,7 @@ top_waits (f ∷ fs) (g ∷ gs) all =
 pub top_same : (alive : List Listed) (registers : ℕ → Option ℕ) (f : Frame Line) (fs : List (Frame Line)) (g : Frame PlacedLine) (gs : List (Frame PlacedLine))
     → Stands alive registers f g → AllWait fs gs → top (f ∷ fs) ≡ top (g ∷ gs)
 top_same alive registers f fs g gs stands all =
-    top_both alive f.held g.held f.cells g.cells (top fs) (top gs) stands.held (λ v k listed. stands.holds v (token v k) listed) (top_waits fs gs all)
+    top_both alive f.held g.held f.cells g.cells (top fs) (top gs) stands.held (λ v k listed. (stands.holds v (token v k) listed).0) (top_waits fs gs all)
 
 -- a waiting frame whose newest held token was taken
 wait_taken : (f : Frame Line) (g : Frame PlacedLine) (v k : ℕ) (vs ks : List ℕ) → Waits f g → HeldAs (first_alive g.code) (v ∷ vs) (k ∷ ks)

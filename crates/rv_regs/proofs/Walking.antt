@@ -1,5 +1,6 @@
 -- Steps of a walk from the end of code back.
-use Rattle.std.proofs.Common.{◌≡◌, ◌==◌, ◌≤◌, ◌<◌, ◌+◌, ◌-◌, ℕ, suc, List, [], ◌∷◌, ◌++◌, false, cond, All, refl, sym, ◌∙◌, ap, subst, arith, map, reverse, length, take, drop, get_or, length-drop, None}
+use Rattle.std.proofs.Common.{◌≡◌, ◌==◌, ◌≤◌, ◌<◌, ◌+◌, ◌-◌, ℕ, suc, List, [], ◌∷◌, ◌++◌, false, cond, All, refl, sym, ◌∙◌, ap, subst, arith, map, reverse, length, take, drop, get_or, length-drop}
+use Rattle.std.specs.List.{filter}
 use Rattle.std.proofs.Math.Seq.{drop-cons}
 use Rattle.std.proofs.lemmas.List.{map-append, reverse-append, take_all}
 use Rattle.std.proofs.lemmas.List.Elements.{All-nil, All-cons}
@@ -13,13 +14,14 @@ use Rattle.rv_isa.specs.AsmCode.{Line, line_of}
 use Rattle.rv_isa.specs.AsmMachine.{is_label}
 use Rattle.rv_isa.specs.PlacedCode.{PlacedLine, moves, placed_line_of}
 use Rattle.rv_isa.specs.Conventions.{argument}
+use Rattle.rv_isa.specs.Frames.{is_among}
 use Rattle.rv_isa.specs.WellFormed.{AreLinesFormed}
 use Rattle.rv_regs.specs.declared.liveness.LabelPoint.{LabelPoint}
 use Rattle.rv_regs.specs.declared.walk.Walk.{Walk}
 use Rattle.rv_regs.specs.declared.slots.Loaded.{Loaded}
 use Rattle.rv_regs.specs.Alive.{with_values, values_behind, PointLists, lists_before}
 use Rattle.rv_regs.specs.Backwards.{backwards}
-use Rattle.rv_regs.specs.Plain.{place_in, listings, load_from, left_in, loads, stores, placed_code, placed_start_of}
+use Rattle.rv_regs.specs.Plain.{stored_later, copied_in, load_from, alive_params, loads, stores, placed_code, placed_start_of}
 use Rattle.rv_regs.specs.Views.{lists_of}
 use Rattle.rv_regs.specs.Walks.{HasComeTo}
 use Rattle.rv_regs.specs.Tables.{last_at}
@@ -60,22 +62,22 @@ slice_is {A} ls j = take_all (length ls - j) (drop j ls) (omega (arith, length-d
 
 -- one load more
 pub put_load : (point : PointLists) (ls : List Loaded) (i : ℕ) (l : Loaded) (alive : List Listed) (before after all : List PlacedLine) → i < length ls → l ≡ get_or ls i l
-    → alive ≡ listings (place_in (take (length ls - (i + 1)) (drop (i + 1) ls))) point → after ≡ moves alive l.value (Load l.value l.register) ∷ before
+    → alive ≡ copied_in (take (length ls - (i + 1)) (drop (i + 1) ls)) point → after ≡ moves alive l.value (Load l.value l.register) ∷ before
     → loads point (drop i ls) before ≡ all → loads point (drop (i + 1) ls) after ≡ all
 put_load point ls i l alive before after all lt is alive_is after_is written =
     ap (loads point (drop (i + 1) ls))
-    (after_is ∙ ap (λ (a : List Listed). moves a l.value (Load l.value l.register) ∷ before) (alive_is ∙ ap (λ (ds : List Loaded). listings (place_in ds) point) (slice_is ls (i + 1))))
+    (after_is ∙ ap (λ (a : List Listed). moves a l.value (Load l.value l.register) ∷ before) (alive_is ∙ ap (λ (ds : List Loaded). copied_in ds point) (slice_is ls (i + 1))))
     ∙ sym (ap (λ (ds : List Loaded). loads point ds before) (drop_is ls i (i + 1) l lt is (omega arith))) ∙ written
 
 -- one store more
 pub put_store : (point : PointLists) (ls : List Loaded) (k : ℕ) (l : Loaded) (alive : List Listed) (before after all : List PlacedLine) → k ≤ length ls → 0 < k → l ≡ get_or ls (k - 1) l
-    → alive ≡ listings (place_in (take (length ls - (k - 1)) (drop (k - 1) ls))) point → after ≡ moves alive l.value (Store l.register l.value) ∷ before
+    → alive ≡ stored_later (take (length ls - (k - 1)) (drop (k - 1) ls)) point → after ≡ moves alive l.value (Store l.register l.value) ∷ before
     → before ≡ stores point (drop k ls) all → after ≡ stores point (drop (k - 1) ls) all
 put_store point ls k l alive before after all within some is alive_is after_is written =
     let dropped : drop (k - 1) ls ≡ l ∷ drop k ls = drop_is ls (k - 1) k l (omega (arith, within, some)) is (omega (arith, some)) in
     after_is
-    ∙ ap (λ (a : List Listed). moves a l.value (Store l.register l.value) ∷ before) (alive_is ∙ ap (λ (ds : List Loaded). listings (place_in ds) point) (slice_is ls (k - 1) ∙ dropped))
-    ∙ ap (λ (more : List PlacedLine). moves (listings (place_in (l ∷ drop k ls)) point) l.value (Store l.register l.value) ∷ more) written
+    ∙ ap (λ (a : List Listed). moves a l.value (Store l.register l.value) ∷ before) (alive_is ∙ ap (λ (ds : List Loaded). stored_later ds point) (slice_is ls (k - 1) ∙ dropped))
+    ∙ ap (λ (more : List PlacedLine). moves (stored_later (l ∷ drop k ls) point) l.value (Store l.register l.value) ∷ more) written
     ∙ sym (ap (λ (ds : List Loaded). stores point ds all) dropped)
 
 -- ---- the begin and the end of a walk
@@ -102,17 +104,17 @@ unfolding backwards
 in_order items = map_reversed placed_line_of items
 
 -- the lines of a whole function
-pub finished : (params : List ℕ) (walk : Walk) (code : List Line) → HasComeTo walk code → (loaded begun kept kept' loaded' : List Loaded) (alive : List ℕ) (items ordered : List Item)
-    → loaded ≡ load_from (argument 0) params → begun ≡ [] → alive ≡ walk.point.alive.items → loaded' ≡ loaded → kept ≡ begun ++ left_in None alive loaded' → kept' ≡ kept
+pub finished : (params : List ℕ) (walk : Walk) (code : List Line) → HasComeTo walk code → (loaded loaded' kept kept' : List Loaded) (alive : List ℕ) (items ordered : List Item)
+    → loaded ≡ load_from (argument 0) params → loaded' ≡ loaded → alive ≡ walk.point.alive.items → kept ≡ filter (λ (l : Loaded). is_among l.value alive) loaded' → kept' ≡ kept
     → backwards items ≡ stores (lists_of walk.point) kept' (backwards walk.items.items) → ordered ≡ reverse items → map placed_line_of ordered ≡ placed_start_of params (lists_before code) (placed_code code)
-finished params walk code come loaded begun kept kept' loaded' alive items ordered loaded_is begun_is alive_is loaded_same kept_is kept_same stored ordered_is =
-    let kept_there : kept' ≡ left_in None (lists_before code).alive (load_from (argument 0) params) =
-    kept_same ∙ kept_is ∙ ap (λ (ls : List Loaded). ls ++ left_in None alive loaded') begun_is
-    ∙ ap (λ vs. left_in None vs loaded') (alive_is ∙ ap (λ (point : PointLists). point.alive) come.lists)
-    ∙ ap (left_in None (lists_before code).alive) (loaded_same ∙ loaded_is) in
+finished params walk code come loaded loaded' kept kept' alive items ordered loaded_is loaded_same alive_is kept_is kept_same stored ordered_is =
+    let kept_there : kept' ≡ alive_params params (lists_before code).alive =
+    kept_same ∙ kept_is
+    ∙ ap (λ vs. filter (λ (l : Loaded). is_among l.value vs) loaded') (alive_is ∙ ap (λ (point : PointLists). point.alive) come.lists)
+    ∙ ap (filter (λ (l : Loaded). is_among l.value (lists_before code).alive)) (loaded_same ∙ loaded_is) in
     ap (λ (xs : List Item). map placed_line_of xs) ordered_is ∙ in_order items ∙ stored ∙ ap (λ (point : PointLists). stores point kept' (backwards walk.items.items)) come.lists
     ∙ ap (λ (ls : List Loaded). stores (lists_before code) ls (backwards walk.items.items)) kept_there
-    ∙ ap (stores (lists_before code) (left_in None (lists_before code).alive (load_from (argument 0) params))) come.items
+    ∙ ap (stores (lists_before code) (alive_params params (lists_before code).alive)) come.items
 
 -- no statement of formed code has more arguments than there are registers for
 pub all_few_args : (code : List Statement) → AreLinesFormed (map line_of code) → All (λ (s : Statement). length s.args.items ≤ 8) code

@@ -3,6 +3,7 @@ use Rattle.std.specs.Prelude.{◌≡◌, ◌≢◌, ◌⊎◌, ℕ, List, [], �
 use Rattle.std.specs.List.{position_from}
 use Rattle.std.specs.List.{AllByRecursion}
 use Rattle.rv_isa.specs.AsmCode.{Line, Lines}
+use Rattle.rv_isa.specs.declared.register.Register.{Register}
 use Rattle.rv_isa.specs.declared.asm.Action.{Action}
 use Rattle.rv_isa.specs.declared.placed.Place.{Place}
 use Rattle.rv_isa.specs.declared.placed.Place.TheVariants.{Register as register, Slot as slot}
@@ -10,7 +11,7 @@ use Rattle.rv_isa.specs.declared.placed.Operand.{Operand}
 use Rattle.rv_isa.specs.declared.placed.Listed.{Listed}
 use Rattle.rv_isa.specs.PlacedCode.{PlacedLine, does, moves, PlacedLines, from_of, to_of}
 use Rattle.rv_isa.specs.Conventions.{is_handed_out, is_in, argument, conforms}
-use Rattle.rv_regs.specs.Listings.{first_alive, alive_behind, alive_at_label, both_of, listed_as, is_read_in, spoils_by, marks}
+use Rattle.rv_regs.specs.Listings.{first_alive, alive_behind, alive_at_label, both_of, listed_as, with_copy, is_read_in, spoils_by, marks}
 
 abbrev pub value_of : Operand → ℕ
 value_of operand = operand.value
@@ -40,13 +41,13 @@ IsListedIn (next ∷ nexts) v = IsListed next v ⊎ IsListedIn nexts v
 abbrev pub IsNeeded : List Operand → Option Operand → List (List Listed) → Listed → Type 0
 IsNeeded reads write nexts l = IsRead reads l.value ⊎ ((IsWritten write l.value → ⊥) × IsListedIn nexts l.value)
 
--- 3. At the start only parameters are listed, each in the register where callers put it: the n-th in a<n>. And each operand
--- stands where its action takes or gives it: `conforms`. A move has its value to read and to write.
+-- 3. At the start only parameters are listed, each in the register where callers put it, the n-th in a<n>, and without a copy.
+-- And each operand stands where its action takes or gives it: `conforms`. A move has its value to read and to write.
 unfoldable pub IsPassed : List ℕ → Listed → Type 0
 IsPassed params l =
-    IsSomeAnd (position_from (λ (param : ℕ). param == l.value) 0 params) (λ n. IsTrue (is_in (argument n) l.place) × (l.held ≡ false))
+    IsSomeAnd (position_from (λ (param : ℕ). param == l.value) 0 params) (λ n. IsTrue (is_in (argument n) l.place) × ((l.held ≡ false) × (l.copy ≡ None)))
 
--- 4. Values that are listed at one point are different, and so are their places.
+-- 4. Values that are listed at one point are different, and so are their places. (Copies need not be.)
 abbrev pub AreApart : Listed → Listed → Type 0
 AreApart l m = (l.value ≢ m.value) × (l.place ≢ m.place)
 
@@ -54,34 +55,63 @@ abbrev pub Apart : List Listed → Type 0
 Apart [] = ⊤
 Apart (l ∷ ls) = All (AreApart l) ls × Apart ls
 
--- 5. What is read stands at its value's listed place.
-abbrev pub IsAtPlace : List Listed → Operand → Type 0
-IsAtPlace alive read = option_map (λ (l : Listed). l.place) (listed_as read.value alive) ≡ Some read.place
+-- Where a listed value stands: at its place, and in the register of its copy if it has one.
+abbrev pub OnCopy : (Place → Type 0) → Option Register → Type 0
+OnCopy P None = ⊤
+OnCopy P (Some r) = P (register r)
 
--- 6. What is written stands at its new place where it is listed next, and is not held there.
+abbrev pub AtBoth : (Place → Type 0) → Listed → Type 0
+AtBoth P l = P l.place × OnCopy P l.copy
+
+abbrev pub IsCopyAt : Option Register → Place → Type 0
+IsCopyAt None place = ⊥
+IsCopyAt (Some r) place = register r ≡ place
+
+-- 5. What is read stands at its value's listed place, or in the register of its copy.
+abbrev pub StandsAt : Place → Listed → Type 0
+StandsAt place l = (l.place ≡ place) ⊎ IsCopyAt l.copy place
+
+abbrev pub IsAtPlace : List Listed → Operand → Type 0
+IsAtPlace alive read = IsSomeAnd (listed_as read.value alive) (StandsAt read.place)
+
+-- 6. What is written stands at its new place where it is listed next, is not held there, and has no copy.
 abbrev pub IsNew : Option Operand → Listed → Type 0
 IsNew None l = ⊥
-IsNew (Some into) l = (into.value ≡ l.value) × (into.place ≡ l.place) × (l.held ≡ false)
+IsNew (Some into) l = (into.value ≡ l.value) × ((into.place ≡ l.place) × ((l.held ≡ false) × (l.copy ≡ None)))
 
--- 7. What is listed next and not written is listed here, at the same place, and held if it is held behind the line.
+-- 6b. Or, behind a move into a register, the moved value is listed as before, and this register has its copy.
+abbrev pub HasCopyIn : List Listed → Place → Listed → Type 0
+HasCopyIn alive (register r) l = option_map (with_copy (Some r)) (listed_as l.value alive) ≡ Some l
+HasCopyIn alive (slot k) l = ⊥
+
+abbrev pub IsCopied : List Listed → Option Action → Option Operand → Listed → Type 0
+IsCopied alive None None l = ⊥
+IsCopied alive None (Some into) l = (into.value ≡ l.value) × HasCopyIn alive into.place l
+IsCopied alive (Some action) write l = ⊥
+
+-- 7. What is listed next and not written is listed here, at the same place, held if it is held behind the line, and with the
+-- same copy, or with none.
 abbrev pub StaysListed : List Listed → (Listed → Listed) → Listed → Type 0
-StaysListed alive marking l = option_map marking (listed_as l.value alive) ≡ Some l
+StaysListed alive marking l =
+    (option_map marking (listed_as l.value alive) ≡ Some l) ⊎ (option_map (λ m. with_copy None (marking m)) (listed_as l.value alive) ≡ Some l)
 
--- 8. It is not at the place that is written.
+-- 8. It is not at the place that is written, nor is its copy.
 abbrev pub IsClearOf : Option Operand → Listed → Type 0
 IsClearOf None l = ⊤
-IsClearOf (Some into) l = (into.value ≢ l.value) × (into.place ≢ l.place)
+IsClearOf (Some into) l = (into.value ≢ l.value) × AtBoth (λ place. into.place ≢ place) l
 
--- 10. It is not in a register that may change.
+-- 10. It is not in a register that may change, nor is its copy.
 abbrev pub IsSafe : (ℕ → Bool) → Place → Type 0
 IsSafe spoilt (register r) = spoilt r.number ≡ false
 IsSafe spoilt (slot k) = ⊤
 
--- 6, 7, 8 and 10 for a value that is listed next
-abbrev pub IsKept : List Listed → (Listed → Listed) → Option Operand → (ℕ → Bool) → Listed → Type 0
-IsKept alive marking write spoilt l = IsNew write l ⊎ (StaysListed alive marking l × (IsClearOf write l × IsSafe spoilt l.place))
+-- 6, 6b, or 7, 8 and 10 for a value that is listed next
+abbrev pub IsKept : List Listed → Option Action → List Operand → Option Operand → Listed → Type 0
+IsKept alive action reads write l =
+    IsNew write l ⊎ (IsCopied alive action write l
+    ⊎ (StaysListed alive (marks action reads) l × (IsClearOf write l × AtBoth (IsSafe (spoils_by action)) l)))
 
--- 9. Registers of values are handed out.
+-- 9. Registers of values, and of their copies, are handed out.
 abbrev pub IsHandedOut : Place → Type 0
 IsHandedOut (register r) = is_handed_out r.number ≡ true
 IsHandedOut (slot k) = ⊤
@@ -90,14 +120,14 @@ abbrev pub WriteIsHandedOut : Option Operand → Type 0
 WriteIsHandedOut None = ⊤
 WriteIsHandedOut (Some into) = IsHandedOut into.place
 
--- 11. A token that is held behind the line stands in a slot, and stays there, held, at each next point.
+-- 11. A token that is held behind the line stands in a slot, without a copy, and stays there, held, at each next point.
 abbrev pub IsInSlot : Place → Type 0
 IsInSlot (register r) = ⊥
 IsInSlot (slot k) = ⊤
 
 abbrev pub StaysHeld : (Listed → Listed) → List (List Listed) → Listed → Type 0
 StaysHeld marking nexts l =
-    (marking l).held ≡ true → IsInSlot l.place × AllByRecursion (λ next. listed_as l.value next ≡ Some (marking l)) nexts
+    (marking l).held ≡ true → IsInSlot l.place × ((l.copy ≡ None) × AllByRecursion (λ next. listed_as l.value next ≡ Some (marking l)) nexts)
 
 -- All of it for a line: what is alive before it, what it reads and writes, its action if it is no move, and what is alive at
 -- each point where it goes on.
@@ -105,8 +135,8 @@ pub record Fits (alive : List Listed) (reads : List Operand) (write : Option Ope
   pub needed : All (IsNeeded reads write nexts) alive
   pub apart : Apart alive
   pub stand : All (IsAtPlace alive) reads
-  pub kept : AllByRecursion (All (IsKept alive (marks action reads) write (spoils_by action))) nexts
-  pub handed_out : All (λ (l : Listed). IsHandedOut l.place) alive
+  pub kept : AllByRecursion (All (IsKept alive action reads write)) nexts
+  pub handed_out : All (AtBoth IsHandedOut) alive
   pub write_handed_out : WriteIsHandedOut write
   pub held : All (StaysHeld (marks action reads) nexts) alive
 

@@ -1,5 +1,6 @@
 -- Code of the placed form: what is alive at its points, and where it goes on.
 use Rattle.std.specs.Prelude.{◌==◌, ◌||◌, ℕ, List, [], ◌∷◌, Option, Some, None, Bool, true, false, cond, option_map}
+use Rattle.rv_isa.specs.declared.register.Register.{Register}
 use Rattle.rv_isa.specs.declared.asm.Action.{Action}
 use Rattle.rv_isa.specs.declared.asm.Action.TheVariants.{Jump, Branch, TailCall, Return, Hold, Unhold}
 use Rattle.rv_isa.specs.declared.placed.Operand.{Operand}
@@ -59,3 +60,7 @@ abbrev pub marks : Option Action → List Operand → Listed → Listed
 marks (Some Hold) reads l = cond (is_read_in reads l.value) (record l { held = true }) l
 marks (Some Unhold) reads l = cond (is_read_in reads l.value) (record l { held = false }) l
 marks _ reads l = l
+
+-- the listing with this copy, or with none
+abbrev pub with_copy : Option Register → Listed → Listed
+with_copy copy l = record l { copy = copy }

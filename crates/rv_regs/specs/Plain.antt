@@ -1,12 +1,13 @@
--- The plainest places. Each value has a slot of its own. It stands in a register while a line reads or writes it: it is loaded
--- before the line, and stored behind it where it is still alive. A token that is held or taken back stays in its slot.
-use Rattle.std.specs.Prelude.{ℕ, suc, ◌%◌, ◌^◌, ◌==◌, List, [], ◌∷◌, ◌++◌, Option, Some, None, Bool, not, cond, ◌&&◌, map, option_map}
+-- The plainest places. Each value has a slot of its own. Before a line that reads it, it is loaded: a register has a copy. What a
+-- line writes stands in a register, and is stored behind the line if it is alive there. A token that is held or taken back is
+-- not loaded.
+use Rattle.std.specs.Prelude.{ℕ, suc, ◌%◌, ◌^◌, ◌==◌, List, [], ◌∷◌, Option, Some, None, cond, map, option_map}
 use Rattle.std.specs.List.{filter}
 use Rattle.std.proofs.Common.{lit<}
 use Rattle.std.proofs.Math.Nat.{mod-lt}
 use Rattle.rv_isa.specs.declared.register.Register.{Register}
 use Rattle.rv_isa.specs.declared.asm.Action.{Action}
-use Rattle.rv_isa.specs.declared.asm.Action.TheVariants.{Compute, Jump, Branch, TailCall, Return, Hold, Unhold}
+use Rattle.rv_isa.specs.declared.asm.Action.TheVariants.{Compute, Branch, Hold, Unhold}
 use Rattle.rv_isa.specs.declared.placed.Place.{Place}
 use Rattle.rv_isa.specs.declared.placed.Place.TheVariants.{Register as register, Slot as slot}
 use Rattle.rv_isa.specs.declared.placed.Operand.{Operand}
@@ -16,7 +17,6 @@ use Rattle.rv_isa.specs.AsmCode.{Line, Lines}
 use Rattle.rv_isa.specs.Conventions.{argument}
 use Rattle.rv_isa.specs.Frames.{is_among}
 use Rattle.rv_isa.specs.PlacedCode.{PlacedLine, does, moves, PlacedLines}
-use Rattle.rv_isa.specs.WellFormed.{is_written}
 use Rattle.rv_regs.specs.declared.slots.Loaded.{Loaded}
 use Rattle.rv_regs.specs.Alive.{PointLists, lists_before}
 
@@ -31,12 +31,25 @@ abbrev pub place_in : List Loaded → ℕ → Place
 place_in [] v = slot v
 place_in (l ∷ loaded) v = cond (l.value == v) (register l.register) (place_in loaded v)
 
--- the listings of a point, by where each value stands
-abbrev pub listing_at : (ℕ → Place) → List ℕ → ℕ → Listed
-listing_at place_of held v = record { value = v; place = place_of v; held = is_among v held }
+-- the register that has its copy while copies of these are in registers, if one has
+abbrev pub copy_in : List Loaded → ℕ → Option Register
+copy_in [] v = None
+copy_in (l ∷ loaded) v = cond (l.value == v) (Some l.register) (copy_in loaded v)
 
-abbrev pub listings : (ℕ → Place) → PointLists → List Listed
-listings place_of point = map (listing_at place_of point.held) point.alive
+-- the listings of a point, by where each value stands and where its copy
+abbrev pub listing_at : (ℕ → Place) → (ℕ → Option Register) → List ℕ → ℕ → Listed
+listing_at place_of copy_of held v = record { value = v; place = place_of v; held = is_among v held; copy = copy_of v }
+
+abbrev pub listings : (ℕ → Place) → (ℕ → Option Register) → PointLists → List Listed
+listings place_of copy_of point = map (listing_at place_of copy_of point.held) point.alive
+
+-- where these are in registers and not yet in their slots
+abbrev pub stored_later : List Loaded → PointLists → List Listed
+stored_later pending point = listings (place_in pending) (copy_in []) point
+
+-- where these are in their slots, and copies of them in registers
+abbrev pub copied_in : List Loaded → PointLists → List Listed
+copied_in loaded point = listings (place_in []) (copy_in loaded) point
 
 abbrev pub operand_at : (ℕ → Place) → ℕ → Operand
 operand_at place_of v = record { value = v; place = place_of v }
@@ -65,47 +78,33 @@ loaded_for Hold args = []
 loaded_for Unhold args = []
 loaded_for action args = load_from (first_register action) args
 
--- what is alive at the next line, if the action goes on there
-abbrev pub falls_to : Action → List ℕ → List ℕ
-falls_to (Jump l) next = []
-falls_to (TailCall f) next = []
-falls_to Return next = []
-falls_to _ next = next
+-- what is stored behind a line: its result, where it is alive there
+abbrev pub pending : Action → Option ℕ → List ℕ → List Loaded
+pending action None behind = []
+pending action (Some v) behind = cond (is_among v behind) (record { value = v; register = numbered (result_register action) } ∷ []) []
 
--- the result, where it is alive behind the line
-abbrev pub given : Action → Option ℕ → List ℕ → List Loaded
-given action None behind = []
-given action (Some v) behind = cond (is_among v behind) (record { value = v; register = numbered (result_register action) } ∷ []) []
-
--- the values in registers that are alive behind the line, and that it does not write
-abbrev pub stays : Option ℕ → List ℕ → Loaded → Bool
-stays into behind l = is_among l.value behind && not (is_written into l.value)
-
-abbrev pub left_in : Option ℕ → List ℕ → List Loaded → List Loaded
-left_in into behind loaded = filter (stays into behind) loaded
-
--- what is stored behind a line: its result first
-abbrev pub pending : Action → Option ℕ → List ℕ → List Loaded → List Loaded
-pending action into behind loaded = given action into (falls_to action behind) ++ left_in into (falls_to action behind) loaded
+-- what is stored at the start of a function: the parameters that are alive
+abbrev pub alive_params : List ℕ → List ℕ → List Loaded
+alive_params params alive = filter (λ (l : Loaded). is_among l.value alive) (load_from (argument 0) params)
 
 -- ---- rows of lines
 
 -- the loads before a line; `after` begins with the line
 abbrev pub loads : PointLists → List Loaded → List PlacedLine → List PlacedLine
 loads point [] after = after
-loads point (l ∷ loaded) after = loads point loaded (moves (listings (place_in loaded) point) l.value (Load l.value l.register) ∷ after)
+loads point (l ∷ loaded) after = loads point loaded (moves (copied_in loaded point) l.value (Load l.value l.register) ∷ after)
 
 -- the stores behind a line; `next` is the code that follows
 abbrev pub stores : PointLists → List Loaded → List PlacedLine → List PlacedLine
 stores point [] next = next
-stores point (l ∷ loaded) next = moves (listings (place_in (l ∷ loaded)) point) l.value (Store l.register l.value) ∷ stores point loaded next
+stores point (l ∷ loaded) next = moves (stored_later (l ∷ loaded) point) l.value (Store l.register l.value) ∷ stores point loaded next
 
 -- a line with its stores, by what is alive and held before it and at the next line
 abbrev pub line_and_stores : Action → List ℕ → Option ℕ → PointLists → PointLists → List PlacedLine → List PlacedLine
 line_and_stores action args into before behind next =
     let loaded = loaded_for action args in
-    does (listings (place_in loaded) before) action (map (operand_at (place_in loaded)) args) (option_map (operand_at (λ v. register (numbered (result_register action)))) into)
-    ∷ stores behind (pending action into behind.alive loaded) next
+    does (copied_in loaded before) action (map (operand_at (place_in loaded)) args) (option_map (operand_at (λ v. register (numbered (result_register action)))) into)
+    ∷ stores behind (pending action into behind.alive) next
 
 -- and with its loads
 abbrev pub placed_row : Action → List ℕ → Option ℕ → PointLists → PointLists → List PlacedLine → List PlacedLine
@@ -117,7 +116,7 @@ placed_code (line ∷ rest) = placed_row line.action line.args line.into (lists_
 
 -- at the start of a function the parameters that are alive go to their slots
 abbrev pub placed_start_of : List ℕ → PointLists → List PlacedLine → List PlacedLine
-placed_start_of params point code = stores point (left_in None point.alive (load_from (argument 0) params)) code
+placed_start_of params point code = stores point (alive_params params point.alive) code
 
 abbrev pub placed_function : Lines → PlacedLines
 placed_function f = record { params = f.params; code = placed_start_of f.params (lists_before f.code) (placed_code f.code) }

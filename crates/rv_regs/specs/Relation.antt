@@ -16,18 +16,18 @@ use Rattle.rv_isa.specs.AsmMachine.{AsmTurn, asm_machine}
 use Rattle.rv_isa.specs.Costs.{move_instructions, result_moves}
 use Rattle.rv_isa.specs.PlacedMachine.{PlacedTurn, read_at, number_of}
 use Rattle.rv_regs.specs.Listings.{first_alive, listed_as}
-use Rattle.rv_regs.specs.Conditions.{Apart, without_moves, AllFit}
+use Rattle.rv_regs.specs.Conditions.{AtBoth, Apart, without_moves, AllFit}
 
--- each listed value stands at its place
+-- each listed value stands at its place, and in the register of its copy
 abbrev pub Holds : List Listed → (ℕ → Option ℕ) → (ℕ → Option ℕ) → (ℕ → Option ℕ) → Type 0
-Holds alive values registers slots = (v : ℕ) (l : Listed) → listed_as v alive ≡ Some l → values v ≡ read_at registers slots l.place
+Holds alive values registers slots = (v : ℕ) (l : Listed) → listed_as v alive ≡ Some l → AtBoth (λ place. values v ≡ read_at registers slots place) l
 
 -- each value on the chain is listed as held, in the slot that is on the chain in its place; none is there twice
 abbrev pub HeldAs : List Listed → List ℕ → List ℕ → Type 0
 HeldAs alive [] [] = ⊤
 HeldAs alive [] (k ∷ ks) = ⊥
 HeldAs alive (v ∷ vs) [] = ⊥
-HeldAs alive (v ∷ vs) (k ∷ ks) = (listed_as v alive ≡ Some (record { value = v; place = slot k; held = true })) × ((is_among v vs ≡ false) × HeldAs alive vs ks)
+HeldAs alive (v ∷ vs) (k ∷ ks) = (listed_as v alive ≡ Some (record { value = v; place = slot k; held = true; copy = None })) × ((is_among v vs ≡ false) × HeldAs alive vs ks)
 
 -- the function is the same; the code that is left, and its function's, are the same but for the moves, and fit
 pub record SameCode (f : Frame Line) (g : Frame PlacedLine) : Type 0 where
@@ -48,13 +48,13 @@ pub record Stands (alive : List Listed) (registers : ℕ → Option ℕ) (f : Fr
 abbrev pub IsSlotOf : (ℕ → Option ℕ) → (ℕ → Option ℕ) → ℕ → Place → Type 0
 IsSlotOf values slots v place = (k : ℕ) × (place ≡ slot k) × (values v ≡ slots k)
 
--- What is listed in a frame that waits is the value that it waits for, where that is awaited, or stands in a slot.
+-- What is listed in a frame that waits is the value that it waits for, where that is awaited, or stands in a slot. It has no copy.
 abbrev pub WaitsFor : List Listed → Option ℕ → Option ℕ → (ℕ → Option ℕ) → (ℕ → Option ℕ) → Type 0
-WaitsFor alive None None values slots = (v : ℕ) (l : Listed) → listed_as v alive ≡ Some l → IsSlotOf values slots v l.place
+WaitsFor alive None None values slots = (v : ℕ) (l : Listed) → listed_as v alive ≡ Some l → (l.copy ≡ None) × IsSlotOf values slots v l.place
 WaitsFor alive None (Some x) values slots = ⊥
 WaitsFor alive (Some u) None values slots = ⊥
 WaitsFor alive (Some u) (Some x) values slots =
-    (v : ℕ) (l : Listed) → listed_as v alive ≡ Some l → ((v ≡ u) × (number_of l.place ≡ Some x)) ⊎ ((v ≢ u) × IsSlotOf values slots v l.place)
+    (v : ℕ) (l : Listed) → listed_as v alive ≡ Some l → (l.copy ≡ None) × (((v ≡ u) × (number_of l.place ≡ Some x)) ⊎ ((v ≢ u) × IsSlotOf values slots v l.place))
 
 pub record Waits (f : Frame Line) (g : Frame PlacedLine) : Type 0 where
   pub same : SameCode f g

@@ -107,9 +107,23 @@ pub fn same_action(a: Action, b: Action) -> bool
     }
 }
 
+/// Whether two copies are the same.
+pub fn same_copy(a: Option<Register>, b: Option<Register>) -> bool
+    ensures { IsTrue result ↔ (a ≡ b) }
+{
+    match (a, b) {
+        (Some(r), Some(s)) => same_register(r, s),
+        (None, None) => true,
+        _ => false,
+    }
+}
+
 /// Whether two listings are the same.
 pub fn same_listing(a: Listed, b: Listed) -> bool
     ensures { IsTrue result ↔ (a ≡ b) }
 {
-    a.value == b.value && same_place(a.place, b.place) && a.held == b.held
+    a.value == b.value
+        && same_place(a.place, b.place)
+        && a.held == b.held
+        && same_copy(a.copy, b.copy)
 }

@@ -47,9 +47,9 @@ fn copied(alloc: Global, texts: &[Text]) -> Result<Vec<Text>, NoMemory>
     Ok(copies)
 }
 
-/// Gives the values of a program places by the plainest rule. Each value has a slot of its own; it stands in a register
-/// while a statement reads or writes it, but for one that holds a token or takes it back: that one stays in its slot. The
-/// program has no memory of its own.
+/// Gives the values of a program places by the plainest rule. Each value has a slot of its own. A register has a copy of it
+/// while a statement reads it, but for one that holds a token or takes it back. What a statement writes stands in a register
+/// until it is stored. The program has no memory of its own.
 pub fn assign(alloc: Global, asm: &Asm) -> Result<Placed, NoMemory>
     requires formed { AreWellFormed (asm_functions asm.now) }
     ensures valid { IfOk result (IsValid asm.now) }

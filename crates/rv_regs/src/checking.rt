@@ -85,7 +85,7 @@ fn is_passed(params: &[u32], listed: Listed) -> bool
     ensures { IsTrue result ↔ IsPassed params.now listed }
 {
     match index_of(params, listed.value) {
-        Some(index) => is_argument(index, listed.place) && !listed.held,
+        Some(index) => { is_argument(index, listed.place) && !listed.held && listed.copy.is_none() }
         None => false,
     }
 }

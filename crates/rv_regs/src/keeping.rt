@@ -1,14 +1,15 @@
 // What a line keeps of the values that are listed where it goes on.
 
-ghost use Rattle.std.specs.Prelude.{◌≡◌, ◌↔◌, [], IsTrue, All};
+ghost use Rattle.std.specs.Prelude.{◌≡◌, ◌≢◌, ◌↔◌, [], IsTrue, All, option_map};
 ghost use Rattle.std.specs.List.{AllByRecursion};
-ghost use Rattle.rv_regs.specs.Listings.{one_if, both_of, spoils_by, marks};
-ghost use Rattle.rv_regs.specs.Conditions.{IsNew, StaysListed, IsClearOf, IsSafe, IsKept};
+ghost use Rattle.rv_isa.specs.declared.placed.Place.{Place};
+ghost use Rattle.rv_regs.specs.Listings.{one_if, both_of, listed_as, with_copy, spoils_by, marks};
+ghost use Rattle.rv_regs.specs.Conditions.{OnCopy, AtBoth, IsNew, HasCopyIn, IsCopied, StaysListed, IsClearOf, IsSafe, IsKept};
 ghost use Rattle.rv_regs.specs.Views.{point_of};
 
 use crate::actions::{same_listing, same_place};
 use crate::places::{is_read, listing};
-use rv_isa::{Action, Listed, Operand, Place};
+use rv_isa::{Action, Listed, Operand, Place, Register};
 
 /// Whether the action may change the register of this number, besides giving its value. A move is no action.
 pub fn may_spoil(action: Option<Action>, register: u8) -> bool
@@ -44,9 +45,49 @@ fn is_new(write: Option<Operand>, listed: Listed) -> bool
 {
     match write {
         Some(into) => {
-            into.value == listed.value && same_place(into.place, listed.place) && !listed.held
+            into.value == listed.value
+                && same_place(into.place, listed.place)
+                && !listed.held
+                && listed.copy.is_none()
         }
         None => false,
+    }
+}
+
+fn copied_to(register: Option<Register>, listed: Listed) -> Listed
+    ensures { result ≡ with_copy register listed }
+{
+    Listed {
+        copy: register,
+        ..listed
+    }
+}
+
+fn has_copy_in(alive: &[Listed], place: Place, listed: Listed) -> bool
+    ensures { IsTrue result ↔ HasCopyIn alive.now place listed }
+{
+    match place {
+        Place::Register(register) => match listing(alive, listed.value) {
+            Some(before) => same_listing(copied_to(Some(register), before), listed),
+            None => false,
+        },
+        Place::Slot(_) => false,
+    }
+}
+
+fn is_copied(
+    alive: &[Listed],
+    action: Option<Action>,
+    write: Option<Operand>,
+    listed: Listed,
+) -> bool
+    ensures { IsTrue result ↔ IsCopied alive.now action write listed }
+{
+    match (action, write) {
+        (None, Some(into)) => {
+            into.value == listed.value && has_copy_in(alive, into.place, listed)
+        }
+        _ => false,
     }
 }
 
@@ -54,8 +95,20 @@ fn stays_listed(alive: &[Listed], action: Option<Action>, reads: &[Operand], lis
     ensures { IsTrue result ↔ StaysListed alive.now (marks action reads.now) listed }
 {
     match listing(alive, listed.value) {
-        Some(before) => same_listing(marking(action, reads, before), listed),
+        Some(before) => {
+            let after = marking(action, reads, before);
+            same_listing(after, listed) || same_listing(copied_to(None, after), listed)
+        }
         None => false,
+    }
+}
+
+fn is_copy_off(place: Place, copy: Option<Register>) -> bool
+    ensures { IsTrue result ↔ OnCopy (λ (other : Place). place ≢ other) copy }
+{
+    match copy {
+        Some(register) => !same_place(place, Place::Register(register)),
+        None => true,
     }
 }
 
@@ -63,7 +116,11 @@ fn is_clear_of(write: Option<Operand>, listed: Listed) -> bool
     ensures { IsTrue result ↔ IsClearOf write listed }
 {
     match write {
-        Some(into) => into.value != listed.value && !same_place(into.place, listed.place),
+        Some(into) => {
+            into.value != listed.value
+                && !same_place(into.place, listed.place)
+                && is_copy_off(into.place, listed.copy)
+        }
         None => true,
     }
 }
@@ -77,6 +134,15 @@ fn is_safe(action: Option<Action>, place: Place) -> bool
     }
 }
 
+fn is_copy_safe(action: Option<Action>, copy: Option<Register>) -> bool
+    ensures { IsTrue result ↔ OnCopy (IsSafe (spoils_by action)) copy }
+{
+    match copy {
+        Some(register) => !may_spoil(action, register.number),
+        None => true,
+    }
+}
+
 fn is_kept(
     alive: &[Listed],
     reads: &[Operand],
@@ -84,12 +150,14 @@ fn is_kept(
     action: Option<Action>,
     listed: Listed,
 ) -> bool
-    ensures { IsTrue result ↔ IsKept alive.now (marks action reads.now) write (spoils_by action) listed }
+    ensures { IsTrue result ↔ IsKept alive.now action reads.now write listed }
 {
     is_new(write, listed)
+        || is_copied(alive, action, write, listed)
         || stays_listed(alive, action, reads, listed)
             && is_clear_of(write, listed)
             && is_safe(action, listed.place)
+            && is_copy_safe(action, listed.copy)
 }
 
 /// Whether the line keeps all that is listed at a point where it goes on.
@@ -100,7 +168,7 @@ pub fn keeps_all(
     action: Option<Action>,
     next: &[Listed],
 ) -> bool
-    ensures { IsTrue result ↔ All (IsKept alive.now (marks action reads.now) write (spoils_by action)) next.now }
+    ensures { IsTrue result ↔ All (IsKept alive.now action reads.now write) next.now }
 {
     next.iter()
         .all(|listed| is_kept(alive, reads, write, action, *listed))

@@ -4,14 +4,14 @@ ghost use Rattle.std.specs.Prelude.{◌≡◌, ◌↔◌, IsTrue, All};
 ghost use Rattle.std.specs.List.{AllByRecursion};
 ghost use Rattle.rv_isa.specs.declared.placed.Listed.{Listed};
 ghost use Rattle.rv_regs.specs.Listings.{both_of, marks, listed_as};
-ghost use Rattle.rv_regs.specs.Conditions.{IsNeeded, IsListedIn, IsHandedOut, WriteIsHandedOut, IsInSlot, StaysHeld};
+ghost use Rattle.rv_regs.specs.Conditions.{IsNeeded, IsListedIn, OnCopy, AtBoth, IsHandedOut, WriteIsHandedOut, IsInSlot, StaysHeld};
 ghost use Rattle.rv_regs.specs.Views.{point_of};
 
 use crate::actions::same_listing;
 use crate::conventions::may_have_value;
 use crate::keeping::marking;
 use crate::places::{is_listed, is_read, is_written, listing};
-use rv_isa::{Action, Listed, Operand, Place};
+use rv_isa::{Action, Listed, Operand, Place, Register};
 
 fn is_listed_in(value: u32, behind: Option<&[Listed]>, at_label: Option<&[Listed]>) -> bool
     ensures { IsTrue result ↔ IsListedIn (both_of (point_of behind.entry) (point_of at_label.entry)) value }
@@ -55,11 +55,20 @@ fn is_allowed(place: Place) -> bool
     }
 }
 
+fn is_copy_allowed(copy: Option<Register>) -> bool
+    ensures { IsTrue result ↔ OnCopy IsHandedOut copy }
+{
+    match copy {
+        Some(register) => may_have_value(register.number),
+        None => true,
+    }
+}
+
 /// Whether the registers that are listed are ones that values may have.
 pub fn all_allowed(alive: &[Listed]) -> bool
-    ensures { IsTrue result ↔ All (λ (l : Listed). IsHandedOut l.place) alive.now }
+    ensures { IsTrue result ↔ All (AtBoth IsHandedOut) alive.now }
 {
-    alive.iter().all(|listed| is_allowed(listed.place))
+    alive.iter().all(|listed| is_allowed(listed.place) && is_copy_allowed(listed.copy))
 }
 
 /// Whether a register that is written is one that values may have.
@@ -113,10 +122,12 @@ fn stays_held(
 {
     let after = marking(action, reads, listed);
     !after.held
-        || is_in_slot(listed.place) && is_listed_at_each(listed.value, after, behind, at_label)
+        || is_in_slot(listed.place)
+            && listed.copy.is_none()
+            && is_listed_at_each(listed.value, after, behind, at_label)
 }
 
-/// Whether what is held behind the line stands in a slot, and stays there, held, where the line goes on.
+/// Whether what is held behind the line stands in a slot, without a copy, and stays there, held, where the line goes on.
 pub fn all_stay_held(
     alive: &[Listed],
     reads: &[Operand],

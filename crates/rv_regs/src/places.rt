@@ -3,10 +3,10 @@
 ghost use Rattle.std.specs.Prelude.{◌≡◌, ◌↔◌, ◌≢◌, ℕ, IsTrue, List, All};
 ghost use Rattle.rv_isa.specs.declared.placed.Listed.{Listed};
 ghost use Rattle.rv_regs.specs.Listings.{listed_as, is_read_in};
-ghost use Rattle.rv_regs.specs.Conditions.{IsRead, IsWritten, IsListed, IsAtPlace, AreApart, Apart, IsHandedOut, WriteIsHandedOut, IsInSlot};
+ghost use Rattle.rv_regs.specs.Conditions.{IsRead, IsWritten, IsListed, IsCopyAt, StandsAt, IsAtPlace, AreApart, Apart, IsHandedOut, WriteIsHandedOut, IsInSlot};
 
 use crate::actions::same_place;
-use rv_isa::{Listed, Operand, Place};
+use rv_isa::{Listed, Operand, Place, Register};
 
 /// The listing of a value.
 pub fn listing(alive: &[Listed], value: u32) -> Option<Listed>
@@ -47,16 +47,31 @@ pub fn is_listed(alive: &[Listed], value: u32) -> bool
     listing(alive, value).is_some()
 }
 
-fn is_at_place(alive: &[Listed], read: Operand) -> bool
-    ensures { IsTrue result ↔ IsAtPlace alive.now read }
+fn is_copy_at(copy: Option<Register>, place: Place) -> bool
+    ensures { IsTrue result ↔ IsCopyAt copy place }
 {
-    match listing(alive, read.value) {
-        Some(listed) => same_place(listed.place, read.place),
+    match copy {
+        Some(register) => same_place(Place::Register(register), place),
         None => false,
     }
 }
 
-/// Whether what is read stands at the listed places.
+fn stands_at(place: Place, listed: Listed) -> bool
+    ensures { IsTrue result ↔ StandsAt place listed }
+{
+    same_place(listed.place, place) || is_copy_at(listed.copy, place)
+}
+
+fn is_at_place(alive: &[Listed], read: Operand) -> bool
+    ensures { IsTrue result ↔ IsAtPlace alive.now read }
+{
+    match listing(alive, read.value) {
+        Some(listed) => stands_at(read.place, listed),
+        None => false,
+    }
+}
+
+/// Whether what is read stands at the listed places, or in the registers of copies.
 pub fn all_at_place(alive: &[Listed], reads: &[Operand]) -> bool
     ensures { IsTrue result ↔ All (IsAtPlace alive.now) reads.now }
 {

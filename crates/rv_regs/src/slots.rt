@@ -1,16 +1,19 @@
-// Places of values that have a slot each, and stand in a register while a statement reads or writes them.
+// Places of values that have a slot each. A register has a copy of each while a statement reads it, and has it while one writes it.
 
-ghost use Rattle.std.specs.Prelude.{◌≡◌, ◌+◌, ◌<◌, ◌≤◌, ◌++◌, IfOk, OnOk, length, map};
+ghost use Rattle.std.specs.Prelude.{◌≡◌, ◌+◌, ◌<◌, ◌≤◌, ◌++◌, IfOk, length, map};
+ghost use Rattle.std.specs.List.{filter};
 ghost use Rattle.rv_isa.specs.Conventions.{argument};
-ghost use Rattle.rv_regs.specs.Plain.{numbered, place_in, listings, operand_at, first_register, result_register, load_from, loaded_for, falls_to, given, left_in, pending};
+ghost use Rattle.rv_isa.specs.Frames.{is_among};
+ghost use Rattle.rv_regs.specs.declared.slots.Loaded.{Loaded};
+ghost use Rattle.rv_regs.specs.Plain.{numbered, place_in, copy_in, listings, operand_at, first_register, result_register, load_from, loaded_for, pending, stored_later, copied_in};
 ghost use Rattle.rv_regs.specs.Views.{lists_of};
 
-use crate::liveness::{Point, is_one_of, is_result};
+use crate::liveness::{Point, is_one_of};
 use kk_base::NoMemory;
 use rv_isa::{Action, Listed, Operand, Place, Register};
 use std::alloc::Global;
 
-/// A value that stands in a register for a while.
+/// A value that is in a register for a while.
 #[derive(Clone, Copy)]
 pub struct Loaded {
     pub value: u32,
@@ -84,9 +87,25 @@ fn place_of(loaded: &[Loaded], value: u32) -> Place
     Place::Slot(value)
 }
 
-/// The listings of a point, some of whose values are in registers.
-pub fn listed(alloc: Global, loaded: &[Loaded], point: &Point) -> Result<Vec<Listed>, NoMemory>
-    ensures { IfOk result (λ alive. alive.items ≡ listings (place_in loaded.now) (lists_of point.now)) }
+fn copy_of(copied: &[Loaded], value: u32) -> Option<Register>
+    ensures { result ≡ copy_in copied.now value }
+{
+    for other in copied {
+        if other.value == value {
+            return Some(other.register);
+        }
+    }
+    None
+}
+
+// The listings of a point, some of whose values are in registers, while registers have copies of others.
+fn listed(
+    alloc: Global,
+    loaded: &[Loaded],
+    copied: &[Loaded],
+    point: &Point,
+) -> Result<Vec<Listed>, NoMemory>
+    ensures { IfOk result (λ alive. alive.items ≡ listings (place_in loaded.now) (copy_in copied.now) (lists_of point.now)) }
 {
     let held: &[u32] = &point.held;
     Ok(
@@ -97,9 +116,28 @@ pub fn listed(alloc: Global, loaded: &[Loaded], point: &Point) -> Result<Vec<Lis
                 value: *value,
                 place: place_of(loaded, *value),
                 held: is_one_of(*value, held),
+                copy: copy_of(copied, *value),
             })
             .collect(alloc)?,
     )
+}
+
+/// The listings of a point, some of whose values are in registers and not yet in their slots.
+pub fn stored_later(
+    alloc: Global,
+    pending: &[Loaded],
+    point: &Point,
+) -> Result<Vec<Listed>, NoMemory>
+    ensures { IfOk result (λ alive. alive.items ≡ stored_later pending.now (lists_of point.now)) }
+{
+    listed(alloc, pending, &[], point)
+}
+
+/// The listings of a point whose values are in their slots, while registers have copies of some.
+pub fn copied_in(alloc: Global, loaded: &[Loaded], point: &Point) -> Result<Vec<Listed>, NoMemory>
+    ensures { IfOk result (λ alive. alive.items ≡ copied_in loaded.now (lists_of point.now)) }
+{
+    listed(alloc, &[], loaded, point)
 }
 
 /// The operands of values, some of which are in registers.
@@ -117,62 +155,34 @@ pub fn operands(alloc: Global, loaded: &[Loaded], values: &[u32]) -> Result<Vec<
     )
 }
 
-fn next_alive(action: Action, next: &[u32]) -> &[u32]
-    ensures { result.now ≡ falls_to action next.now }
-{
-    match action {
-        Action::Jump(_) | Action::TailCall(_) | Action::Return => &[],
-        _ => next,
-    }
-}
-
-fn given_by(
-    alloc: Global,
-    action: Action,
-    into: Option<u32>,
-    behind: &[u32],
-) -> Result<Vec<Loaded>, NoMemory>
-    ensures { IfOk result (λ results. results.items ≡ given action into behind.now) }
-{
-    let mut results = Vec::new(alloc);
-    if let Some(value) = into {
-        if is_one_of(value, behind) {
-            let register = register_of_result(action);
-            results.push(Loaded { value, register })?;
-        }
-    }
-    Ok(results)
-}
-
-/// Adds the loaded values that are alive behind a statement and not written by it.
-pub fn keep_left(
-    left: &mut Vec<Loaded>,
-    into: Option<u32>,
-    behind: &[u32],
-    loaded: &[Loaded],
-) -> Result<(), NoMemory>
-    ensures { OnOk result (left.new.items ≡ left.old.items ++ left_in into behind.now loaded.now) }
-{
-    for other in loaded {
-        if is_one_of(other.value, behind) && !is_result(into, other.value) {
-            left.push(*other)?;
-        }
-    }
-    Ok(())
-}
-
-/// What is stored behind a statement: its result, and the loaded values that are alive there and not written.
+/// What is stored behind a statement: its result, if it is alive there.
 pub fn left_behind(
     alloc: Global,
     action: Action,
     into: Option<u32>,
-    next: &[u32],
-    loaded: &[Loaded],
+    behind: &[u32],
 ) -> Result<Vec<Loaded>, NoMemory>
-    ensures { IfOk result (λ left. left.items ≡ pending action into next.now loaded.now) }
+    ensures { IfOk result (λ left. left.items ≡ pending action into behind.now) }
 {
-    let behind = next_alive(action, next);
-    let mut left = given_by(alloc, action, into, behind)?;
-    keep_left(&mut left, into, behind, loaded)?;
+    let mut left = Vec::new(alloc);
+    if let Some(value) = into {
+        if is_one_of(value, behind) {
+            let register = register_of_result(action);
+            left.push(Loaded { value, register })?;
+        }
+    }
+    Ok(left)
+}
+
+/// Those of the values in registers that are alive.
+pub fn those_alive(alloc: Global, loaded: &[Loaded], alive: &[u32]) -> Result<Vec<Loaded>, NoMemory>
+    ensures { IfOk result (λ left. left.items ≡ filter (λ (l : Loaded). is_among l.value alive.now) loaded.now) }
+{
+    let mut left = Vec::new(alloc);
+    for other in loaded {
+        if is_one_of(other.value, alive) {
+            left.push(*other)?;
+        }
+    }
     Ok(left)
 }

@@ -13,7 +13,8 @@ ghost use Rattle.rv_regs.specs.Walks.{HasComeTo};
 
 use crate::liveness::{LabelPoint, Point, alive_before, alive_behind, held_before, with_point};
 use crate::slots::{
-    Loaded, keep_left, left_behind, listed, loaded_for, loaded_from, operands, register_of_result,
+    Loaded, copied_in, left_behind, loaded_for, loaded_from, operands, register_of_result,
+    stored_later, those_alive,
 };
 use kk_base::NoMemory;
 use rv_isa::{Item, Operand, Place, Register, Statement, Way};
@@ -46,7 +47,7 @@ fn put_stores(
     let mut left = pending.len();
     while left > 0 {
         left -= 1;
-        let alive = listed(alloc, &pending[left..], point)?;
+        let alive = stored_later(alloc, &pending[left..], point)?;
         let stored = pending[left];
         let value = stored.value;
         let way = Way::Store {
@@ -67,7 +68,7 @@ fn put_loads(
     ensures { OnOk result (backwards items.new.items ≡ loads (lists_of point.now) loaded.now (backwards items.old.items)) }
 {
     for (index, next) in loaded.iter().enumerate() {
-        let alive = listed(alloc, &loaded[index + 1..], point)?;
+        let alive = copied_in(alloc, &loaded[index + 1..], point)?;
         let Loaded { value, register } = *next;
         let way = Way::Load {
             from: value,
@@ -102,9 +103,9 @@ fn put_row(
 {
     let action = statement.action;
     let loaded = loaded_for(alloc, action, &statement.args)?;
-    let pending = left_behind(alloc, action, statement.into, &behind.alive, &loaded)?;
+    let pending = left_behind(alloc, action, statement.into, &behind.alive)?;
     put_stores(alloc, items, behind, &pending)?;
-    let alive = listed(alloc, &loaded, before)?;
+    let alive = copied_in(alloc, &loaded, before)?;
     let args = operands(alloc, &loaded, &statement.args)?;
     let into = result_operand(statement);
     let line = Item::Does {
@@ -151,8 +152,7 @@ fn finish(alloc: Global, walk: Walk, params: &[u32]) -> Result<Vec<Item>, NoMemo
         labels: _,
     } = walk;
     let loaded = loaded_from(alloc, Register::A0.number, params)?;
-    let mut pending = Vec::new(alloc);
-    keep_left(&mut pending, None, &point.alive, &loaded)?;
+    let pending = those_alive(alloc, &loaded, &point.alive)?;
     put_stores(alloc, &mut items, &point, &pending)?;
     items.reverse();
     Ok(items)
