@@ -20,16 +20,18 @@ fn statement(
     Ok(Statement { action, args, into })
 }
 
-/// A function that returns the sum of its two parameters.
+/// A function that returns the sum of its two parameters and, once more, of the first.
 fn sum_of_two(alloc: Global) -> Result<Asm, NoMemory>
     ensures { IfOk result (λ asm. AreWellFormed (asm_functions asm)) }
 {
     let add = Action::Compute(Operation::Register(RegisterOperation::Add));
     let first = statement(alloc, add, &[0, 1], Some(2))?;
-    let second = statement(alloc, Action::Return, &[2], None)?;
+    let second = statement(alloc, add, &[2, 0], Some(3))?;
+    let third = statement(alloc, Action::Return, &[3], None)?;
     let mut code = Vec::new(alloc);
     code.push(first)?;
     code.push(second)?;
+    code.push(third)?;
     let params = Vec::from_slice(alloc, &[0, 1])?;
     let mut functions = Vec::new(alloc);
     functions.push(AsmFunction { params, code })?;
@@ -54,7 +56,7 @@ fn values_stay_in_registers(rt: HostRuntime) -> Result<(), Fail> {
     assert!(rt; valid(&asm, &placed));
     assert_eq!(rt; placed.functions.len(), 1);
     let code = &placed.functions[0].code;
-    assert_eq!(rt; code.len(), 2);
+    assert_eq!(rt; code.len(), 3);
     for item in code {
         assert!(rt; !is_move(item));
     }

@@ -53,8 +53,8 @@ instructions_of m action words held shared = action_instructions action + routin
 
 -- ---- moves
 
--- The moves for the arguments of an action. Each is loaded. Those of a computation are stored again behind it, where they are
--- still needed, since a value has one place at a time; those of a call are stored once more, by its callee.
+-- The moves for the arguments of an action, at most. Each is loaded. Those of a computation may be stored again behind it, where
+-- they are still needed; those of a call are stored once more, by its callee.
 abbrev pub argument_moves : Action → ℕ → ℕ
 argument_moves (Compute operation) count = 2 * count
 argument_moves (Call f) count = 2 * count

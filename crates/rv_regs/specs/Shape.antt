@@ -50,7 +50,7 @@ AreRight [] (placed ∷ more) = ⊥
 AreRight (function ∷ functions) [] = ⊥
 AreRight (function ∷ functions) (placed ∷ more) = IsRight function placed × AreRight functions more
 
--- a program whose places are no more than the plainest ones, and which has no memory of its own
+-- a program with places that take no more moves, slots and instructions than the plainest ones may, and which has no memory of its own
 pub record IsPlainlyPlaced (functions : List Lines) (placed : Placed) : Type 0 where
   pub few_moves : AllFewMoves (placed_functions placed)
   pub slots : AllByRecursion (λ (function : PlacedLines). AllSlotsBelow most_values function.code) (placed_functions placed)

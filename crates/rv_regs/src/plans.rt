@@ -41,7 +41,7 @@ pub fn goes_on(action: Action) -> bool {
     )
 }
 
-// Whether the action spoils registers, and whether no register is safe from it.
+// Whether the action spoils registers.
 fn spoils_some(action: Action) -> bool {
     matches!(
         action,
@@ -49,6 +49,7 @@ fn spoils_some(action: Action) -> bool {
     )
 }
 
+// Whether it spoils registers that values may stay in.
 fn spoils_many(action: Action) -> bool {
     matches!(
         action,

@@ -16,6 +16,7 @@ pub fn register_of(listed: Listed) -> Option<Register> {
     }
 }
 
+/// Whether the value's place is the register.
 pub fn stands_in(listed: Listed, register: Register) -> bool {
     match listed.place {
         Place::Register(other) => other.number == register.number,
@@ -30,6 +31,7 @@ fn is_copied_in(listed: Listed, register: Register) -> bool {
     }
 }
 
+/// Whether the register has the value.
 pub fn is_in(listed: Listed, register: Register) -> bool {
     stands_in(listed, register) || is_copied_in(listed, register)
 }
@@ -67,7 +69,7 @@ pub fn is_to_be_had(state: &[Listed], keep: &[u32], register: Register) -> bool 
     true
 }
 
-/// The registers that a value may stay in, by number. Calls alone spoil them, and some of those of prints.
+/// The registers that a value may stay in, by number. Calls spoil them, and prints and reads some of them; no other action does.
 const NUMBERS: [u8; 20] = [
     6, 7, 28, 29, 30, 31, 20, 21, 22, 23, 24, 25, 26, 27, 4, 3, 17, 16, 15, 14,
 ];

@@ -10,13 +10,14 @@ use Rattle.back_tests.proofs.slots.sum_of_two.Goals as goal
 abbrev sum : Lines
 sum = record {
   params = 0 ∷ 1 ∷ [];
-  code = record { action = Compute (Register Add); args = 0 ∷ 1 ∷ []; into = Some 2 } ∷ record { action = Return; args = 2 ∷ []; into = None } ∷ [];
+  code = record { action = Compute (Register Add); args = 0 ∷ 1 ∷ []; into = Some 2 } ∷ record { action = Compute (Register Add); args = 2 ∷ 0 ∷ []; into = Some 3 }
+      ∷ record { action = Return; args = 3 ∷ []; into = None } ∷ [];
 }
 
 sum_formed : IsWellFormed sum
 sum_formed = record {
   lines = search rules;
-  tokens = none_held sum.code (tt, (tt, tt));
+  tokens = none_held sum.code (tt, (tt, (tt, tt)));
   params = search rules;
   few_params = search rules;
   params_small = search rules;
@@ -25,5 +26,5 @@ sum_formed = record {
 
 pub returns : goal.returns
 returns c =
-    let same : asm_functions (record { functions = c.push-3.new.self; constants = c.new.result }) ≡ sum ∷ [] = search rules in
+    let same : asm_functions (record { functions = c.push-4.new.self; constants = c.new.result }) ≡ sum ∷ [] = search rules in
     subst (λ (functions : List Lines). AreWellFormed functions) (sym same) (sum_formed, tt)
