@@ -19,16 +19,18 @@ pub record IsBehindLines {C : Type 0} (f k : ℕ) (code : List C) (frame : Frame
 abbrev pub IsAtFrame : {C : Type 0} → ℕ → ℕ → List C → List (Frame C) → Type 0
 IsAtFrame f k code frames = (frame : Frame _) × ((older : List (Frame _)) × ((frames ≡ frame ∷ older) × IsBehindLines f k code frame))
 
--- the machine is in the function f, and goes on with its k-th line, counted from 0
-abbrev pub AsmIsAt : {H W : Type 0} → List Lines → ℕ → ℕ → AsmTurn H W → Type 0
-AsmIsAt functions f k (go s) = (lines : Lines) × ((slice_get functions f ≡ Some lines) × IsAtFrame f k lines.code s.frames)
-AsmIsAt functions f k (ended how shared) = ⊥
-AsmIsAt functions f k stuck = ⊥
+-- the machine is in the function f, and goes on with its k-th line, counted from 0; what its primitives share is a value
+abbrev pub AsmIsAt : {H W : Type 0} → List Lines → ℕ → ℕ → H → AsmTurn H W → Type 0
+AsmIsAt functions f k shared (go s) =
+    (lines : Lines) × ((slice_get functions f ≡ Some lines) × (IsAtFrame f k lines.code s.frames × (s.shared ≡ shared)))
+AsmIsAt functions f k shared (ended how last) = ⊥
+AsmIsAt functions f k shared stuck = ⊥
 
-abbrev pub PlacedIsAt : {H W : Type 0} → List PlacedLines → ℕ → ℕ → PlacedTurn H W → Type 0
-PlacedIsAt functions f k (go s) = (lines : PlacedLines) × ((slice_get functions f ≡ Some lines) × IsAtFrame f k lines.code s.frames)
-PlacedIsAt functions f k (ended how shared) = ⊥
-PlacedIsAt functions f k stuck = ⊥
+abbrev pub PlacedIsAt : {H W : Type 0} → List PlacedLines → ℕ → ℕ → H → PlacedTurn H W → Type 0
+PlacedIsAt functions f k shared (go s) =
+    (lines : PlacedLines) × ((slice_get functions f ≡ Some lines) × (IsAtFrame f k lines.code s.frames × (s.shared ≡ shared)))
+PlacedIsAt functions f k shared (ended how last) = ⊥
+PlacedIsAt functions f k shared stuck = ⊥
 
 -- a label is no instruction
 abbrev pub is_no_label : Action → Bool

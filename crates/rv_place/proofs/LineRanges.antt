@@ -1,6 +1,7 @@
 -- Lines have addresses of their own: functions stand one behind the other behind the runtime, and each line that is no label
 -- is some instructions of its function.
-use Rattle.std.proofs.Common.{◌≡◌, ◌≤◌, ◌<◌, inl, inr, ℕ, zero, suc, ◌+◌, ◌*◌, List, [], ◌∷◌, Some, true, take, drop, slice_get}
+use Rattle.std.proofs.Common.{◌≡◌, ◌≤◌, ◌<◌, inl, inr, ℕ, zero, suc, ◌+◌, ◌*◌, ◌%◌, List, [], ◌∷◌, Some, true}
+use Rattle.std.proofs.Common.{take, drop, slice_get}
 use Rattle.std.proofs.Common.{refl, sym, ap, ◌∙◌, subst, arith}
 use Rattle.std.proofs.lemmas.Bool.{cases_lt}
 use Rattle.rv_isa.specs.declared.asm.Action.{Action}
@@ -10,7 +11,7 @@ use Rattle.rv_isa.specs.PlacedCode.{PlacedLine, does, moves, PlacedLines}
 use Rattle.rv_isa.specs.LinePlaces.{is_no_label, is_instruction, PlacedHasLine}
 use Rattle.rv_isa.specs.Standing.{Code}
 use Rattle.rv_place.specs.Addresses.{words_of_action, words_of_line, words_of_lines, forms_of, entry_words, words_of_function}
-use Rattle.rv_place.specs.Addresses.{entries_from}
+use Rattle.rv_place.specs.Addresses.{entries_from, words_of_functions}
 use Rattle.rv_place.specs.LineAddresses.{address_in, line_address}
 use Rattle.rv_place.specs.Lines.{Map, FunctionsAt}
 use Rattle.rv_place.specs.declared.reach.Forms.{Forms}
@@ -93,6 +94,30 @@ entries_apart jumps at (head ∷ functions) (suc f) (suc g) first second functio
     let next : ℕ = at + 4 * words_of_function jumps head in
     entries_apart jumps next functions f g first second function function_is first_is second_is (omega arith)
 
+-- and ends before the functions end
+entry_within : (jumps : Reach) (at : ℕ) (functions : List PlacedLines) (f entry : ℕ) (function : PlacedLines)
+    → slice_get functions f ≡ Some function → slice_get (entries_from jumps at functions) f ≡ Some entry
+    → entry + 4 * words_of_function jumps function ≤ at + 4 * words_of_functions jumps functions
+entry_within jumps at [] f entry function function_is entry_is = cc
+entry_within jumps at (head ∷ functions) zero entry function function_is entry_is =
+    let same : at ≡ entry = cc in
+    let alike : head ≡ function = cc in
+    let within : at + 4 * words_of_function jumps head ≤ at + 4 * words_of_functions jumps (head ∷ functions) = omega arith in
+    subst (λ (k : PlacedLines). entry + 4 * words_of_function jumps k ≤ at + 4 * words_of_functions jumps (head ∷ functions)) alike
+    (subst (λ a. a + 4 * words_of_function jumps head ≤ at + 4 * words_of_functions jumps (head ∷ functions)) same within)
+entry_within jumps at (head ∷ functions) (suc f) entry function function_is entry_is =
+    let next : ℕ = at + 4 * words_of_function jumps head in
+    let rest = entry_within jumps next functions f entry function function_is entry_is in
+    omega arith
+
+-- each begins at a word
+entry_word : (jumps : Reach) (at : ℕ) (functions : List PlacedLines) (f entry : ℕ)
+    → slice_get (entries_from jumps at functions) f ≡ Some entry → at % 4 ≡ 0 → entry % 4 ≡ 0
+entry_word jumps at [] f entry is word = cc
+entry_word jumps at (head ∷ functions) zero entry is word = let same : at ≡ entry = cc in omega arith
+entry_word jumps at (head ∷ functions) (suc f) entry is word =
+    entry_word jumps (at + 4 * words_of_function jumps head) functions f entry is (omega arith)
+
 -- ---- the addresses
 
 -- the address of a line of a function that is there
@@ -138,6 +163,19 @@ module _ (map : Map) (code : Code) (functions : List PlacedLines) (stand : Funct
         let there = line_there f j has in
         let low = entry_low map.jumps at functions f there.entry (entry_there f there.entry there.entry_is) in
         rw (address_of map functions f j there.entry there.function there.entry_is there.function_is) (omega arith)
+
+    -- each is a word, and ends before the functions end
+    pub line_within : (f j : ℕ) → PlacedHasLine functions f j → at % 4 ≡ 0
+        → (line_address map functions f j % 4 ≡ 0)
+        × (line_address map functions f j + 4 ≤ at + 4 * words_of_functions map.jumps functions)
+    line_within f j has word =
+        let there = line_there f j has in
+        let entry_is = entry_there f there.entry there.entry_is in
+        let begins = entry_word map.jumps at functions f there.entry entry_is word in
+        let within = entry_within map.jumps at functions f there.entry there.function there.function_is entry_is in
+        let inside = line_ends (forms_of map.jumps there.function.code) j there.function.code there.line there.line_is there.some in
+        rw (address_of map functions f j there.entry there.function there.entry_is there.function_is)
+        (omega arith, omega arith)
 
     -- lines of a function before another stand before those of the other
     functions_order : (f j g i : ℕ) → LineThere map functions f j → LineThere map functions g i → f < g

@@ -10,7 +10,7 @@ use Rattle.rv_isa.specs.AsmCode.{Line, Lines}
 use Rattle.rv_isa.specs.PlacedCode.{PlacedLine, does, moves, PlacedLines, from_of, to_of}
 use Rattle.rv_isa.specs.Primitives.{Primitives, go, ended, stuck}
 use Rattle.rv_isa.specs.Frames.{Frame}
-use Rattle.rv_isa.specs.AsmMachine.{AsmTurn, asm_machine, asm_start}
+use Rattle.rv_isa.specs.AsmMachine.{AsmState, AsmTurn, asm_machine, asm_start}
 use Rattle.rv_isa.specs.PlacedMachine.{PlacedState, PlacedTurn, read_at, registers_with, slots_with, is_held, placed_line, placed_next, placed_told, placed_machine, placed_start}
 use Rattle.rv_isa.specs.LinePlaces.{IsBehindLines, IsAtFrame, AsmIsAt, PlacedIsAt, AsmHasLine}
 use Rattle.rv_regs.specs.Conditions.{without_moves, ArePlacings}
@@ -30,14 +30,15 @@ module _ {H E W : Type 0} (m : Primitives H E W) (depth : ℕ) (asm : List Lines
   abbrev NeverStops : PlacedTurn H W → Type 0
   NeverStops t = (n : ℕ) → state (placed_machine m depth placed) n t ≢ stuck
 
-  -- by some steps that tell nothing the placed machine comes to a line of a function
-  record ComesTo (f j : ℕ) (t : PlacedTurn H W) : Type 0 where
+  -- by some steps that tell nothing the placed machine comes to a line of a function, and shares a value
+  record ComesTo (f j : ℕ) (shared : H) (t : PlacedTurn H W) : Type 0 where
     steps : ℕ
     silent : trace (placed_machine m depth placed) steps t ≡ []
-    there : PlacedIsAt placed f j (state (placed_machine m depth placed) steps t)
+    there : PlacedIsAt placed f j shared (state (placed_machine m depth placed) steps t)
 
-  comes_later : (f j : ℕ) (t u : PlacedTurn H W) → (placed_machine m depth placed).step t ≡ ([], u) → ComesTo f j u → ComesTo f j t
-  comes_later f j t u on later =
+  comes_later : (f j : ℕ) (shared : H) (t u : PlacedTurn H W) → (placed_machine m depth placed).step t ≡ ([], u)
+      → ComesTo f j shared u → ComesTo f j shared t
+  comes_later f j shared t u on later =
       record {
         steps = suc later.steps;
         silent = rw on later.silent;
@@ -50,7 +51,7 @@ module _ {H E W : Type 0} (m : Primitives H E W) (depth : ℕ) (asm : List Lines
       → slice_get placed f ≡ Some lines → IsBehindLines f j lines.code g → drop j lines.code ≡ rest
       → k < length (without_moves lines.code) → length (without_moves rest) + k ≡ length (without_moves lines.code)
       → NeverStops (go (record { frames = g ∷ gs; registers = registers; shared = shared }))
-      → ComesTo f (line_of placed f k) (go (record { frames = g ∷ gs; registers = registers; shared = shared }))
+      → ComesTo f (line_of placed f k) shared (go (record { frames = g ∷ gs; registers = registers; shared = shared }))
   through_moves lines f k j [] registers shared g gs e behind at below left never = absurd (omega (arith, below, left))
   through_moves lines f k j (does alive action args into ∷ rest) registers shared g gs e behind at below left never =
       let behind_others : length (without_moves (drop j lines.code)) + k ≡ length (without_moves lines.code)
@@ -59,7 +60,7 @@ module _ {H E W : Type 0} (m : Primitives H E W) (depth : ℕ) (asm : List Lines
       = line_is lines.code j k alive action args into rest at behind_others ∙ sym (line_of_is placed f lines e k) in
       let there : IsBehindLines f (line_of placed f k) lines.code g
       = record { function = behind.function; whole = behind.whole; left = behind.left ∙ ap (λ (i : ℕ). drop i lines.code) here } in
-      record { steps = 0; silent = refl; there = (lines, (e, (g, (gs, (refl, there))))) }
+      record { steps = 0; silent = refl; there = (lines, (e, ((g, (gs, (refl, there))), refl))) }
   through_moves lines f k j (moves alive value way ∷ rest) registers shared g gs e behind at below left never =
       let registers' : ℕ → Option ℕ = registers_with (to_of way) (read_at registers g.cells (from_of way)) registers in
       let cells' : ℕ → Option ℕ = slots_with (to_of way) (read_at registers g.cells (from_of way)) g.cells in
@@ -76,7 +77,7 @@ module _ {H E W : Type 0} (m : Primitives H E W) (depth : ℕ) (asm : List Lines
       let rest_is : rest ≡ drop (suc j) lines.code = drop_next lines.code j (moves alive value way) rest (sym at) in
       let behind' : IsBehindLines f (suc j) lines.code g'
       = record { function = behind.function; whole = behind.whole; left = rest_is } in
-      comes_later f (line_of placed f k) (go t) (go t') step
+      comes_later f (line_of placed f k) shared (go t) (go t') step
       (through_moves lines f k (suc j) rest registers' shared g' gs e behind' (sym rest_is) below left
       (λ n. subst (λ (u : PlacedTurn H W). state (placed_machine m depth placed) n u ≢ stuck) on (never (suc n))))
     where
@@ -88,7 +89,7 @@ module _ {H E W : Type 0} (m : Primitives H E W) (depth : ℕ) (asm : List Lines
       (registers : ℕ → Option ℕ) (shared : H)
       → slice_get lines.code k ≡ Some line → IsAtFrame f k lines.code fs → FramesStand registers fs gs → AreInCode placed gs
       → NeverStops (go (record { frames = gs; registers = registers; shared = shared }))
-      → ComesTo f (line_of placed f k) (go (record { frames = gs; registers = registers; shared = shared }))
+      → ComesTo f (line_of placed f k) shared (go (record { frames = gs; registers = registers; shared = shared }))
   from_frames f k lines line [] gs registers shared e is stands all never = absurd stands
   from_frames f k lines line (a ∷ fs) [] registers shared e is stands all never = absurd stands
   from_frames f k lines line (a ∷ fs) (g ∷ gs) registers shared e is stands all never =
@@ -108,67 +109,108 @@ module _ {H E W : Type 0} (m : Primitives H E W) (depth : ℕ) (asm : List Lines
       (record { function = number; whole = all.0.1.1.0; left = all.0.1.1.1.1 }) refl (omega (arith, within, total))
       (omega (arith, total, rest, within)) never
 
-  from_turns : (f k : ℕ) (s : AsmTurn H W) (t : PlacedTurn H W) → AsmHasLine asm f k → AsmIsAt asm f k s → StandsFor s t
-      → TurnInCode placed t → NeverStops t → ComesTo f (line_of placed f k) t
-  from_turns f k (go s) (go t) has is stands all never =
+  from_turns : (f k : ℕ) (shared : H) (s : AsmTurn H W) (t : PlacedTurn H W) → AsmHasLine asm f k → AsmIsAt asm f k shared s
+      → StandsFor s t → TurnInCode placed t → NeverStops t → ComesTo f (line_of placed f k) shared t
+  from_turns f k shared (go s) (go t) has is stands all never =
       let same : is.0 ≡ has.0 = cc in
       let line : slice_get is.0.code k ≡ Some has.1.1.0 = ap (λ (l : Lines). slice_get l.code k) same ∙ has.1.1.1.0 in
-      from_frames f k is.0 has.1.1.0 s.frames t.frames t.registers t.shared line is.1.1 stands.0 all never
-  from_turns f k (go s) (ended how shared) has is stands all never = absurd stands
-  from_turns f k (go s) stuck has is stands all never = absurd stands
-  from_turns f k (ended how shared) t has is stands all never = absurd is
-  from_turns f k stuck t has is stands all never = absurd is
+      subst (λ (h : H). ComesTo f (line_of placed f k) h (go t)) (sym stands.1 ∙ is.1.1.1)
+      (from_frames f k is.0 has.1.1.0 s.frames t.frames t.registers t.shared line is.1.1.0 stands.0 all never)
+  from_turns f k shared (go s) (ended how last) has is stands all never = absurd stands
+  from_turns f k shared (go s) stuck has is stands all never = absurd stands
+  from_turns f k shared (ended how last) t has is stands all never = absurd is
+  from_turns f k shared stuck t has is stands all never = absurd is
 
   -- and from one that is come to
-  from_reached : (f k : ℕ) (s : AsmTurn H W) (t : PlacedTurn H W) (first : ℕ) (events : List E)
+  from_reached : (f k : ℕ) (shared : H) (s : AsmTurn H W) (t : PlacedTurn H W) (first : ℕ) (events : List E)
       → trace (placed_machine m depth placed) first t ≡ events
-      → AsmHasLine asm f k → AsmIsAt asm f k s → StandsFor s (state (placed_machine m depth placed) first t)
+      → AsmHasLine asm f k → AsmIsAt asm f k shared s → StandsFor s (state (placed_machine m depth placed) first t)
       → TurnInCode placed t → NeverStops t
       → (count : ℕ) × ((trace (placed_machine m depth placed) count t ≡ events)
-      × PlacedIsAt placed f (line_of placed f k) (state (placed_machine m depth placed) count t))
-  from_reached f k s t first events told has is stands in_code never =
+      × PlacedIsAt placed f (line_of placed f k) shared (state (placed_machine m depth placed) count t))
+  from_reached f k shared s t first events told has is stands in_code never =
       let lower = placed_machine m depth placed in
-      let later : ComesTo f (line_of placed f k) (state lower first t)
-      = from_turns f k s (state lower first t) has is stands (stays_in_code m depth placed first t in_code)
+      let later : ComesTo f (line_of placed f k) shared (state lower first t)
+      = from_turns f k shared s (state lower first t) has is stands (stays_in_code m depth placed first t in_code)
       (λ i. subst (λ (u : PlacedTurn H W). u ≢ stuck) (state-add lower first i t) (never (first + i))) in
       let whole : trace lower (first + later.steps) t ≡ trace lower first t ++ trace lower later.steps (state lower first t)
       = trace-add lower first later.steps t in (
         first + later.steps,
         (
           rw (whole, later.silent, told) (append-nil events),
-          subst (PlacedIsAt placed f (line_of placed f k)) (sym (state-add lower first later.steps t)) later.there,
+          subst (PlacedIsAt placed f (line_of placed f k) shared) (sym (state-add lower first later.steps t)) later.there,
         ),
       )
 
   -- from related starts
   pub comes_from : ArePlacings asm placed → AllFewMoves placed → (s : AsmTurn H W) (t : PlacedTurn H W)
       → Related m depth asm 0 0 s t → TurnInCode placed t → NeverStops t
-      → (n f k : ℕ) → AsmHasLine asm f k → AsmIsAt asm f k (state (asm_machine m depth asm) n s)
+      → (n f k : ℕ) (shared : H) → AsmHasLine asm f k → AsmIsAt asm f k shared (state (asm_machine m depth asm) n s)
       → (count : ℕ) × ((trace (placed_machine m depth placed) count t ≡ trace (asm_machine m depth asm) n s)
-      × PlacedIsAt placed f (line_of placed f k) (state (placed_machine m depth placed) count t))
-  comes_from all few s t related in_code never n f k has is =
+      × PlacedIsAt placed f (line_of placed f k) shared (state (placed_machine m depth placed) count t))
+  comes_from all few s t related in_code never n f k shared has is =
       let upper = asm_machine m depth asm in
       let lower = placed_machine m depth placed in
       let simulation = simulates m depth asm placed all few in
       let many = simulates_many upper lower (Related m depth asm) IsNotStuck 1 simulation n 0 0 s t related in
-      from_reached f k (state upper n s) t many.steps (trace upper n s) many.events_are has is many.related.1.0 in_code never
+      from_reached f k shared (state upper n s) t many.steps (trace upper n s) many.events_are has is many.related.1.0 in_code never
 
   -- and from the start of the first function
-  pub comes_to_lines : (main : Lines) (shared : H) → ArePlacings asm placed → AllFewMoves placed → slice_get asm 0 ≡ Some main
-      → main.params ≡ [] → NeverStuck m depth asm (asm_start main shared)
+  pub comes_to_lines : (main : Lines) (first : H) → ArePlacings asm placed → AllFewMoves placed → slice_get asm 0 ≡ Some main
+      → main.params ≡ [] → NeverStuck m depth asm (asm_start main first)
       → (placed_main : PlacedLines) × ((slice_get placed 0 ≡ Some placed_main)
-      × ((n f k : ℕ) → AsmHasLine asm f k → AsmIsAt asm f k (state (asm_machine m depth asm) n (asm_start main shared))
-      → (count : ℕ) × ((trace (placed_machine m depth placed) count (placed_start placed_main shared)
-      ≡ trace (asm_machine m depth asm) n (asm_start main shared))
-      × PlacedIsAt placed f (line_of placed f k) (state (placed_machine m depth placed) count (placed_start placed_main shared)))))
-  comes_to_lines main shared all few e none never =
-      let start = starts m depth asm placed all 0 main shared few e none never in
-      let goes = never_stuck m depth asm placed all 0 main shared few e none never in
+      × ((n f k : ℕ) (shared : H) → AsmHasLine asm f k
+      → AsmIsAt asm f k shared (state (asm_machine m depth asm) n (asm_start main first))
+      → (count : ℕ) × ((trace (placed_machine m depth placed) count (placed_start placed_main first)
+      ≡ trace (asm_machine m depth asm) n (asm_start main first))
+      × PlacedIsAt placed f (line_of placed f k) shared
+      (state (placed_machine m depth placed) count (placed_start placed_main first)))))
+  comes_to_lines main first all few e none never =
+      let start = starts m depth asm placed all 0 main first few e none never in
+      let goes = never_stuck m depth asm placed all 0 main first few e none never in
       let same : goes.0 ≡ start.0 = cc in (
         start.0,
         (
           start.1,
-          comes_from all few (asm_start main shared) (placed_start start.0 shared) start.2 (entered_in_code placed 0 start.0 start.1, tt)
-              (subst (λ (main' : PlacedLines). NeverStops (placed_start main' shared)) same goes.2),
+          comes_from all few (asm_start main first) (placed_start start.0 first) start.2
+              (entered_in_code placed 0 start.0 start.1, tt)
+              (subst (λ (main' : PlacedLines). NeverStops (placed_start main' first)) same goes.2),
         ),
       )
+
+  -- what stands for a state that goes on is such a state too, and shares the same
+  shares_alike : (s : AsmState H) (t : PlacedTurn H W) → StandsFor {H = H} {W = W} (go s) t
+      → (u : PlacedState H) × ((t ≡ go u) × (u.shared ≡ s.shared))
+  shares_alike s (go t) stands = (t, (refl, sym stands.1))
+  shares_alike s (ended how last) stands = absurd stands
+  shares_alike s stuck stands = absurd stands
+
+  -- from the start of the first function, each state is followed by one that shares the same
+  pub follows_each_state : (main : Lines) (first : H) → ArePlacings asm placed → AllFewMoves placed → slice_get asm 0 ≡ Some main
+      → main.params ≡ [] → NeverStuck m depth asm (asm_start main first)
+      → (placed_main : PlacedLines) × ((slice_get placed 0 ≡ Some placed_main)
+      × ((n : ℕ) (s : AsmState H) → state (asm_machine m depth asm) n (asm_start main first) ≡ go s
+      → (count : ℕ) × ((t : PlacedState H) × ((state (placed_machine m depth placed) count (placed_start placed_main first) ≡ go t)
+      × ((trace (placed_machine m depth placed) count (placed_start placed_main first)
+      ≡ trace (asm_machine m depth asm) n (asm_start main first)) × (t.shared ≡ s.shared))))))
+  follows_each_state main first all few e none never =
+      let start = starts m depth asm placed all 0 main first few e none never in
+      (start.0, (start.1, by start.0 start.2))
+    where
+      by : (placed_main : PlacedLines) → Related m depth asm 0 0 (asm_start main first) (placed_start placed_main first)
+          → (n : ℕ) (s : AsmState H) → state (asm_machine m depth asm) n (asm_start main first) ≡ go s
+          → (count : ℕ) × ((t : PlacedState H)
+          × ((state (placed_machine m depth placed) count (placed_start placed_main first) ≡ go t)
+          × ((trace (placed_machine m depth placed) count (placed_start placed_main first)
+          ≡ trace (asm_machine m depth asm) n (asm_start main first)) × (t.shared ≡ s.shared))))
+      by placed_main related n s state_is =
+          let upper = asm_machine m depth asm in
+          let lower = placed_machine m depth placed in
+          let simulation = simulates m depth asm placed all few in
+          let many = simulates_many upper lower (Related m depth asm) IsNotStuck 1 simulation n 0 0 (asm_start main first)
+          (placed_start placed_main first) related in
+          let there : PlacedTurn H W = state lower many.steps (placed_start placed_main first) in
+          let stands : StandsFor {H = H} {W = W} (go s) there
+          = subst (λ (turn : AsmTurn H W). StandsFor turn there) state_is many.related.1.0 in
+          let alike = shares_alike s there stands in
+          (many.steps, (alike.0, (alike.1.0, (many.events_are, alike.1.1))))

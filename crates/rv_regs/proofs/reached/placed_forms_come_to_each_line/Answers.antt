@@ -2,7 +2,7 @@
 use Rattle.rv_isa.specs.AsmCode.{asm_functions}
 use Rattle.rv_isa.specs.PlacedCode.{placed_functions}
 use Rattle.rv_regs.proofs.LinesReached.{lines_there, lines_apart}
-use Rattle.rv_regs.proofs.Reaching.{comes_to_lines}
+use Rattle.rv_regs.proofs.Reaching.{comes_to_lines, follows_each_state}
 use Rattle.rv_regs.proofs.reached.placed_forms_come_to_each_line.Goals as goal
 
 pub returns-clause-has : goal.returns-clause-has
@@ -14,3 +14,8 @@ returns-clause-apart g c = λ asm placed valid. lines_apart (asm_functions asm) 
 pub returns-clause-comes : goal.returns-clause-comes
 returns-clause-comes g c =
     λ asm placed depth main shared valid few e none never. comes_to_lines g.M.Execution.primitives depth (asm_functions asm) (placed_functions placed) main shared valid.functions few e none never
+
+pub returns-clause-follows : goal.returns-clause-follows
+returns-clause-follows g c =
+    λ asm placed depth main shared valid few e none never. follows_each_state g.M.Execution.primitives depth (asm_functions asm)
+    (placed_functions placed) main shared valid.functions few e none never
