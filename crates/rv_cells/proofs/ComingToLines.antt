@@ -1,8 +1,8 @@
--- Where the counted machine is at a call, a print or a construction with fields, the assembler's machine comes to a line of that
--- form's own.
-use Rattle.std.proofs.Common.{◌≡◌, ℕ, ◌+◌, ◌%◌, ◌<◌, ◌&&◌, not, true, false, List, [], length, drop, Some, All, refl, sym, ◌∙◌, ap, subst, arith, flat_map}
+-- For each state at which the counted machine is at a form, the assembler's machine comes to one whose cells are those of the
+-- counted heap. Where the form is a call, a print or a construction with fields, that is at a line of the form's own.
+use Rattle.std.proofs.Common.{◌≡◌, ℕ, ◌+◌, ◌%◌, ◌<◌, ◌&&◌, not, true, false, List, [], ◌∷◌, length, drop, Some, All, refl, sym, ◌∙◌, ap, subst, arith, flat_map}
 use Rattle.std.proofs.Math.Seq.{drop-append_seam}
-use Rattle.kk_base.specs.Machines.{state}
+use Rattle.kk_base.specs.Machines.{state, trace}
 use Rattle.kk_base.proofs.Machines.{trace-mapped}
 use Rattle.kk_base.proofs.Simulations.{simulates_many}
 use Rattle.kk_syntax.specs.Shapes.{is_among}
@@ -16,25 +16,28 @@ use Rattle.kk_counted.specs.CountedCosts.{roomy_cost}
 use Rattle.kk_counted.specs.CountedStates.{CountedJoin, CountedControl, CountedConfiguration}
 use Rattle.kk_counted.specs.CountedMachine.{counted_machine}
 use Rattle.kk_counted.specs.CountedStates.{counted_first_state}
+use Rattle.kk_counted.specs.Heaps.{Heap}
 use Rattle.kk_counted.specs.Keeping.{counted_after}
 use Rattle.kk_counted.specs.Lowerable.{AreLowerable}
 use Rattle.kk_counted.specs.Marks.{CellMarks}
 use Rattle.kk_counted.specs.TokenCosts.{token_cost, HasRoom}
 use Rattle.kk_counted.specs.TokenRuns.{is_quiet, is_quiet_at, ComesTo}
-use Rattle.kk_counted.specs.TokenStates.{TokenJoin, TokenControl, TokenConfiguration, TokenState, bare_control, bare_setting}
+use Rattle.kk_counted.specs.TokenStates.{TokenJoin, TokenControl, TokenConfiguration, TokenState, bare_control, bare_configuration, bare_setting}
 use Rattle.kk_counted.specs.TokenedCodes.{Tokened, TokenedProgram}
 use Rattle.kk_counted.proofs.TokenSettling.{comes_to_each}
 use Rattle.cell_heap.specs.Pool.{Pool}
 use Rattle.rv_isa.specs.Processor.{Ending, exited}
 use Rattle.rv_isa.specs.AsmCode.{Lines}
-use Rattle.rv_isa.specs.AsmMachine.{AsmTurn}
+use Rattle.rv_isa.specs.AsmMachine.{AsmState, AsmTurn}
 use Rattle.rv_isa.specs.LinePlaces.{AsmIsAt}
+use Rattle.rv_isa.specs.Primitives.{go}
 use Rattle.rv_world.specs.World.{World}
 use Rattle.rv_cells.specs.Fitting.{IsFit}
-use Rattle.rv_cells.specs.FormLines.{ComesToItsLines}
+use Rattle.rv_cells.specs.Follows.{Owner, Follows}
+use Rattle.rv_cells.specs.FormLines.{ComesToItsLines, FollowsEachState}
 use Rattle.rv_cells.specs.Layout.{Layout}
 use Rattle.rv_cells.specs.Meaning.{setting_on}
-use Rattle.rv_cells.specs.TokenedMeaning.{IsTokenedLowered}
+use Rattle.rv_cells.specs.TokenedMeaning.{roomy_outside, IsTokenedLowered}
 use Rattle.rv_cells.proofs.FormArities.{is_own_act}
 use Rattle.rv_cells.proofs.FormPlaces.{code_of, own_of, Leads, way_of, tree_in}
 use Rattle.rv_cells.proofs.FormRoots.{root_same, program_root, own_lines, among_own}
@@ -58,19 +61,54 @@ module _ (layout : Layout) (marks : CellMarks) (code : TokenedProgram) (constant
   abbrev low : Lowering
   low = lowering layout marks code constants functions lowered room fits_room pool depth first input aligned some bytes fits
 
-  -- a turn is at a line of the place of a form
-  abbrev IsAtLine : Counted → AsmTurn World Ending → Type 0
-  IsAtLine act at_turn =
+  -- the cells of a world are those of a heap
+  abbrev HasCellsOf : Heap → World → Type 0
+  HasCellsOf heap world = (address : ℕ → ℕ) × ((owners : ℕ → Owner) × Follows pool layout address owners heap world.cells)
+
+  -- a turn goes on with the cells of a heap
+  abbrev GoesOn : Heap → AsmTurn World Ending → Type 0
+  GoesOn heap at_turn = (s : AsmState World) × ((at_turn ≡ go s) × HasCellsOf heap s.shared)
+
+  -- a turn is at a line of the place of a form, with the cells of a heap
+  abbrev IsAtLine : Counted → Heap → AsmTurn World Ending → Type 0
+  IsAtLine act heap at_turn =
       (f : ℕ) × ((way : List ℕ) × (IsActAt (bare_program code) f way act × ((k : ℕ)
       × ((is_among ((own_lines layout marks code constants functions lowered lowerable).lines f way) k ≡ true)
-      × AsmIsAt functions f k at_turn))))
+      × ((world : World) × (AsmIsAt functions f k world at_turn × HasCellsOf heap world))))))
+
+  -- a turn that stands for a state has the cells of its heap
+  has_cells : (tokens_code : Tokened) (environment : Environment) (inner : List TokenJoin) (c : TokenConfiguration)
+      (left_input : List ℕ) (at_turn : AsmTurn World Ending)
+      → (is : IsAt (lowering layout marks code constants functions lowered room fits_room pool depth first input aligned some bytes
+      fits) tokens_code environment inner c left_input at_turn) → HasCellsOf c.heap is.spot.world
+  has_cells tokens_code environment inner c left_input at_turn is = (
+    is.spot.address,
+    (
+      is.spot.owners,
+      subst (λ heap. Follows pool layout is.spot.address is.spot.owners heap is.spot.world.cells) is.heap_is is.at.follows,
+    ),
+  )
+
+  -- so it goes on with them
+  goes_on : (control : TokenControl) (c : TokenConfiguration) (left_input : List ℕ) (at_turn : AsmTurn World Ending)
+      (form : Counted) (environment : Environment) (joins : List CountedJoin)
+      → StandsFor (lowering layout marks code constants functions lowered room fits_room pool depth first input aligned some bytes
+      fits) control c left_input at_turn
+      → bare_control control ≡ CountedControl.running form environment joins → GoesOn c.heap at_turn
+  goes_on (TokenControl.running tokens_code own_environment inner) c left_input at_turn form environment joins is same = (
+    record { frames = left_at is.left is.spot.frame ∷ is.fs; shared = is.spot.world },
+    (is.turn_is, has_cells tokens_code own_environment inner c left_input at_turn is),
+  )
+  goes_on (TokenControl.stopped by) c left_input at_turn form environment joins is same = cc same
+  goes_on TokenControl.stuck c left_input at_turn form environment joins is same = absurd is
 
   -- where the code of a turn stands
   at_line : (act : Counted) (tokens_code : Tokened) (environment : Environment) (inner : List TokenJoin) (c : TokenConfiguration)
       (left_input : List ℕ) (at_turn : AsmTurn World Ending)
       → IsAt (lowering layout marks code constants functions lowered room fits_room pool depth first input aligned some bytes fits)
       tokens_code environment inner c left_input at_turn
-      → bare tokens_code ≡ act → is_quiet tokens_code ≡ false → is_act act ≡ true → IsAtLine act at_turn
+      → bare tokens_code ≡ act → is_quiet tokens_code ≡ false → is_act act ≡ true
+      → IsAtLine act c.heap at_turn
   at_line act tokens_code environment inner c left_input at_turn is same loud does =
       let at = is.at in
       let p = at.does.placed in
@@ -114,24 +152,33 @@ module _ (layout : Layout) (marks : CellMarks) (code : TokenedProgram) (constant
                 among_own layout marks code constants functions lowered lowerable f way k
                     (among_found way [] 0 k (program_root layout marks code constants functions lowered lowerable f) stands.steps
                     inner_tree (subst (λ t. Leads t stands.steps inner_tree) root_eq stands.leads) own refl (omega (arith, far))),
-                subst (AsmIsAt functions f k) (sym is.turn_is) (
-                  lines,
+                (
+                  is.spot.world,
                   (
-                    (low.lowered f function there).1,
-                    (
-                      left_at is.left is.spot.frame,
+                    subst (AsmIsAt functions f k is.spot.world) (sym is.turn_is) (
+                      lines,
                       (
-                        is.fs,
+                        (low.lowered f function there).1,
                         (
+                          (
+                            left_at is.left is.spot.frame,
+                            (
+                              is.fs,
+                              (
+                                refl,
+                                record {
+                                  function = within.number main_first;
+                                  whole = whole;
+                                  left = sym (drop-append_seam p.before is.left) ∙ ap (drop k) (sym p.place ∙ whole);
+                                },
+                              ),
+                            ),
+                          ),
                           refl,
-                          record {
-                            function = within.number main_first;
-                            whole = whole;
-                            left = sym (drop-append_seam p.before is.left) ∙ ap (drop k) (sym p.place ∙ whole);
-                          },
                         ),
                       ),
                     ),
+                    has_cells tokens_code environment inner c left_input at_turn is,
                   ),
                 ),
               ),
@@ -146,7 +193,7 @@ module _ (layout : Layout) (marks : CellMarks) (code : TokenedProgram) (constant
       → StandsFor (lowering layout marks code constants functions lowered room fits_room pool depth first input aligned some bytes
       fits) control c left_input at_turn
       → bare_control control ≡ CountedControl.running act environment joins → is_quiet_at control ≡ false → is_act act ≡ true
-      → IsAtLine act at_turn
+      → IsAtLine act c.heap at_turn
   at_control act environment joins (TokenControl.running tokens_code own_environment inner) c left_input at_turn stands same loud
       does =
       at_line act tokens_code own_environment inner c left_input at_turn stands
@@ -154,31 +201,96 @@ module _ (layout : Layout) (marks : CellMarks) (code : TokenedProgram) (constant
   at_control act environment joins (TokenControl.stopped by) c left_input at_turn stands same loud does = cc same
   at_control act environment joins TokenControl.stuck c left_input at_turn stands same loud does = absurd stands
 
-  pub comes_to_its_lines : ComesToItsLines (bare_program code) room constants functions lowered.main_lines pool depth first input
-      (own_lines layout marks code constants functions lowered lowerable)
-  comes_to_its_lines n act environment joins control_is does =
-      let back = fills layout marks code constants functions lowered room fits_room pool depth first input aligned some bytes fits in
+  -- where the assembler's machine begins
+  abbrev asm_begin : AsmTurn World Ending
+  asm_begin = turn layout marks code constants functions lowered room fits_room pool depth first input aligned some bytes fits
+
+  -- Where the assembler's machine comes to for a state of the counted machine: it stands for a state with tokens that is the same
+  -- without them and at a form that the bare form has too, and it has told the same events.
+  record Arrives (n : ℕ) : Type 0 where
+    state_is : TokenState
+    same : bare_configuration state_is.machine ≡ counted_after (roomy_cost room) (bare_setting (setting low)) input n
+    loud : is_quiet_at state_is.machine.control ≡ false
+    steps : ℕ
+    stands : StandsFor low state_is.machine.control state_is.machine state_is.input
+        (state (lower low) steps asm_begin)
+    told : trace (lower low) steps asm_begin
+        ≡ trace (roomy_outside room (setting_on (bare_program code) pool depth)) n
+        (counted_first_state (setting_on (bare_program code) pool depth) input)
+
+  arrives : (n : ℕ) → Arrives n
+  arrives n =
+      let back = fills layout marks code constants functions lowered room fits_room pool depth first input aligned some bytes
+      fits in
       let comes = comes_to_each (roomy_cost room) (setting low) lowered.spends input (λ k. back k) (λ k. (fits k).going) n in
       let come : ComesTo (roomy_cost room) token_cost (setting low) input n = (comes.0, (comes.1.0, (comes.1.1.0, comes.1.1.1))) in
-      let begin = start layout marks code constants functions lowered room fits_room pool depth first input aligned some bytes fits in
-      let at_start = turn layout marks code constants functions lowered room fits_room pool depth first input aligned some bytes fits in
+      let begin = start layout marks code constants functions lowered room fits_room pool depth first input aligned some bytes
+      fits in
       let machine = tokened layout marks code constants functions lowered room fits_room pool depth first input aligned some bytes
       fits in
-      let spare = idle layout marks code constants functions lowered room fits_room pool depth first input aligned some bytes fits in
+      let spare = idle layout marks code constants functions lowered room fits_room pool depth first input aligned some bytes
+      fits in
       let m = come.0 in
       let reaches = simulates_many (upper low) (lower low) (Related low) (Passing low) (pace low) (simulates low) m 0 spare begin
-      at_start
+      asm_begin
       (related layout marks code constants functions lowered room fits_room pool depth first input aligned some bytes fits) in
-      let there = state (lower low) reaches.steps at_start in
-      let stands = subst (λ (s : TokenState). StandsFor low s.machine.control s.machine s.input there)
-      (seen_states layout marks code constants functions lowered room fits_room pool depth first input aligned some bytes fits m)
-      reaches.related.stands in
-      let s = state machine m begin in
-      let it = at_control act environment joins s.machine.control s.machine s.input there stands
-      (ap (λ (c : CountedConfiguration). c.control) come.1.0 ∙ control_is) come.1.1.1 does in
+      let there = state (lower low) reaches.steps asm_begin in
       let counted = counted_machine (roomy_cost room) (bare_setting (setting low)) in
-      let told = reaches.events_are
-      ∙ trace-mapped events_of (λ end. exited (exit_of end)) machine m begin
-      ∙ ap (λ notes. flat_map events_of notes) come.1.1.0
-      ∙ sym (trace-mapped events_of (λ end. exited (exit_of end)) counted n (counted_first_state (bare_setting (setting low)) input))
-      in (it.0, (it.1.0, (it.1.1.0, (it.1.1.1.0, (it.1.1.1.1.0, (reaches.steps, (it.1.1.1.1.1, told)))))))
+      record {
+        state_is = state machine m begin;
+        same = come.1.0;
+        loud = come.1.1.1;
+        steps = reaches.steps;
+        stands = subst (λ (s : TokenState). StandsFor low s.machine.control s.machine s.input there)
+            (seen_states layout marks code constants functions lowered room fits_room pool depth first input aligned some bytes
+            fits m)
+            reaches.related.stands;
+        told = reaches.events_are
+            ∙ trace-mapped events_of (λ end. exited (exit_of end)) machine m begin
+            ∙ ap (λ notes. flat_map events_of notes) come.1.1.0
+            ∙ sym (trace-mapped events_of (λ end. exited (exit_of end)) counted n
+            (counted_first_state (bare_setting (setting low)) input));
+      }
+
+  -- it goes on with the cells of the counted heap
+  pub follows_each_state : FollowsEachState layout (bare_program code) room constants functions lowered.main_lines pool depth first
+      input
+  follows_each_state n form environment joins control_is =
+      let there = arrives n in
+      let s = there.state_is in
+      let it : GoesOn (counted_after (roomy_cost room) (setting_on (bare_program code) pool depth) input n).heap
+      (state (lower low) there.steps asm_begin)
+      = subst (λ heap. GoesOn heap (state (lower low) there.steps asm_begin))
+      (ap (λ (c : CountedConfiguration). c.heap) there.same)
+      (goes_on s.machine.control s.machine s.input (state (lower low) there.steps asm_begin) form environment joins there.stands
+      (ap (λ (c : CountedConfiguration). c.control) there.same ∙ control_is))
+      in (there.steps, (it.0, (it.1.0, (there.told, it.1.1))))
+
+  -- and at a call, a print or a construction with fields it is at a line of that form
+  pub comes_to_its_lines : ComesToItsLines layout (bare_program code) room constants functions lowered.main_lines pool depth first
+      input (own_lines layout marks code constants functions lowered lowerable)
+  comes_to_its_lines n act environment joins control_is does =
+      let there = arrives n in
+      let s = there.state_is in
+      let it : IsAtLine act (counted_after (roomy_cost room) (setting_on (bare_program code) pool depth) input n).heap
+      (state (lower low) there.steps asm_begin)
+      = subst (λ heap. IsAtLine act heap (state (lower low) there.steps asm_begin))
+      (ap (λ (c : CountedConfiguration). c.heap) there.same)
+      (at_control act environment joins s.machine.control s.machine s.input (state (lower low) there.steps asm_begin) there.stands
+      (ap (λ (c : CountedConfiguration). c.control) there.same ∙ control_is) there.loud does)
+      in (
+        it.0,
+        (
+          it.1.0,
+          (
+            it.1.1.0,
+            (
+              it.1.1.1.0,
+              (
+                it.1.1.1.1.0,
+                (there.steps, (it.1.1.1.1.1.0, (it.1.1.1.1.1.1.0, (there.told, it.1.1.1.1.1.1.1)))),
+              ),
+            ),
+          ),
+        ),
+      )

@@ -36,7 +36,7 @@ abbrev pub StoresIf : Bool → ℕ → ℕ → ℕ → List Line → Type 0
 StoresIf true cell i from lines = (store : Line) × Stores cell i from store × (lines ≡ store ∷ [])
 StoresIf false cell i from lines = lines ≡ []
 
--- those of these values are stored there that are at a position which is taken; positions are counted from one on
+-- of these values, the first at `position`, those are stored whose position is taken
 abbrev pub SomeStores : (ℕ → Bool) → ℕ → ℕ → ℕ → List ℕ → List Line → Type 0
 SomeStores takes cell i position [] lines = lines ≡ []
 SomeStores takes cell i position (x ∷ xs) lines =

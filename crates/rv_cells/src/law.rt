@@ -26,7 +26,7 @@ ghost use Rattle.kk_counted.specs.CountedCosts.{roomy_cost};
 ghost use Rattle.kk_counted.specs.TokenCosts.{HasRoom};
 ghost use Rattle.rv_cells.specs.Fitting.{AreTagged, count_of_fields, IsFit};
 ghost use Rattle.rv_cells.specs.TokenedLowered.{IsTokenedForm};
-ghost use Rattle.rv_cells.specs.FormLines.{HaveOwnLines, ComesToItsLines};
+ghost use Rattle.rv_cells.specs.FormLines.{HaveOwnLines, ComesToItsLines, FollowsEachState};
 ghost use Rattle.rv_cells.specs.Meaning.{setting_on};
 ghost use Rattle.rv_cells.specs.TokenedMeaning.{IsTokenedLowered, TokenedRunsTheSame};
 ghost use Rattle.rv_cells.specs.Steps.{Served, ServedByHeld, PutAside, TakenBack, Dupped, Dropped, IsPaid, Released};
@@ -171,10 +171,11 @@ pub fn lowered_tokened_programs_run_the_same()
         → TokenedRunsTheSame code room constants functions lowered.main_lines pool depth first input }
 {}
 
-/// Each call, print and construction with fields of a program with tokens, whose functions are all lowered, has lines of its own in the
-/// assembler code of its function. Where the counted machine of the bare form is at such a form, the assembler's machine comes to one of
-/// these lines, when it has told the same events. The first function must be `main`, and the bare form one that can be lowered. It is a
-/// law, and does nothing.
+/// Each call, print and construction with fields of a program with tokens, whose functions are all lowered, has lines of its own in
+/// the assembler code of its function. Where the counted machine of the bare form is at such a form, the assembler's machine comes to
+/// one of these lines, when it has told the same events and its cells are those of the counted heap. It comes to such a moment for
+/// each state in which the counted machine is at a form. The first function must be `main`, and the bare form one that can be
+/// lowered. It is a law, and does nothing.
 pub fn lowered_tokened_programs_come_to_their_lines()
     ensures { (layout : Layout) (marks : CellMarks) (code : TokenedProgram) (constants : List (List ℕ)) (functions : List Lines)
         → (lowered : IsTokenedLowered layout marks code constants functions)
@@ -183,8 +184,8 @@ pub fn lowered_tokened_programs_come_to_their_lines()
         → (pool : Pool) (depth first : ℕ) (input : List ℕ) → pool.first % 32 ≡ 0 → 0 < pool.first
         → All (λ byte. byte < 256) input
         → ((n : ℕ) → IsFit layout (counted_after (roomy_cost room) (setting_on (bare_program code) pool depth) input n))
-        → ComesToItsLines (bare_program code) room constants functions lowered.main_lines pool depth first input
-        own) }
+        → ComesToItsLines layout (bare_program code) room constants functions lowered.main_lines pool depth first input own
+        × FollowsEachState layout (bare_program code) room constants functions lowered.main_lines pool depth first input) }
 {}
 
 /// Code that spends its references and is marked by types is fit in each state of its run, within the limits of cells, call frames
