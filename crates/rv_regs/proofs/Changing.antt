@@ -1,6 +1,7 @@
 -- What a line keeps, while it changes a value and registers.
-use Rattle.std.proofs.Common.{◌≡◌, ◌≢◌, ◌⊎◌, ℕ, List, Option, Some, None, Bool, true, false, cond, All, refl, sym, ◌∙◌, ap, subst, inl, inr, option_map}
+use Rattle.std.proofs.Common.{◌≡◌, ◌≢◌, ◌⊎◌, ℕ, List, Option, Some, None, Bool, true, false, cond, All, refl, sym, ◌∙◌, ap, subst, inl, inr, option_map, IsSomeAnd}
 use Rattle.std.proofs.lemmas.Bool.{cond-false}
+use Rattle.rv_isa.specs.declared.register.Register.{Register}
 use Rattle.rv_isa.specs.declared.asm.Action.{Action}
 use Rattle.rv_isa.specs.declared.asm.Action.TheVariants.{Hold, Unhold}
 use Rattle.rv_isa.specs.declared.placed.Place.{Place}
@@ -10,7 +11,7 @@ use Rattle.rv_isa.specs.declared.placed.Listed.{Listed}
 use Rattle.rv_isa.specs.Frames.{put}
 use Rattle.rv_isa.specs.PlacedMachine.{read_at, registers_with, slots_with}
 use Rattle.rv_regs.specs.Listings.{listed_as, with_copy, marks, spoils_by, is_read_in}
-use Rattle.rv_regs.specs.Conditions.{OnCopy, AtBoth, IsWritten, IsKept, IsNew, HasCopyIn, IsCopied, StaysListed, IsClearOf, IsSafe}
+use Rattle.rv_regs.specs.Conditions.{OnCopy, AtBoth, IsWritten, IsKept, IsNew, IsCopyAt, HasCopyIn, IsCopied, StaysListed, IsClearOf, IsSafe}
 use Rattle.rv_regs.specs.Relation.{Holds}
 use Rattle.rv_regs.proofs.Placing.{listed_has, read_put, read_other, put_same, put_other, on_copy, on_copy_both, is_or_not}
 
@@ -92,6 +93,14 @@ pub safe_place : (place : Place) → IsSafe (spoils_by None) place
 safe_place (register r) = refl
 safe_place (slot k) = tt
 
+slot_register : (k : ℕ) (r : Register) → slot k ≡ register r → ⊥
+slot_register k r e = cc
+
+-- where a value was that is listed with a copy there
+listed_from : (o : Option Listed) (copy : Option Register) → IsSomeAnd o (λ before. IsCopyAt copy before.place) → (m : Listed) × (o ≡ Some m) × IsCopyAt copy m.place
+listed_from None copy came = absurd came
+listed_from (Some m) copy came = (m, refl, came)
+
 module _ (alive : List Listed) (values registers slots values' registers' slots' : ℕ → Option ℕ) where
   abbrev HasWord : ℕ → Place → Type 0
   HasWord v place = values' v ≡ read_at registers' slots' place
@@ -99,7 +108,17 @@ module _ (alive : List Listed) (values registers slots values' registers' slots'
   -- a value that was copied into a register stands there, and where it stood
   copied_to : (into : Operand) (l : Listed) (place : Place) → Holds alive values registers slots → Changes None (Some into) values registers slots values' registers' slots'
       → into.value ≡ l.value → into.place ≡ place → HasCopyIn alive place l → AtBoth (HasWord l.value) l
-  copied_to into l (slot k) holds change same at copied = absurd copied
+  copied_to into l (slot k) holds change same at copied =
+      let came = listed_from (listed_as l.value alive) l.copy copied.1.1 in (
+        subst (λ (p : Place). HasWord l.value p) (at ∙ sym copied.0) (subst (λ v. HasWord v into.place) same (change.written into refl)),
+        left l.copy came.0 (holds l.value came.0 came.1).0 came.2,
+      )
+    where
+      left : (copy : Option Register) (m : Listed) → values l.value ≡ read_at registers slots m.place → IsCopyAt copy m.place → OnCopy (HasWord l.value) copy
+      left None m held came = tt
+      left (Some r) m held came =
+          change.moved refl l.value ∙ held ∙ ap (λ p. read_at registers slots p) (sym came)
+          ∙ sym (change.places (register r) (λ e. slot_register k r (sym at ∙ e)) (safe_place (register r)))
   copied_to into l (register r) holds change same at copied =
       let s = some_of_map (with_copy (Some r)) (listed_as l.value alive) l copied in
       let word : HasWord l.value (register r) = subst (λ (p : Place). HasWord l.value p) at (subst (λ v. HasWord v into.place) same (change.written into refl)) in

@@ -16,6 +16,7 @@ pub mod Fitting
 pub mod Acting
 pub mod Plain
 pub mod Shapes
+pub mod Right
 pub mod Walking
 pub mod LinesReached
 pub mod InCode

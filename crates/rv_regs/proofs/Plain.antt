@@ -15,11 +15,11 @@ use Rattle.rv_isa.specs.Conventions.{argument, is_in}
 use Rattle.rv_isa.specs.Frames.{is_among, found}
 use Rattle.rv_isa.specs.PlacedCode.{PlacedLine, moves}
 use Rattle.rv_isa.specs.PlacedMachine.{is_label_line}
-use Rattle.rv_isa.specs.WellFormed.{AreLabelsAhead, AreDistinct, IsLineFormed, AreLinesFormed, IsWellFormed, AreWellFormed}
+use Rattle.rv_isa.specs.WellFormed.{AreLabelsAhead, AreDistinct, IsLineFormed, AreLinesFormed, IsWellFormed}
 use Rattle.rv_regs.specs.declared.slots.Loaded.{Loaded}
 use Rattle.rv_regs.specs.Alive.{values_before, alive_values, alive_values_at, held_values, PointLists, lists_before}
 use Rattle.rv_regs.specs.Listings.{first_alive}
-use Rattle.rv_regs.specs.Conditions.{value_of, without_moves, IsPassed, AllFit, IsPlacing, ArePlacings}
+use Rattle.rv_regs.specs.Conditions.{value_of, without_moves, IsPassed, AllFit, IsPlacing}
 use Rattle.rv_regs.specs.Plain.{numbered, place_in, copy_in, listing_at, stored_later, copied_in, operand_at, load_from, loaded_for, pending, alive_params, loads, stores, line_and_stores, placed_row, placed_code, placed_function}
 use Rattle.rv_regs.proofs.Lists.{all_made, without_none}
 use Rattle.rv_regs.proofs.Aliveness.{alive_exact, alive_distinct}
@@ -248,7 +248,3 @@ is_placing f formed =
           (code_fits (stores point params (placed_code f.code)) f.code formed.lines (all_hold_right [] f.code formed.tokens)
           (λ l ls e. ap (λ (o : Option (List PlacedLine)). option_map first_alive o) (found_stores l point params (placed_code f.code)) ∙ e));
     }
-
-pub are_placings : (functions : List Lines) → AreWellFormed functions → ArePlacings functions (map placed_function functions)
-are_placings [] formed = tt
-are_placings (f ∷ fs) formed = (is_placing f formed.0, are_placings fs formed.1)

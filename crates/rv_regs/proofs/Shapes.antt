@@ -1,6 +1,6 @@
--- The shape of code in the plainest places.
-use Rattle.std.proofs.Common.{◌≡◌, ◌<◌, ◌≤◌, ◌+◌, ◌*◌, ℕ, suc, List, [], ◌∷◌, Option, Some, None, Bool, true, All, refl, sym, subst, arith, map, length}
-use Rattle.std.specs.List.{AllByRecursion, filter}
+-- The shape of a function in the plainest places.
+use Rattle.std.proofs.Common.{◌≡◌, ◌<◌, ◌≤◌, ◌+◌, ◌*◌, ℕ, suc, List, [], ◌∷◌, Option, Some, None, Bool, true, All, refl, arith, map, length}
+use Rattle.std.specs.List.{filter}
 use Rattle.std.proofs.lemmas.Bool.{cond_both}
 use Rattle.std.proofs.lemmas.List.{length-map}
 use Rattle.rv_isa.specs.declared.asm.Action.{Action}
@@ -12,15 +12,14 @@ use Rattle.rv_isa.specs.declared.placed.Way.TheVariants.{Load}
 use Rattle.rv_isa.specs.AsmCode.{Line, Lines}
 use Rattle.rv_isa.specs.Conventions.{argument}
 use Rattle.rv_isa.specs.Frames.{is_among}
-use Rattle.rv_isa.specs.declared.placed.Placed.{Placed}
-use Rattle.rv_isa.specs.PlacedCode.{PlacedLine, moves, PlacedLines, placed_functions}
-use Rattle.rv_isa.specs.WellFormed.{AreLinesFormed, IsWellFormed, AreWellFormed, most_args, most_values}
-use Rattle.rv_isa.specs.Costs.{argument_moves, result_moves, move_instructions, code_length, functions_length, placed_code_length, placed_functions_length}
+use Rattle.rv_isa.specs.PlacedCode.{PlacedLine, moves}
+use Rattle.rv_isa.specs.WellFormed.{AreLinesFormed, IsWellFormed, most_args, most_values}
+use Rattle.rv_isa.specs.Costs.{argument_moves, result_moves, move_instructions, code_length, placed_code_length}
 use Rattle.rv_regs.specs.declared.slots.Loaded.{Loaded}
 use Rattle.rv_regs.specs.Alive.{alive_values, PointLists, lists_before}
 use Rattle.rv_regs.specs.Plain.{numbered, place_in, copy_in, listing_at, listings, copied_in, operand_at, first_register, result_register, load_from, loaded_for, pending, alive_params, loads, stores, line_and_stores, placed_code, placed_function}
-use Rattle.rv_regs.specs.Relation.{leading, first_args, stores_behind, FewMoves, FunctionFewMoves, AllFewMoves}
-use Rattle.rv_regs.specs.Shape.{IsBelow, IsResultBelow, AllSlotsBelow, IsPlainlyPlaced}
+use Rattle.rv_regs.specs.Relation.{leading, first_args, stores_behind, FewMoves}
+use Rattle.rv_regs.specs.Shape.{IsBelow, IsResultBelow, AllSlotsBelow, IsModest}
 use Rattle.rv_regs.proofs.Lists.{all_made, each_among}
 use Rattle.rv_regs.proofs.Aliveness.{alive_small}
 use Rattle.rv_regs.proofs.InRegisters.{AreAmong, params_among}
@@ -161,10 +160,6 @@ length_function f formed =
       length_code f.code formed.lines,
     )
 
-all_length : (functions : List Lines) → AreWellFormed functions → placed_functions_length (map placed_function functions) ≤ functions_length functions
-all_length [] formed = omega arith
-all_length (f ∷ fs) formed = omega (arith, length_function f formed.0, all_length fs formed.1)
-
 -- ---- slots
 
 below_place : (most : ℕ) (ls : List Loaded) (v : ℕ) → v < most → IsBelow most (place_in ls v)
@@ -208,35 +203,14 @@ below_code (line ∷ rest) formed =
 
 -- ---- all of it
 
-of_each : (P : PlacedLines → Type 0) (functions : List Lines) → ((f : Lines) → IsWellFormed f → P (placed_function f)) → AreWellFormed functions → AllByRecursion P (map placed_function functions)
-of_each P [] each formed = tt
-of_each P (f ∷ fs) each formed = (each f formed.0, of_each P fs each formed.1)
-
-record HasPlainShape (functions : List Lines) (placed : List PlacedLines) : Type 0 where
-  few_moves : AllFewMoves placed
-  slots : AllByRecursion (λ (function : PlacedLines). AllSlotsBelow most_values function.code) placed
-  short : placed_functions_length placed ≤ functions_length functions
-
-plain_shape : (functions : List Lines) → AreWellFormed functions → HasPlainShape functions (map placed_function functions)
-plain_shape functions formed =
+pub plain_modest : (f : Lines) → IsWellFormed f → IsModest f (placed_function f)
+plain_modest f well =
     record {
-      few_moves = of_each FunctionFewMoves functions
-          (λ f well. (
-            leading_both (lists_before f.code) (alive_params f.params (alive_values f.code)) (length f.params) f.code (few_start f.params (alive_values f.code)),
-            few_stores (lists_before f.code) (alive_params f.params (alive_values f.code)) (placed_code f.code) (few_code f.code well.lines),
-          ))
-          formed;
-      slots = of_each (λ (p : PlacedLines). AllSlotsBelow most_values p.code) functions
-          (λ f well.
-          below_stores most_values (lists_before f.code) (alive_params f.params (alive_values f.code)) (placed_code f.code) (λ v there. alive_small v f.code well.lines there)
-          (params_among f.params (alive_values f.code)) (below_code f.code well.lines))
-          formed;
-      short = all_length functions formed;
+      few_moves = (
+        leading_both (lists_before f.code) (alive_params f.params (alive_values f.code)) (length f.params) f.code (few_start f.params (alive_values f.code)),
+        few_stores (lists_before f.code) (alive_params f.params (alive_values f.code)) (placed_code f.code) (few_code f.code well.lines),
+      );
+      slots = below_stores most_values (lists_before f.code) (alive_params f.params (alive_values f.code)) (placed_code f.code) (λ v there. alive_small v f.code well.lines there)
+          (params_among f.params (alive_values f.code)) (below_code f.code well.lines);
+      short = length_function f well;
     }
-
--- a text of such functions that has no memory of its own
-pub plainly_placed : (functions : List Lines) (placed : Placed) → AreWellFormed functions → placed_functions placed ≡ map placed_function functions → placed.memory ≡ record { size = 0; stack_bottom = 0 }
-    → IsPlainlyPlaced functions placed
-plainly_placed functions placed formed is memory =
-    let shape : HasPlainShape functions (placed_functions placed) = subst (HasPlainShape functions) (sym is) (plain_shape functions formed) in
-    record { few_moves = shape.few_moves; slots = shape.slots; short = shape.short; memory = memory }

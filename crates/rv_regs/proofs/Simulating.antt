@@ -1,5 +1,5 @@
 -- The placed form's machine simulates the assembler form's: the moves that stand before a statement, and then the statement.
-use Rattle.std.proofs.Common.{◌≡◌, ◌≢◌, ◌==◌, ◌+◌, ◌-◌, ◌*◌, ◌≤◌, ◌<◌, ℕ, zero, suc, List, [], ◌∷◌, ◌++◌, Option, Some, None, false, All, slice_get, length, drop, inl, inr, refl, sym, ◌∙◌, ap, subst, arith, map, option_map}
+use Rattle.std.proofs.Common.{◌≡◌, ◌≢◌, ◌==◌, ◌+◌, ◌-◌, ◌*◌, ◌≤◌, ◌<◌, ℕ, zero, suc, List, [], ◌∷◌, ◌++◌, Option, Some, None, true, false, All, slice_get, length, drop, inl, inr, refl, sym, ◌∙◌, ap, subst, arith, map, option_map}
 use Rattle.std.proofs.Math.Seq.{drop-length}
 use Rattle.std.proofs.lemmas.List.{append-nil, length-map}
 use Rattle.std.proofs.lemmas.List.Elements.{All-head}
@@ -62,10 +62,12 @@ moved alive value way rest registers f g at stands =
     inl_refl : (next : List Listed) → IsNext next (next ∷ [])
     inl_refl next = inl refl
 
--- a copy is not in a slot
-copied_aside : (alive : List Listed) (action : Option Action) (write : Operand) (l : Listed) (k : ℕ) → IsCopied alive action (Some write) l → write.place ≡ slot k → ⊥
-copied_aside alive None write l k copied same = subst (λ (place : Place). HasCopyIn alive place l) same copied.1
-copied_aside alive (Some action) write l k copied same = copied
+-- what has a copy behind a move to a slot is not held
+copied_aside : (alive : List Listed) (action : Option Action) (write : Operand) (l : Listed) (k : ℕ) → l.held ≡ true → IsCopied alive action (Some write) l → write.place ≡ slot k → ⊥
+copied_aside alive None write l k held copied same =
+    let stored : HasCopyIn alive (slot k) l = subst (λ (place : Place). HasCopyIn alive place l) same copied.1 in
+    false≢true (sym stored.1.0 ∙ held)
+copied_aside alive (Some action) write l k held copied same = copied
 
 -- what is written is not at the slot of a token that is listed as held behind the line
 clear_of_held : (alive next : List Listed) (action : Option Action) (reads : List Operand) (write : Operand) → All (IsKept alive action reads (Some write)) next
@@ -81,7 +83,7 @@ clear_of_held alive next action reads write kept vs ks held = by write.place ref
       where
         aside : IsKept alive action reads (Some write) (token v k) → write.place ≢ slot k
         aside (inl new) same = false≢true (sym new.1.1.0)
-        aside (inr (inl copied)) same = copied_aside alive action write (token v k) k copied same
+        aside (inr (inl copied)) same = copied_aside alive action write (token v k) k refl copied same
         aside (inr (inr stays)) same = stays.1.0.1.0 same
 
     by : (place : Place) → write.place ≡ place → is_held ks place ≡ false

@@ -79,10 +79,11 @@ abbrev pub IsNew : Option Operand → Listed → Type 0
 IsNew None l = ⊥
 IsNew (Some into) l = (into.value ≡ l.value) × ((into.place ≡ l.place) × ((l.held ≡ false) × (l.copy ≡ None)))
 
--- 6b. Or, behind a move into a register, the moved value is listed as before, and this register has its copy.
+-- 6b. Or, behind a move into a register, the moved value is listed as before, and this register has its copy. Or, behind a move from
+-- its place, a register, to a slot, it is listed at the slot, and the register has its copy.
 abbrev pub HasCopyIn : List Listed → Place → Listed → Type 0
 HasCopyIn alive (register r) l = option_map (with_copy (Some r)) (listed_as l.value alive) ≡ Some l
-HasCopyIn alive (slot k) l = ⊥
+HasCopyIn alive (slot k) l = (l.place ≡ slot k) × ((l.held ≡ false) × IsSomeAnd (listed_as l.value alive) (λ before. IsCopyAt l.copy before.place))
 
 abbrev pub IsCopied : List Listed → Option Action → Option Operand → Listed → Type 0
 IsCopied alive None None l = ⊥

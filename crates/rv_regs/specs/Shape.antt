@@ -1,5 +1,5 @@
--- The shape of code in the plainest places: what the layer below rests on.
-use Rattle.std.specs.Prelude.{◌≡◌, ◌<◌, ◌≤◌, ℕ, List, Option, Some, None, All}
+-- The shape of code with places: what the layer below rests on.
+use Rattle.std.specs.Prelude.{◌≡◌, ◌<◌, ◌≤◌, ◌+◌, ◌*◌, ℕ, List, [], ◌∷◌, Option, Some, None, All, length}
 use Rattle.std.specs.List.{AllByRecursion}
 use Rattle.rv_isa.specs.declared.placed.Listed.{Listed}
 use Rattle.rv_isa.specs.declared.placed.Operand.{Operand}
@@ -8,9 +8,10 @@ use Rattle.rv_isa.specs.declared.placed.Place.TheVariants.{Register as register,
 use Rattle.rv_isa.specs.declared.placed.Placed.{Placed}
 use Rattle.rv_isa.specs.AsmCode.{Lines}
 use Rattle.rv_isa.specs.PlacedCode.{PlacedLine, does, moves, PlacedLines, placed_functions, from_of, to_of}
-use Rattle.rv_isa.specs.Costs.{functions_length, placed_functions_length}
+use Rattle.rv_isa.specs.Costs.{move_instructions, code_length, functions_length, placed_code_length, placed_functions_length}
 use Rattle.rv_isa.specs.WellFormed.{most_values}
-use Rattle.rv_regs.specs.Relation.{AllFewMoves}
+use Rattle.rv_regs.specs.Conditions.{IsPlacing}
+use Rattle.rv_regs.specs.Relation.{FunctionFewMoves, AllFewMoves}
 
 -- ---- slots
 
@@ -32,7 +33,24 @@ AllSlotsBelow most code = AllByRecursion (HasSlotsBelow most) code
 
 -- ---- all of it
 
--- a program in the plainest places, which has no memory of its own
+-- a function with places: it has few moves, its slots are below the most values, and it is short
+pub record IsModest (function : Lines) (placed : PlacedLines) : Type 0 where
+  pub few_moves : FunctionFewMoves placed
+  pub slots : AllSlotsBelow most_values placed.code
+  pub short : placed_code_length placed.code ≤ length function.params * move_instructions + code_length function.code
+
+-- one that is the function over values, besides
+pub record IsRight (function : Lines) (placed : PlacedLines) : Type 0 where
+  pub placing : IsPlacing function placed
+  pub modest : IsModest function placed
+
+abbrev pub AreRight : List Lines → List PlacedLines → Type 0
+AreRight [] [] = Unit {0}
+AreRight [] (placed ∷ more) = ⊥
+AreRight (function ∷ functions) [] = ⊥
+AreRight (function ∷ functions) (placed ∷ more) = IsRight function placed × AreRight functions more
+
+-- a program with places that take no more moves, slots and instructions than the plainest ones may, and which has no memory of its own
 pub record IsPlainlyPlaced (functions : List Lines) (placed : Placed) : Type 0 where
   pub few_moves : AllFewMoves (placed_functions placed)
   pub slots : AllByRecursion (λ (function : PlacedLines). AllSlotsBelow most_values function.code) (placed_functions placed)

@@ -1,20 +1,23 @@
-// Places for the values of a program by the plainest rule: a slot for each.
+// Places for the values of a program: a slot for each, and registers where a check finds that they are right.
 
-ghost use Rattle.std.specs.Prelude.{◌≡◌, IfOk, map};
+ghost use Rattle.std.specs.Prelude.{◌≡◌, IfOk, IfSome, map};
 ghost use Rattle.rv_isa.specs.AsmCode.{lines_of, asm_functions};
 ghost use Rattle.rv_isa.specs.PlacedCode.{placed_lines_of};
 ghost use Rattle.rv_isa.specs.WellFormed.{IsWellFormed, AreWellFormed};
 ghost use Rattle.rv_regs.specs.Plain.{placed_function};
-ghost use Rattle.rv_regs.specs.Shape.{IsPlainlyPlaced};
+ghost use Rattle.rv_regs.specs.Shape.{IsRight, AreRight, IsPlainlyPlaced};
 ghost use Rattle.rv_regs.specs.Valid.{IsValid};
 
+use crate::checking::is_placing;
 use crate::liveness::copy_of;
+use crate::local::local_function;
+use crate::modest::is_modest;
 use crate::walk::placed_lines;
 use kk_base::{NoMemory, Text};
 use rv_isa::{Asm, AsmFunction, DataSection, Placed, PlacedFunction};
 use std::alloc::Global;
 
-fn place_function(alloc: Global, function: &AsmFunction) -> Result<PlacedFunction, NoMemory>
+fn plain_function(alloc: Global, function: &AsmFunction) -> Result<PlacedFunction, NoMemory>
     requires { IsWellFormed (lines_of function.now) }
     ensures { IfOk result (λ placed. placed_lines_of placed ≡ placed_function (lines_of function.now)) }
 {
@@ -23,12 +26,37 @@ fn place_function(alloc: Global, function: &AsmFunction) -> Result<PlacedFunctio
     Ok(PlacedFunction { params, code })
 }
 
+// The function with values in registers, where that is right and modest.
+fn checked_function(
+    alloc: Global,
+    function: &AsmFunction,
+) -> Result<Option<PlacedFunction>, NoMemory>
+    ensures { IfOk result (λ found. IfSome found (λ placed. IsRight (lines_of function.now) (placed_lines_of placed))) }
+{
+    match local_function(alloc, function)? {
+        Some(placed) if is_placing(function, &placed) && is_modest(function, &placed) => {
+            Ok(Some(placed))
+        }
+        _ => Ok(None),
+    }
+}
+
+fn place_function(alloc: Global, function: &AsmFunction) -> Result<PlacedFunction, NoMemory>
+    requires { IsWellFormed (lines_of function.now) }
+    ensures { IfOk result (λ placed. IsRight (lines_of function.now) (placed_lines_of placed)) }
+{
+    match checked_function(alloc, function)? {
+        Some(placed) => Ok(placed),
+        None => plain_function(alloc, function),
+    }
+}
+
 fn place_functions(
     alloc: Global,
     functions: &[AsmFunction],
 ) -> Result<Vec<PlacedFunction>, NoMemory>
     requires { AreWellFormed (map lines_of functions.now) }
-    ensures { IfOk result (λ placed. map placed_lines_of placed.items ≡ map placed_function (map lines_of functions.now)) }
+    ensures { IfOk result (λ placed. AreRight (map lines_of functions.now) (map placed_lines_of placed.items)) }
 {
     let mut placed = Vec::new(alloc);
     for function in functions {
@@ -47,9 +75,10 @@ fn copied(alloc: Global, texts: &[Text]) -> Result<Vec<Text>, NoMemory>
     Ok(copies)
 }
 
-/// Gives the values of a program places by the plainest rule. Each value has a slot of its own. A register has a copy of it
-/// while a statement reads it, but for one that holds a token or takes it back. What a statement writes stands in a register
-/// until it is stored. The program has no memory of its own.
+/// Gives the values of a program places. Each value has a slot of its own. In a function whose lines times the square of the most
+/// values that are alive at a point are at most 50,000,000, it stays in registers from one label to the next, where no call comes
+/// between. In any other one it stands in a register only while a statement reads or writes it. A token that is held stays in its
+/// slot. The program has no memory of its own.
 pub fn assign(alloc: Global, asm: &Asm) -> Result<Placed, NoMemory>
     requires formed { AreWellFormed (asm_functions asm.now) }
     ensures valid { IfOk result (IsValid asm.now) }

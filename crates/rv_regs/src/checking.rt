@@ -102,7 +102,8 @@ fn same_words(a: &[u32], b: &[u32]) -> bool
     a == b
 }
 
-fn is_placing(function: &AsmFunction, placed: &PlacedFunction) -> bool
+/// Whether a function with places is one over values, as `IsPlacing` says. Takes no memory.
+pub fn is_placing(function: &AsmFunction, placed: &PlacedFunction) -> bool
     ensures { IsTrue result ↔ IsPlacing (lines_of function.now) (placed_lines_of placed.now) }
 {
     same_words(&placed.params, &function.params)

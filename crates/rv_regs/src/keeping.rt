@@ -8,7 +8,7 @@ ghost use Rattle.rv_regs.specs.Conditions.{OnCopy, AtBoth, IsNew, HasCopyIn, IsC
 ghost use Rattle.rv_regs.specs.Views.{point_of};
 
 use crate::actions::{same_listing, same_place};
-use crate::places::{is_read, listing};
+use crate::places::{is_copy_at, is_read, listing};
 use rv_isa::{Action, Listed, Operand, Place, Register};
 
 /// Whether the action may change the register of this number, besides giving its value. A move is no action.
@@ -71,7 +71,14 @@ fn has_copy_in(alive: &[Listed], place: Place, listed: Listed) -> bool
             Some(before) => same_listing(copied_to(Some(register), before), listed),
             None => false,
         },
-        Place::Slot(_) => false,
+        Place::Slot(_) => match listing(alive, listed.value) {
+            Some(before) => {
+                same_place(listed.place, place)
+                    && !listed.held
+                    && is_copy_at(listed.copy, before.place)
+            }
+            None => false,
+        },
     }
 }
 

@@ -1,5 +1,5 @@
-//! Places for the values of assembler code, given by the plainest rule, and checked: whatever gave values their places, a
-//! form that passes the check means what the code means.
+//! Places for the values of assembler code, and a check of them: whatever gave values their places, a form that passes the check
+//! means what the code means.
 #![tactic(auto)]
 
 mod actions;
@@ -10,10 +10,14 @@ mod keeping;
 mod keeps;
 mod lines;
 mod liveness;
+mod local;
+mod modest;
 mod needs;
 mod places;
+mod plans;
 mod reached;
 mod slots;
+mod state;
 mod walk;
 
 pub use assigning::assign;

@@ -75,7 +75,8 @@ fn point_at_label(whole: &[Item], action: Action) -> Option<&[Listed]>
     }
 }
 
-fn from(way: Way) -> Place
+/// Where a move takes its value.
+pub fn from(way: Way) -> Place
     ensures { result ≡ from_of way }
 {
     match way {
@@ -84,7 +85,8 @@ fn from(way: Way) -> Place
     }
 }
 
-fn to(way: Way) -> Place
+/// Where a move puts its value.
+pub fn to(way: Way) -> Place
     ensures { result ≡ to_of way }
 {
     match way {

@@ -47,7 +47,8 @@ pub fn is_listed(alive: &[Listed], value: u32) -> bool
     listing(alive, value).is_some()
 }
 
-fn is_copy_at(copy: Option<Register>, place: Place) -> bool
+/// Whether the copy is at the place.
+pub fn is_copy_at(copy: Option<Register>, place: Place) -> bool
     ensures { IsTrue result ↔ IsCopyAt copy place }
 {
     match copy {

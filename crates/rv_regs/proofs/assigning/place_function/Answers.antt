@@ -1,8 +1,13 @@
-use Rattle.std.proofs.Common.{◌≤◌, List, All, length, sym, subst}
-use Rattle.rv_isa.specs.declared.asm.Statement.{Statement}
-use Rattle.rv_regs.proofs.Walking.{all_few_args}
+use Rattle.std.proofs.Common.{◌≡◌, sym, subst}
+use Rattle.std.proofs.lemmas.Result.{IfOk-weaker}
+use Rattle.rv_isa.specs.AsmCode.{lines_of}
+use Rattle.rv_isa.specs.PlacedCode.{placed_lines_of}
+use Rattle.rv_regs.specs.Plain.{placed_function}
+use Rattle.rv_regs.specs.Shape.{IsRight}
+use Rattle.rv_regs.proofs.Right.{plain_right}
 use Rattle.rv_regs.proofs.assigning.place_function.Goals as goal
 
-pub placed_lines-requires-clause-few_args : goal.placed_lines-requires-clause-few_args
-placed_lines-requires-clause-few_args c =
-    subst (λ (code : List Statement). All (λ (s : Statement). length s.args.items ≤ 8) code) (sym c.deref-3.ensures.value) (all_few_args c.args.function.now.code.items c.requires.lines)
+pub returns-in-None : goal.returns-in-None
+returns-in-None c =
+    IfOk-weaker c.plain_function.result (λ placed. placed_lines_of placed ≡ placed_function (lines_of c.args.function.now)) (λ placed. IsRight (lines_of c.args.function.now) (placed_lines_of placed))
+    (λ placed is. subst (IsRight (lines_of c.args.function.now)) (sym is) (plain_right (lines_of c.args.function.now) c.requires)) c.plain_function.ensures

@@ -1,0 +1,267 @@
+// Where values stand while code is written with registers, and which registers are free.
+
+use crate::keeping::may_spoil;
+use crate::liveness::{Point, is_one_of};
+use crate::places::listing;
+use crate::plans::Plan;
+use kk_base::NoMemory;
+use rv_isa::{Action, Listed, Operand, Place, Register};
+use std::alloc::Global;
+
+/// The register that has the value: its place, or its copy.
+pub fn register_of(listed: Listed) -> Option<Register> {
+    match listed.place {
+        Place::Register(register) => Some(register),
+        Place::Slot(_) => listed.copy,
+    }
+}
+
+/// Whether the value's place is the register.
+pub fn stands_in(listed: Listed, register: Register) -> bool {
+    match listed.place {
+        Place::Register(other) => other.number == register.number,
+        Place::Slot(_) => false,
+    }
+}
+
+fn is_copied_in(listed: Listed, register: Register) -> bool {
+    match listed.copy {
+        Some(other) => other.number == register.number,
+        None => false,
+    }
+}
+
+/// Whether the register has the value.
+pub fn is_in(listed: Listed, register: Register) -> bool {
+    stands_in(listed, register) || is_copied_in(listed, register)
+}
+
+/// The listing without its copy, if this register has it.
+pub fn without_copy_in(listed: Listed, register: Register) -> Listed {
+    if is_copied_in(listed, register) {
+        Listed {
+            copy: None,
+            ..listed
+        }
+    } else {
+        listed
+    }
+}
+
+/// Whether no value has the register.
+pub fn is_free(state: &[Listed], register: Register) -> bool {
+    for listed in state {
+        if is_in(*listed, register) {
+            return false;
+        }
+    }
+    true
+}
+
+/// Whether the register has at most copies, and none of these values.
+pub fn is_to_be_had(state: &[Listed], keep: &[u32], register: Register) -> bool {
+    for listed in state {
+        let is_kept = is_one_of(listed.value, keep) && is_copied_in(*listed, register);
+        if stands_in(*listed, register) || is_kept {
+            return false;
+        }
+    }
+    true
+}
+
+/// The registers that a value may stay in, by number. Calls spoil them, and prints and reads some of them; no other action does.
+const NUMBERS: [u8; 20] = [
+    6, 7, 28, 29, 30, 31, 20, 21, 22, 23, 24, 25, 26, 27, 4, 3, 17, 16, 15, 14,
+];
+
+fn free_register(state: &[Listed]) -> Option<Register> {
+    for number in NUMBERS {
+        if let Some(register) = Register::try_new(number) {
+            if is_free(state, register) {
+                return Some(register);
+            }
+        }
+    }
+    None
+}
+
+fn register_to_be_had(state: &[Listed], keep: &[u32]) -> Option<Register> {
+    for number in NUMBERS {
+        if let Some(register) = Register::try_new(number) {
+            if is_to_be_had(state, keep, register) {
+                return Some(register);
+            }
+        }
+    }
+    None
+}
+
+/// A register for a value: a free one if there is one, else one that has at most copies, and none of these values. Where there
+/// is none, it is any.
+pub fn any_register(state: &[Listed], keep: &[u32]) -> Register {
+    match free_register(state) {
+        Some(register) => register,
+        None => match register_to_be_had(state, keep) {
+            Some(register) => register,
+            None => Register::T0,
+        },
+    }
+}
+
+/// The register of the argument of this index.
+pub fn argument_register(index: usize) -> Option<Register> {
+    if index < 8 {
+        Register::try_new(10 + index as u8)
+    } else {
+        None
+    }
+}
+
+/// A register for a value: the one where it is wanted, if that is to be had and is not spoilt before, else any.
+pub fn register_for(state: &[Listed], keep: &[u32], plan: &Plan, value: u32) -> Register {
+    if !is_one_of(value, &plan.crossing) {
+        for (index, wanted) in plan.wanted.iter().enumerate() {
+            if *wanted == value {
+                if let Some(register) = argument_register(index) {
+                    if is_to_be_had(state, keep, register) {
+                        return register;
+                    }
+                }
+            }
+        }
+    }
+    any_register(state, keep)
+}
+
+fn listed_at(state: &[Listed], point: &Point, value: u32) -> Listed {
+    let held = is_one_of(value, &point.held);
+    match listing(state, value) {
+        Some(listed) => Listed {
+            held,
+            copy: if held { None } else { listed.copy },
+            ..listed
+        },
+        None => Listed {
+            value,
+            place: Place::Slot(value),
+            held,
+            copy: None,
+        },
+    }
+}
+
+/// The listings of a point, by where values stand. One of which this does not tell is in its slot.
+pub fn state_at(alloc: Global, state: &[Listed], point: &Point) -> Result<Vec<Listed>, NoMemory> {
+    let mut next = Vec::new(alloc);
+    for value in &point.alive {
+        next.push(listed_at(state, point, *value))?;
+    }
+    Ok(next)
+}
+
+/// The listings without that of a value.
+pub fn state_without(alloc: Global, state: &[Listed], value: u32) -> Result<Vec<Listed>, NoMemory> {
+    let mut next = Vec::new(alloc);
+    for listed in state {
+        if listed.value != value {
+            next.push(*listed)?;
+        }
+    }
+    Ok(next)
+}
+
+fn unspoilt(listed: Listed, action: Action) -> Listed {
+    match listed.copy {
+        Some(register) if may_spoil(Some(action), register.number) => Listed {
+            copy: None,
+            ..listed
+        },
+        _ => listed,
+    }
+}
+
+/// The listings without the copies that the action may spoil.
+pub fn state_behind(
+    alloc: Global,
+    state: &[Listed],
+    action: Action,
+) -> Result<Vec<Listed>, NoMemory> {
+    let mut next = Vec::new(alloc);
+    for listed in state {
+        next.push(unspoilt(*listed, action))?;
+    }
+    Ok(next)
+}
+
+/// The listings without copies of these values.
+pub fn state_uncopied(
+    alloc: Global,
+    state: &[Listed],
+    values: &[u32],
+) -> Result<Vec<Listed>, NoMemory> {
+    let mut next = Vec::new(alloc);
+    for listed in state {
+        if is_one_of(listed.value, values) {
+            next.push(Listed {
+                copy: None,
+                ..*listed
+            })?;
+        } else {
+            next.push(*listed)?;
+        }
+    }
+    Ok(next)
+}
+
+/// The same listings, in memory of their own, where the register has no copy.
+pub fn state_clear_of(
+    alloc: Global,
+    state: &[Listed],
+    register: Register,
+) -> Result<Vec<Listed>, NoMemory> {
+    let mut next = Vec::new(alloc);
+    for listed in state {
+        next.push(without_copy_in(*listed, register))?;
+    }
+    Ok(next)
+}
+
+/// The same listings, in memory of their own.
+pub fn same_state(alloc: Global, state: &[Listed]) -> Result<Vec<Listed>, NoMemory> {
+    let mut next = Vec::new(alloc);
+    for listed in state {
+        next.push(*listed)?;
+    }
+    Ok(next)
+}
+
+fn operand_of(state: &[Listed], action: Action, index: usize, value: u32) -> Operand {
+    let slot = Place::Slot(value);
+    let found = match action {
+        Action::Compute(_) | Action::Branch(..) => match listing(state, value) {
+            Some(listed) => register_of(listed),
+            None => None,
+        },
+        Action::Hold | Action::Unhold => None,
+        _ => argument_register(index),
+    };
+    let place = match found {
+        Some(register) => Place::Register(register),
+        None => slot,
+    };
+    Operand { value, place }
+}
+
+/// The operands of the arguments of an action.
+pub fn operands_at(
+    alloc: Global,
+    state: &[Listed],
+    action: Action,
+    args: &[u32],
+) -> Result<Vec<Operand>, NoMemory> {
+    let mut operands = Vec::new(alloc);
+    for (index, value) in args.iter().enumerate() {
+        operands.push(operand_of(state, action, index, *value))?;
+    }
+    Ok(operands)
+}
