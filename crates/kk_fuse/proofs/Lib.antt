@@ -4,6 +4,7 @@ pub mod Spends
 pub mod Lowered
 pub mod FusedLengths
 mod Opens
+mod Pairless
 pub mod Searching
 pub mod Forms
 pub mod Functions

@@ -1,4 +1,5 @@
--- Fusion: a dup and the next drop of its variable cancel, where nothing between them reads that variable or can see its count.
+-- Fusion: a dup and the next drop of its variable cancel, if between them stand only dups and drops of other variables, readings,
+-- and forms on values that make no cell and call no function, and none names the variable.
 use Rattle.std.specs.Prelude.{◌==◌, ℕ, Bool, true, false, ◌||◌, List, ◌∷◌, map, Option, Some, None, option_map, if◌then◌else◌}
 use Rattle.kk_syntax.specs.declared.program.Form.{Form}
 use Rattle.kk_syntax.specs.declared.program.Form.TheVariants.{Construct, Call}
@@ -12,8 +13,8 @@ is_plain (Call f) arguments = false
 is_plain (Construct c) (x ∷ xs) = false
 is_plain _ _ = true
 
--- The code without its next drop of a variable. Before that drop stand only dups and drops of other variables, readings, and forms on
--- values that make no cell and call no function; and none of these names the variable.
+-- The code without its next drop of a variable, if before that drop stand only dups and drops of other variables, readings, and
+-- forms on values that make no cell and call no function, and none names the variable.
 abbrev pub without_drop : ℕ → Counted → Option Counted
 without_drop x (drop y rest) = if y == x then Some rest else option_map (drop y) (without_drop x rest)
 without_drop x (dup y rest) = if y == x then None else option_map (dup y) (without_drop x rest)

@@ -51,8 +51,8 @@ fused_frame frame =
       environment = frame.environment;
     }
 
--- The fused code is at the same form. Behind a dup, a drop, a reading or a form on values it may be less than the fused rest: the
--- drops whose dups have been cancelled are not there.
+-- The fused code is at the same form. Of what is left behind a form on values, a reading, a dup or a drop nothing is said: drops
+-- whose dups have been cancelled are not there. At each other form it is the code, fused.
 abbrev pub IsAtForm : Counted → Counted → Type 0
 IsAtForm (compute x form arguments rest) fused = (less : Counted) × (fused ≡ compute x form arguments less)
 IsAtForm (read x c fields rest) fused = (less : Counted) × (fused ≡ read x c fields less)
@@ -60,7 +60,8 @@ IsAtForm (dup x rest) fused = (less : Counted) × (fused ≡ dup x less)
 IsAtForm (drop x rest) fused = (less : Counted) × (fused ≡ drop x less)
 IsAtForm code fused = fused ≡ fuse code
 
--- a form that may stand between a dup and the drop with which it cancels
+-- a form that may stand between a dup and the drop with which it cancels: a dup, a drop, a reading, or a form on values that makes
+-- no cell and calls no function
 abbrev pub IsBetween : Counted → Type 0
 IsBetween (compute x form arguments rest) = is_plain form arguments ≡ true
 IsBetween (read x c fields rest) = Unit {0}
@@ -68,8 +69,8 @@ IsBetween (dup x rest) = Unit {0}
 IsBetween (drop x rest) = Unit {0}
 IsBetween code = ⊥
 
--- Both are at the same form, with the same environment, and the counts are equal, unless the form stands between a dup and the drop
--- with which it cancels; or both are stopped alike.
+-- Both are at the same form, with the same environment, and the counts are equal; but at a form that may stand between a dup and
+-- the drop with which it cancels nothing is said of counts, nor of what is left. Or both are stopped alike, with equal counts.
 abbrev pub AreAtOne : Heap → Heap → CountedControl → CountedControl → Type 0
 AreAtOne heap other (running code environment joins) control =
     (less : Counted) × ((control ≡ running less environment (map fused_join joins))

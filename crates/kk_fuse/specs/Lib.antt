@@ -1,3 +1,4 @@
 pub mod Fused
 pub mod FusedForms
 pub mod FusedRuns
+pub mod NoPairs

@@ -11,8 +11,9 @@ use kk_counted::{Block, Counted, CountedFun, Last, Step, copied_decisions};
 use kk_syntax::Form;
 use std::alloc::Global;
 
-/// The program in which each dup cancels with the next drop of its variable, where nothing between them reads that variable or
-/// can see its count. Its numbers are numbers of 32 bits.
+/// The program in which each dup cancels with the next drop of its variable, if between them stand only dups and drops of other
+/// variables, readings, and forms on values that make no cell and call no function, and none names the variable. Its numbers are
+/// numbers of 32 bits.
 ///
 /// The recursion is as deep as the blocks of the code. At each dup the steps behind it are looked through: it takes time as the
 /// square of the length of a body.

@@ -1,4 +1,4 @@
-ghost use Rattle.std.specs.Prelude.{ℕ, Bool, List, map};
+ghost use Rattle.std.specs.Prelude.{◌≡◌, ℕ, Bool, List, map, Some, slice_get};
 ghost use Rattle.kk_syntax.specs.PositionsOf.{PositionTable};
 ghost use Rattle.kk_counted.specs.CountBounds.{AllSpendAtMost};
 ghost use Rattle.kk_counted.specs.CountedCodes.{CountedProgram, CountedFunction};
@@ -8,6 +8,7 @@ ghost use Rattle.kk_counted.specs.Marks.{CellMarks, IsMarked};
 ghost use Rattle.kk_counted.specs.Spending.{IsSpent};
 ghost use Rattle.kk_counted.specs.TokenCosts.{OpenAtMost};
 ghost use Rattle.kk_fuse.specs.Fused.{fused_program, fused_function};
+ghost use Rattle.kk_fuse.specs.NoPairs.{HasNoPair};
 
 /// Fused code spends what the code spends that it is made of. It is a law, and does nothing.
 pub fn fused_code_is_spent()
@@ -15,8 +16,8 @@ pub fn fused_code_is_spent()
         → IsSpent positions (fused_program program) }
 {}
 
-/// Fused code is marked as the code is that it is made of, can be lowered where that can, spends no more references, and is no
-/// longer. It is a law, and does nothing.
+/// Fused code is marked as the code is that it is made of, can be lowered where that can, spends no more references, and is short
+/// where that is. It is a law, and does nothing.
 pub fn fused_code_can_be_lowered()
     ensures marked { (marks : CellMarks) (holds : ℕ → Bool) (f : ℕ) (function : CountedFunction) → IsMarked marks holds f function
         → IsMarked marks holds f (fused_function function) }
@@ -35,4 +36,10 @@ pub fn fused_code_opens_no_more()
 /// nothing.
 pub fn fused_code_opens_by_count()
     ensures { (functions : List CountedFunction) → AllOpenByCount functions → AllOpenByCount (map fused_function functions) }
+{}
+
+/// In fused code no dup is left that cancels with a drop. It is a law, and does nothing.
+pub fn fused_code_has_no_pair_left()
+    ensures { (program : CountedProgram) (f : ℕ) (function : CountedFunction)
+        → slice_get (fused_program program).functions f ≡ Some function → HasNoPair function.body }
 {}

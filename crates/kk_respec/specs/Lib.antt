@@ -1,3 +1,4 @@
 pub mod Respecialised
 pub mod RespecialisedForms
 pub mod KnownTokens
+pub mod AllKnown

@@ -1,4 +1,4 @@
-ghost use Rattle.std.specs.Prelude.{◌≡◌, Bool, true, false, ℕ, List};
+ghost use Rattle.std.specs.Prelude.{◌≡◌, Bool, true, false, ℕ, List, [], Some, slice_get};
 ghost use Rattle.kk_counted.specs.BareForms.{bare_program};
 ghost use Rattle.kk_counted.specs.CountedMachine.{NotStuck};
 ghost use Rattle.kk_counted.specs.CountedStates.{CountedState};
@@ -10,8 +10,9 @@ ghost use Rattle.kk_counted.specs.TokenLowerable.{AreTokensLowerable};
 ghost use Rattle.kk_counted.specs.TokenRuns.{IsSameRun};
 ghost use Rattle.kk_counted.specs.TokenSpending.{AreTokensSpent};
 ghost use Rattle.kk_counted.specs.TokenStates.{TokenSetting, TokenState, bare_setting};
-ghost use Rattle.kk_counted.specs.TokenedCodes.{TokenedProgram};
+ghost use Rattle.kk_counted.specs.TokenedCodes.{TokenedFunction, TokenedProgram};
 ghost use Rattle.kk_reuse.specs.Paired.{AllPaired};
+ghost use Rattle.kk_respec.specs.AllKnown.{LeavesAllKnown};
 ghost use Rattle.kk_respec.specs.Respecialised.{respecialised_program, respecialised_setting};
 
 use kk_counted::{known_fields_may_be_left, tokens_keep_runs_the_same};
@@ -25,12 +26,20 @@ pub fn respecialised_code_has_its_form()
     ensures room { (room : ℕ) (program : TokenedProgram) → HasRoom room program → HasRoom room (respecialised_program program) }
 {}
 
-/// Respecialised code can be lowered where the code can that it is made of, and is as short. It is a law, and does nothing.
+/// Respecialised code can be lowered where the code can that it is made of, and is short where that is. It is a law, and does
+/// nothing.
 pub fn respecialised_code_can_be_lowered()
     ensures lowerable { (program : TokenedProgram) → AreTokensLowerable program.functions
         → AreTokensLowerable (respecialised_program program).functions }
     ensures short { (program : TokenedProgram) → AreTokensShort program.functions
         → AreTokensShort (respecialised_program program).functions }
+{}
+
+/// Each construction of respecialised code in a token's cell leaves all fields that are known to be its arguments. It is a law, and
+/// does nothing.
+pub fn respecialised_code_leaves_all_that_is_known()
+    ensures { (program : TokenedProgram) (f : ℕ) (function : TokenedFunction)
+        → slice_get (respecialised_program program).functions f ≡ Some function → LeavesAllKnown [] function.body }
 {}
 
 /// Of respecialised code the machine that leaves the kept fields comes to the same states as the one that writes all of them, since
