@@ -1,9 +1,8 @@
 -- Runs of fused code: each state stands for one of the code that it is made of, at no higher cost.
-use Rattle.std.proofs.Common.{◌≡◌, ◌⊎◌, inl, inr, ℕ, suc, ◌+◌, ◌-◌, ◌≤◌, List, [], ◌∷◌, map, Some, arith, refl, sym, ap, ◌∙◌, subst, zero-mul, append-nil}
+use Rattle.std.proofs.Common.{◌≡◌, ◌⊎◌, inl, inr, ℕ, suc, ◌+◌, ◌-◌, ◌≤◌, ◌<◌, List, [], ◌∷◌, map, Some, arith, refl, sym, ap, ◌∙◌, subst, zero-mul, append-nil}
 use Rattle.kk_base.specs.Machines.{Machine, state}
 use Rattle.kk_base.specs.Simulations.{Reaches, Simulates}
-use Rattle.kk_base.proofs.Machines.{state-add}
-use Rattle.kk_base.proofs.Simulations.{ended_reaches}
+use Rattle.kk_base.proofs.Machines.{state-add, state_ended, trace_ended}
 use Rattle.kk_syntax.specs.PositionsOf.{PositionTable}
 use Rattle.kk_source.specs.State.{Environment, End}
 use Rattle.kk_source.specs.Notes.{Note}
@@ -84,10 +83,11 @@ module _ (positions : PositionTable) (setting : CountedSetting) (most room : ℕ
   abbrev pub Passing : CountedState → Type 0
   Passing t = (n : ℕ) × AreFusedStates (state upper n first).machine t.machine
 
-  -- the fused code does what the step of the code does
-  abbrev Goes : ℕ → ℕ → CountedState → CountedState → Type 0
+  -- the fused code does what the step of the code does, in one step or none; one is taken where the states stand for each other
+  abbrev pub Goes : ℕ → ℕ → CountedState → CountedState → Type 0
   Goes credit idle s t =
-      Reaches lower Related Passing (suc most) (upper.weight s + credit) 1 idle (upper.step s).0 (upper.step s).1 t
+      (one : Reaches lower Related Passing (suc most) (upper.weight s + credit) 1 idle (upper.step s).0 (upper.step s).1 t)
+      × ((k : ℕ) → k < one.steps → (k ≡ 0) × AreFusedStates s.machine t.machine)
 
   passes : (s t : CountedState) → IsReached s → AreFusedStates s.machine t.machine → Passing t
   passes s t r states = (r.at, subst (λ (s : CountedState). AreFusedStates s.machine t.machine) r.is states)
@@ -103,25 +103,27 @@ module _ (positions : PositionTable) (setting : CountedSetting) (most room : ℕ
         → AreAlike (Follows positions setting) (counted_code_step setting code environment joins s.machine)
         (counted_code_step (fused_setting setting) less environment (map fused_join joins) t.machine)
         → Goes credit idle s t
-    both_do frames cells form heaps alike =
-        record {
-          steps = 1;
-          credit_after = credit;
-          idle_after = most;
-          paid = omega (arith, costs);
-          moves = omega arith;
-          events_are = append-nil (lower.step t).0 ∙ told.notes;
-          passes = λ k under.
-              let none : k ≡ 0 = omega (arith, under) in
-              subst (λ (n : ℕ). Passing (state lower n t)) (sym none) (passes s t reached stand);
-          related =
-              record {
-                reached = next_reached s reached;
-                follows = told.related;
-                input_is = told.input;
-                left = few_left most (upper.step s).1.machine.control (is_few (upper.step s).1 (next_reached s reached)).0;
-              };
-        }
+    both_do frames cells form heaps alike = (
+      record {
+        steps = 1;
+        credit_after = credit;
+        idle_after = most;
+        paid = omega (arith, costs);
+        moves = omega arith;
+        events_are = append-nil (lower.step t).0 ∙ told.notes;
+        passes = λ k under.
+            let none : k ≡ 0 = omega (arith, under) in
+            subst (λ (n : ℕ). Passing (state lower n t)) (sym none) (passes s t reached stand);
+        related =
+            record {
+              reached = next_reached s reached;
+              follows = told.related;
+              input_is = told.input;
+              left = few_left most (upper.step s).1.machine.control (is_few (upper.step s).1 (next_reached s reached)).0;
+            };
+      },
+      λ k under. (omega (arith, under), stand),
+    )
       where
         costs : lower.weight t ≡ upper.weight s
         costs =
@@ -157,27 +159,29 @@ module _ (positions : PositionTable) (setting : CountedSetting) (most room : ℕ
 
     alone : IsLeft idle s.machine.control → IsIdle positions setting code environment joins s.machine t.machine
         → Goes credit idle s t
-    alone left goes_on =
-        record {
-          steps = 0;
-          credit_after = credit;
-          idle_after = idle - 1;
-          paid = omega arith;
-          moves = omega (arith, zero-mul (suc most), long, one_step goes_on.rest);
-          events_are = sym (ap (λ (told : List Note × CountedState). told.0) next);
-          passes = λ k under. absurd (omega (arith, under));
-          related =
-              record {
-                reached = next_reached s reached;
-                follows =
-                    subst (λ (told : List Note × CountedState). Follows positions setting told.1.machine t.machine) (sym next)
-                    goes_on.follows;
-                input_is = input_is ∙ sym (ap (λ (told : List Note × CountedState). told.1.input) next);
-                left =
-                    subst (λ (told : List Note × CountedState). IsLeft (idle - 1) told.1.machine.control) (sym next)
-                    (subst (IsLeft (idle - 1)) (sym goes_on.at) (omega (arith, long, one_step goes_on.rest)));
-              };
-        }
+    alone left goes_on = (
+      record {
+        steps = 0;
+        credit_after = credit;
+        idle_after = idle - 1;
+        paid = omega arith;
+        moves = omega (arith, zero-mul (suc most), long, one_step goes_on.rest);
+        events_are = sym (ap (λ (told : List Note × CountedState). told.0) next);
+        passes = λ k under. absurd (omega (arith, under));
+        related =
+            record {
+              reached = next_reached s reached;
+              follows =
+                  subst (λ (told : List Note × CountedState). Follows positions setting told.1.machine t.machine) (sym next)
+                  goes_on.follows;
+              input_is = input_is ∙ sym (ap (λ (told : List Note × CountedState). told.1.input) next);
+              left =
+                  subst (λ (told : List Note × CountedState). IsLeft (idle - 1) told.1.machine.control) (sym next)
+                  (subst (IsLeft (idle - 1)) (sym goes_on.at) (omega (arith, long, one_step goes_on.rest)));
+            };
+      },
+      λ k under. absurd (omega (arith, under)),
+    )
       where
         next : upper.step s ≡ ([], record { machine = goes_on.to; input = s.input })
         next =
@@ -247,18 +251,40 @@ module _ (positions : PositionTable) (setting : CountedSetting) (most room : ℕ
 
     ended : (end : End) → s.machine.control ≡ stopped end
         → Goes credit idle s t
-    ended end at =
-        ended_reaches upper lower Related Passing (suc most) credit idle s t end (omega arith)
-        (record { reached = reached; follows = inl same; input_is = input_is; left = left })
-        (ap counted_end_at at) (ap counted_end_at (control_is ∙ ap fused_control at))
-        (passes s t reached
-        (record {
-          frames = frames_are;
-          cells = ap cells_of heap_is;
-          control =
-              subst (λ control. AreAtOne s.machine.heap t.machine.heap control t.machine.control) (sym at)
-              (control_is ∙ ap fused_control at, heap_is);
-        }))
+    ended end at = (
+      record {
+        steps = 1;
+        credit_after = credit;
+        idle_after = idle;
+        paid = omega (arith, lower.weightless t end below);
+        moves = omega arith;
+        events_are = trace_ended lower 1 t end below ∙ sym (ap (λ (next : List Note × CountedState). next.0) stays);
+        passes = λ k under.
+            let none : k ≡ 0 = omega (arith, under) in
+            subst (λ (n : ℕ). Passing (state lower n t)) (sym none) (passes s t reached stand);
+        related =
+            subst (Related credit idle (upper.step s).1) (sym (state_ended lower 1 t end below))
+            (subst (λ (next : List Note × CountedState). Related credit idle next.1 t) (sym stays)
+            (record { reached = reached; follows = inl same; input_is = input_is; left = left }));
+      },
+      λ k under. (omega (arith, under), stand),
+    )
+      where
+        below : lower.ending t ≡ Some end
+        below = ap counted_end_at (control_is ∙ ap fused_control at)
+
+        stays : upper.step s ≡ ([], s)
+        stays = upper.stays s end (ap counted_end_at at)
+
+        stand : AreFusedStates s.machine t.machine
+        stand =
+            record {
+              frames = frames_are;
+              cells = ap cells_of heap_is;
+              control =
+                  subst (λ control. AreAtOne s.machine.heap t.machine.heap control t.machine.control) (sym at)
+                  (control_is ∙ ap fused_control at, heap_is);
+            }
 
     same_by : (control : CountedControl) → s.machine.control ≡ control → NotStuck control
         → Goes credit idle s t
@@ -292,7 +318,7 @@ module _ (positions : PositionTable) (setting : CountedSetting) (most room : ℕ
 
   -- ---- the simulation
 
-  by_follows : (credit idle : ℕ) (s t : CountedState) → Related credit idle s t → Follows positions setting s.machine t.machine
+  pub by_follows : (credit idle : ℕ) (s t : CountedState) → Related credit idle s t → Follows positions setting s.machine t.machine
       → Goes credit idle s t
   by_follows credit idle s t related (inl same) =
       same_by credit idle s t related.reached related.input_is related.left same s.machine.control refl (is_going s related.reached)
@@ -312,6 +338,6 @@ module _ (positions : PositionTable) (setting : CountedSetting) (most room : ℕ
   pub simulates : Simulates upper lower Related Passing (suc most)
   simulates =
       record {
-        by = λ credit idle s t related. by_follows credit idle s t related related.follows;
+        by = λ credit idle s t related. (by_follows credit idle s t related related.follows).0;
         alike = λ credit idle s t related. alike s t related.follows;
       }

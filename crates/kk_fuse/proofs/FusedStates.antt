@@ -1,13 +1,14 @@
 -- What is true of each state of the code's run is true of each state of that of the fused code.
-use Rattle.std.proofs.Common.{◌≡◌, ◌⊎◌, inl, inr, ℕ, zero, suc, ◌+◌, ◌-◌, ◌*◌, ◌≤◌, List, [], map, arith, refl, sym, ap, ◌∙◌, subst}
+use Rattle.std.proofs.Common.{◌≡◌, ◌⊎◌, inl, inr, ℕ, zero, suc, ◌+◌, ◌-◌, ◌*◌, ◌≤◌, List, [], map, arith, refl, sym, ap, ◌∙◌, subst, ◌++◌}
 use Rattle.std.specs.Prelude.{slice_index_or, option_map}
 use Rattle.std.proofs.lemmas.Option.{get_or_from_slice_get, slice_get-map}
-use Rattle.kk_base.specs.Machines.{state}
+use Rattle.kk_base.specs.Machines.{state, trace}
 use Rattle.kk_base.specs.Agreements.{Agree, IsFollowedBy}
-use Rattle.kk_base.proofs.Simulations.{simulates_agree, simulates_passing}
+use Rattle.kk_base.proofs.Simulations.{simulates_agree}
 use Rattle.kk_syntax.specs.declared.program.Form.{Form}
 use Rattle.kk_syntax.specs.declared.program.Form.TheVariants.{Number, Unit as Nothing, ReadByte, PrintText, Unary, Binary, Print, Construct, Call}
 use Rattle.kk_syntax.specs.PositionsOf.{PositionTable}
+use Rattle.kk_source.specs.Notes.{Note}
 use Rattle.kk_source.specs.State.{Store, Environment, End, ended}
 use Rattle.kk_counted.specs.CountedCodes.{Counted, give, tail_call, branch, case, compute, inside, read, open_cell, if_unique, dup, drop, CountedFunction}
 use Rattle.kk_counted.specs.CountedCosts.{roomy_cost}
@@ -25,6 +26,7 @@ use Rattle.kk_fuse.proofs.Steps.{fused_configuration, arm_same}
 use Rattle.kk_fuse.proofs.Few.{start_few}
 use Rattle.kk_fuse.proofs.Simulating.{one_step}
 use Rattle.kk_fuse.proofs.Following.{Related, Passing, simulates}
+use Rattle.kk_fuse.proofs.Told.{IsTold, told_alike}
 
 -- ---- by the form at which the code is
 
@@ -228,6 +230,14 @@ same_states : (weight other : CountedState → ℕ) (setting : CountedSetting) (
 same_states weight other setting zero s = refl
 same_states weight other setting (suc n) s = same_states weight other setting n ((counted_machine weight setting).step s).1
 
+-- so are the notes
+same_traces : (weight other : CountedState → ℕ) (setting : CountedSetting) (n : ℕ) (s : CountedState)
+    → trace (counted_machine weight setting) n s ≡ trace (counted_machine other setting) n s
+same_traces weight other setting zero s = refl
+same_traces weight other setting (suc n) s =
+    ap (λ (notes : List Note). ((counted_machine weight setting).step s).0 ++ notes)
+    (same_traces weight other setting n ((counted_machine weight setting).step s).1)
+
 module _ (positions : PositionTable) (setting : CountedSetting) (most : ℕ) (input : List ℕ)
     (spent : IsSpent positions setting.program) (fits : (weight : CountedState → ℕ) → FitsAlways weight setting input)
     (shape : (weight : CountedState → ℕ) → HasShapeAlways weight setting input) (short : HasFewSteps most setting.program) where
@@ -267,12 +277,11 @@ module _ (positions : PositionTable) (setting : CountedSetting) (most : ℕ) (in
           left = omega (arith, main_short, one_step main_body);
         }
 
-    passing : (n : ℕ) → PassingBy (state (counted_machine (roomy_cost room) (fused_setting setting)) n fused_first)
-    passing n =
-        simulates_passing (counted_machine (roomy_cost room) setting) (counted_machine (roomy_cost room) (fused_setting setting))
-        RelatedBy PassingBy (suc most)
-        (simulates positions setting most room input spent (fits (roomy_cost room)) (shape (roomy_cost room)) short)
-        0 (most - 1) (counted_first_state setting input) fused_first starts n
+    told : (n : ℕ) → IsTold positions setting most room input spent (fits (roomy_cost room)) (shape (roomy_cost room)) short
+        (counted_first_state setting input) fused_first n
+    told n =
+        told_alike positions setting most room input spent (fits (roomy_cost room)) (shape (roomy_cost room)) short
+        (n * suc most + (most - 1) + 1) n 0 (most - 1) (counted_first_state setting input) fused_first starts (omega arith)
 
     agree : Agree (counted_machine (roomy_cost room) setting) (counted_machine (roomy_cost room) (fused_setting setting)) 0
         (λ m. m * suc most + (most - 1) + 1) (counted_first_state setting input) fused_first
@@ -304,16 +313,25 @@ module _ (positions : PositionTable) (setting : CountedSetting) (most : ℕ) (in
   states : (weight : CountedState → ℕ) (n : ℕ) → (m : ℕ)
       × AreFusedStates (counted_after weight setting input m) (counted_after weight (fused_setting setting) input n)
   states weight n =
-      let one = passing 0 n in (
-        one.0,
+      let one = told 0 n in (
+        one.at,
         subst
             (λ (s : CountedState). AreFusedStates s.machine (counted_after weight (fused_setting setting) input n))
-            (same_states (roomy_cost 0) weight setting one.0 (counted_first_state setting input))
+            (same_states (roomy_cost 0) weight setting one.at (counted_first_state setting input))
             (subst
             (λ (t : CountedState). AreFusedStates
-            (state (counted_machine (roomy_cost 0) setting) one.0 (counted_first_state setting input)).machine t.machine)
-            (same_states (roomy_cost 0) weight (fused_setting setting) n fused_first) one.1),
+            (state (counted_machine (roomy_cost 0) setting) one.at (counted_first_state setting input)).machine t.machine)
+            (same_states (roomy_cost 0) weight (fused_setting setting) n fused_first) one.stands),
       )
+
+  -- with the same notes
+  notes : (weight : CountedState → ℕ) (n : ℕ) → trace (counted_machine weight (fused_setting setting)) n fused_first
+      ≡ trace (counted_machine weight setting) (states weight n).0 (counted_first_state setting input)
+  unfolding states told
+  notes weight n =
+      let one = told 0 n in
+      same_traces weight (roomy_cost 0) (fused_setting setting) n fused_first
+      ∙ (one.told ∙ same_traces (roomy_cost 0) weight setting one.at (counted_first_state setting input))
 
   -- with the same cells
   stores : (weight : CountedState → ℕ) (n : ℕ)
@@ -361,18 +379,23 @@ module _ (positions : PositionTable) (setting : CountedSetting) (most : ℕ) (in
       (counted_after weight (fused_setting setting) input n).control ended one.1.control at in
       ap busy both.1 ∙ clean weight one.0 both.0
 
-  -- a test of a count is one of the code, with the same counts
+  -- a test of a count is one of the code, with the same counts and behind the same notes
   pub fused_tests : (weight : CountedState → ℕ) (n x c : ℕ) (fields used : List ℕ) (rest : Counted) (environment : Environment)
       (joins : List CountedJoin)
       → (counted_after weight (fused_setting setting) input n).control ≡ running (if_unique x c fields used rest) environment joins
-      → (m : ℕ) × IsSameTest (counted_after weight setting input m).heap (counted_after weight (fused_setting setting) input n).heap
-      (counted_after weight setting input m).control x c fields used environment
+      → (m : ℕ) × ((trace (counted_machine weight (fused_setting setting)) n (counted_first_state (fused_setting setting) input)
+      ≡ trace (counted_machine weight setting) m (counted_first_state setting input))
+      × IsSameTest (counted_after weight setting input m).heap (counted_after weight (fused_setting setting) input n).heap
+      (counted_after weight setting input m).control x c fields used environment)
   fused_tests weight n x c fields used rest environment joins at =
       let one = states weight n in (
         one.0,
-        control_tests (counted_after weight setting input one.0).heap (counted_after weight (fused_setting setting) input n).heap
-            (counted_after weight setting input one.0).control (counted_after weight (fused_setting setting) input n).control x c
-            fields used rest environment joins one.1.control at,
+        (
+          notes weight n,
+          control_tests (counted_after weight setting input one.0).heap (counted_after weight (fused_setting setting) input n).heap
+              (counted_after weight setting input one.0).control (counted_after weight (fused_setting setting) input n).control x c
+              fields used rest environment joins one.1.control at,
+        ),
       )
 
   -- values are of the kinds that are asked for

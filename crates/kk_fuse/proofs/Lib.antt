@@ -16,5 +16,6 @@ pub mod Between
 pub mod Few
 pub mod Simulating
 pub mod Following
+pub mod Told
 pub mod FusedStates
 pub mod Short

@@ -1,10 +1,12 @@
 ghost use Rattle.std.specs.Prelude.{◌≡◌, ℕ, List};
+ghost use Rattle.kk_base.specs.Machines.{trace};
 ghost use Rattle.kk_syntax.specs.PositionsOf.{PositionTable};
 ghost use Rattle.kk_syntax.specs.Programs.{ConstructorTree};
 ghost use Rattle.kk_source.specs.State.{Environment, ended};
 ghost use Rattle.kk_core.specs.Kinds.{MakeOneType, field_count};
 ghost use Rattle.kk_counted.specs.CountedCodes.{Counted, CountedProgram, if_unique};
-ghost use Rattle.kk_counted.specs.CountedStates.{CountedSetting, CountedJoin, CountedState, running, stopped};
+ghost use Rattle.kk_counted.specs.CountedMachine.{counted_machine};
+ghost use Rattle.kk_counted.specs.CountedStates.{CountedSetting, CountedJoin, CountedState, counted_first_state, running, stopped};
 ghost use Rattle.kk_counted.specs.Heaps.{busy};
 ghost use Rattle.kk_counted.specs.Keeping.{counted_after, FitsAlways, HasShapeAlways};
 ghost use Rattle.kk_counted.specs.Kinds.{HasKindsAlways};
@@ -15,9 +17,9 @@ ghost use Rattle.kk_fuse.specs.FusedRuns.{HasFewSteps, IsSameTest, IsFusedRun};
 
 /// Fused code tells the same notes as the code that it is made of, at no higher cost, with any room; and it ends where that ends,
 /// and alike. In each state of its run it stands for a state of that code. Where that leaves no cell at its end, neither does fused
-/// code; and where it tests a count, that code does too, with the same counts. The code must spend each reference that it owns,
-/// operators and prints must take values without cells, and it must have the shape of a typed program. It is a law, and does
-/// nothing.
+/// code; and where it tests a count, that code does too, with the same counts and behind the same notes. The code must spend each
+/// reference that it owns, operators and prints must take values without cells, and it must have the shape of a typed program. It
+/// is a law, and does nothing.
 pub fn fused_code_runs_the_same()
     ensures run { (positions : PositionTable) (setting : CountedSetting) (most : ℕ) (input : List ℕ)
         → IsSpent positions setting.program
@@ -44,9 +46,11 @@ pub fn fused_code_runs_the_same()
         (joins : List CountedJoin)
         → (counted_after weight (fused_setting setting) input n).control
         ≡ running (if_unique x c fields used rest) environment joins
-        → (m : ℕ) × IsSameTest (counted_after weight setting input m).heap
+        → (m : ℕ) × ((trace (counted_machine weight (fused_setting setting)) n (counted_first_state (fused_setting setting) input)
+        ≡ trace (counted_machine weight setting) m (counted_first_state setting input))
+        × IsSameTest (counted_after weight setting input m).heap
         (counted_after weight (fused_setting setting) input n).heap (counted_after weight setting input m).control
-        x c fields used environment }
+        x c fields used environment) }
 {}
 
 /// In each state of its run fused code takes values of the kinds that it asks for, where the code does that it is made of. It is a
