@@ -2,7 +2,7 @@
 
 use crate::layers::{ARITHMETIC, REVERSE};
 use kk_base::NoMemory;
-use kk_counted::{Tokened, TokenedBlock, TokenedFun, TokenedLast, TokenedStep};
+use kk_counted::{Tokened, TokenedBlock, TokenedLast, TokenedStep};
 use kk_front::{accepted_programs_are_typed, read};
 use kk_middle::compile;
 use std::alloc::Global;
@@ -28,33 +28,116 @@ fn fills(block: &TokenedBlock) -> bool {
     false
 }
 
-/// Whether an arm of a function's match has one.
-fn an_arm_fills(function: &TokenedFun) -> bool {
-    if let TokenedLast::Case(_, _, arms) = &function.body.last {
-        for arm in arms {
-            if fills(arm) {
-                return true;
-            }
+/// Whether a block opens a cell by its count, and drops nothing.
+fn opens_and_drops_nothing(block: &TokenedBlock) -> bool {
+    let mut opens = false;
+    for step in &block.steps {
+        match step {
+            TokenedStep::Drop { .. } => return false,
+            TokenedStep::IfUnique { .. } => opens = true,
+            _ => {}
+        }
+    }
+    opens
+}
+
+/// Whether the first construction of a block in a token's cell leaves its second field alone.
+fn leaves_the_second_field(block: &TokenedBlock) -> bool {
+    for step in &block.steps {
+        if let TokenedStep::Fill { kept, .. } = step {
+            return kept.len() == 1 && kept.first() == Some(&1);
         }
     }
     false
 }
 
-fn some_arm_fills(program: &Tokened) -> bool {
+/// What some arm of the match with which a function ends does.
+#[derive(Drop)]
+struct Arms {
+    fill: bool,
+    open_and_drop_nothing: bool,
+    leave_the_second_field: bool,
+}
+
+fn arms_of(program: &Tokened) -> Arms {
+    let mut arms = Arms {
+        fill: false,
+        open_and_drop_nothing: false,
+        leave_the_second_field: false,
+    };
     for function in &program.functions {
-        if an_arm_fills(function) {
-            return true;
+        if let TokenedLast::Case(_, _, bodies) = &function.body.last {
+            for body in bodies {
+                arms.fill |= fills(body);
+                arms.open_and_drop_nothing |= opens_and_drops_nothing(body);
+                arms.leave_the_second_field |= leaves_the_second_field(body);
+            }
         }
     }
-    false
+    arms
 }
 
 /// `rev` makes its cell in the one that its row has opened. A program without cells has no such construction.
 #[test]
 fn a_list_is_reversed_in_its_own_cells(rt: HostRuntime) -> Result<(), NoMemory> {
     let reverse = compiled(rt.alloc(), REVERSE)?;
-    assert!(rt; matches!(&reverse, Some(program) if some_arm_fills(program)));
+    assert!(rt; matches!(&reverse, Some(program) if arms_of(program).fill));
     let arithmetic = compiled(rt.alloc(), ARITHMETIC)?;
-    assert!(rt; matches!(&arithmetic, Some(program) if !some_arm_fills(program)));
+    assert!(rt; matches!(&arithmetic, Some(program) if !arms_of(program).fill));
+    Ok(())
+}
+
+const INCREMENT: &str = "type list<a> { Nil; Cons(head: a, tail: list<a>) }
+fun build(n: int32): list<int32>
+  if n == 0 then Nil else Cons(n, build(n - 1))
+fun inc(xs: list<int32>): list<int32>
+  match xs
+    Nil -> Nil
+    Cons(x, xx) -> Cons(x + 1, inc(xx))
+fun main()
+  match inc(build(3))
+    Cons(x, _) -> println(x)
+    Nil -> println(0)
+";
+
+const KEEP: &str = "type two { P(a: int32, b: int32) }
+fun keep(p: two): two { match p { P(x, y) -> { val x = 9; P(x, y) } } }
+fun main() { match keep(P(1, 2)) { P(a, b) -> println(a * 10 + b) } }
+";
+
+const LEAVES_MATCH: &str = "type box { Box(v: int32) }
+fun j(b: box): box { val c = b; val t = match c { Box(v) -> v }; Box(t) }
+fun main() { match j(Box(1)) { Box(r) -> println(r) } }
+";
+
+/// The row of `inc` opens its cell by the count, and drops nothing besides.
+#[test]
+fn a_row_opens_its_cell_once(rt: HostRuntime) -> Result<(), NoMemory> {
+    let increment = compiled(rt.alloc(), INCREMENT)?;
+    assert!(rt; matches!(&increment, Some(program) if arms_of(program).open_and_drop_nothing));
+    Ok(())
+}
+
+/// `keep` writes the first field of the cell that it uses again, and leaves the second.
+#[test]
+fn a_field_that_stays_is_left(rt: HostRuntime) -> Result<(), NoMemory> {
+    let keep = compiled(rt.alloc(), KEEP)?;
+    assert!(rt; matches!(&keep, Some(program) if arms_of(program).leave_the_second_field));
+    Ok(())
+}
+
+/// `j` makes its cell, behind the match, in the one that the match has opened.
+#[test]
+fn a_cell_leaves_a_match(rt: HostRuntime) -> Result<(), NoMemory> {
+    let leaves = compiled(rt.alloc(), LEAVES_MATCH)?;
+    let Some(program) = leaves else {
+        assert!(rt; false);
+        return Ok(());
+    };
+    let mut filled = false;
+    for function in &program.functions {
+        filled = filled || fills(&function.body);
+    }
+    assert!(rt; filled);
     Ok(())
 }
