@@ -7,8 +7,8 @@ returns c = λ layout marks code constants functions lowered lowerable main_firs
   own_lines layout marks code constants functions lowered lowerable,
   λ room fits_room pool depth first input aligned some bytes fits. (
     comes_to_its_lines layout marks code constants functions lowered lowerable main_first room fits_room pool depth first input
-    aligned some bytes fits,
+        aligned some bytes fits,
     follows_each_state layout marks code constants functions lowered lowerable main_first room fits_room pool depth first input
-    aligned some bytes fits,
+        aligned some bytes fits,
   ),
 )
