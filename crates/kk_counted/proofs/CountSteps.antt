@@ -10,13 +10,13 @@ use Rattle.kk_counted.proofs.Easing.{EasedTo, eased_same, eased_dup, eased_drop,
 use Rattle.kk_counted.proofs.SoundRuns.{performed_kept}
 use Rattle.kk_counted.proofs.SoundSteps.{LeadsTo}
 use Rattle.kk_counted.specs.CountBounds.{SpendsAtMost, SpendAtMost, AllSpendAtMost, JoinsSpend, RestSpends, FramesSpend, ControlSpends, IsBounded}
-use Rattle.kk_counted.specs.CountedCodes.{Counted, give, tail_call, branch, case, compute, inside, read, open_cell, if_unique, dup, drop, CountedArms, no_arm, arm, CountedFunction}
+use Rattle.kk_counted.specs.CountedCodes.{Counted, give, tail_call, case, compute, inside, read, open_cell, if_unique, dup, drop, CountedArms, no_arm, arm, CountedFunction}
 use Rattle.kk_counted.specs.CountedMachine.{at_counted, bound_then, at_end, at_stuck, with_heap, arm_at, case_step, give_step, in_code, tail_step, Named, used_values, other_values, opened_heap, unique_heap, open_step, call_step, form_step, counted_code_step, counted_step_at, counted_step_of, counted_step, counted_ending_of, counted_machine}
 use Rattle.kk_counted.specs.CountedStates.{CountedSetting, CountedJoin, CountedFrame, CountedControl, running, stopped, stuck, CountedConfiguration, CountedState, no_function, counted_start, counted_first_state}
 use Rattle.kk_counted.specs.Heaps.{Heap, count_at, busy, dup_value, drop_value}
 use Rattle.kk_counted.specs.Keeping.{counted_after}
 use Rattle.kk_source.specs.Actions.{print_step}
-use Rattle.kk_source.specs.FormEffects.{is_true, unary_result, binary_result, integer_of, argument, piece_of, byte_value}
+use Rattle.kk_source.specs.FormEffects.{unary_result, binary_result, integer_of, argument, piece_of, byte_value}
 use Rattle.kk_source.specs.Live.{value_of}
 use Rattle.kk_source.specs.Matching.{and_then}
 use Rattle.kk_source.specs.State.{Value, integer, unit, constant, place, Environment, End, heap_full, stack_full}
@@ -171,11 +171,6 @@ module _ (setting : CountedSetting) (most : ℕ) (all : AllSpendAtMost setting.p
         (omega (arith, r.1.1.0)) frames (omega arith)
     code_bounded (tail_call f arguments) r = tail_bounded f (map (value_of environment) arguments)
         (slice_get setting.program.functions f) refl
-    code_bounded (branch x positive negative) r = by_test (is_true (value_of environment x))
-      where
-        by_test : (t : Bool) → Bounded (at_counted (if t then positive else negative) environment joins from)
-        by_test true = goes_on positive environment joins (r.0, (r.1.0, (r.1.1.0, (r.1.1.1.0.0, r.1.1.1.1))))
-        by_test false = goes_on negative environment joins (r.0, (r.1.0, (r.1.1.0, (r.1.1.1.0.1, r.1.1.1.1))))
     code_bounded (case x decisions arms) r =
         case_bounded r.0 r.1.0 _ (row_spends r.0 arms (chosen _ (value_of environment x) decisions) r.1.1.1.0.1) r.1.1.0 r.1.1.1.1
     code_bounded (compute x form arguments rest) r =

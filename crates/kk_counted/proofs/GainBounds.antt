@@ -6,7 +6,7 @@ use Rattle.kk_counted.proofs.Evenness.{total_append}
 use Rattle.kk_counted.proofs.ListLengths.{total_ones, filter_few, numbers_length}
 use Rattle.kk_counted.proofs.OwnedBounds.{many, few_at}
 use Rattle.kk_counted.specs.CountBounds.{HasAnArm, SpendsAtMost, SpendAtMost, EachHasAnArm, AllHaveAnArm, gains, gains_in}
-use Rattle.kk_counted.specs.CountedCodes.{Counted, give, tail_call, branch, case, compute, inside, read, open_cell, if_unique, dup, drop, CountedArms, no_arm, arm, CountedFunction}
+use Rattle.kk_counted.specs.CountedCodes.{Counted, give, tail_call, case, compute, inside, read, open_cell, if_unique, dup, drop, CountedArms, no_arm, arm, CountedFunction}
 use Rattle.kk_counted.specs.Spending.{at_positions, numbers_from, left_by, is_owned, used_by, Spends, SpendsAll, SpendsParameters}
 use Rattle.kk_syntax.specs.PositionsOf.{PositionTable}
 use Rattle.kk_syntax.specs.Shapes.{is_among}
@@ -17,8 +17,6 @@ mutual
   pub more_spent : (code : Counted) (n m : ℕ) → n ≤ m → SpendsAtMost code n → SpendsAtMost code m
   more_spent (give x) n m less small = omega (arith, less, small)
   more_spent (tail_call f arguments) n m less small = omega (arith, less, small)
-  more_spent (branch x positive negative) n m less small =
-      (more_spent positive n m less small.0, more_spent negative n m less small.1)
   more_spent (case x decisions arms) n m less small = (small.0, more_spent_arms arms n m less small.1)
   more_spent (compute x form arguments rest) n m less small = (small.0, (omega (arith, less, small.1.0), small.1.1))
   more_spent (inside x block rest) n m less small = (small.0, (small.1.0, (omega (arith, less, small.1.1.0), small.1.1.1)))
@@ -65,17 +63,6 @@ module _ (positions : PositionTable) (functions : List CountedFunction) where
     spends_gains lent readable left owned (give x) s has = (1, (omega (arith, s (λ x. 1)), omega arith))
     spends_gains lent readable left owned (tail_call f arguments) s has =
         (length arguments, (omega (arith, ap (λ l. many (left_by l)) s.0), omega arith))
-    spends_gains lent readable left owned (branch x positive negative) s has =
-        let one = spends_gains lent [] left s.0 positive s.1.1.1.0 has.0 in
-        let two = spends_gains lent [] left s.0 negative s.1.1.1.1 has.1 in
-        let g = greater one.0 two.0 in (
-          g.n,
-          (
-            greater_within one.0 two.0 (many (left_by left)) (many owned + (gains positive + gains negative)) g
-                (omega (arith, one.1.0, s.1.0 (λ x. 1))) (omega (arith, two.1.0, s.1.0 (λ x. 1))),
-            (more_spent positive one.0 g.n g.one one.1.1, more_spent negative two.0 g.n g.two two.1.1),
-          ),
-        )
     spends_gains lent readable left owned (case x decisions arms) s has =
         let all = arms_gain lent left s.0 arms s.1.1.1 has.0 has.1 in
         (all.0, (omega (arith, all.1.0, s.1.0 (λ x. 1)), (has.0, all.1.1)))

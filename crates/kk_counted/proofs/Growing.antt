@@ -24,7 +24,6 @@ use Rattle.kk_counted.specs.TokenKeeping.{IsJudged, Lists}
 use Rattle.kk_counted.specs.TokenRuns.{AllLead}
 use Rattle.kk_counted.specs.NumberedPool.{is_alive, Growth, stays, grows}
 use Rattle.kk_counted.proofs.Counting.{same}
-use Rattle.kk_counted.proofs.Heaps.{positive}
 use Rattle.kk_counted.proofs.Easing.{Eased, EasedTo, eased_dup, eased_drop, eased_opening, eased_unique}
 use Rattle.kk_counted.proofs.Pooling.{released_room, by_null, by_cell}
 use Rattle.kk_counted.proofs.Chaining.{frames_many}
@@ -357,7 +356,6 @@ module _ (setting : TokenSetting) (environment : Environment) (joins : List Toke
   step_grows lists (Tokened.give x) judged = give_grows (value_of environment x) joins from.frames
   step_grows lists (Tokened.tail_call f arguments) judged =
       tail_grows (slice_get setting.program.functions f) (map (value_of environment) arguments)
-  step_grows lists (Tokened.branch x positive negative) judged = stays refl (λ p alive. alive)
   step_grows lists (Tokened.case x decisions arms) judged =
       case_grows (and_then (chosen (cell_at from.heap) (value_of environment x) decisions) (tokened_arm_at arms))
   step_grows lists (Tokened.inside x block rest) judged = stays refl (λ p alive. alive)

@@ -146,7 +146,6 @@ module _ (weight : TokenState → ℕ) (setting : TokenSetting) where
       ≡ token_code_step (with_leaves false setting) code environment joins from
   code_same (Tokened.give x) environment joins from fills = refl
   code_same (Tokened.tail_call f arguments) environment joins from fills = refl
-  code_same (Tokened.branch x positive negative) environment joins from fills = refl
   code_same (Tokened.case x decisions arms) environment joins from fills = refl
   code_same (Tokened.compute x form arguments others rest) environment joins from fills = refl
   code_same (Tokened.inside x block rest) environment joins from fills = refl

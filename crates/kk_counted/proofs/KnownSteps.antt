@@ -9,7 +9,7 @@ use Rattle.kk_source.specs.State.{Value, integer, unit, constant, place, Cell, E
 use Rattle.kk_source.specs.Live.{value_of}
 use Rattle.kk_source.specs.Matching.{and_then}
 use Rattle.kk_source.specs.Actions.{goes, print_step}
-use Rattle.kk_source.specs.FormEffects.{is_true, integer_of, unary_result, binary_result, argument, piece_of, byte_value}
+use Rattle.kk_source.specs.FormEffects.{integer_of, unary_result, binary_result, argument, piece_of, byte_value}
 use Rattle.kk_core.specs.CoreMachine.{bind_fields}
 use Rattle.kk_core.specs.Decisions.{chosen}
 use Rattle.kk_counted.specs.Heaps.{Held, Heap, count_at, cell_at, fields_held, busy, dup_value, drop_value}
@@ -620,11 +620,6 @@ module _ (setting : TokenSetting)
     code_known (Tokened.give x) leaves = give_known (value_of environment x) joins from.frames environment from waits below below
     code_known (Tokened.tail_call f arguments) leaves =
         tail_known f (slice_get setting.program.functions f) (map (value_of environment) arguments) from refl below
-    code_known (Tokened.branch x positive negative) leaves = by_test (is_true (value_of environment x))
-      where
-        by_test : (t : Bool) → IsKnownIn (at_code (if t then positive else negative) environment joins from)
-        by_test true = at_known positive leaves.0
-        by_test false = at_known negative leaves.1
     code_known (Tokened.case x decisions arms) leaves =
         case_known (chosen (cell_at from.heap) (value_of environment x) decisions) arms leaves
     code_known (Tokened.compute x form arguments others rest) leaves = form_known form arguments others x rest leaves

@@ -5,7 +5,7 @@ use Rattle.kk_syntax.specs.declared.program.Form.{Form}
 use Rattle.kk_syntax.specs.Shapes.{is_among}
 use Rattle.kk_syntax.specs.PositionsOf.{PositionTable}
 use Rattle.kk_core.specs.Decisions.{NodeTree}
-use Rattle.kk_counted.specs.CountedCodes.{Counted, give, tail_call, branch, case, compute, inside, read, open_cell, if_unique, dup, drop, CountedArms, no_arm, arm, CountedFunction}
+use Rattle.kk_counted.specs.CountedCodes.{Counted, give, tail_call, case, compute, inside, read, open_cell, if_unique, dup, drop, CountedArms, no_arm, arm, CountedFunction}
 use Rattle.kk_counted.specs.CountedForms.{Move, computes, runs, reads, dups, drops, put, plug, arms_of}
 use Rattle.kk_counted.specs.Spending.{total, AreEven, AllAmong, AreFresh, AreApart, used_by, lent_by, FitsForm, Spends, SpendsAll}
 use Rattle.kk_counted.specs.Drafts.{opens_by}
@@ -19,7 +19,6 @@ use Rattle.kk_counted.proofs.Variables.{among_cases}
 pub spends_even : (positions : PositionTable) (functions : List CountedFunction) (lent readable : List ℕ) (left : Option (List ℕ)) (xs ys : List ℕ) (code : Counted) → AreEven xs ys → Spends positions functions lent readable left ys code → Spends positions functions lent readable left xs code
 spends_even positions functions lent readable left xs ys (give x) even spends = λ w. even w ∙ spends w
 spends_even positions functions lent readable left xs ys (tail_call f arguments) even spends = (spends.0, (spends.1.0, (spends.1.1.0, λ w. even w ∙ spends.1.1.1 w)))
-spends_even positions functions lent readable left xs ys (branch x positive negative) even spends = (spends.0, (λ w. even w ∙ spends.1.0 w, spends.1.1))
 spends_even positions functions lent readable left xs ys (case x decisions arms) even spends = (spends.0, (λ w. even w ∙ spends.1.0 w, spends.1.1))
 spends_even positions functions lent readable left xs ys (compute x form arguments rest) even spends = (spends.0, (λ w. even w ∙ spends.1.0 w, spends.1.1))
 spends_even positions functions lent readable left xs ys (inside x block rest) even spends = (spends.0, (spends.1.0, (λ w. even w ∙ spends.1.1.0 w, spends.1.1.1)))
@@ -38,8 +37,6 @@ mutual
   pub in_tail : (positions : PositionTable) (functions : List CountedFunction) (lent readable owned : List ℕ) (code : Counted) → Spends positions functions lent readable (Some []) owned code → Spends positions functions lent readable None owned code
   in_tail positions functions lent readable owned (give x) spends = spends
   in_tail positions functions lent readable owned (tail_call f arguments) spends = absurd (something [] spends.0)
-  in_tail positions functions lent readable owned (branch x positive negative) spends =
-      (spends.0, (spends.1.0, (spends.1.1.0, (in_tail positions functions lent [] spends.0 positive spends.1.1.1.0, in_tail positions functions lent [] spends.0 negative spends.1.1.1.1))))
   in_tail positions functions lent readable owned (case x decisions arms) spends =
       (spends.0, (spends.1.0, (spends.1.1.0, in_tail_all positions functions lent spends.0 arms spends.1.1.1)))
   in_tail positions functions lent readable owned (compute x form arguments rest) spends =
@@ -67,7 +64,6 @@ mutual
 spends_readable : (positions : PositionTable) (functions : List CountedFunction) (lent readable : List ℕ) (left : Option (List ℕ)) (owned : List ℕ) (code : Counted) → Spends positions functions lent [] left owned code → Spends positions functions lent readable left owned code
 spends_readable positions functions lent readable left owned (give x) spends = spends
 spends_readable positions functions lent readable left owned (tail_call f arguments) spends = spends
-spends_readable positions functions lent readable left owned (branch x positive negative) spends = spends
 spends_readable positions functions lent readable left owned (case x decisions arms) spends = spends
 spends_readable positions functions lent readable left owned (compute x form arguments rest) spends = spends
 spends_readable positions functions lent readable left owned (inside x block rest) spends = spends

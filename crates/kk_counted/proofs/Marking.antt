@@ -11,7 +11,7 @@ use Rattle.kk_counted.proofs.Recounting.{OnHeap, dup_keeps, drop_keeps, opened_k
 use Rattle.kk_counted.proofs.Variables.{among_cases}
 use Rattle.kk_counted.proofs.SoundRuns.{performed_kept}
 use Rattle.kk_counted.proofs.SoundSteps.{LeadsTo, OnNamed}
-use Rattle.kk_counted.specs.CountedCodes.{Counted, give, tail_call, branch, case, compute, inside, read, open_cell, if_unique, dup, drop, CountedArms, no_arm, arm, CountedFunction}
+use Rattle.kk_counted.specs.CountedCodes.{Counted, give, tail_call, case, compute, inside, read, open_cell, if_unique, dup, drop, CountedArms, no_arm, arm, CountedFunction}
 use Rattle.kk_counted.specs.CountedMachine.{at_counted, bound_then, at_end, at_stuck, with_heap, arm_at, case_step, give_step, in_code, tail_step, if_made_by, Named, cell_named, used_values, other_values, opened_heap, unique_heap, open_step, call_step, form_step, counted_code_step, counted_step_at, counted_step_of, counted_step, counted_ending_of, counted_machine}
 use Rattle.kk_counted.specs.CountedStates.{CountedSetting, CountedJoin, CountedFrame, CountedControl, running, stopped, stuck, CountedConfiguration, CountedState, no_function, counted_start, counted_first_state}
 use Rattle.kk_counted.specs.Emitting.{AreIn}
@@ -21,7 +21,7 @@ use Rattle.kk_counted.specs.MarkKeeping.{FitsMark, FitMarks, CellsFit, variables
 use Rattle.kk_counted.specs.Marks.{CellMarks, parameter_marks, result_mark, field_marks, made_mark, HaveMarks, IsFormMarked, Opens, HasMark, HaveMark, IsMarked, AreMarked}
 use Rattle.kk_counted.specs.Spending.{numbers_from}
 use Rattle.kk_source.specs.Actions.{print_step}
-use Rattle.kk_source.specs.FormEffects.{truth, is_true, unary_result, number_result, integer_of, argument, piece_of, byte_value}
+use Rattle.kk_source.specs.FormEffects.{truth, unary_result, number_result, integer_of, argument, piece_of, byte_value}
 use Rattle.kk_source.specs.Live.{value_of}
 use Rattle.kk_source.specs.Matching.{and_then}
 use Rattle.kk_source.specs.State.{Value, integer, unit, constant, place, Cell, Environment, End, heap_full, stack_full}
@@ -522,14 +522,6 @@ module _ (marks : CellMarks) (holds : ℕ → ℕ → Bool) (setting : CountedSe
       (slice_get setting.program.functions g) refl
       (arguments_fit (holds f) environment r.bound arguments
       (parameter_marks marks g) r.values_fit r.bound_in r.code_marked.0 r.code_marked.1.0) r.code_marked.1.1
-  code_fits f numbers from environment joins (branch x positive negative) cells r frames = by_test
-      (is_true (value_of environment x))
-    where
-      by_test : (t : Bool) → Fits (f ∷ numbers) (at_counted (if t then positive else negative) environment joins from)
-      by_test true = follows f numbers from environment joins cells frames r.values_fit positive r.bound r.given joins
-          r.code_marked.1.1.0 r.bound_in r.joins_fit
-      by_test false = follows f numbers from environment joins cells frames r.values_fit negative r.bound r.given joins
-          r.code_marked.1.1.1 r.bound_in r.joins_fit
   code_fits f numbers from environment joins (case x decisions arms) cells r frames =
       case_fits f numbers from environment joins cells frames r.values_fit _ r.bound r.given
       (row_marked f numbers from environment joins cells frames r.values_fit r.bound r.given arms _ r.code_marked.1) r.bound_in

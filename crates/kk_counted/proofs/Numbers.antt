@@ -22,7 +22,7 @@ use Rattle.kk_source.specs.Matching.{and_then}
 use Rattle.kk_source.specs.State.{Value, integer, unit, constant, place, Environment, End, heap_full, stack_full}
 use Rattle.kk_source.specs.Step.{bind_parameters}
 use Rattle.kk_core.specs.CoreMachine.{bind_fields}
-use Rattle.kk_counted.specs.CountedCodes.{Counted, give, tail_call, branch, case, compute, inside, read, open_cell, if_unique, dup, drop, CountedArms, no_arm, arm, CountedFunction}
+use Rattle.kk_counted.specs.CountedCodes.{Counted, give, tail_call, case, compute, inside, read, open_cell, if_unique, dup, drop, CountedArms, no_arm, arm, CountedFunction}
 use Rattle.kk_counted.specs.CountedMachine.{at_counted, at_end, at_stuck, with_heap, arm_at, case_step, give_step, in_code, tail_step, Named, cell_named, used_values, other_values, opened_heap, unique_heap, open_step, call_step, form_step, counted_code_step, counted_step_at, counted_step_of, counted_step, counted_ending_of, counted_machine}
 use Rattle.kk_counted.specs.CountedStates.{CountedSetting, CountedJoin, CountedFrame, CountedControl, running, stopped, stuck, CountedConfiguration, CountedState, no_function, counted_start, counted_first_state}
 use Rattle.kk_counted.specs.Heaps.{Heap, held_at, count_at, set_count, busy, dup_value, drop_value, fields_if_held, fields_held}
@@ -306,15 +306,6 @@ module _ (setting : CountedSetting) (all : AllHaveInt32 setting.program.function
     code_leads (tail_call f arguments) environment joins run =
         tail_leads f (map (value_of environment) arguments) (slice_get setting.program.functions f) refl
         (values_int32 environment arguments run.bound)
-    code_leads (branch x positive negative) environment joins run = by_test (is_true (value_of environment x))
-      where
-        by_test : (t : Bool) → IsStateInt32 (at_counted (if t then positive else negative) environment joins from)
-        by_test true =
-            follows from frames heap positive environment joins
-            (record { ahead = run.ahead.0; bound = run.bound; behind = run.behind })
-        by_test false =
-            follows from frames heap negative environment joins
-            (record { ahead = run.ahead.1; bound = run.bound; behind = run.behind })
     code_leads (case x decisions arms) environment joins run =
         case_leads from frames heap _ arms environment joins run.ahead.1 run.bound run.behind
     code_leads (compute x form arguments rest) environment joins run =

@@ -12,7 +12,7 @@ use Rattle.kk_source.specs.Live.{value_of}
 use Rattle.kk_counted.proofs.Evenness.{total_append}
 use Rattle.kk_counted.proofs.ListLengths.{total_ones, positions_few}
 use Rattle.kk_counted.specs.CountBounds.{HasAnArm, SpendsAtMost, SpendAtMost, JoinsSpend, RestSpends, FramesSpend, ControlSpends, IsBounded}
-use Rattle.kk_counted.specs.CountedCodes.{Counted, give, tail_call, branch, case, compute, inside, read, open_cell, if_unique, dup, drop, CountedArms, no_arm, arm, CountedFunction}
+use Rattle.kk_counted.specs.CountedCodes.{Counted, give, tail_call, case, compute, inside, read, open_cell, if_unique, dup, drop, CountedArms, no_arm, arm, CountedFunction}
 use Rattle.kk_counted.specs.CountedStates.{CountedSetting, CountedJoin, CountedFrame, running, CountedConfiguration}
 use Rattle.kk_counted.specs.Heaps.{Heap, count_at, forwards, one_if_counted, busy}
 use Rattle.kk_counted.specs.Keeping.{values_of, Waits, Own, IsRunning, IsKeptAt, IsKept}
@@ -48,8 +48,6 @@ module _ (positions : PositionTable) (functions : List CountedFunction) where
     owned_few lent readable left owned (give x) n s small = omega (arith, s (λ x. 1), small)
     owned_few lent readable left owned (tail_call f arguments) n s small =
         omega (arith, s.1.1.1 (λ x. 1), few_used (Call f) arguments, small)
-    owned_few lent readable left owned (branch x positive negative) n s small =
-        omega (arith, s.1.0 (λ x. 1), owned_few lent [] left s.0 positive n s.1.1.1.0 small.0)
     owned_few lent readable left owned (case x decisions arms) n s small =
         omega (arith, s.1.0 (λ x. 1), arms_few lent left s.0 arms n s.1.1.1 small.0 small.1)
     owned_few lent readable left owned (compute x form arguments rest) n s small =

@@ -14,7 +14,7 @@ use Rattle.kk_source.specs.Actions.{print_step}
 use Rattle.kk_source.specs.FormEffects.{integer_of, argument, piece_of}
 use Rattle.kk_core.specs.CoreMachine.{bind_fields}
 use Rattle.kk_core.specs.Decisions.{chosen}
-use Rattle.kk_counted.specs.CountedCodes.{Counted, give, tail_call, branch, case, compute, inside, read, open_cell, if_unique, dup, drop, CountedFunction}
+use Rattle.kk_counted.specs.CountedCodes.{Counted, give, tail_call, case, compute, inside, read, open_cell, if_unique, dup, drop, CountedFunction}
 use Rattle.kk_counted.specs.Heaps.{Heap, count_at, cell_at, fields_held, forwards, busy, dup_value, drop_value}
 use Rattle.kk_counted.specs.CountedStates.{CountedSetting, CountedJoin, CountedFrame, CountedControl, running, stopped, stuck, CountedConfiguration, CountedState, counted_first_state}
 use Rattle.kk_counted.specs.CountedMachine.{at_counted, bound_then, at_end, with_heap, arm_at, case_step, give_step, in_code, tail_step, Named, cell_named, used_values, other_values, opened_heap, unique_heap, open_step, call_step, form_step, counted_code_step, counted_step_at, counted_step_of, counted_step, counted_ending_of, counted_machine, NotStuck}
@@ -119,7 +119,6 @@ module _ (positions : PositionTable) (setting : CountedSetting) (spent : IsSpent
     code_going (give x) r shape = give_going (value_of environment x) joins from.frames environment from
     code_going (tail_call f arguments) r shape =
         subst (λ found. LeadsTo Going (tail_step found (map (value_of environment) arguments) from)) (sym shape.1) tt
-    code_going (branch x positive negative) r shape = tt
     code_going (case x decisions arms) r shape =
         subst (λ found. LeadsTo Going (case_step found environment joins from)) (sym found) tt
       where

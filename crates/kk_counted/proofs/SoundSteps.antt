@@ -17,12 +17,12 @@ use Rattle.kk_source.specs.Live.{value_of, fields_at, Among, Reached}
 use Rattle.kk_source.specs.Sound.{AllWithin}
 use Rattle.kk_source.specs.Matching.{and_then}
 use Rattle.kk_source.specs.Actions.{Action, goes, puts, takes, builds, calls, print_step}
-use Rattle.kk_source.specs.FormEffects.{is_true, truth, integer_of, unary_result, number_result, binary_result, argument, piece_of, byte_value}
+use Rattle.kk_source.specs.FormEffects.{truth, integer_of, unary_result, number_result, binary_result, argument, piece_of, byte_value}
 use Rattle.kk_source.specs.Step.{bind_parameters}
 use Rattle.kk_source.proofs.Live.{among_front, among_back}
 use Rattle.kk_core.specs.CoreMachine.{bind_fields}
 use Rattle.kk_core.specs.Decisions.{chosen}
-use Rattle.kk_counted.specs.CountedCodes.{Counted, give, tail_call, branch, case, compute, inside, read, open_cell, if_unique, dup, drop, CountedArms, no_arm, arm, CountedFunction}
+use Rattle.kk_counted.specs.CountedCodes.{Counted, give, tail_call, case, compute, inside, read, open_cell, if_unique, dup, drop, CountedArms, no_arm, arm, CountedFunction}
 use Rattle.kk_counted.specs.Heaps.{Held, Heap, held_at, count_in, count_at, if_counted, cell_at, fields_if_held, fields_held, forwards, busy, dup_value, drop_value}
 use Rattle.kk_counted.specs.CountedStates.{CountedSetting, CountedJoin, CountedFrame, CountedControl, running, stopped, stuck, CountedConfiguration}
 use Rattle.kk_counted.specs.CountedMachine.{at_counted, bound_then, at_end, at_stuck, with_heap, arm_at, case_step, give_step, in_code, tail_step, if_made_by, Named, cell_named, used_values, other_values, opened_heap, unique_heap, open_step, construct_step, call_step, form_step, counted_code_step, counted_step_at, counted_step_of}
@@ -699,11 +699,6 @@ module _ (positions : PositionTable) (setting : CountedSetting) (spent : IsSpent
     code_kept (give x) r fits = give_kept x environment r.lent r.owned r.left joins from.frames from below r.spends r.waits r.reached r.sound own own
     code_kept (tail_call f arguments) r fits =
         tail_kept f arguments r.lent r.owned (slice_get setting.program.functions f) refl r.spends.1.0 r.spends.1.1.0 r.spends.1.1.1 r.reached r.sound
-    code_kept (branch x positive negative) r fits = by_test (is_true (value_of environment x))
-      where
-        by_test : (t : Bool) → Kept (at_counted (if t then positive else negative) environment joins from)
-        by_test true = follows positive r.lent r.owned r.spends.0 r.left joins r.spends.1.1.1.0 r.waits r.reached r.spends.1.0 r.sound
-        by_test false = follows negative r.lent r.owned r.spends.0 r.left joins r.spends.1.1.1.1 r.waits r.reached r.spends.1.0 r.sound
     code_kept (case x decisions arms) r fits =
         case_kept (and_then (chosen (cell_at from.heap) (value_of environment x) decisions) (arm_at arms)) r.lent r.owned r.spends.0 r.left
         (row_spends r.lent r.spends.0 r.left arms (chosen (cell_at from.heap) (value_of environment x) decisions) r.spends.1.1.1) r.waits r.reached r.spends.1.0 r.sound

@@ -7,7 +7,7 @@ use Rattle.kk_syntax.specs.PositionsOf.{PositionTable}
 use Rattle.kk_source.specs.State.{Value, Environment}
 use Rattle.kk_source.specs.Live.{value_of}
 use Rattle.kk_core.specs.Decisions.{NodeTree, chosen}
-use Rattle.kk_counted.specs.CountedCodes.{Counted, give, tail_call, branch, case, compute, inside, read, open_cell, if_unique, dup, drop, CountedArms}
+use Rattle.kk_counted.specs.CountedCodes.{Counted, give, tail_call, case, compute, inside, read, open_cell, if_unique, dup, drop, CountedArms}
 use Rattle.kk_counted.specs.Heaps.{forwards, cell_at}
 use Rattle.kk_counted.specs.CountedStates.{CountedSetting, CountedJoin, running, CountedConfiguration, CountedState, counted_first_state}
 use Rattle.kk_counted.specs.CountedMachine.{counted_machine}
@@ -53,7 +53,6 @@ module _ (positions : PositionTable) (setting : CountedSetting) (spent : IsSpent
     pub use_counted : (code : Counted) → IsRunning positions setting.program.functions from.heap below code environment joins → (y : ℕ) → is_among (uses code) y ≡ true → IsCounted from.heap (value_of environment y)
     use_counted (give x) r y is = absurd (none y is)
     use_counted (tail_call f arguments) r y is = absurd (none y is)
-    use_counted (branch x positive negative) r y is = absurd (none y is)
     use_counted (compute x form arguments rest) r y is = absurd (none y is)
     use_counted (inside x block rest) r y is = absurd (none y is)
     use_counted (case x decisions arms) r y is =

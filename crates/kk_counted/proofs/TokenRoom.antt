@@ -6,7 +6,7 @@ use Rattle.kk_base.specs.Agreements.{Agree}
 use Rattle.kk_source.specs.Notes.{Note}
 use Rattle.kk_source.specs.State.{Value, unit, place, Environment, End, stack_full}
 use Rattle.kk_source.specs.Actions.{Action, print_step}
-use Rattle.kk_source.specs.FormEffects.{is_true, FormEffect, gives, prints, reads, makes, enters, effect_step, form_effect, byte_value}
+use Rattle.kk_source.specs.FormEffects.{FormEffect, gives, prints, reads, makes, enters, effect_step, form_effect, byte_value}
 use Rattle.kk_source.specs.Live.{value_of}
 use Rattle.kk_source.specs.Matching.{and_then}
 use Rattle.kk_core.specs.CoreMachine.{bind_fields}
@@ -32,7 +32,6 @@ use Rattle.kk_counted.proofs.TokenStates.{states_are_bare}
 ahead_needed : (code : Tokened) → tokens_ahead code ≤ room_needed code
 ahead_needed (Tokened.give x) = omega arith
 ahead_needed (Tokened.tail_call f arguments) = omega arith
-ahead_needed (Tokened.branch x positive negative) = omega arith
 ahead_needed (Tokened.case x decisions arms) = omega arith
 ahead_needed (Tokened.compute x form arguments others rest) = omega arith
 ahead_needed (Tokened.inside x block rest) = omega arith
@@ -209,15 +208,6 @@ module _ (room : ℕ) where
         give_leads (value_of environment x) joins from.frames environment from fit frames frames
     leads (Tokened.tail_call f arguments) environment joins from fits fit frames =
         tail_leads f (slice_get setting.program.functions f) (map (value_of environment) arguments) from refl frames
-    leads (Tokened.branch x positive negative) environment joins from fits fit frames =
-        by (is_true (value_of environment x))
-      where
-        at_place : (rest : Tokened) → room_needed rest ≤ room → IsRoomy room (at_code rest environment joins from)
-        at_place rest here = ((ahead_within rest here, (here, fit)), frames)
-
-        by : (b : Bool) → IsRoomy room (at_code (if b then positive else negative) environment joins from)
-        by true = at_place positive (omega (arith, fits))
-        by false = at_place negative (omega (arith, fits))
     leads (Tokened.case x decisions arms) environment joins from fits fit frames =
         case_leads (chosen (cell_at from.heap) (value_of environment x) decisions) arms environment joins from fits fit frames
     leads (Tokened.compute x form arguments others rest) environment joins from fits fit frames =
@@ -287,7 +277,6 @@ module _ (room : ℕ) where
         → Costs code environment heap credit
     costs (Tokened.give x) environment heap credit enough = paying _ 0 credit enough
     costs (Tokened.tail_call f arguments) environment heap credit enough = paying _ 0 credit enough
-    costs (Tokened.branch x positive negative) environment heap credit enough = paying _ 0 credit enough
     costs (Tokened.case x decisions arms) environment heap credit enough = paying _ 0 credit enough
     costs (Tokened.compute x form arguments others rest) environment heap credit enough = paying _ _ credit enough
     costs (Tokened.inside x block rest) environment heap credit enough = paying _ 0 credit enough

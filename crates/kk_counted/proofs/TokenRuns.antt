@@ -303,8 +303,6 @@ module _ (weight : CountedState → ℕ) (setting : TokenSetting) (program_spend
       steps (Tokened.give x) environment joins from input credit idle refl stands
   reaches (Tokened.tail_call f arguments) environment joins from input credit idle stands =
       steps (Tokened.tail_call f arguments) environment joins from input credit idle refl stands
-  reaches (Tokened.branch x positive negative) environment joins from input credit idle stands =
-      steps (Tokened.branch x positive negative) environment joins from input credit idle refl stands
   reaches (Tokened.case x decisions arms) environment joins from input credit idle stands =
       steps (Tokened.case x decisions arms) environment joins from input credit idle refl stands
   reaches (Tokened.compute x form arguments others rest) environment joins from input credit idle stands =

@@ -147,8 +147,6 @@ module _ (weight : CountedState → ℕ) (setting : TokenSetting) (program_spend
       settled (at (Tokened.give x) environment joins from input) refl
   settles (Tokened.tail_call f arguments) environment joins from input stands =
       settled (at (Tokened.tail_call f arguments) environment joins from input) refl
-  settles (Tokened.branch x positive negative) environment joins from input stands =
-      settled (at (Tokened.branch x positive negative) environment joins from input) refl
   settles (Tokened.case x decisions arms) environment joins from input stands =
       settled (at (Tokened.case x decisions arms) environment joins from input) refl
   settles (Tokened.compute x form arguments others rest) environment joins from input stands =

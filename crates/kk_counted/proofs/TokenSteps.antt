@@ -12,7 +12,7 @@ use Rattle.kk_source.specs.State.{Value, integer, unit, constant, place, Environ
 use Rattle.kk_source.specs.Live.{value_of}
 use Rattle.kk_source.specs.Matching.{and_then}
 use Rattle.kk_source.specs.Actions.{Action, goes, calls, print_step}
-use Rattle.kk_source.specs.FormEffects.{is_true, integer_of, unary_result, binary_result, argument, piece_of, byte_value}
+use Rattle.kk_source.specs.FormEffects.{integer_of, unary_result, binary_result, argument, piece_of, byte_value}
 use Rattle.kk_source.specs.Step.{bind_parameters}
 use Rattle.kk_core.specs.CoreMachine.{bind_fields}
 use Rattle.kk_core.specs.Decisions.{chosen}
@@ -542,36 +542,6 @@ module _ (setting : TokenSetting) (program_spends : AreTokensSpent setting.progr
       rw (slice_get-map bare_function setting.program.functions f)
       (tail_followed (ListsAfter (Tokened.tail_call f arguments) joins lists) f (slice_get setting.program.functions f)
       (map (value_of environment) arguments) lists.older from refl refl now)
-  follows lists (Tokened.branch x positive negative) environment joins from judged fills quiet =
-      let now = now_of setting.cells lists.left lists.unspent lists.held lists.older (Tokened.branch x positive negative) joins
-      from.frames from.heap from.tokens judged.spends.0 judged in
-      by_test (is_true (value_of environment x)) judged now
-    where
-      by_test : (t : Bool) → IsJudged setting.cells lists.left lists.unspent lists.held lists.older
-          (Tokened.branch x positive negative) joins from.frames from.heap from.tokens
-          → AreNow setting.cells lists.unspent lists.older from.frames from.heap from.tokens
-          → IsFollowed setting.cells (ListsAfter (Tokened.branch x positive negative) joins lists)
-          (goes (at_code (if t then positive else negative) environment joins from))
-          (goes (at_counted (if t then bare positive else bare negative) environment (map bare_join joins)
-          (bare_configuration from)))
-      by_test true judged now =
-          record {
-            does = refl;
-            keeps =
-                kept_now setting.cells (ListsAfter (Tokened.branch x positive negative) joins lists) lists.left lists.unspent
-                lists.older positive environment joins from
-                (ap (λ h. lists_of lists.left lists.unspent h lists.older) (sym judged.spends.0)) judged.spends.1.0 judged.waits
-                now;
-          }
-      by_test false judged now =
-          record {
-            does = refl;
-            keeps =
-                kept_now setting.cells (ListsAfter (Tokened.branch x positive negative) joins lists) lists.left lists.unspent
-                lists.older negative environment joins from
-                (ap (λ h. lists_of lists.left lists.unspent h lists.older) (sym judged.spends.0)) judged.spends.1.1 judged.waits
-                now;
-          }
   follows lists (Tokened.case x decisions arms) environment joins from judged fills quiet =
       let now = now_of setting.cells lists.left lists.unspent lists.held lists.older (Tokened.case x decisions arms) joins
       from.frames from.heap from.tokens judged.spends.0 judged in

@@ -94,13 +94,6 @@ tail_call_end f arguments =
     ap tokened_last_code (sym (OfLast.rolls-TailCall f arguments))
     ∙ fold-roll-TokenedLast Tokened TokenedMove Tokened tokened_last_step tokened_step_step tokened_block_step _
 
-pub if_end : (x : ℕ) (positive negative : _)
-    → tokened_last_code (OfLast.If x positive negative) ≡ Tokened.branch x (tokened_code positive.value)
-    (tokened_code negative.value)
-if_end x positive negative =
-    ap tokened_last_code (sym (OfLast.rolls-If x positive negative))
-    ∙ fold-roll-TokenedLast Tokened TokenedMove Tokened tokened_last_step tokened_step_step tokened_block_step _
-
 pub case_end : (x : ℕ) (decisions : _) (arms : _)
     → tokened_last_code (OfLast.Case x decisions arms) ≡ Tokened.case x (decisions_of decisions) (tokened_arms
     (map tokened_code arms.items))

@@ -63,7 +63,6 @@ module _ (setting : TokenSetting) (lists : Lists) (environment : Environment) (j
             (absent_still setting environment joins from lists y there absent judged test)
     unseen (Tokened.give x) judged quiet = absurd (cc)
     unseen (Tokened.tail_call f arguments) judged quiet = absurd (cc)
-    unseen (Tokened.branch x positive negative) judged quiet = absurd (cc)
     unseen (Tokened.case x decisions arms) judged quiet = absurd (cc)
     unseen (Tokened.compute x form arguments others rest) judged quiet = absurd (cc)
     unseen (Tokened.inside x block rest) judged quiet = absurd (cc)

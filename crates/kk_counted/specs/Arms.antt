@@ -1,7 +1,7 @@
 -- That a case has an arm for each row that its decisions choose.
 use Rattle.std.specs.Prelude.{ℕ, zero, suc, List, [], ◌∷◌}
 use Rattle.kk_core.specs.Decisions.{AreOrderly}
-use Rattle.kk_counted.specs.CountedCodes.{Counted, give, tail_call, branch, case, compute, inside, read, open_cell, if_unique}
+use Rattle.kk_counted.specs.CountedCodes.{Counted, give, tail_call, case, compute, inside, read, open_cell, if_unique}
 use Rattle.kk_counted.specs.CountedCodes.{dup, drop, CountedArms, no_arm, arm}
 use Rattle.kk_counted.specs.CountedForms.{Move, runs}
 
@@ -14,7 +14,6 @@ abbrev mutual
   pub HasArms : Counted → Type 0
   HasArms (give x) = Unit {0}
   HasArms (tail_call f arguments) = Unit {0}
-  HasArms (branch x positive negative) = HasArms positive × HasArms negative
   HasArms (case x decisions arms) = AreOrderly decisions (arm_count arms) × HaveArms arms
   HasArms (compute x form arguments rest) = HasArms rest
   HasArms (inside x block rest) = HasArms block × HasArms rest

@@ -1,7 +1,7 @@
 -- The bare form of code with tokens: the same code without them.
 use Rattle.std.specs.Prelude.{◌∷◌, map}
 use Rattle.kk_syntax.specs.declared.program.Form.TheVariants.{Construct}
-use Rattle.kk_counted.specs.CountedCodes.{Counted, give, tail_call, branch, case, compute, inside, read, open_cell, if_unique, dup, drop, CountedArms, no_arm, arm, CountedFunction, CountedProgram}
+use Rattle.kk_counted.specs.CountedCodes.{Counted, give, tail_call, case, compute, inside, read, open_cell, if_unique, dup, drop, CountedArms, no_arm, arm, CountedFunction, CountedProgram}
 use Rattle.kk_counted.specs.TokenedCodes.{Tokened, TokenedArms, TokenedFunction, TokenedProgram}
 
 -- a construction in a token's cell is a construction; a test of a token does the same either way
@@ -9,7 +9,6 @@ abbrev mutual
   pub bare : Tokened → Counted
   bare (Tokened.give x) = give x
   bare (Tokened.tail_call f arguments) = tail_call f arguments
-  bare (Tokened.branch x positive negative) = branch x (bare positive) (bare negative)
   bare (Tokened.case x decisions arms) = case x decisions (bare_arms arms)
   bare (Tokened.compute x form arguments others rest) = compute x form arguments (bare rest)
   bare (Tokened.inside x block rest) = inside x (bare block) (bare rest)

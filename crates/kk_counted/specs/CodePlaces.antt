@@ -3,14 +3,12 @@
 use Rattle.std.specs.Prelude.{◌≡◌, ℕ, zero, suc, Bool, true, false, List, [], ◌∷◌, Option, Some, None, slice_get}
 use Rattle.kk_source.specs.Matching.{and_then}
 use Rattle.kk_syntax.specs.declared.program.Form.TheVariants.{PrintText, Print, Construct, Call}
-use Rattle.kk_counted.specs.CountedCodes.{Counted, tail_call, branch, case, compute, inside, read, open_cell, if_unique, dup, drop, CountedFunction, CountedProgram}
+use Rattle.kk_counted.specs.CountedCodes.{Counted, tail_call, case, compute, inside, read, open_cell, if_unique, dup, drop, CountedFunction, CountedProgram}
 use Rattle.kk_counted.specs.CountedMachine.{arm_at}
 
--- The parts of a code by their numbers: the two ways of a branch, the arms of a case, a block and what comes behind it, and what comes
+-- The parts of a code by their numbers: the arms of a case, a block and what comes behind it, and what comes
 -- behind any other form.
 abbrev pub part_of : Counted → ℕ → Option Counted
-part_of (branch x positive negative) zero = Some positive
-part_of (branch x positive negative) (suc zero) = Some negative
 part_of (case x decisions arms) row = arm_at arms row
 part_of (compute x form arguments rest) zero = Some rest
 part_of (inside x block rest) zero = Some block

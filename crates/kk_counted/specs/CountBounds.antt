@@ -1,6 +1,6 @@
 -- How many references a function owns at most, by its code: so how great a count can be.
 use Rattle.std.specs.Prelude.{◌≡◌, ℕ, suc, ◌+◌, ◌≤◌, List, [], ◌∷◌, length, Some, slice_get}
-use Rattle.kk_counted.specs.CountedCodes.{Counted, give, tail_call, branch, case, compute, inside, read, open_cell, if_unique, dup, drop, CountedArms, no_arm, arm, CountedProgram}
+use Rattle.kk_counted.specs.CountedCodes.{Counted, give, tail_call, case, compute, inside, read, open_cell, if_unique, dup, drop, CountedArms, no_arm, arm, CountedProgram}
 use Rattle.kk_counted.specs.CountedStates.{CountedSetting, CountedJoin, CountedFrame, CountedControl, running, stopped, stuck, CountedConfiguration}
 use Rattle.kk_counted.specs.Heaps.{busy}
 
@@ -16,7 +16,6 @@ abbrev mutual
   pub SpendsAtMost : Counted → ℕ → Type 0
   SpendsAtMost (give x) n = 1 ≤ n
   SpendsAtMost (tail_call f arguments) n = length arguments ≤ n
-  SpendsAtMost (branch x positive negative) n = SpendsAtMost positive n × SpendsAtMost negative n
   SpendsAtMost (case x decisions arms) n = HasAnArm arms × SpendAtMost arms n
   SpendsAtMost (compute x form arguments rest) n = (k : ℕ) × ((length arguments + k ≤ n) × SpendsAtMost rest k)
   SpendsAtMost (inside x block rest) n =
@@ -34,7 +33,6 @@ abbrev mutual
 -- each case of a code has an arm
 abbrev mutual
   pub EachHasAnArm : Counted → Type 0
-  EachHasAnArm (branch x positive negative) = EachHasAnArm positive × EachHasAnArm negative
   EachHasAnArm (case x decisions arms) = HasAnArm arms × AllHaveAnArm arms
   EachHasAnArm (compute x form arguments rest) = EachHasAnArm rest
   EachHasAnArm (inside x block rest) = EachHasAnArm block × EachHasAnArm rest
@@ -54,7 +52,6 @@ abbrev mutual
   pub gains : Counted → ℕ
   gains (give x) = 0
   gains (tail_call f arguments) = length arguments
-  gains (branch x positive negative) = gains positive + gains negative
   gains (case x decisions arms) = gains_in arms
   gains (compute x form arguments rest) = suc (length arguments + gains rest)
   gains (inside x block rest) = suc (gains block + gains rest)

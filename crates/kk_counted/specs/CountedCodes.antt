@@ -7,7 +7,6 @@ use Rattle.kk_core.specs.Decisions.{NodeTree}
 -- A code, which is what a block does from one of its steps on.
 -- give: it ends with the value of a variable.
 -- tail_call: it ends as the call of a function on variables.
--- branch: it goes on as the first code where the variable is `True`, and else as the second.
 -- case: it goes on as the arm of the row that the decisions choose for the value of the variable.
 -- compute: the variable takes the value of the form on variables, and the rest comes.
 -- inside: a block is run, the variable takes its value, and the rest comes.
@@ -24,7 +23,6 @@ mutual
   pub data Counted : Type 0 where
     give : (variable : ℕ) → Counted
     tail_call : (function : ℕ) → (arguments : List ℕ) → Counted
-    branch : (on : ℕ) → (positive : Counted) → (negative : Counted) → Counted
     case : (on : ℕ) → (decisions : List NodeTree) → (arms : CountedArms) → Counted
     compute : (variable : ℕ) → (form : Form) → (arguments : List ℕ) → (rest : Counted) → Counted
     inside : (variable : ℕ) → (block : Counted) → (rest : Counted) → Counted

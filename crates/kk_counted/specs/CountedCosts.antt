@@ -5,7 +5,7 @@ use Rattle.kk_source.specs.Live.{value_of}
 use Rattle.kk_source.specs.State.{Environment}
 use Rattle.kk_core.specs.Costs.{part_cost}
 use Rattle.kk_core.specs.Looks.{looks_taken}
-use Rattle.kk_counted.specs.CountedCodes.{Counted, give, tail_call, branch, case, compute, inside, read, open_cell, if_unique, dup, drop}
+use Rattle.kk_counted.specs.CountedCodes.{Counted, give, tail_call, case, compute, inside, read, open_cell, if_unique, dup, drop}
 use Rattle.kk_counted.specs.CountedStates.{CountedControl, running, stopped, stuck, CountedState}
 use Rattle.kk_counted.specs.Heaps.{Heap, cell_at}
 
@@ -31,7 +31,6 @@ opening_cost fields used =
 abbrev pub code_cost : Counted → Environment → Heap → ℕ
 code_cost (give x) environment heap = form_cost
 code_cost (tail_call f arguments) environment heap = form_cost + value_cost * length arguments
-code_cost (branch x positive negative) environment heap = form_cost
 code_cost (case x decisions arms) environment heap =
     form_cost + part_cost * looks_taken (cell_at heap) (value_of environment x) decisions
 code_cost (compute x form arguments rest) environment heap = form_cost + value_cost * length arguments

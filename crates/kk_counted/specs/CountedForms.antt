@@ -6,9 +6,9 @@ use Rattle.kk_core.specs.declared.decisions.Decisions.{Decisions}
 use Rattle.kk_counted.specs.declared.form.Block.{Block}
 use Rattle.kk_counted.specs.declared.form.Last.{Last}
 use Rattle.kk_counted.specs.declared.form.Step.{Step}
-use Rattle.kk_counted.specs.declared.form.Last.TheOpen.{Block-F, Last-F, Step-F, Let, Inside, Read, Open, IfUnique, Dup, Drop, Return, TailCall, If, Case}
+use Rattle.kk_counted.specs.declared.form.Last.TheOpen.{Block-F, Last-F, Step-F, Let, Inside, Read, Open, IfUnique, Dup, Drop, Return, TailCall, Case}
 use Rattle.kk_counted.specs.declared.form.Last.TheFolds.{fold-Block, fold-Last, fold-Step}
-use Rattle.kk_counted.specs.CountedCodes.{Counted, give, tail_call, branch, case, compute, inside, read, open_cell, if_unique, dup, drop, CountedArms, no_arm, arm}
+use Rattle.kk_counted.specs.CountedCodes.{Counted, give, tail_call, case, compute, inside, read, open_cell, if_unique, dup, drop, CountedArms, no_arm, arm}
 
 -- a step of a block by itself
 pub data Move : Type 0 where
@@ -47,7 +47,6 @@ decisions_of decisions = map node_tree decisions.nodes.items
 abbrev pub last_step : Last-F Counted Move Counted → Counted
 last_step (Return x) = give x
 last_step (TailCall f arguments) = tail_call f arguments.items
-last_step (If x positive negative) = branch x positive.value negative.value
 last_step (Case x decisions arms) = case x (decisions_of decisions) (arms_of arms.items)
 
 abbrev pub step_step : Step-F Counted Move Counted → Move

@@ -10,11 +10,11 @@ use Rattle.kk_source.specs.Live.{value_of}
 use Rattle.kk_source.specs.Matching.{and_then}
 use Rattle.kk_source.specs.Notes.{Note, events_of}
 use Rattle.kk_source.specs.Actions.{Action, goes, build_step, enter_step, performed}
-use Rattle.kk_source.specs.FormEffects.{is_true, form_effect, effect_step}
+use Rattle.kk_source.specs.FormEffects.{form_effect, effect_step}
 use Rattle.kk_source.specs.Step.{bind_parameters}
 use Rattle.kk_core.specs.CoreMachine.{bind_fields}
 use Rattle.kk_core.specs.Decisions.{chosen}
-use Rattle.kk_counted.specs.CountedCodes.{Counted, give, tail_call, branch, case, compute, inside, read, open_cell, if_unique, dup, drop, CountedArms, no_arm, arm, CountedFunction}
+use Rattle.kk_counted.specs.CountedCodes.{Counted, give, tail_call, case, compute, inside, read, open_cell, if_unique, dup, drop, CountedArms, no_arm, arm, CountedFunction}
 use Rattle.kk_counted.specs.Heaps.{Heap, count_at, cell_at, set_count, busy, dup_value, dup_all, drop_value, drop_all}
 use Rattle.kk_counted.specs.CountedStates.{CountedSetting, CountedJoin, CountedFrame, CountedControl, running, stopped, stuck, CountedConfiguration, CountedState, counted_end_at}
 
@@ -155,8 +155,6 @@ module _ (setting : CountedSetting) where
   counted_code_step (give x) environment joins from = give_step (value_of environment x) joins from.frames environment from
   counted_code_step (tail_call f arguments) environment joins from =
       tail_step (slice_get setting.program.functions f) (map (value_of environment) arguments) from
-  counted_code_step (branch x positive negative) environment joins from =
-      goes (at_counted (if is_true (value_of environment x) then positive else negative) environment joins from)
   counted_code_step (case x decisions arms) environment joins from =
       case_step (and_then (chosen (cell_at from.heap) (value_of environment x) decisions) (arm_at arms)) environment joins from
   counted_code_step (compute x form arguments rest) environment joins from =

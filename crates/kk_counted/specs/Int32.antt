@@ -8,7 +8,7 @@ use Rattle.kk_core.specs.Decisions.{NodeTree, chooses, tests}
 use Rattle.kk_core.specs.declared.decisions.Answer.{Answer}
 use Rattle.kk_core.specs.declared.decisions.Answer.TheVariants.{Number as OfNumber}
 use Rattle.kk_core.specs.declared.decisions.Edge.{Edge}
-use Rattle.kk_counted.specs.CountedCodes.{Counted, give, tail_call, branch, case, compute, inside, read, open_cell, if_unique, dup, drop, CountedArms, no_arm, arm, CountedFunction}
+use Rattle.kk_counted.specs.CountedCodes.{Counted, give, tail_call, case, compute, inside, read, open_cell, if_unique, dup, drop, CountedArms, no_arm, arm, CountedFunction}
 use Rattle.kk_counted.specs.CountedStates.{CountedJoin, CountedFrame, CountedControl, running, CountedConfiguration}
 use Rattle.kk_counted.specs.Heaps.{Heap}
 
@@ -49,7 +49,6 @@ abbrev mutual
   pub HasInt32 : Counted → Type 0
   HasInt32 (give x) = Unit {0}
   HasInt32 (tail_call f arguments) = Unit {0}
-  HasInt32 (branch x positive negative) = HasInt32 positive × HasInt32 negative
   HasInt32 (case x decisions arms) = AreNodesInt32 decisions × HaveInt32 arms
   HasInt32 (compute x form arguments rest) = IsFormInt32 form × HasInt32 rest
   HasInt32 (inside x block rest) = HasInt32 block × HasInt32 rest

@@ -48,7 +48,6 @@ abbrev mutual
   pub LeavesKnown : List KnownFields → Tokened → Type 0
   LeavesKnown known (Tokened.give x) = Unit {0}
   LeavesKnown known (Tokened.tail_call f arguments) = Unit {0}
-  LeavesKnown known (Tokened.branch x positive negative) = LeavesKnown known positive × LeavesKnown known negative
   LeavesKnown known (Tokened.case x decisions arms) = LeaveKnown known arms
   LeavesKnown known (Tokened.compute x form arguments others rest) = LeavesKnown (forget_variable x known) rest
   LeavesKnown known (Tokened.inside x block rest) = LeavesKnown known block × LeavesKnown [] rest

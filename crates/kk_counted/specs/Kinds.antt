@@ -1,15 +1,14 @@
 -- Of which kind values are in each state of a run of counted code: as its types tell.
 use Rattle.std.specs.Prelude.{ℕ, List, map, slice_get}
 use Rattle.kk_source.specs.Live.{value_of}
-use Rattle.kk_core.specs.Kinds.{IsTruth, TakesKinds, TestsAlike}
-use Rattle.kk_counted.specs.CountedCodes.{branch, case, compute}
+use Rattle.kk_core.specs.Kinds.{TakesKinds, TestsAlike}
+use Rattle.kk_counted.specs.CountedCodes.{case, compute}
 use Rattle.kk_counted.specs.CountedStates.{CountedSetting, CountedControl, running, CountedState}
 use Rattle.kk_counted.specs.Heaps.{Heap, forwards}
 use Rattle.kk_counted.specs.Keeping.{counted_after}
 
 -- what the code of a state takes is of the kinds that it asks for
 abbrev pub HasKinds : (ℕ → ℕ → Type 0) → (ℕ → ℕ) → Heap → CountedControl → Type 0
-HasKinds alike fields heap (running (branch x positive negative) environment joins) = IsTruth (value_of environment x)
 HasKinds alike fields heap (running (case x decisions arms) environment joins) =
     TestsAlike alike fields (slice_get (forwards heap)) (value_of environment x) decisions
 HasKinds alike fields heap (running (compute x form arguments rest) environment joins) =

@@ -2,7 +2,7 @@
 use Rattle.std.specs.Prelude.{◌≤◌, ℕ, suc, ◌+◌, ◌*◌, List, [], ◌∷◌}
 use Rattle.kk_core.specs.CaseLengths.{tests_length, most_cases_length}
 use Rattle.kk_core.specs.Sizes.{most_variables, most_instances, most_program_forms}
-use Rattle.kk_counted.specs.CountedCodes.{Counted, give, tail_call, branch, case, compute, inside, read, open_cell, if_unique, dup, drop, CountedArms, no_arm, arm, CountedFunction}
+use Rattle.kk_counted.specs.CountedCodes.{Counted, give, tail_call, case, compute, inside, read, open_cell, if_unique, dup, drop, CountedArms, no_arm, arm, CountedFunction}
 
 -- the most instructions of a form but for the tests of a case, and of a reference more or one that is given up
 abbrev pub form_length : ℕ
@@ -15,7 +15,6 @@ abbrev mutual
   pub code_length : Counted → ℕ
   code_length (give x) = form_length
   code_length (tail_call f arguments) = form_length
-  code_length (branch x positive negative) = form_length + code_length positive + code_length negative
   code_length (case x decisions arms) = form_length + tests_length decisions + arms_length arms
   code_length (compute x form arguments rest) = form_length + code_length rest
   code_length (inside x block rest) = form_length + code_length block + code_length rest
@@ -39,7 +38,6 @@ abbrev mutual
   pub computes : Counted → ℕ
   computes (give x) = 0
   computes (tail_call f arguments) = 0
-  computes (branch x positive negative) = computes positive + computes negative
   computes (case x decisions arms) = arms_computes arms
   computes (compute x form arguments rest) = suc (computes rest)
   computes (inside x block rest) = computes block + computes rest
@@ -62,7 +60,6 @@ abbrev mutual
   pub forms_in : Counted → ℕ
   forms_in (give x) = 1
   forms_in (tail_call f arguments) = 1
-  forms_in (branch x positive negative) = suc (forms_in positive + forms_in negative)
   forms_in (case x decisions arms) = suc (arms_forms arms)
   forms_in (compute x form arguments rest) = suc (forms_in rest)
   forms_in (inside x block rest) = suc (forms_in block + forms_in rest)

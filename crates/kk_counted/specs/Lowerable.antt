@@ -7,7 +7,7 @@ use Rattle.kk_syntax.specs.Shapes.{is_among}
 use Rattle.kk_core.specs.Sizes.{most_parameters, most_variables}
 use Rattle.kk_counted.specs.Arms.{HasArms}
 use Rattle.kk_counted.specs.CountBounds.{EachHasAnArm}
-use Rattle.kk_counted.specs.CountedCodes.{Counted, give, tail_call, branch, case, compute, inside, read, open_cell, if_unique, dup, drop, CountedArms, no_arm, arm, CountedFunction}
+use Rattle.kk_counted.specs.CountedCodes.{Counted, give, tail_call, case, compute, inside, read, open_cell, if_unique, dup, drop, CountedArms, no_arm, arm, CountedFunction}
 use Rattle.kk_counted.specs.Marks.{CellMarks, IsMarked}
 use Rattle.kk_counted.specs.Spending.{AreApart, numbers_from}
 
@@ -35,7 +35,6 @@ module _ (base : ℕ) where
     pub AreNumbered : List ℕ → Counted → Type 0
     AreNumbered bound (give x) = Unit {0}
     AreNumbered bound (tail_call f arguments) = Unit {0}
-    AreNumbered bound (branch x positive negative) = AreNumbered bound positive × AreNumbered bound negative
     AreNumbered bound (case x decisions arms) = AreArmsNumbered bound arms
     AreNumbered bound (compute x form arguments rest) = (x < base) × (AreBelow x bound × AreNumbered (x ∷ bound) rest)
     AreNumbered bound (inside x block rest) = (x < base) × (AreNumbered bound block × AreNumbered (x ∷ bound) rest)
@@ -60,7 +59,6 @@ abbrev mutual
   pub given_by : Counted → Option ℕ
   given_by (give x) = Some x
   given_by (tail_call f arguments) = None
-  given_by (branch x positive negative) = first_of (given_by positive) (given_by negative)
   given_by (case x decisions arms) = given_by_arms arms
   given_by (compute x form arguments rest) = given_by rest
   given_by (inside x block rest) = given_by rest
@@ -79,7 +77,6 @@ abbrev mutual
   pub BlocksGive : Counted → Type 0
   BlocksGive (give x) = Unit {0}
   BlocksGive (tail_call f arguments) = Unit {0}
-  BlocksGive (branch x positive negative) = BlocksGive positive × BlocksGive negative
   BlocksGive (case x decisions arms) = BlocksOfArmsGive arms
   BlocksGive (compute x form arguments rest) = BlocksGive rest
   BlocksGive (inside x block rest) = (given : ℕ) × ((given_by block ≡ Some given) × (BlocksGive block × BlocksGive rest))
@@ -108,7 +105,6 @@ abbrev mutual
   pub HasArities : Counted → Type 0
   HasArities (give x) = Unit {0}
   HasArities (tail_call f arguments) = HasArity (Call f) arguments
-  HasArities (branch x positive negative) = HasArities positive × HasArities negative
   HasArities (case x decisions arms) = HaveArities arms
   HasArities (compute x form arguments rest) = HasArity form arguments × HasArities rest
   HasArities (inside x block rest) = HasArities block × HasArities rest
@@ -129,7 +125,6 @@ abbrev mutual
   pub OpensByCount : Counted → Type 0
   OpensByCount (give x) = Unit {0}
   OpensByCount (tail_call f arguments) = Unit {0}
-  OpensByCount (branch x positive negative) = OpensByCount positive × OpensByCount negative
   OpensByCount (case x decisions arms) = OpenByCount arms
   OpensByCount (compute x form arguments rest) = OpensByCount rest
   OpensByCount (inside x block rest) = OpensByCount block × OpensByCount rest

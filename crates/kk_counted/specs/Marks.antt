@@ -8,7 +8,7 @@ use Rattle.kk_syntax.specs.Shapes.{is_among}
 use Rattle.kk_core.specs.declared.shape.ConstructorShape.{ConstructorShape}
 use Rattle.kk_core.specs.Sizes.{AreBound}
 use Rattle.kk_counted.specs.declared.shape.InstanceShape.{InstanceShape}
-use Rattle.kk_counted.specs.CountedCodes.{Counted, give, tail_call, branch, case, compute, inside, read, open_cell, if_unique, dup, drop, CountedArms, no_arm, arm, CountedFunction, CountedProgram}
+use Rattle.kk_counted.specs.CountedCodes.{Counted, give, tail_call, case, compute, inside, read, open_cell, if_unique, dup, drop, CountedArms, no_arm, arm, CountedFunction, CountedProgram}
 use Rattle.kk_counted.specs.Spending.{numbers_from}
 
 -- ---- what the types tell
@@ -79,8 +79,6 @@ module _ (marks : CellMarks) (holds : ℕ → Bool) where
       HasMark bound given (give x) = (is_among bound x ≡ true) × (holds x ≡ given)
       HasMark bound given (tail_call f arguments) =
           AreBound bound arguments × (HaveMarks holds arguments (parameter_marks marks f) × (result_mark marks f ≡ result))
-      HasMark bound given (branch x positive negative) =
-          (is_among bound x ≡ true) × ((holds x ≡ false) × (HasMark bound given positive × HasMark bound given negative))
       HasMark bound given (case x decisions arms) = (is_among bound x ≡ true) × HaveMark bound given arms
       HasMark bound given (compute x form arguments rest) =
           AreBound bound arguments × (IsFormMarked form arguments (holds x) × HasMark (x ∷ bound) given rest)

@@ -4,7 +4,7 @@ use Rattle.kk_syntax.specs.declared.program.Form.{Form}
 use Rattle.kk_syntax.specs.declared.program.Form.TheVariants.{Call}
 use Rattle.kk_syntax.specs.Shapes.{is_among}
 use Rattle.kk_syntax.specs.PositionsOf.{PositionTable, is_lent}
-use Rattle.kk_counted.specs.CountedCodes.{Counted, give, tail_call, branch, case, compute, inside, read, open_cell, if_unique, dup, drop, CountedArms, no_arm, arm, CountedFunction, CountedProgram}
+use Rattle.kk_counted.specs.CountedCodes.{Counted, give, tail_call, case, compute, inside, read, open_cell, if_unique, dup, drop, CountedArms, no_arm, arm, CountedFunction, CountedProgram}
 
 -- ---- lists of variables
 
@@ -79,9 +79,6 @@ module _ (positions : PositionTable) (functions : List CountedFunction) where
     Spends lent readable left owned (tail_call f arguments) =
         (left ≡ None) × ((HasAsMany f arguments)
         × (AllAmong (lent_by (Call f) arguments) lent × AreEven owned (used_by (Call f) arguments)))
-    Spends lent readable left owned (branch x positive negative) =
-        (now : List ℕ) × (AreEven owned now × ((is_among (lent ++ now) x ≡ true)
-        × (Spends lent [] left now positive × Spends lent [] left now negative)))
     Spends lent readable left owned (case x decisions arms) =
         (now : List ℕ) × (AreEven owned now × ((is_among (lent ++ now) x ≡ true) × SpendsAll lent left now arms))
     Spends lent readable left owned (compute x form arguments rest) =

@@ -2,7 +2,7 @@
 use Rattle.std.specs.Prelude.{◌≡◌, ℕ, suc, ◌+◌, ◌*◌, ◌≤◌, List, length, max, Some, if◌then◌else◌, slice_get}
 use Rattle.kk_source.specs.State.{Environment}
 use Rattle.kk_counted.specs.BareForms.{bare}
-use Rattle.kk_counted.specs.CountedCodes.{Counted, give, tail_call, branch, case, compute, inside, read, open_cell, if_unique, dup, drop, CountedArms, no_arm, arm, CountedFunction, CountedProgram}
+use Rattle.kk_counted.specs.CountedCodes.{Counted, give, tail_call, case, compute, inside, read, open_cell, if_unique, dup, drop, CountedArms, no_arm, arm, CountedFunction, CountedProgram}
 use Rattle.kk_counted.specs.CountedCosts.{code_cost}
 use Rattle.kk_counted.specs.CountedStates.{CountedState}
 use Rattle.kk_counted.specs.Heaps.{Heap}
@@ -59,7 +59,6 @@ abbrev mutual
   pub room_needed : Tokened → ℕ
   room_needed (Tokened.give x) = 0
   room_needed (Tokened.tail_call f arguments) = 0
-  room_needed (Tokened.branch x positive negative) = max (room_needed positive) (room_needed negative)
   room_needed (Tokened.case x decisions arms) = arms_need_room arms
   room_needed (Tokened.compute x form arguments others rest) = max (other_cost * length others) (room_needed rest)
   room_needed (Tokened.inside x block rest) = max (room_needed block) (room_needed rest)
@@ -103,7 +102,6 @@ abbrev mutual
   pub openings : Counted → ℕ
   openings (give x) = 0
   openings (tail_call f arguments) = 0
-  openings (branch x positive negative) = max (openings positive) (openings negative)
   openings (case x decisions arms) = openings_of arms
   openings (compute x form arguments rest) = openings rest
   openings (inside x block rest) = openings block + openings rest

@@ -27,7 +27,6 @@ abbrev mutual
   pub tokened_length : Tokened → ℕ
   tokened_length (Tokened.give x) = form_length
   tokened_length (Tokened.tail_call f arguments) = form_length
-  tokened_length (Tokened.branch x positive negative) = form_length + tokened_length positive + tokened_length negative
   tokened_length (Tokened.case x decisions arms) = form_length + tests_length decisions + tokened_arms_length arms
   tokened_length (Tokened.compute x form arguments others rest) =
       form_length + other_length * length others + tokened_length rest
@@ -61,7 +60,6 @@ abbrev mutual
   pub tokened_computes : Tokened → ℕ
   tokened_computes (Tokened.give x) = 0
   tokened_computes (Tokened.tail_call f arguments) = 0
-  tokened_computes (Tokened.branch x positive negative) = tokened_computes positive + tokened_computes negative
   tokened_computes (Tokened.case x decisions arms) = tokened_arms_computes arms
   tokened_computes (Tokened.compute x form arguments others rest) = suc (tokened_computes rest)
   tokened_computes (Tokened.inside x block rest) = tokened_computes block + tokened_computes rest

@@ -19,7 +19,6 @@ abbrev mutual
   pub slots_in : Tokened → ℕ
   slots_in (Tokened.give x) = 0
   slots_in (Tokened.tail_call f arguments) = 0
-  slots_in (Tokened.branch x positive negative) = max (slots_in positive) (slots_in negative)
   slots_in (Tokened.case x decisions arms) = slots_in_arms arms
   slots_in (Tokened.compute x form arguments others rest) = max (slots_of others) (slots_in rest)
   slots_in (Tokened.inside x block rest) = max (slots_in block) (slots_in rest)
@@ -51,7 +50,6 @@ abbrev mutual
   pub HasPlainForms : Tokened → Type 0
   HasPlainForms (Tokened.give x) = Unit {0}
   HasPlainForms (Tokened.tail_call f arguments) = Unit {0}
-  HasPlainForms (Tokened.branch x positive negative) = HasPlainForms positive × HasPlainForms negative
   HasPlainForms (Tokened.case x decisions arms) = HavePlainForms arms
   HasPlainForms (Tokened.compute x form arguments others rest) = (others ≡ []) × HasPlainForms rest
   HasPlainForms (Tokened.inside x block rest) = HasPlainForms block × HasPlainForms rest
@@ -80,7 +78,6 @@ abbrev mutual
   pub HoldsAtCalls : List ℕ → Tokened → Type 0
   HoldsAtCalls held (Tokened.give x) = held ≡ []
   HoldsAtCalls held (Tokened.tail_call f arguments) = held ≡ []
-  HoldsAtCalls held (Tokened.branch x positive negative) = (held ≡ []) × (HoldsAtCalls [] positive × HoldsAtCalls [] negative)
   HoldsAtCalls held (Tokened.case x decisions arms) = (held ≡ []) × HoldAtCalls arms
   HoldsAtCalls held (Tokened.compute x (Call f) arguments others rest) = HoldsAtCalls held rest
   HoldsAtCalls held (Tokened.compute x form arguments others rest) = (held ≡ []) × HoldsAtCalls [] rest

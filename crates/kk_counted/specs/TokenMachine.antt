@@ -8,7 +8,7 @@ use Rattle.kk_source.specs.Live.{value_of}
 use Rattle.kk_source.specs.Matching.{and_then}
 use Rattle.kk_source.specs.Notes.{Note}
 use Rattle.kk_source.specs.Actions.{Action, goes, builds, enter_step, performed}
-use Rattle.kk_source.specs.FormEffects.{is_true, form_effect, effect_step}
+use Rattle.kk_source.specs.FormEffects.{form_effect, effect_step}
 use Rattle.kk_source.specs.Step.{bind_parameters}
 use Rattle.kk_core.specs.CoreMachine.{bind_fields}
 use Rattle.kk_core.specs.Decisions.{chosen}
@@ -154,8 +154,6 @@ module _ (setting : TokenSetting) where
       token_give_step (value_of environment x) joins from.frames environment from
   token_code_step (Tokened.tail_call f arguments) environment joins from =
       token_tail_step (slice_get setting.program.functions f) (map (value_of environment) arguments) from
-  token_code_step (Tokened.branch x positive negative) environment joins from =
-      goes (at_code (if is_true (value_of environment x) then positive else negative) environment joins from)
   token_code_step (Tokened.case x decisions arms) environment joins from =
       token_case_step (and_then (chosen (cell_at from.heap) (value_of environment x) decisions) (tokened_arm_at arms))
       environment joins from

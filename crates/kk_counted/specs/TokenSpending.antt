@@ -25,8 +25,6 @@ abbrev mutual
   pub SpendsTokens : List ℕ → List ℕ → List ℕ → Tokened → Type 0
   SpendsTokens left unspent held (Tokened.give x) = (held ≡ []) × AreSame unspent left
   SpendsTokens left unspent held (Tokened.tail_call f arguments) = (held ≡ []) × AreSame unspent []
-  SpendsTokens left unspent held (Tokened.branch x positive negative) =
-      (held ≡ []) × (SpendsTokens left unspent [] positive × SpendsTokens left unspent [] negative)
   SpendsTokens left unspent held (Tokened.case x decisions arms) = (held ≡ []) × SpendAllTokens left unspent arms
   SpendsTokens left unspent held (Tokened.compute x form arguments others rest) =
       AtForm form arguments others unspent held × SpendsTokens left unspent held rest

@@ -20,7 +20,6 @@ mutual
   pub data Tokened : Type 0 where
     give : (variable : ℕ) → Tokened
     tail_call : (function : ℕ) → (arguments : List ℕ) → Tokened
-    branch : (on : ℕ) → (positive : Tokened) → (negative : Tokened) → Tokened
     case : (on : ℕ) → (decisions : List NodeTree) → (arms : TokenedArms) → Tokened
     compute : (variable : ℕ) → (form : Form) → (arguments : List ℕ) → (others : List ℕ) → (rest : Tokened) → Tokened
     inside : (variable : ℕ) → (block : Tokened) → (rest : Tokened) → Tokened

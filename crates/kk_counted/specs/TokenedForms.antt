@@ -6,7 +6,7 @@ use Rattle.kk_counted.specs.declared.tokened.TokenedBlock.{TokenedBlock}
 use Rattle.kk_counted.specs.declared.tokened.TokenedFun.{TokenedFun}
 use Rattle.kk_counted.specs.declared.tokened.TokenedLast.{TokenedLast}
 use Rattle.kk_counted.specs.declared.tokened.TokenedStep.{TokenedStep}
-use Rattle.kk_counted.specs.declared.tokened.TokenedLast.TheOpen.{TokenedBlock-F, TokenedLast-F, TokenedStep-F, Let, Inside, Read, Open, IfUnique, Dup, Drop, Fill, Free, Null, Move, Hold, Unhold, Return, TailCall, If, Case, IfToken}
+use Rattle.kk_counted.specs.declared.tokened.TokenedLast.TheOpen.{TokenedBlock-F, TokenedLast-F, TokenedStep-F, Let, Inside, Read, Open, IfUnique, Dup, Drop, Fill, Free, Null, Move, Hold, Unhold, Return, TailCall, Case, IfToken}
 use Rattle.kk_counted.specs.declared.tokened.TokenedLast.TheFolds.{fold-TokenedBlock, fold-TokenedLast, fold-TokenedStep}
 use Rattle.kk_counted.specs.TokenedCodes.{Tokened, TokenedArms, TokenedFunction, TokenedProgram}
 
@@ -57,7 +57,6 @@ tokened_arms (body ∷ bodies) = TokenedArms.arm body (tokened_arms bodies)
 abbrev pub tokened_last_step : TokenedLast-F Tokened TokenedMove Tokened → Tokened
 tokened_last_step (Return x) = Tokened.give x
 tokened_last_step (TailCall f arguments) = Tokened.tail_call f arguments.items
-tokened_last_step (If x positive negative) = Tokened.branch x positive.value negative.value
 tokened_last_step (Case x decisions arms) = Tokened.case x (decisions_of decisions) (tokened_arms arms.items)
 tokened_last_step (IfToken y there absent) = Tokened.if_token y there.value absent.value
 

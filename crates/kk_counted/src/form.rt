@@ -41,8 +41,6 @@ pub enum Last {
     Return(u32),
     /// By calling a function, whose value is given.
     TailCall(u32, Vec<u32>),
-    /// As the first block where the variable is `True`, and else as the second.
-    If(u32, Box<Block>, Box<Block>),
     /// As the block of the row that the decisions choose for the variable's value.
     Case(u32, Decisions, Vec<Block>),
 }
