@@ -1,7 +1,7 @@
 -- Specialised code has as many openings on a path as the code that it is made of, and each goes by the count of the cell.
 use Rattle.std.proofs.Common.{◌≡◌, ℕ, zero, suc, ◌≤◌, List, [], ◌∷◌, map, Some, refl, ap, subst, arith}
 use Rattle.std.specs.Prelude.{slice_get}
-use Rattle.kk_counted.specs.CountedCodes.{Counted, give, tail_call, branch, case, compute, inside, read, open_cell, if_unique, dup, drop, CountedArms, no_arm, arm, CountedFunction, CountedProgram}
+use Rattle.kk_counted.specs.CountedCodes.{Counted, give, tail_call, case, compute, inside, read, open_cell, if_unique, dup, drop, CountedArms, no_arm, arm, CountedFunction, CountedProgram}
 use Rattle.kk_counted.specs.Lowerable.{OpensByCount, OpenByCount, AllOpenByCount}
 use Rattle.kk_counted.specs.TokenCosts.{openings, openings_of, OpenAtMost}
 use Rattle.kk_dropspec.specs.Specialised.{special, special_arms, special_function, special_program}
@@ -10,8 +10,6 @@ mutual
   same_openings : (code : Counted) → openings (special code) ≡ openings code
   same_openings (give x) = refl
   same_openings (tail_call f arguments) = refl
-  same_openings (branch x positive negative) =
-      let one = same_openings positive in let two = same_openings negative in omega (arith, one, two)
   same_openings (case x decisions arms) = same_arms_openings arms
   same_openings (compute x form arguments rest) = same_openings rest
   same_openings (inside x block rest) = let one = same_openings block in let two = same_openings rest in omega (arith, one, two)
@@ -42,7 +40,6 @@ mutual
   by_count : (code : Counted) → OpensByCount (special code)
   by_count (give x) = tt
   by_count (tail_call f arguments) = tt
-  by_count (branch x positive negative) = (by_count positive, by_count negative)
   by_count (case x decisions arms) = arms_by_count arms
   by_count (compute x form arguments rest) = by_count rest
   by_count (inside x block rest) = (by_count block, by_count rest)

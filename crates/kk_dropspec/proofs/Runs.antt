@@ -6,7 +6,7 @@ use Rattle.kk_syntax.specs.PositionsOf.{PositionTable}
 use Rattle.kk_source.specs.Notes.{Note}
 use Rattle.kk_source.specs.State.{Environment}
 use Rattle.kk_source.specs.Actions.{Action, goes, puts, takes, builds, calls, performed}
-use Rattle.kk_counted.specs.CountedCodes.{Counted, give, tail_call, branch, case, compute, inside, read, open_cell, if_unique, dup, drop, CountedFunction}
+use Rattle.kk_counted.specs.CountedCodes.{Counted, give, tail_call, case, compute, inside, read, open_cell, if_unique, dup, drop, CountedFunction}
 use Rattle.kk_counted.specs.CountedCosts.{code_cost, room_at, roomy_control_cost, roomy_cost}
 use Rattle.kk_counted.specs.Heaps.{Heap}
 use Rattle.kk_counted.specs.CountedStates.{CountedSetting, CountedFrame, CountedControl, running, stopped, stuck, CountedConfiguration, CountedState, no_function, counted_first_state, counted_end_at}
@@ -44,7 +44,6 @@ code_costs : (code : Counted) (environment : Environment) (heap : Heap)
     → code_cost (special code) environment heap ≡ code_cost code environment heap
 code_costs (give x) environment heap = refl
 code_costs (tail_call f arguments) environment heap = refl
-code_costs (branch x positive negative) environment heap = refl
 code_costs (case x decisions arms) environment heap = refl
 code_costs (compute x form arguments rest) environment heap = refl
 code_costs (inside x block rest) environment heap = refl
@@ -57,7 +56,6 @@ code_costs (drop x rest) environment heap = refl
 room_same : (room : ℕ) (code : Counted) → room_at room (special code) ≡ room_at room code
 room_same room (give x) = refl
 room_same room (tail_call f arguments) = refl
-room_same room (branch x positive negative) = refl
 room_same room (case x decisions arms) = refl
 room_same room (compute x form arguments rest) = refl
 room_same room (inside x block rest) = refl

@@ -6,7 +6,7 @@ use Rattle.kk_syntax.specs.declared.program.Form.{Form}
 use Rattle.kk_syntax.specs.declared.program.Form.TheVariants.{Number, Unit as Nothing, ReadByte, PrintText, Unary, Binary, Print, Construct, Call}
 use Rattle.kk_syntax.specs.PositionsOf.{PositionTable}
 use Rattle.kk_source.specs.State.{Store, Environment}
-use Rattle.kk_counted.specs.CountedCodes.{Counted, give, tail_call, branch, case, compute, inside, read, open_cell, if_unique, dup, drop, CountedFunction}
+use Rattle.kk_counted.specs.CountedCodes.{Counted, give, tail_call, case, compute, inside, read, open_cell, if_unique, dup, drop, CountedFunction}
 use Rattle.kk_counted.specs.Heaps.{Heap, forwards}
 use Rattle.kk_counted.specs.CountedStates.{CountedSetting, CountedJoin, CountedControl, running, stopped, stuck, CountedConfiguration, CountedState}
 use Rattle.kk_counted.specs.Keeping.{IsThere, CallsOne, HasShape, counted_after, FitsAlways, HasShapeAlways}
@@ -38,7 +38,6 @@ module _ (functions : List CountedFunction) where
         → HasShape (map special_function functions) store (special_control (running code environment joins))
     code_shape (give x) environment joins shape = tt
     code_shape (tail_call f arguments) environment joins shape = is_there f shape
-    code_shape (branch x positive negative) environment joins shape = tt
     code_shape (case x decisions arms) environment joins shape =
         (shape.0, (special shape.1.0, (shape.1.1.0, arm_same arms shape.0 ∙ ap (option_map special) shape.1.1.1)))
     code_shape (compute x form arguments rest) environment joins shape = calls_one form shape
@@ -61,7 +60,6 @@ module _ (alike : ℕ → ℕ → Type 0) (fields : ℕ → ℕ) (heap : Heap) w
       → HasKinds alike fields heap (special_control (running code environment joins))
   code_kinds (give x) environment joins kinds = tt
   code_kinds (tail_call f arguments) environment joins kinds = tt
-  code_kinds (branch x positive negative) environment joins kinds = kinds
   code_kinds (case x decisions arms) environment joins kinds = kinds
   code_kinds (compute x form arguments rest) environment joins kinds = kinds
   code_kinds (inside x block rest) environment joins kinds = tt

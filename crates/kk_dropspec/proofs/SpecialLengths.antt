@@ -1,6 +1,6 @@
 -- Specialised code is as long as the code that it is made of, and has as many forms on values.
 use Rattle.std.proofs.Common.{◌≡◌, suc, List, [], ◌∷◌, map, arith, refl, ap}
-use Rattle.kk_counted.specs.CountedCodes.{Counted, give, tail_call, branch, case, compute, inside, read, open_cell, if_unique, dup, drop, CountedArms, no_arm, arm, CountedFunction}
+use Rattle.kk_counted.specs.CountedCodes.{Counted, give, tail_call, case, compute, inside, read, open_cell, if_unique, dup, drop, CountedArms, no_arm, arm, CountedFunction}
 use Rattle.kk_counted.specs.Lengths.{code_length, arms_length, functions_length, computes, arms_computes, all_computes, forms_in, arms_forms, all_forms_in, AreShort}
 use Rattle.kk_dropspec.specs.Specialised.{special, special_arms, special_function}
 
@@ -8,8 +8,6 @@ mutual
   same_length : (code : Counted) → code_length (special code) ≡ code_length code
   same_length (give x) = refl
   same_length (tail_call f arguments) = refl
-  same_length (branch x positive negative) =
-      let one = same_length positive in let two = same_length negative in omega (arith, one, two)
   same_length (case x decisions arms) = let each = same_arms_length arms in omega (arith, each)
   same_length (compute x form arguments rest) = let later = same_length rest in omega (arith, later)
   same_length (inside x block rest) = let one = same_length block in let two = same_length rest in omega (arith, one, two)
@@ -27,8 +25,6 @@ mutual
   same_computes : (code : Counted) → computes (special code) ≡ computes code
   same_computes (give x) = refl
   same_computes (tail_call f arguments) = refl
-  same_computes (branch x positive negative) =
-      let one = same_computes positive in let two = same_computes negative in omega (arith, one, two)
   same_computes (case x decisions arms) = same_arms_compute arms
   same_computes (compute x form arguments rest) = ap suc (same_computes rest)
   same_computes (inside x block rest) = let one = same_computes block in let two = same_computes rest in omega (arith, one, two)
@@ -46,8 +42,6 @@ mutual
   same_forms : (code : Counted) → forms_in (special code) ≡ forms_in code
   same_forms (give x) = refl
   same_forms (tail_call f arguments) = refl
-  same_forms (branch x positive negative) =
-      let one = same_forms positive in let two = same_forms negative in omega (arith, one, two)
   same_forms (case x decisions arms) = ap suc (same_arms_forms arms)
   same_forms (compute x form arguments rest) = ap suc (same_forms rest)
   same_forms (inside x block rest) = let one = same_forms block in let two = same_forms rest in omega (arith, one, two)

@@ -7,7 +7,7 @@ use Rattle.std.proofs.lemmas.Option.{slice_get-map, slice_get_read}
 use Rattle.kk_syntax.specs.declared.program.Form.{Form}
 use Rattle.kk_syntax.specs.declared.program.Form.TheVariants.{Number, Unit as Nothing, ReadByte, PrintText, Unary, Binary, Print, Construct, Call}
 use Rattle.kk_syntax.specs.PositionsOf.{PositionTable}
-use Rattle.kk_counted.specs.CountedCodes.{Counted, give, tail_call, branch, case, compute, inside, read, open_cell, if_unique, dup, drop, CountedArms, no_arm, arm, CountedFunction, CountedProgram}
+use Rattle.kk_counted.specs.CountedCodes.{Counted, give, tail_call, case, compute, inside, read, open_cell, if_unique, dup, drop, CountedArms, no_arm, arm, CountedFunction, CountedProgram}
 use Rattle.kk_core.specs.Decisions.{AreOrderly}
 use Rattle.kk_counted.specs.declared.counted.CountedFun.{CountedFun}
 use Rattle.kk_counted.specs.Arms.{HasArms, HaveArms, arm_count}
@@ -54,8 +54,6 @@ module _ (positions : PositionTable) (functions others : List CountedFunction)
         → Spends positions others lent readable left owned (special code)
     spends (give x) lent readable left owned s = s
     spends (tail_call f arguments) lent readable left owned s = (s.0, (many f arguments s.1.0, s.1.1))
-    spends (branch x positive negative) lent readable left owned s =
-        (s.0, (s.1.0, (s.1.1.0, (spends positive lent [] left s.0 s.1.1.1.0, spends negative lent [] left s.0 s.1.1.1.1))))
     spends (case x decisions arms) lent readable left owned s = (s.0, (s.1.0, (s.1.1.0, spend_all arms lent left s.0 s.1.1.1)))
     spends (compute x form arguments rest) lent readable left owned s = (
       s.0,
@@ -129,8 +127,6 @@ mutual
   pub special_has_arms : (code : Counted) → HasArms code → HasArms (special code)
   special_has_arms (give x) has = has
   special_has_arms (tail_call f arguments) has = has
-  special_has_arms (branch x positive negative) has =
-      (special_has_arms positive has.0, special_has_arms negative has.1)
   special_has_arms (case x decisions arms) has =
       (subst (AreOrderly decisions) (same_count arms) has.0, special_have_arms arms has.1)
   special_has_arms (compute x form arguments rest) has = special_has_arms rest has

@@ -2,7 +2,7 @@
 use Rattle.std.proofs.Common.{◌≡◌, ℕ, List, [], ◌∷◌, refl, sym, ap, ◌∙◌}
 use Rattle.kk_syntax.specs.Shapes.{without}
 use Rattle.kk_syntax.specs.declared.program.Form.TheVariants.{Construct}
-use Rattle.kk_counted.specs.CountedCodes.{branch, case, compute, inside, read, if_unique, dup, drop, arm}
+use Rattle.kk_counted.specs.CountedCodes.{case, compute, inside, read, if_unique, dup, drop, arm}
 use Rattle.kk_counted.specs.TokenedCodes.{Tokened, TokenedArms}
 use Rattle.kk_counted.specs.BareForms.{bare, bare_arms}
 use Rattle.kk_counted.specs.TokenSpending.{SpendsTokens, SpendAllTokens}
@@ -13,9 +13,6 @@ mutual
   pub bare_special : (code : Tokened) → bare (special_tokened code) ≡ special (bare code)
   bare_special (Tokened.give x) = refl
   bare_special (Tokened.tail_call f arguments) = refl
-  bare_special (Tokened.branch x positive negative) =
-      ap (λ body. branch x body (bare (special_tokened negative))) (bare_special positive) ∙ ap (branch x (special (bare positive)))
-      (bare_special negative)
   bare_special (Tokened.case x decisions arms) = ap (case x decisions) (bare_special_arms arms)
   bare_special (Tokened.compute x form arguments others rest) = ap (compute x form arguments) (bare_special rest)
   bare_special (Tokened.inside x block rest) =
@@ -46,8 +43,6 @@ mutual
       → SpendsTokens left unspent held (special_tokened code)
   spends_tokens (Tokened.give x) left unspent held s = s
   spends_tokens (Tokened.tail_call f arguments) left unspent held s = s
-  spends_tokens (Tokened.branch x positive negative) left unspent held s =
-      (s.0, (spends_tokens positive left unspent [] s.1.0, spends_tokens negative left unspent [] s.1.1))
   spends_tokens (Tokened.case x decisions arms) left unspent held s = (s.0, spend_all_tokens arms left unspent s.1)
   spends_tokens (Tokened.compute x form arguments others rest) left unspent held s = (s.0, spends_tokens rest left unspent held s.1)
   spends_tokens (Tokened.inside x block rest) left unspent held s =

@@ -5,8 +5,6 @@ abbrev mutual
   pub special_tokened : Tokened → Tokened
   special_tokened (Tokened.give x) = Tokened.give x
   special_tokened (Tokened.tail_call f arguments) = Tokened.tail_call f arguments
-  special_tokened (Tokened.branch x positive negative) =
-      Tokened.branch x (special_tokened positive) (special_tokened negative)
   special_tokened (Tokened.case x decisions arms) = Tokened.case x decisions (special_tokened_arms arms)
   special_tokened (Tokened.compute x form arguments others rest) =
       Tokened.compute x form arguments others (special_tokened rest)

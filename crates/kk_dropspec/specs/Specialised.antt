@@ -1,13 +1,12 @@
 -- Drop specialisation: each opening of a cell goes by the cell's count.
 use Rattle.std.specs.Prelude.{map}
-use Rattle.kk_counted.specs.CountedCodes.{Counted, give, tail_call, branch, case, compute, inside, read, open_cell, if_unique, dup, drop, CountedArms, no_arm, arm, CountedFunction, CountedProgram}
+use Rattle.kk_counted.specs.CountedCodes.{Counted, give, tail_call, case, compute, inside, read, open_cell, if_unique, dup, drop, CountedArms, no_arm, arm, CountedFunction, CountedProgram}
 use Rattle.kk_counted.specs.CountedStates.{CountedSetting, CountedJoin, CountedFrame, CountedControl, running, stopped, stuck, CountedConfiguration}
 
 abbrev mutual
   pub special : Counted → Counted
   special (give x) = give x
   special (tail_call f arguments) = tail_call f arguments
-  special (branch x positive negative) = branch x (special positive) (special negative)
   special (case x decisions arms) = case x decisions (special_arms arms)
   special (compute x form arguments rest) = compute x form arguments (special rest)
   special (inside x block rest) = inside x (special block) (special rest)

@@ -89,25 +89,12 @@ fn special_last(alloc: Global, last: &Last) -> Result<Last, NoMemory>
         Last::TailCall(instance, arguments) => {
             Ok(Last::TailCall(*instance, Vec::from_slice(alloc, arguments)?))
         }
-        Last::If(variable, positive, negative) => Ok(Last::If(
-            *variable,
-            boxed(alloc, positive)?,
-            boxed(alloc, negative)?,
-        )),
         Last::Case(variable, decisions, arms) => {
             let decisions = copied_decisions(alloc, decisions)?;
             let arms = special_arms(alloc, arms)?;
             Ok(Last::Case(*variable, decisions, arms))
         }
     }
-}
-
-#[cycle(special_block)]
-fn boxed(alloc: Global, block: &Block) -> Result<Box<Block>, NoMemory>
-    ensures same { IfOk result (λ made. block_code made.value ≡ special (block_code block.now)) }
-    ensures numbers { IfOk result (λ made. HasInt32 (block_code made.value)) }
-{
-    Ok(Box::new(alloc, special_block(alloc, block)?)?)
 }
 
 #[cycle(special_block)]
