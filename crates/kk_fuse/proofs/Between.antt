@@ -9,7 +9,7 @@ use Rattle.kk_syntax.specs.PositionsOf.{PositionTable}
 use Rattle.kk_source.specs.State.{Value, integer, unit, constant, Environment}
 use Rattle.kk_source.specs.Live.{value_of}
 use Rattle.kk_source.specs.FormEffects.{integer_of, unary_result, binary_result, argument, piece_of, byte_value}
-use Rattle.kk_counted.specs.CountedCodes.{Counted, give, tail_call, branch, case, compute, inside, read, open_cell, if_unique, dup, drop}
+use Rattle.kk_counted.specs.CountedCodes.{Counted, give, tail_call, case, compute, inside, read, open_cell, if_unique, dup, drop}
 use Rattle.kk_counted.specs.Heaps.{forwards}
 use Rattle.kk_counted.specs.CountedStates.{CountedSetting, CountedJoin, running, CountedConfiguration}
 use Rattle.kk_counted.specs.CountedMachine.{bound_then, form_step}
@@ -201,9 +201,6 @@ module _ (positions : PositionTable) (setting : CountedSetting) where
     pending_steps (tail_call f arguments) less at p x xs some fits shape =
         absurd (let none : strip (x ∷ xs) (fuse (tail_call f arguments)) ≡ Some less
         = ap (λ zs. strip zs (fuse (tail_call f arguments))) (sym some) ∙ p.strips in cc)
-    pending_steps (branch y positive negative) less at p x xs some fits shape =
-        absurd (let none : strip (x ∷ xs) (fuse (branch y positive negative)) ≡ Some less
-        = ap (λ zs. strip zs (fuse (branch y positive negative))) (sym some) ∙ p.strips in cc)
     pending_steps (case y decisions arms) less at p x xs some fits shape =
         absurd (let none : strip (x ∷ xs) (fuse (case y decisions arms)) ≡ Some less
         = ap (λ zs. strip zs (fuse (case y decisions arms))) (sym some) ∙ p.strips in cc)

@@ -7,10 +7,10 @@ use Rattle.kk_source.specs.State.{Value, unit, place, Environment, End, heap_ful
 use Rattle.kk_source.specs.Live.{value_of}
 use Rattle.kk_source.specs.Matching.{and_then}
 use Rattle.kk_source.specs.Actions.{print_step}
-use Rattle.kk_source.specs.FormEffects.{FormEffect, gives, prints, reads, makes, enters, is_true, form_effect, effect_step}
+use Rattle.kk_source.specs.FormEffects.{FormEffect, gives, prints, reads, makes, enters, form_effect, effect_step}
 use Rattle.kk_core.specs.CoreMachine.{bind_fields}
 use Rattle.kk_core.specs.Decisions.{chosen}
-use Rattle.kk_counted.specs.CountedCodes.{Counted, give, tail_call, branch, case, compute, inside, read, open_cell, if_unique, dup, drop, CountedArms, no_arm, arm, CountedFunction}
+use Rattle.kk_counted.specs.CountedCodes.{Counted, give, tail_call, case, compute, inside, read, open_cell, if_unique, dup, drop, CountedArms, no_arm, arm, CountedFunction}
 use Rattle.kk_counted.specs.Heaps.{Heap, count_at, cell_at, busy, dup_value, drop_value}
 use Rattle.kk_counted.specs.CountedStates.{CountedSetting, CountedJoin, CountedFrame, CountedControl, running, stopped, stuck, CountedConfiguration, CountedState, no_function, counted_start}
 use Rattle.kk_counted.specs.CountedMachine.{at_counted, bound_then, at_end, with_heap, arm_at, case_step, give_step, in_code, tail_step, Named, cell_named, used_values, other_values, opened_heap, unique_heap, open_step, construct_step, call_step, counted_code_step, counted_step_at, counted_step_of, counted_step, counted_ending_of, counted_machine}
@@ -126,11 +126,6 @@ module _ (most : ℕ) where
         few_give (value_of environment x) joins from.frames environment from in_joins these these
     few_code (tail_call f arguments) environment joins from few in_joins these =
         few_tail f (slice_get setting.program.functions f) (map (value_of environment) arguments) from refl these
-    few_code (branch x positive negative) environment joins from few in_joins these = by_test (is_true (value_of environment x))
-      where
-        by_test : (t : Bool) → AreFew (at_counted (if t then positive else negative) environment joins from)
-        by_test true = ((omega (arith, few), in_joins), these)
-        by_test false = ((omega (arith, few), in_joins), these)
     few_code (case x decisions arms) environment joins from few in_joins these =
         few_case (and_then (chosen (cell_at from.heap) (value_of environment x) decisions) (arm_at arms)) environment joins from
         (λ body is. omega (arith, few, few_row (chosen (cell_at from.heap) (value_of environment x) decisions) arms body is))

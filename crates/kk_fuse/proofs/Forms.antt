@@ -10,7 +10,7 @@ use Rattle.kk_counted.specs.declared.counted.CountedFun.{CountedFun}
 use Rattle.kk_counted.specs.declared.form.Block.{Block}
 use Rattle.kk_counted.specs.declared.form.Last.{Last}
 use Rattle.kk_counted.specs.declared.form.Last.TheFolds.{fold_out-Last}
-use Rattle.kk_counted.specs.declared.form.Last.TheOpen.{Last-F, Return, TailCall, If, Case}
+use Rattle.kk_counted.specs.declared.form.Last.TheOpen.{Last-F, Return, TailCall, Case}
 use Rattle.kk_counted.specs.declared.form.Last.TheVariants as OfLast
 use Rattle.kk_counted.specs.declared.form.Step.{Step}
 use Rattle.kk_counted.specs.CountedCodes.{Counted, case, compute, inside, read, open_cell, if_unique, dup, drop as drop_code, arm, CountedFunction}
@@ -122,7 +122,6 @@ moves_put before after step is one all =
 step_ends : (x : ℕ) (last : Last-F Counted Move Counted) → without_drop x (last_step last) ≡ None
 step_ends x (Return y) = refl
 step_ends x (TailCall f arguments) = refl
-step_ends x (If y positive negative) = refl
 step_ends x (Case y decisions arms) = refl
 
 -- the same of an end in Rust

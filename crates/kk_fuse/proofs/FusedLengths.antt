@@ -1,6 +1,6 @@
 -- Fused code is no longer than the code that it is made of, and has as many forms beside dups and drops.
 use Rattle.std.proofs.Common.{◌≡◌, ◌≤◌, ℕ, suc, List, [], ◌∷◌, map, Some, arith, refl, ap, ◌∙◌}
-use Rattle.kk_counted.specs.CountedCodes.{Counted, give, tail_call, branch, case, compute, inside, read, open_cell, if_unique, dup, drop, CountedArms, no_arm, arm, CountedFunction}
+use Rattle.kk_counted.specs.CountedCodes.{Counted, give, tail_call, case, compute, inside, read, open_cell, if_unique, dup, drop, CountedArms, no_arm, arm, CountedFunction}
 use Rattle.kk_counted.specs.Lengths.{code_length, arms_length, functions_length, computes, arms_computes, all_computes, forms_in, arms_forms, all_forms_in, AreShort}
 use Rattle.kk_fuse.specs.Fused.{without_drop, fuse, fuse_arms, fused_function}
 use Rattle.kk_fuse.proofs.Without.{by_without, by_fused}
@@ -18,8 +18,6 @@ mutual
   no_longer : (code : Counted) → code_length (fuse code) ≤ code_length code
   no_longer (give x) = omega arith
   no_longer (tail_call f arguments) = omega arith
-  no_longer (branch x positive negative) =
-      let one = no_longer positive in let two = no_longer negative in omega (arith, one, two)
   no_longer (case x decisions arms) = let each = arms_no_longer arms in omega (arith, each)
   no_longer (compute x form arguments rest) = let later = no_longer rest in omega (arith, later)
   no_longer (inside x block rest) = let one = no_longer block in let two = no_longer rest in omega (arith, one, two)
@@ -48,8 +46,6 @@ mutual
   same_computes : (code : Counted) → computes (fuse code) ≡ computes code
   same_computes (give x) = refl
   same_computes (tail_call f arguments) = refl
-  same_computes (branch x positive negative) =
-      let one = same_computes positive in let two = same_computes negative in omega (arith, one, two)
   same_computes (case x decisions arms) = same_arms_compute arms
   same_computes (compute x form arguments rest) = ap suc (same_computes rest)
   same_computes (inside x block rest) = let one = same_computes block in let two = same_computes rest in omega (arith, one, two)
@@ -78,8 +74,6 @@ mutual
   same_forms : (code : Counted) → forms_in (fuse code) ≡ forms_in code
   same_forms (give x) = refl
   same_forms (tail_call f arguments) = refl
-  same_forms (branch x positive negative) =
-      let one = same_forms positive in let two = same_forms negative in omega (arith, one, two)
   same_forms (case x decisions arms) = ap suc (same_arms_forms arms)
   same_forms (compute x form arguments rest) = ap suc (same_forms rest)
   same_forms (inside x block rest) = let one = same_forms block in let two = same_forms rest in omega (arith, one, two)

@@ -10,7 +10,7 @@ use Rattle.kk_syntax.specs.declared.program.Form.TheVariants.{Number, Unit as No
 use Rattle.kk_syntax.specs.PositionsOf.{PositionTable}
 use Rattle.kk_source.specs.Notes.{Note}
 use Rattle.kk_source.specs.State.{Store, Environment, End, ended}
-use Rattle.kk_counted.specs.CountedCodes.{Counted, give, tail_call, branch, case, compute, inside, read, open_cell, if_unique, dup, drop, CountedFunction}
+use Rattle.kk_counted.specs.CountedCodes.{Counted, give, tail_call, case, compute, inside, read, open_cell, if_unique, dup, drop, CountedFunction}
 use Rattle.kk_counted.specs.CountedCosts.{roomy_cost}
 use Rattle.kk_counted.specs.Heaps.{Heap, forwards, busy}
 use Rattle.kk_counted.specs.CountedStates.{CountedSetting, CountedJoin, CountedControl, running, stopped, stuck, CountedState, no_function, counted_start, counted_first_state}
@@ -34,8 +34,6 @@ form_fits : (code less : Counted) (environment : Environment) (joins others : Li
     → FitsAt (running code environment joins) → FitsAt (running less environment others)
 form_fits (give x) less environment joins others is fits = subst (λ code. FitsAt (running code environment others)) (sym is) tt
 form_fits (tail_call f arguments) less environment joins others is fits =
-    subst (λ code. FitsAt (running code environment others)) (sym is) tt
-form_fits (branch x positive negative) less environment joins others is fits =
     subst (λ code. FitsAt (running code environment others)) (sym is) tt
 form_fits (case x decisions arms) less environment joins others is fits =
     subst (λ code. FitsAt (running code environment others)) (sym is) tt
@@ -78,7 +76,6 @@ module _ (functions : List CountedFunction) where
         → HasShape (map fused_function functions) store (running less environment others)
     form_shape (give x) less is shape = subst ShapeOf (sym is) tt
     form_shape (tail_call f arguments) less is shape = subst ShapeOf (sym is) (is_there f shape)
-    form_shape (branch x positive negative) less is shape = subst ShapeOf (sym is) tt
     form_shape (case x decisions arms) less is shape =
         subst ShapeOf (sym is)
         (shape.0, (fuse shape.1.0, (shape.1.1.0, arm_same arms shape.0 ∙ ap (option_map fuse) shape.1.1.1)))
@@ -99,7 +96,6 @@ module _ (alike : ℕ → ℕ → Type 0) (fields : ℕ → ℕ) (heap other : H
   store_kinds : (code : Counted) → HasKinds alike fields heap (running code environment joins) → KindsOf code
   store_kinds (give x) kinds = tt
   store_kinds (tail_call f arguments) kinds = tt
-  store_kinds (branch x positive negative) kinds = kinds
   store_kinds (case x decisions arms) kinds = rw (← store) kinds
   store_kinds (compute x form arguments rest) kinds = kinds
   store_kinds (inside x block rest) kinds = tt
@@ -112,7 +108,6 @@ module _ (alike : ℕ → ℕ → Type 0) (fields : ℕ → ℕ) (heap other : H
   form_kinds : (code less : Counted) → IsAtForm code less → KindsOf code → KindsOf less
   form_kinds (give x) less is kinds = subst KindsOf (sym is) kinds
   form_kinds (tail_call f arguments) less is kinds = subst KindsOf (sym is) kinds
-  form_kinds (branch x positive negative) less is kinds = subst KindsOf (sym is) kinds
   form_kinds (case x decisions arms) less is kinds = subst KindsOf (sym is) kinds
   form_kinds (compute x form arguments rest) less is kinds = subst KindsOf (sym is.1) kinds
   form_kinds (inside x block rest) less is kinds = subst KindsOf (sym is) kinds
@@ -173,8 +168,6 @@ test_is heap other (give y) less x c fields used rest is heaps at =
     absurd (let both : give y ≡ if_unique x c fields used rest = sym is ∙ at in cc)
 test_is heap other (tail_call f arguments) less x c fields used rest is heaps at =
     absurd (let both : tail_call f arguments ≡ if_unique x c fields used rest = sym is ∙ at in cc)
-test_is heap other (branch y positive negative) less x c fields used rest is heaps at =
-    absurd (let both : fuse (branch y positive negative) ≡ if_unique x c fields used rest = sym is ∙ at in cc)
 test_is heap other (case y decisions arms) less x c fields used rest is heaps at =
     absurd (let both : fuse (case y decisions arms) ≡ if_unique x c fields used rest = sym is ∙ at in cc)
 test_is heap other (compute y form arguments next) less x c fields used rest is heaps at =

@@ -3,7 +3,7 @@ use Rattle.std.proofs.Common.{◌≡◌, ℕ, suc, Bool, List, ◌∷◌, ◌++�
 use Rattle.kk_core.specs.Decisions.{AreOrderly}
 use Rattle.kk_counted.specs.Arms.{arm_count, HasArms, HaveArms}
 use Rattle.kk_counted.specs.CountBounds.{HasAnArm, EachHasAnArm, AllHaveAnArm, SpendsAtMost, SpendAtMost, AllSpendAtMost}
-use Rattle.kk_counted.specs.CountedCodes.{Counted, give, tail_call, branch, case, compute, inside, read, open_cell, if_unique, dup, drop, CountedArms, no_arm, arm, CountedFunction, CountedProgram}
+use Rattle.kk_counted.specs.CountedCodes.{Counted, give, tail_call, case, compute, inside, read, open_cell, if_unique, dup, drop, CountedArms, no_arm, arm, CountedFunction, CountedProgram}
 use Rattle.kk_counted.specs.Lowerable.{first_of, given_by, given_by_arms, BlocksGive, BlocksOfArmsGive, HasArities, HaveArities, AreNumbered, AreArmsNumbered, IsLowerable, AreLowerable}
 use Rattle.kk_counted.specs.Marks.{CellMarks, result_mark, HasMark, HaveMark, IsMarked}
 use Rattle.kk_counted.proofs.GainBounds.{more_spent}
@@ -35,8 +35,6 @@ module _ (marks : CellMarks) (holds : ℕ → Bool) (result : Bool) where
         → HasMark marks holds result bound given (fuse code)
     fused_has bound given (give x) has = has
     fused_has bound given (tail_call f arguments) has = has
-    fused_has bound given (branch x positive negative) has =
-        (has.0, (has.1.0, (fused_has bound given positive has.1.1.0, fused_has bound given negative has.1.1.1)))
     fused_has bound given (case x decisions arms) has = (has.0, fused_have bound given arms has.1)
     fused_has bound given (compute x form arguments rest) has = (has.0, (has.1.0, fused_has (x ∷ bound) given rest has.1.1))
     fused_has bound given (inside x block rest) has =
@@ -84,7 +82,6 @@ module _ (base : ℕ) where
     numbered : (bound : List ℕ) (code : Counted) → AreNumbered base bound code → AreNumbered base bound (fuse code)
     numbered bound (give x) are = tt
     numbered bound (tail_call f arguments) are = tt
-    numbered bound (branch x positive negative) are = (numbered bound positive are.0, numbered bound negative are.1)
     numbered bound (case x decisions arms) are = arms_numbered bound arms are
     numbered bound (compute x form arguments rest) are = (are.0, (are.1.0, numbered (x ∷ bound) rest are.1.1))
     numbered bound (inside x block rest) are = (are.0, (numbered bound block are.1.0, numbered (x ∷ bound) rest are.1.1))
@@ -120,7 +117,6 @@ mutual
   pub has_arms : (code : Counted) → HasArms code → HasArms (fuse code)
   has_arms (give x) has = tt
   has_arms (tail_call f arguments) has = tt
-  has_arms (branch x positive negative) has = (has_arms positive has.0, has_arms negative has.1)
   has_arms (case x decisions arms) has = (subst (AreOrderly decisions) (sym (same_count arms)) has.0, have_arms arms has.1)
   has_arms (compute x form arguments rest) has = has_arms rest has
   has_arms (inside x block rest) has = (has_arms block has.0, has_arms rest has.1)
@@ -149,9 +145,6 @@ mutual
   same_given : (code : Counted) → given_by (fuse code) ≡ given_by code
   same_given (give x) = refl
   same_given (tail_call f arguments) = refl
-  same_given (branch x positive negative) =
-      ap (λ o. first_of o (given_by (fuse negative))) (same_given positive)
-      ∙ ap (first_of (given_by positive)) (same_given negative)
   same_given (case x decisions arms) = same_given_arms arms
   same_given (compute x form arguments rest) = same_given rest
   same_given (inside x block rest) = same_given rest
@@ -182,7 +175,6 @@ mutual
   blocks_give : (code : Counted) → BlocksGive code → BlocksGive (fuse code)
   blocks_give (give x) gives = tt
   blocks_give (tail_call f arguments) gives = tt
-  blocks_give (branch x positive negative) gives = (blocks_give positive gives.0, blocks_give negative gives.1)
   blocks_give (case x decisions arms) gives = arms_give arms gives
   blocks_give (compute x form arguments rest) gives = blocks_give rest gives
   blocks_give (inside x block rest) gives =
@@ -213,7 +205,6 @@ mutual
   has_arities : (code : Counted) → HasArities code → HasArities (fuse code)
   has_arities (give x) has = tt
   has_arities (tail_call f arguments) has = has
-  has_arities (branch x positive negative) has = (has_arities positive has.0, has_arities negative has.1)
   has_arities (case x decisions arms) has = have_arities arms has
   has_arities (compute x form arguments rest) has = (has.0, has_arities rest has.1)
   has_arities (inside x block rest) has = (has_arities block has.0, has_arities rest has.1)
@@ -249,7 +240,6 @@ mutual
   some_arm : (code : Counted) → EachHasAnArm code → EachHasAnArm (fuse code)
   some_arm (give x) has = tt
   some_arm (tail_call f arguments) has = tt
-  some_arm (branch x positive negative) has = (some_arm positive has.0, some_arm negative has.1)
   some_arm (case x decisions arms) has = (still_one arms has.0, some_arms arms has.1)
   some_arm (compute x form arguments rest) has = some_arm rest has
   some_arm (inside x block rest) has = (some_arm block has.0, some_arm rest has.1)
@@ -279,7 +269,6 @@ mutual
   spends : (code : Counted) (n : ℕ) → SpendsAtMost code n → SpendsAtMost (fuse code) n
   spends (give x) n most = most
   spends (tail_call f arguments) n most = most
-  spends (branch x positive negative) n most = (spends positive n most.0, spends negative n most.1)
   spends (case x decisions arms) n most = (still_one arms most.0, spend arms n most.1)
   spends (compute x form arguments rest) n most = (most.0, (most.1.0, spends rest most.0 most.1.1))
   spends (inside x block rest) n most =

@@ -1,6 +1,6 @@
 -- Fused code has as many openings on a path as the code that it is made of, and they go by the count of the cell where those do.
 use Rattle.std.proofs.Common.{◌≡◌, ℕ, ◌≤◌, suc, List, map, Some, refl, ap, ◌∙◌, subst, arith}
-use Rattle.kk_counted.specs.CountedCodes.{Counted, give, tail_call, branch, case, compute, inside, read, open_cell, if_unique, dup, drop, CountedArms, no_arm, arm, CountedFunction, CountedProgram}
+use Rattle.kk_counted.specs.CountedCodes.{Counted, give, tail_call, case, compute, inside, read, open_cell, if_unique, dup, drop, CountedArms, no_arm, arm, CountedFunction, CountedProgram}
 use Rattle.kk_counted.specs.Lowerable.{OpensByCount, OpenByCount, AllOpenByCount}
 use Rattle.kk_counted.specs.TokenCosts.{openings, openings_of, OpenAtMost}
 use Rattle.kk_fuse.specs.Fused.{without_drop, fuse, fuse_arms, fused_function, fused_program}
@@ -19,8 +19,6 @@ mutual
   same_openings : (code : Counted) → openings (fuse code) ≡ openings code
   same_openings (give x) = refl
   same_openings (tail_call f arguments) = refl
-  same_openings (branch x positive negative) =
-      let one = same_openings positive in let two = same_openings negative in omega (arith, one, two)
   same_openings (case x decisions arms) = same_arms_openings arms
   same_openings (compute x form arguments rest) = same_openings rest
   same_openings (inside x block rest) = let one = same_openings block in let two = same_openings rest in omega (arith, one, two)
@@ -56,7 +54,6 @@ mutual
   by_count : (code : Counted) → OpensByCount code → OpensByCount (fuse code)
   by_count (give x) by = tt
   by_count (tail_call f arguments) by = tt
-  by_count (branch x positive negative) by = (by_count positive by.0, by_count negative by.1)
   by_count (case x decisions arms) by = arms_by_count arms by
   by_count (compute x form arguments rest) by = by_count rest by
   by_count (inside x block rest) by = (by_count block by.0, by_count rest by.1)

@@ -3,7 +3,7 @@ use Rattle.std.proofs.Common.{◌≡◌, ◌==◌, ◌||◌, ℕ, Bool, true, fa
 use Rattle.std.specs.Prelude.{option_map, if◌then◌else◌, slice_get}
 use Rattle.kk_syntax.specs.declared.program.Form.{Form}
 use Rattle.kk_syntax.specs.Shapes.{is_among}
-use Rattle.kk_counted.specs.CountedCodes.{Counted, give, tail_call, branch, case, compute, inside, read, open_cell, if_unique, dup, drop, CountedArms, no_arm, arm, CountedFunction, CountedProgram}
+use Rattle.kk_counted.specs.CountedCodes.{Counted, give, tail_call, case, compute, inside, read, open_cell, if_unique, dup, drop, CountedArms, no_arm, arm, CountedFunction, CountedProgram}
 use Rattle.kk_fuse.specs.Fused.{is_plain, without_drop, fused_dup, fuse, fuse_arms, fused_program}
 use Rattle.kk_fuse.specs.NoPairs.{HasNoPair, HaveNoPair}
 use Rattle.kk_fuse.proofs.Spends.{found_before}
@@ -98,7 +98,6 @@ mutual
   pairless : (code : Counted) → HasNoPair (fuse code)
   pairless (give x) = tt
   pairless (tail_call f arguments) = tt
-  pairless (branch x positive negative) = (pairless positive, pairless negative)
   pairless (case x decisions arms) = arms_pairless arms
   pairless (compute x form arguments rest) = pairless rest
   pairless (inside x block rest) = (pairless block, pairless rest)

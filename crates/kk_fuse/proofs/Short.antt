@@ -1,7 +1,7 @@
 -- Code within the limits has few forms.
 use Rattle.std.proofs.Common.{◌≡◌, ℕ, zero, suc, ◌≤◌, List, [], ◌∷◌, Some, arith, ap}
 use Rattle.std.specs.Prelude.{slice_get}
-use Rattle.kk_counted.specs.CountedCodes.{Counted, give, tail_call, branch, case, compute, inside, read, open_cell, if_unique, dup, drop, CountedArms, no_arm, arm, CountedFunction, CountedProgram}
+use Rattle.kk_counted.specs.CountedCodes.{Counted, give, tail_call, case, compute, inside, read, open_cell, if_unique, dup, drop, CountedArms, no_arm, arm, CountedFunction, CountedProgram}
 use Rattle.kk_counted.specs.Lengths.{code_length, arms_length, functions_length, most_length, AreShort}
 use Rattle.kk_fuse.specs.FusedRuns.{steps_in, steps_in_arms, HasFewSteps}
 
@@ -10,7 +10,6 @@ mutual
   code_steps : (code : Counted) → steps_in code ≤ code_length code
   code_steps (give x) = omega arith
   code_steps (tail_call f arguments) = omega arith
-  code_steps (branch x positive negative) = omega (arith, code_steps positive, code_steps negative)
   code_steps (case x decisions arms) = omega (arith, arms_steps arms)
   code_steps (compute x form arguments rest) = omega (arith, code_steps rest)
   code_steps (inside x block rest) = omega (arith, code_steps block, code_steps rest)

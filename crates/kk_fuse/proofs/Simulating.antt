@@ -5,7 +5,7 @@ use Rattle.kk_syntax.specs.PositionsOf.{PositionTable}
 use Rattle.kk_source.specs.State.{Environment}
 use Rattle.kk_source.specs.Notes.{Note}
 use Rattle.kk_source.specs.Actions.{Action, goes, puts, takes, builds, calls, performed}
-use Rattle.kk_counted.specs.CountedCodes.{Counted, give, tail_call, branch, case, compute, inside, read, open_cell, if_unique, dup, drop}
+use Rattle.kk_counted.specs.CountedCodes.{Counted, give, tail_call, case, compute, inside, read, open_cell, if_unique, dup, drop}
 use Rattle.kk_counted.specs.CountedCosts.{code_cost, room_at, roomy_control_cost, roomy_cost}
 use Rattle.kk_counted.specs.Heaps.{Heap}
 use Rattle.kk_counted.specs.CountedStates.{CountedSetting, CountedJoin, CountedFrame, CountedControl, running, stopped, stuck, CountedConfiguration, CountedState, counted_end_at}
@@ -83,7 +83,6 @@ pub record Cancels (code : Counted) : Type 0 where
 pub cancels : (code : Counted) → Stays code ⊎ Cancels code
 cancels (give x) = inl tt
 cancels (tail_call f arguments) = inl tt
-cancels (branch x positive negative) = inl tt
 cancels (case x decisions arms) = inl tt
 cancels (compute x form arguments rest) = inl tt
 cancels (inside x block rest) = inl tt
@@ -102,7 +101,6 @@ cancels (dup x rest) = by_found (without_drop x (fuse rest)) refl
 pub at_form : (code : Counted) → Stays code → IsAtForm code (fuse code)
 at_form (give x) stays = refl
 at_form (tail_call f arguments) stays = refl
-at_form (branch x positive negative) stays = refl
 at_form (case x decisions arms) stays = refl
 at_form (compute x form arguments rest) stays = (fuse rest, refl)
 at_form (inside x block rest) stays = refl
@@ -120,7 +118,6 @@ module _ (room : ℕ) (environment : Environment) where
   form_costs : (code less : Counted) (heap : Heap) → IsAtForm code less → cost_of less heap ≡ cost_of code heap
   form_costs (give x) less heap is = ap (λ code. cost_of code heap) is
   form_costs (tail_call f arguments) less heap is = ap (λ code. cost_of code heap) is
-  form_costs (branch x positive negative) less heap is = ap (λ code. cost_of code heap) is
   form_costs (case x decisions arms) less heap is = ap (λ code. cost_of code heap) is
   form_costs (compute x form arguments rest) less heap is = ap (λ code. cost_of code heap) is.1
   form_costs (inside x block rest) less heap is = ap (λ code. cost_of code heap) is
@@ -138,7 +135,6 @@ module _ (room : ℕ) (environment : Environment) where
   heap_costs (drop x rest) heap other between = refl
   heap_costs (give x) heap other between = absurd between
   heap_costs (tail_call f arguments) heap other between = absurd between
-  heap_costs (branch x positive negative) heap other between = absurd between
   heap_costs (case x decisions arms) heap other between = absurd between
   heap_costs (inside x block rest) heap other between = absurd between
   heap_costs (open_cell x c fields used rest) heap other between = absurd between
@@ -153,7 +149,6 @@ module _ (room : ℕ) (environment : Environment) where
 pub one_step : (code : Counted) → 1 ≤ steps_in code
 one_step (give x) = omega arith
 one_step (tail_call f arguments) = omega arith
-one_step (branch x positive negative) = omega arith
 one_step (case x decisions arms) = omega arith
 one_step (compute x form arguments rest) = omega arith
 one_step (inside x block rest) = omega arith

@@ -6,7 +6,7 @@ use Rattle.kk_syntax.specs.declared.program.Form.{Form}
 use Rattle.kk_syntax.specs.declared.program.Form.TheVariants.{Number, Unit as Nothing, ReadByte, PrintText, Unary, Binary, Print, Construct, Call}
 use Rattle.kk_syntax.specs.PositionsOf.{PositionTable}
 use Rattle.kk_syntax.specs.Shapes.{is_among}
-use Rattle.kk_counted.specs.CountedCodes.{Counted, give, tail_call, branch, case, compute, inside, read, open_cell, if_unique, dup, drop, CountedArms, no_arm, arm, CountedFunction, CountedProgram}
+use Rattle.kk_counted.specs.CountedCodes.{Counted, give, tail_call, case, compute, inside, read, open_cell, if_unique, dup, drop, CountedArms, no_arm, arm, CountedFunction, CountedProgram}
 use Rattle.kk_counted.specs.Drafts.{minus}
 use Rattle.kk_counted.specs.Spending.{AreEven, AllAmong, AreFresh, HasAsMany, FitsForm, used_by, lent_by, Spends, SpendsAll, SpendsParameters, IsSpent}
 use Rattle.kk_counted.proofs.Evenness.{total_append, even_among, even_back, even_same, minus_even, among_front, among_behind}
@@ -109,7 +109,6 @@ module _ (positions : PositionTable) (functions : List CountedFunction) (lent : 
       → Spends positions functions lent [] left owned code → Spends positions functions lent readable left owned code
   readable_too readable left owned (give x) s = s
   readable_too readable left owned (tail_call f arguments) s = s
-  readable_too readable left owned (branch x positive negative) s = s
   readable_too readable left owned (case x decisions arms) s = s
   readable_too readable left owned (compute x form arguments rest) s = s
   readable_too readable left owned (inside x block rest) s = s
@@ -300,8 +299,6 @@ module _ (positions : PositionTable) (functions others : List CountedFunction)
         → Spends positions others lent readable left owned (fuse code)
     spends (give x) lent readable left owned s = s
     spends (tail_call f arguments) lent readable left owned s = (s.0, (many f arguments s.1.0, s.1.1))
-    spends (branch x positive negative) lent readable left owned s =
-        (s.0, (s.1.0, (s.1.1.0, (spends positive lent [] left s.0 s.1.1.1.0, spends negative lent [] left s.0 s.1.1.1.1))))
     spends (case x decisions arms) lent readable left owned s = (s.0, (s.1.0, (s.1.1.0, spend_all arms lent left s.0 s.1.1.1)))
     spends (compute x form arguments rest) lent readable left owned s = (
       s.0,

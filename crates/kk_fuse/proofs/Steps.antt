@@ -7,10 +7,10 @@ use Rattle.kk_source.specs.State.{Value, unit, place, Environment, heap_full, st
 use Rattle.kk_source.specs.Live.{value_of}
 use Rattle.kk_source.specs.Matching.{and_then}
 use Rattle.kk_source.specs.Actions.{Action, goes, puts, takes, builds, calls, print_step}
-use Rattle.kk_source.specs.FormEffects.{FormEffect, gives, prints, reads, makes, enters, is_true, form_effect, effect_step}
+use Rattle.kk_source.specs.FormEffects.{FormEffect, gives, prints, reads, makes, enters, form_effect, effect_step}
 use Rattle.kk_core.specs.CoreMachine.{bind_fields}
 use Rattle.kk_core.specs.Decisions.{chosen}
-use Rattle.kk_counted.specs.CountedCodes.{Counted, give, tail_call, branch, case, compute, inside, read, open_cell, if_unique, dup, drop, CountedArms, no_arm, arm, CountedFunction}
+use Rattle.kk_counted.specs.CountedCodes.{Counted, give, tail_call, case, compute, inside, read, open_cell, if_unique, dup, drop, CountedArms, no_arm, arm, CountedFunction}
 use Rattle.kk_counted.specs.Heaps.{Heap, count_at, cell_at, busy, dup_value, drop_value}
 use Rattle.kk_counted.specs.CountedStates.{CountedSetting, CountedJoin, CountedFrame, CountedControl, running, stopped, stuck, CountedConfiguration}
 use Rattle.kk_counted.specs.CountedMachine.{at_counted, bound_then, at_end, with_heap, arm_at, case_step, give_step, in_code, tail_step, Named, cell_named, used_values, other_values, opened_heap, unique_heap, open_step, construct_step, call_step, counted_code_step}
@@ -171,13 +171,6 @@ module _ (setting : CountedSetting) where
   steps_same (tail_call f arguments) environment joins from stays =
       rw (slice_get-map fused_function setting.program.functions f)
       (tail_same (slice_get setting.program.functions f) (map (value_of environment) arguments) from)
-  steps_same (branch x positive negative) environment joins from stays = by_test (is_true (value_of environment x))
-    where
-      by_test : (t : Bool) → goes (fused_configuration (at_counted (if t then positive else negative) environment joins from))
-          ≡ goes (at_counted (if t then fuse positive else fuse negative) environment (map fused_join joins)
-          (fused_configuration from))
-      by_test true = refl
-      by_test false = refl
   steps_same (case x decisions arms) environment joins from stays =
       case_same (and_then (chosen (cell_at from.heap) (value_of environment x) decisions) (arm_at arms)) environment joins from
       ∙ ap (λ found. case_step found environment (map fused_join joins) (fused_configuration from))

@@ -3,7 +3,7 @@ use Rattle.std.proofs.Common.{◌≡◌, ◌==◌, ◌||◌, ℕ, Bool, true, fa
 use Rattle.std.specs.Prelude.{option_map, if◌then◌else◌}
 use Rattle.kk_syntax.specs.declared.program.Form.{Form}
 use Rattle.kk_syntax.specs.Shapes.{is_among}
-use Rattle.kk_counted.specs.CountedCodes.{Counted, give, tail_call, branch, case, compute, inside, read, open_cell, if_unique, dup, drop}
+use Rattle.kk_counted.specs.CountedCodes.{Counted, give, tail_call, case, compute, inside, read, open_cell, if_unique, dup, drop}
 use Rattle.kk_counted.proofs.Counting.{same}
 use Rattle.kk_fuse.specs.Fused.{is_plain, without_drop, fused_dup}
 
@@ -28,7 +28,6 @@ module _ (x : ℕ) (P : Counted → Counted → Type 0)
   pub by_without : (code less : Counted) → without_drop x code ≡ Some less → P code less
   by_without (give y) less is = absurd (cc)
   by_without (tail_call f arguments) less is = absurd (cc)
-  by_without (branch y positive negative) less is = absurd (cc)
   by_without (case y decisions arms) less is = absurd (cc)
   by_without (compute y form arguments rest) less is =
       by_test (y == x) (is_among arguments x) (is_plain form arguments) refl refl refl is (by_without rest)

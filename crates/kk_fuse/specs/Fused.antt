@@ -4,7 +4,7 @@ use Rattle.std.specs.Prelude.{◌==◌, ℕ, Bool, true, false, ◌||◌, List, 
 use Rattle.kk_syntax.specs.declared.program.Form.{Form}
 use Rattle.kk_syntax.specs.declared.program.Form.TheVariants.{Construct, Call}
 use Rattle.kk_syntax.specs.Shapes.{is_among}
-use Rattle.kk_counted.specs.CountedCodes.{Counted, give, tail_call, branch, case, compute, inside, read, open_cell, if_unique, dup, drop, CountedArms, no_arm, arm, CountedFunction, CountedProgram}
+use Rattle.kk_counted.specs.CountedCodes.{Counted, give, tail_call, case, compute, inside, read, open_cell, if_unique, dup, drop, CountedArms, no_arm, arm, CountedFunction, CountedProgram}
 use Rattle.kk_counted.specs.CountedStates.{CountedSetting}
 
 -- a form on variables that makes no cell and calls no function
@@ -38,7 +38,6 @@ abbrev mutual
   pub fuse : Counted → Counted
   fuse (give x) = give x
   fuse (tail_call f arguments) = tail_call f arguments
-  fuse (branch x positive negative) = branch x (fuse positive) (fuse negative)
   fuse (case x decisions arms) = case x decisions (fuse_arms arms)
   fuse (compute x form arguments rest) = compute x form arguments (fuse rest)
   fuse (inside x block rest) = inside x (fuse block) (fuse rest)

@@ -2,7 +2,7 @@
 use Rattle.std.specs.Prelude.{◌≡◌, ◌⊎◌, ℕ, suc, ◌+◌, ◌*◌, ◌≤◌, true, List, map, Some, slice_get}
 use Rattle.kk_base.specs.Agreements.{Agree}
 use Rattle.kk_source.specs.State.{Environment}
-use Rattle.kk_counted.specs.CountedCodes.{Counted, give, tail_call, branch, case, compute, inside, read, open_cell, if_unique, dup, drop, CountedArms, no_arm, arm, CountedFunction, CountedProgram}
+use Rattle.kk_counted.specs.CountedCodes.{Counted, give, tail_call, case, compute, inside, read, open_cell, if_unique, dup, drop, CountedArms, no_arm, arm, CountedFunction, CountedProgram}
 use Rattle.kk_counted.specs.CountedCosts.{roomy_cost}
 use Rattle.kk_counted.specs.CountedMachine.{counted_machine, NotStuck}
 use Rattle.kk_counted.specs.CountedStates.{CountedSetting, CountedJoin, CountedFrame, CountedControl, running, stopped, stuck, CountedConfiguration, CountedState, counted_first_state}
@@ -18,7 +18,6 @@ abbrev mutual
   pub steps_in : Counted → ℕ
   steps_in (give x) = 1
   steps_in (tail_call f arguments) = 1
-  steps_in (branch x positive negative) = suc (steps_in positive + steps_in negative)
   steps_in (case x decisions arms) = suc (steps_in_arms arms)
   steps_in (compute x form arguments rest) = suc (steps_in rest)
   steps_in (inside x block rest) = suc (steps_in block + steps_in rest)

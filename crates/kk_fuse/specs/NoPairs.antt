@@ -1,6 +1,6 @@
 -- Code in which no dup cancels with a drop any more.
 use Rattle.std.specs.Prelude.{◌≡◌, None}
-use Rattle.kk_counted.specs.CountedCodes.{Counted, give, tail_call, branch, case, compute, inside, read, open_cell, if_unique, dup, drop, CountedArms, no_arm, arm}
+use Rattle.kk_counted.specs.CountedCodes.{Counted, give, tail_call, case, compute, inside, read, open_cell, if_unique, dup, drop, CountedArms, no_arm, arm}
 use Rattle.kk_fuse.specs.Fused.{without_drop}
 
 -- no dup of the code cancels with a drop behind it, nor one of its blocks and arms
@@ -8,7 +8,6 @@ abbrev mutual
   pub HasNoPair : Counted → Type 0
   HasNoPair (give x) = Unit {0}
   HasNoPair (tail_call f arguments) = Unit {0}
-  HasNoPair (branch x positive negative) = HasNoPair positive × HasNoPair negative
   HasNoPair (case x decisions arms) = HaveNoPair arms
   HasNoPair (compute x form arguments rest) = HasNoPair rest
   HasNoPair (inside x block rest) = HasNoPair block × HasNoPair rest

@@ -100,25 +100,12 @@ fn fused_last(alloc: Global, last: &Last) -> Result<Last, NoMemory>
         Last::TailCall(instance, arguments) => {
             Ok(Last::TailCall(*instance, Vec::from_slice(alloc, arguments)?))
         }
-        Last::If(variable, positive, negative) => Ok(Last::If(
-            *variable,
-            boxed(alloc, positive)?,
-            boxed(alloc, negative)?,
-        )),
         Last::Case(variable, decisions, arms) => {
             let decisions = copied_decisions(alloc, decisions)?;
             let arms = fused_arms(alloc, arms)?;
             Ok(Last::Case(*variable, decisions, arms))
         }
     }
-}
-
-#[cycle(fused_block)]
-fn boxed(alloc: Global, block: &Block) -> Result<Box<Block>, NoMemory>
-    ensures same { IfOk result (λ made. block_code made.value ≡ fuse (block_code block.now)) }
-    ensures numbers { IfOk result (λ made. HasInt32 (block_code made.value)) }
-{
-    Ok(Box::new(alloc, fused_block(alloc, block)?)?)
 }
 
 #[cycle(fused_block)]
