@@ -1,7 +1,7 @@
 -- What can follow in a block, step by step.
 use Rattle.std.proofs.Common.{◌≡◌, ◌≤◌, ℕ, suc, Bool, true, false, ◌||◌, List, [], ◌∷◌, refl, sym, ap, ◌∙◌, arith}
 use Rattle.std.specs.Prelude.{max, if◌then◌else◌}
-use Rattle.kk_counted.specs.CountedCodes.{Counted, give, tail_call, branch, case, compute, inside, read, open_cell, if_unique, dup, drop, CountedArms, no_arm, arm}
+use Rattle.kk_counted.specs.CountedCodes.{Counted, give, tail_call, case, compute, inside, read, open_cell, if_unique, dup, drop, CountedArms, no_arm, arm}
 use Rattle.kk_counted.specs.CountedForms.{Move, computes, runs, reads, opens, opens_unique, dups, drops, put, plug}
 use Rattle.kk_reuse.specs.Following.{makes_cell, may_make, arms_may_make, kept, taken, leaves, arms_leave}
 use Rattle.kk_reuse.specs.PairedForms.{move_may_make, moves_may_make, left_behind}
@@ -50,11 +50,6 @@ arms_same (arm body rest) n m none =
 any_same : (code : Counted) (n m : ℕ) → may_make true code ≡ false → leaves true n code ≡ leaves true m code
 any_same (give x) n m none = absurd (cc none)
 any_same (tail_call f arguments) n m none = refl
-any_same (branch x positive negative) n m none =
-    let both : (may_make true positive ≡ false) × (may_make true negative ≡ false) =
-    neither (may_make true positive) (may_make true negative) none in
-    ap (λ k. max k (leaves true (kept true negative n) negative)) (later_same positive n m both.0)
-    ∙ ap (max (leaves true (kept true positive m) positive)) (later_same negative n m both.1)
 any_same (case x decisions arms) n m none = arms_same arms n m none
 any_same (compute x form arguments rest) n m none =
     later_same rest (taken form arguments n) (taken form arguments m)

@@ -2,7 +2,7 @@
 use Rattle.std.proofs.Common.{◌≡◌, ℕ, zero, suc, ◌-◌, Bool, true, false, if◌then◌else◌, List, [], ◌∷◌, refl, ap, ◌∙◌}
 use Rattle.kk_syntax.specs.declared.program.Form.{Form}
 use Rattle.kk_syntax.specs.declared.program.Form.TheVariants.{Number, Unit as Nothing, ReadByte, PrintText, Unary, Binary, Print, Construct, Call}
-use Rattle.kk_counted.specs.CountedCodes.{Counted, give, tail_call, branch, case, compute, inside, read, open_cell, if_unique, dup, drop, CountedArms, no_arm, arm}
+use Rattle.kk_counted.specs.CountedCodes.{Counted, give, tail_call, case, compute, inside, read, open_cell, if_unique, dup, drop, CountedArms, no_arm, arm}
 use Rattle.kk_counted.specs.TokenedCodes.{Tokened}
 use Rattle.kk_counted.specs.BareForms.{bare, bare_arms}
 use Rattle.kk_reuse.specs.Following.{may_make, kept, taken}
@@ -72,13 +72,6 @@ mutual
   pub bare_paired : (behind : Bool) (l n : ℕ) (code : Counted) → bare (paired behind l n code) ≡ code
   bare_paired behind l n (give x) = bare_filled (l - n) n (Tokened.give x)
   bare_paired behind l n (tail_call f arguments) = bare_frees n (Tokened.tail_call f arguments)
-  bare_paired behind l n (branch x positive negative) =
-      let first = bare_settled behind positive n (paired behind l (kept behind positive n) positive)
-      ∙ bare_paired behind l (kept behind positive n) positive in
-      let second = bare_settled behind negative n (paired behind l (kept behind negative n) negative)
-      ∙ bare_paired behind l (kept behind negative n) negative in
-      ap (λ body. branch x body (bare (settled behind negative n (paired behind l (kept behind negative n) negative)))) first
-      ∙ ap (branch x positive) second
   bare_paired behind l n (case x decisions arms) = ap (case x decisions) (bare_paired_arms behind l n arms)
   bare_paired behind l n (compute x form arguments rest) =
       bare_form n x form arguments

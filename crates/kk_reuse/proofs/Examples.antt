@@ -1,9 +1,10 @@
 -- Paired code by computation.
-use Rattle.std.proofs.Common.{◌≡◌, ◌+◌, ◌*◌, false, [], ◌∷◌, refl}
+use Rattle.std.proofs.Common.{◌≡◌, ◌+◌, ◌*◌, false, List, [], ◌∷◌, refl}
 use Rattle.kk_syntax.specs.declared.program.Form.TheVariants.{Unit as Nothing, Construct, Call}
-use Rattle.kk_counted.specs.CountedCodes.{Counted, give, tail_call, branch, compute, inside, if_unique, drop}
+use Rattle.kk_core.specs.Decisions.{NodeTree}
+use Rattle.kk_counted.specs.CountedCodes.{Counted, give, tail_call, case, compute, inside, if_unique, drop, no_arm, arm}
 use Rattle.kk_counted.specs.TokenCosts.{room_needed, openings}
-use Rattle.kk_counted.specs.TokenedCodes.{Tokened}
+use Rattle.kk_counted.specs.TokenedCodes.{Tokened, TokenedArms}
 use Rattle.kk_reuse.specs.Pairing.{paired}
 
 -- A list is reversed in place: variable 0 is the list, and 1 what is reversed so far. The new cell is that of the list.
@@ -30,14 +31,16 @@ newest : paired false 0 0
 newest = refl
 
 -- One arm of a block leaves a token, and the other none: it gets a null one, and the construction behind takes what is there.
-uneven : paired false 0 0
-    (inside 5 (branch 1 (if_unique 0 7 (2 ∷ []) [] (compute 3 Nothing [] (give 3))) (drop 0 (compute 4 Nothing [] (give 4))))
+uneven : (decisions : List NodeTree)
+    → paired false 0 0
+    (inside 5 (case 1 decisions (arm (if_unique 0 7 (2 ∷ []) [] (compute 3 Nothing [] (give 3)))
+    (arm (drop 0 (compute 4 Nothing [] (give 4))) no_arm)))
     (compute 6 (Construct 7) (5 ∷ []) (give 6)))
-    ≡ Tokened.inside 5 (Tokened.branch 1
-    (Tokened.if_unique 0 7 (2 ∷ []) [] 0 (Tokened.compute 3 Nothing [] [] (Tokened.give 3)))
-    (Tokened.drop 0 (Tokened.compute 4 Nothing [] [] (Tokened.null 0 (Tokened.give 4)))))
+    ≡ Tokened.inside 5 (Tokened.case 1 decisions
+    (TokenedArms.arm (Tokened.if_unique 0 7 (2 ∷ []) [] 0 (Tokened.compute 3 Nothing [] [] (Tokened.give 3)))
+    (TokenedArms.arm (Tokened.drop 0 (Tokened.compute 4 Nothing [] [] (Tokened.null 0 (Tokened.give 4)))) TokenedArms.no_arm)))
     (Tokened.fill 6 0 7 5 [] [] [] (Tokened.give 6))
-uneven = refl
+uneven decisions = refl
 
 -- where no construction can follow a token is freed at once
 unused : paired false 0 0 (if_unique 0 7 (1 ∷ []) (1 ∷ []) (give 1))

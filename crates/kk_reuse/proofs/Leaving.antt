@@ -2,7 +2,7 @@
 use Rattle.std.proofs.Common.{ℕ, zero, suc, ◌+◌, ◌-◌, Bool, true, false, if◌then◌else◌, List, [], ◌∷◌, refl}
 use Rattle.kk_syntax.specs.declared.program.Form.{Form}
 use Rattle.kk_syntax.specs.declared.program.Form.TheVariants.{Construct, Call}
-use Rattle.kk_counted.specs.CountedCodes.{Counted, give, tail_call, branch, case, compute, inside, read, open_cell, if_unique, dup, drop, CountedArms, no_arm, arm}
+use Rattle.kk_counted.specs.CountedCodes.{Counted, give, tail_call, case, compute, inside, read, open_cell, if_unique, dup, drop, CountedArms, no_arm, arm}
 use Rattle.kk_counted.specs.KeptFields.{KnownFields, fields_in, known_opened, forget_slot, forget_variable, forget_variables, KeepsKnown, LeavesKnown, LeaveKnown}
 use Rattle.kk_counted.specs.TokenedCodes.{Tokened}
 use Rattle.kk_reuse.specs.Following.{may_make, kept, taken}
@@ -70,10 +70,6 @@ mutual
   pub paired_none : (code : Counted) (behind : Bool) (l n : ℕ) → LeavesNone (paired behind l n code)
   paired_none (give x) behind l n known = filled_none (l - n) n (Tokened.give x) (λ others. tt) known
   paired_none (tail_call f arguments) behind l n known = frees_none n (Tokened.tail_call f arguments) (λ others. tt) known
-  paired_none (branch x positive negative) behind l n known = (
-    rest_none positive behind l n (paired_none positive behind l) known,
-    rest_none negative behind l n (paired_none negative behind l) known,
-  )
   paired_none (case x decisions arms) behind l n known = arms_none arms behind l n known
   paired_none (compute x form arguments rest) behind l n known =
       form_none n x form arguments

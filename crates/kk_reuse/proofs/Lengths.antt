@@ -5,7 +5,7 @@ use Rattle.std.proofs.Common.{◌≡◌, ◌≤◌, ℕ, zero, suc, ◌+◌, ◌
 use Rattle.std.specs.Prelude.{slice_get}
 use Rattle.kk_syntax.specs.declared.program.Form.{Form}
 use Rattle.kk_syntax.specs.declared.program.Form.TheVariants.{Construct, Call}
-use Rattle.kk_counted.specs.CountedCodes.{Counted, give, tail_call, branch, case, compute, inside, read, open_cell, if_unique, dup, drop, CountedArms, no_arm, arm, CountedFunction, CountedProgram}
+use Rattle.kk_counted.specs.CountedCodes.{Counted, give, tail_call, case, compute, inside, read, open_cell, if_unique, dup, drop, CountedArms, no_arm, arm, CountedFunction, CountedProgram}
 use Rattle.kk_counted.specs.Lengths.{form_length, code_length, arms_length, functions_length, computes, arms_computes, all_computes, forms_in, arms_forms, all_forms_in, AreShort}
 use Rattle.kk_counted.specs.TokenCosts.{openings, openings_of, OpenAtMost}
 use Rattle.kk_counted.specs.TokenLengths.{hold_length, free_length, null_length, move_length, other_length, tokened_length, tokened_arms_length, tokened_functions_length, tokened_computes, tokened_arms_computes, all_tokened_computes, AreTokensShort}
@@ -82,13 +82,6 @@ mutual
   paired_short : (code : Counted) (behind : Bool) (l : ℕ) → l ≤ most_slots → FitsLength code behind l
   paired_short (give x) behind l fits n few = omega (arith, few, fits, filled_length (l - n) n (Tokened.give x))
   paired_short (tail_call f arguments) behind l fits n few = omega (arith, frees_length n (Tokened.tail_call f arguments))
-  paired_short (branch x positive negative) behind l fits n few =
-      omega (
-        arith,
-        few,
-        rest_short positive behind l n (paired_short positive behind l fits) (omega (arith, few)),
-        rest_short negative behind l n (paired_short negative behind l fits) (omega (arith, few)),
-      )
   paired_short (case x decisions arms) behind l fits n few = omega (arith, arms_short arms behind l n fits few)
   paired_short (compute x form arguments rest) behind l fits n few =
       let left : taken form arguments n ≤ n = taken_few form arguments n in
@@ -193,12 +186,6 @@ mutual
   few_computes : (code : Counted) (behind : Bool) (l n : ℕ) → tokened_computes (paired behind l n code) ≤ computes code
   few_computes (give x) behind l n = omega (arith, filled_compute (l - n) n (Tokened.give x))
   few_computes (tail_call f arguments) behind l n = omega (arith, frees_compute n (Tokened.tail_call f arguments))
-  few_computes (branch x positive negative) behind l n =
-      omega (
-        arith,
-        rest_computes positive behind l n (few_computes positive behind l),
-        rest_computes negative behind l n (few_computes negative behind l),
-      )
   few_computes (case x decisions arms) behind l n = arms_few arms behind l n
   few_computes (compute x form arguments rest) behind l n =
       omega (

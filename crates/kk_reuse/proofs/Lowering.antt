@@ -4,7 +4,7 @@ use Rattle.std.proofs.Common.{◌≡◌, ◌≤◌, ℕ, zero, suc, ◌+◌, ◌
 use Rattle.std.specs.Prelude.{slice_get}
 use Rattle.kk_syntax.specs.declared.program.Form.{Form}
 use Rattle.kk_syntax.specs.declared.program.Form.TheVariants.{Construct, Call}
-use Rattle.kk_counted.specs.CountedCodes.{Counted, give, tail_call, branch, case, compute, inside, read, open_cell, if_unique, dup, drop, CountedArms, no_arm, arm, CountedFunction, CountedProgram}
+use Rattle.kk_counted.specs.CountedCodes.{Counted, give, tail_call, case, compute, inside, read, open_cell, if_unique, dup, drop, CountedArms, no_arm, arm, CountedFunction, CountedProgram}
 use Rattle.kk_counted.specs.Lowerable.{OpensByCount, OpenByCount, AllOpenByCount}
 use Rattle.kk_counted.specs.TokenCosts.{openings, openings_of, OpenAtMost}
 use Rattle.kk_counted.specs.TokenLowerable.{slots_of, slots_in, slots_in_arms, most_slots, HasPlainForms, HavePlainForms, HoldsAtCalls, HoldAtCalls, IsTokenLowerable, AreTokensLowerable}
@@ -118,14 +118,6 @@ mutual
   paired_low (tail_call f arguments) by_count behind l fits n few =
       frees_low n (Tokened.tail_call f arguments) (omega (arith, few))
       (record { slots = omega arith; plain = tt; straight = refl })
-  paired_low (branch x positive negative) by_count behind l fits n few =
-      let one = rest_low positive behind l n (paired_low positive by_count.0 behind l fits) (omega (arith, few)) in
-      let two = rest_low negative behind l n (paired_low negative by_count.1 behind l fits) (omega (arith, few)) in
-      record {
-        slots = omega (arith, one.slots, two.slots);
-        plain = (one.plain, two.plain);
-        straight = (refl, (one.straight, two.straight));
-      }
   paired_low (case x decisions arms) by_count behind l fits n few =
       let each = arms_low arms by_count behind l n fits few in
       record { slots = each.slots; plain = each.plain; straight = (refl, each.straight) }

@@ -3,7 +3,7 @@ use Rattle.std.proofs.Common.{◌≡◌, ◌≤◌, ◌⊎◌, inl, inr, ℕ, ze
 use Rattle.std.specs.Prelude.{slice_get}
 use Rattle.kk_syntax.specs.declared.program.Form.{Form}
 use Rattle.kk_syntax.specs.declared.program.Form.TheVariants.{Number, Unit as Nothing, ReadByte, PrintText, Unary, Binary, Print, Construct, Call}
-use Rattle.kk_counted.specs.CountedCodes.{Counted, give, tail_call, branch, case, compute, inside, read, open_cell, if_unique, dup, drop, CountedArms, no_arm, arm, CountedFunction, CountedProgram}
+use Rattle.kk_counted.specs.CountedCodes.{Counted, give, tail_call, case, compute, inside, read, open_cell, if_unique, dup, drop, CountedArms, no_arm, arm, CountedFunction, CountedProgram}
 use Rattle.kk_counted.specs.TokenedCodes.{Tokened, TokenedFunction}
 use Rattle.kk_counted.specs.BareForms.{bare}
 use Rattle.kk_reuse.specs.Following.{makes_cell, may_make, kept, taken, leaves, arms_leave}
@@ -191,12 +191,6 @@ mutual
   paired_pairs (give x) behind l n keeps few = filled_pairs l n x behind few
   paired_pairs (tail_call f arguments) behind l n keeps few =
       frees_pair n behind (slots_below l) (Tokened.tail_call f arguments) refl refl
-  paired_pairs (branch x positive negative) behind l n keeps few =
-      let all = branch x positive negative in (
-        timely behind all n (paired behind l n all) (bare_paired behind l n all) keeps,
-        behind_pairs positive behind l n (λ k. paired_pairs positive behind l (kept behind positive n) k (omega (arith, few))),
-        behind_pairs negative behind l n (λ k. paired_pairs negative behind l (kept behind negative n) k (omega (arith, few))),
-      )
   paired_pairs (case x decisions arms) behind l n keeps few =
       let all = case x decisions arms in
       (timely behind all n (paired behind l n all) (bare_paired behind l n all) keeps, arms_pair arms behind l n few)

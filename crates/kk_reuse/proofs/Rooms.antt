@@ -4,7 +4,7 @@ use Rattle.std.proofs.Common.{◌≡◌, ◌≤◌, ℕ, zero, suc, ◌+◌, ◌
 use Rattle.std.specs.Prelude.{slice_get}
 use Rattle.kk_syntax.specs.declared.program.Form.{Form}
 use Rattle.kk_syntax.specs.declared.program.Form.TheVariants.{Construct, Call}
-use Rattle.kk_counted.specs.CountedCodes.{Counted, give, tail_call, branch, case, compute, inside, read, open_cell, if_unique, dup, drop, CountedArms, no_arm, arm, CountedFunction, CountedProgram}
+use Rattle.kk_counted.specs.CountedCodes.{Counted, give, tail_call, case, compute, inside, read, open_cell, if_unique, dup, drop, CountedArms, no_arm, arm, CountedFunction, CountedProgram}
 use Rattle.kk_counted.specs.TokenCosts.{tokens_ahead, room_needed, arms_need_room, HasRoom, openings, openings_of, OpenAtMost}
 use Rattle.kk_counted.specs.TokenedCodes.{Tokened, TokenedFunction}
 use Rattle.kk_reuse.specs.Following.{makes_cell, may_make, kept, taken, leaves, arms_leave}
@@ -94,14 +94,6 @@ mutual
   pub leaves_few : (code : Counted) (behind : Bool) (n : ℕ) → leaves behind n code ≤ n + openings code
   leaves_few (give x) behind n = omega arith
   leaves_few (tail_call f arguments) behind n = omega arith
-  leaves_few (branch x positive negative) behind n =
-      omega (
-        arith,
-        leaves_few positive behind (kept behind positive n),
-        kept_few (may_make behind positive) n,
-        leaves_few negative behind (kept behind negative n),
-        kept_few (may_make behind negative) n,
-      )
   leaves_few (case x decisions arms) behind n = arms_leave_few arms behind n
   leaves_few (compute x form arguments rest) behind n =
       omega (
@@ -166,7 +158,6 @@ module _ (most : ℕ) where
       let filled = filled_before (l - n) n (Tokened.give x) in omega (arith, few, fits, filled.1.0, filled.1.1.ahead)
   paired_ahead (tail_call f arguments) behind l n few fits =
       omega (arith, (frees_before n (Tokened.tail_call f arguments)).ahead)
-  paired_ahead (branch x positive negative) behind l n few fits = omega arith
   paired_ahead (case x decisions arms) behind l n few fits = omega arith
   paired_ahead (compute x form arguments rest) behind l n few fits =
       form_ahead n x form arguments (settled behind rest (taken form arguments n)
@@ -226,12 +217,6 @@ module _ (most : ℕ) where
         filled.1.1.needed (36 * most) (omega (arith, few, fits, filled.1.0)) (omega arith)
     paired_needed (tail_call f arguments) behind l fits n few =
         (frees_before n (Tokened.tail_call f arguments)).needed (36 * most) (omega (arith, few)) (omega arith)
-    paired_needed (branch x positive negative) behind l fits n few =
-        omega (
-          arith,
-          rest_needed positive behind l n fits (paired_needed positive behind l fits) (omega (arith, few)),
-          rest_needed negative behind l n fits (paired_needed negative behind l fits) (omega (arith, few)),
-        )
     paired_needed (case x decisions arms) behind l fits n few = arms_needed arms behind l n fits few
     paired_needed (compute x form arguments rest) behind l fits n few =
         let left : taken form arguments n ≤ n = taken_few form arguments n in

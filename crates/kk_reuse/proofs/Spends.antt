@@ -5,7 +5,7 @@ use Rattle.std.proofs.lemmas.Bool.Decides.{nat_tests}
 use Rattle.kk_syntax.specs.declared.program.Form.{Form}
 use Rattle.kk_syntax.specs.declared.program.Form.TheVariants.{Number, Unit as Nothing, ReadByte, PrintText, Unary, Binary, Print, Construct, Call}
 use Rattle.kk_syntax.specs.Shapes.{is_among, without}
-use Rattle.kk_counted.specs.CountedCodes.{Counted, give, tail_call, branch, case, compute, inside, read, open_cell, if_unique, dup, drop, CountedArms, no_arm, arm, CountedFunction, CountedProgram}
+use Rattle.kk_counted.specs.CountedCodes.{Counted, give, tail_call, case, compute, inside, read, open_cell, if_unique, dup, drop, CountedArms, no_arm, arm, CountedFunction, CountedProgram}
 use Rattle.kk_counted.specs.Spending.{AreApart}
 use Rattle.kk_counted.specs.TokenedCodes.{Tokened, TokenedFunction}
 use Rattle.kk_counted.specs.TokenSpending.{AreSame, SpendsTokens, SpendAllTokens, AreTokensSpent}
@@ -249,15 +249,6 @@ mutual
   paired_spends (give x) behind l n left slots below all few = filled_spends l n x left slots below all few
   paired_spends (tail_call f arguments) behind l n left slots below all few =
       frees_spend n left slots (Tokened.tail_call f arguments) below (λ later none. (refl, λ z. none z ∙ none_below z))
-  paired_spends (branch x positive negative) behind l n left slots below all few = (
-    refl,
-    (
-      settles (may_make behind positive) n left slots (λ k. paired behind l k positive) below
-          (λ later lower. paired_spends positive behind l (kept behind positive n) left later lower all (omega (arith, few))),
-      settles (may_make behind negative) n left slots (λ k. paired behind l k negative) below
-          (λ later lower. paired_spends negative behind l (kept behind negative n) left later lower all (omega (arith, few))),
-    ),
-  )
   paired_spends (case x decisions arms) behind l n left slots below all few =
       (refl, arms_spend arms behind l n left slots below all few)
   paired_spends (compute x form arguments rest) behind l n left slots below all few =
@@ -335,10 +326,6 @@ mutual
   pub none_left : (code : Counted) (n : ℕ) → IsIdle (may_make false code) n → leaves false n code ≤ 0
   none_left (give x) n idle = let none = idle refl in omega (arith, none)
   none_left (tail_call f arguments) n idle = omega arith
-  none_left (branch x positive negative) n idle =
-      let one = none_left positive (kept false positive n) (kept_idle (may_make false positive) n) in
-      let other = none_left negative (kept false negative n) (kept_idle (may_make false negative) n) in
-      omega (arith, one, other)
   none_left (case x decisions arms) n idle = none_left_arms arms n
   none_left (compute x form arguments rest) n idle =
       none_left rest (kept false rest (taken form arguments n)) (kept_idle (may_make false rest) (taken form arguments n))

@@ -3,14 +3,12 @@ use Rattle.std.proofs.Common.{◌≡◌, ◌≤◌, ◌<◌, ◌+◌, ℕ, Bool,
 use Rattle.std.specs.Prelude.{max, IfOk}
 use Rattle.std.proofs.Math.ListN.{drop_of_length-le}
 use Rattle.std.proofs.lemmas.List.{drop_more}
-use Rattle.std.specs.Global.{Box}
 use Rattle.kk_counted.specs.declared.form.Block.{Block}
 use Rattle.kk_counted.specs.declared.form.Last.{Last}
-use Rattle.kk_counted.specs.declared.form.Last.TheFolds.{fold-roll-Last}
 use Rattle.kk_counted.specs.declared.form.Last.TheVariants as OfLast
 use Rattle.kk_counted.specs.declared.form.Step.{Step}
-use Rattle.kk_counted.specs.CountedCodes.{Counted, branch}
-use Rattle.kk_counted.specs.CountedForms.{Move, plug, arms_of, block_code, last_code, step_move, last_step, step_step, block_step}
+use Rattle.kk_counted.specs.CountedCodes.{Counted}
+use Rattle.kk_counted.specs.CountedForms.{plug, arms_of, block_code, last_code, step_move}
 use Rattle.kk_counted.proofs.FormViews.{block_is}
 use Rattle.kk_reuse.specs.Following.{may_make, kept, leaves, arms_leave}
 use Rattle.kk_reuse.specs.PairedForms.{moves_may_make, left_behind}
@@ -44,20 +42,6 @@ arm_leaves n most leaf next total arms i item less is here grown so_far =
     (arms_of (map block_code (drop i arms)))) total
     (ap (λ xs. arms_leave true n (arms_of (map block_code xs))) (one_dropped arms i item less is))
     (leaves_kept (block_code item) n ∙ sym here) grown so_far
-
-if_code : (x : ℕ) (positive negative : Box Block)
-    → last_code (OfLast.If x positive negative) ≡ branch x (block_code positive.value) (block_code negative.value)
-if_code x positive negative =
-    ap last_code (sym (OfLast.rolls-If x positive negative)) ∙ fold-roll-Last Counted Move Counted last_step step_step block_step _
-
-pub branch_leaves : (last : Last) (x n : ℕ) (positive negative : Box Block) (first second most : ℕ)
-    → last ≡ OfLast.If x positive negative → first ≡ leaves true n (block_code positive.value)
-    → second ≡ leaves true n (block_code negative.value) → most ≡ max first second → most ≡ leaves true n (last_code last)
-branch_leaves last x n positive negative first second most is one other greater =
-    greater ∙ ap (λ k. max k second) (one ∙ sym (leaves_kept (block_code positive.value) n))
-    ∙ ap (max (leaves true (kept true (block_code positive.value) n) (block_code positive.value)))
-    (other ∙ sym (leaves_kept (block_code negative.value) n))
-    ∙ sym (ap (leaves true n) (ap last_code is ∙ if_code x positive negative))
 
 pub block_leaves : (n left : ℕ) (block : Block) (items : List Step) (i : ℕ) → items ≡ block.steps.items → length items ≤ i
     → leaves true left (plug (map step_move (drop i items)) (last_code block.last))

@@ -2,7 +2,7 @@
 use Rattle.std.specs.Prelude.{ℕ, suc, ◌-◌, Bool, true, false, ◌||◌, List, ◌∷◌, max, if◌then◌else◌}
 use Rattle.kk_syntax.specs.declared.program.Form.{Form}
 use Rattle.kk_syntax.specs.declared.program.Form.TheVariants.{Construct}
-use Rattle.kk_counted.specs.CountedCodes.{Counted, give, tail_call, branch, case, compute, inside, read, open_cell, if_unique, dup, drop, CountedArms, no_arm, arm}
+use Rattle.kk_counted.specs.CountedCodes.{Counted, give, tail_call, case, compute, inside, read, open_cell, if_unique, dup, drop, CountedArms, no_arm, arm}
 
 -- whether a form on variables is a construction with fields
 abbrev pub makes_cell : Form → List ℕ → Bool
@@ -14,7 +14,6 @@ abbrev mutual
   pub may_make : Bool → Counted → Bool
   may_make behind (give x) = behind
   may_make behind (tail_call f arguments) = false
-  may_make behind (branch x positive negative) = may_make behind positive || may_make behind negative
   may_make behind (case x decisions arms) = arms_may_make behind arms
   may_make behind (compute x form arguments rest) = makes_cell form arguments || may_make behind rest
   may_make behind (inside x block rest) = may_make (may_make behind rest) block
@@ -41,8 +40,6 @@ abbrev mutual
   pub leaves : Bool → ℕ → Counted → ℕ
   leaves behind n (give x) = n
   leaves behind n (tail_call f arguments) = 0
-  leaves behind n (branch x positive negative) =
-      max (leaves behind (kept behind positive n) positive) (leaves behind (kept behind negative n) negative)
   leaves behind n (case x decisions arms) = arms_leave behind n arms
   leaves behind n (compute x form arguments rest) = leaves behind (kept behind rest (taken form arguments n)) rest
   leaves behind n (inside x block rest) =

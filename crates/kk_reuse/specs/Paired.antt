@@ -26,9 +26,6 @@ abbrev mutual
   pub IsPaired : Bool → List ℕ → List ℕ → Tokened → Type 0
   IsPaired behind left tokens (Tokened.give x) = tokens ≡ left
   IsPaired behind left tokens (Tokened.tail_call f arguments) = tokens ≡ []
-  IsPaired behind left tokens (Tokened.branch x positive negative) =
-      IsTimely behind tokens (Tokened.branch x positive negative) × IsPaired behind left tokens positive
-      × IsPaired behind left tokens negative
   IsPaired behind left tokens (Tokened.case x decisions arms) =
       IsTimely behind tokens (Tokened.case x decisions arms) × ArePaired behind left tokens arms
   IsPaired behind left tokens (Tokened.compute x form arguments others rest) =

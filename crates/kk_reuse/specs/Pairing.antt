@@ -3,7 +3,7 @@
 use Rattle.std.specs.Prelude.{ℕ, zero, suc, ◌+◌, ◌-◌, Bool, false, List, [], ◌∷◌, map, if◌then◌else◌}
 use Rattle.kk_syntax.specs.declared.program.Form.{Form}
 use Rattle.kk_syntax.specs.declared.program.Form.TheVariants.{Construct, Call}
-use Rattle.kk_counted.specs.CountedCodes.{Counted, give, tail_call, branch, case, compute, inside, read, open_cell, if_unique, dup, drop, CountedArms, no_arm, arm, CountedFunction, CountedProgram}
+use Rattle.kk_counted.specs.CountedCodes.{Counted, give, tail_call, case, compute, inside, read, open_cell, if_unique, dup, drop, CountedArms, no_arm, arm, CountedFunction, CountedProgram}
 use Rattle.kk_counted.specs.CountedStates.{CountedSetting}
 use Rattle.kk_counted.specs.TokenStates.{TokenSetting}
 use Rattle.kk_counted.specs.TokenedCodes.{Tokened, TokenedArms, TokenedFunction, TokenedProgram}
@@ -61,9 +61,6 @@ abbrev mutual
   pub paired : Bool → ℕ → ℕ → Counted → Tokened
   paired behind l n (give x) = filled_up (l - n) n (Tokened.give x)
   paired behind l n (tail_call f arguments) = frees n (Tokened.tail_call f arguments)
-  paired behind l n (branch x positive negative) =
-      Tokened.branch x (settled behind positive n (paired behind l (kept behind positive n) positive))
-      (settled behind negative n (paired behind l (kept behind negative n) negative))
   paired behind l n (case x decisions arms) = Tokened.case x decisions (paired_arms behind l n arms)
   paired behind l n (compute x form arguments rest) =
       paired_form n x form arguments (settled behind rest (taken form arguments n)

@@ -61,7 +61,6 @@ pub fn last_may_make(behind: bool, last: &Last) -> bool
     match last {
         Last::Return(_) => behind,
         Last::TailCall(_, _) => false,
-        Last::If(_, positive, negative) => may_make(behind, positive) || may_make(behind, negative),
         Last::Case(_, _, arms) => arms_may_make(behind, arms),
     }
 }
@@ -131,11 +130,6 @@ fn last_leaves(tokens: u32, last: &Last) -> Result<u32, NoMemory>
     match last {
         Last::Return(_) => Ok(tokens),
         Last::TailCall(_, _) => Ok(0),
-        Last::If(_, positive, negative) => {
-            let first = leaves(tokens, positive)?;
-            let second = leaves(tokens, negative)?;
-            Ok(first.max(second))
-        }
         Last::Case(_, _, arms) => arms_leave(tokens, arms),
     }
 }

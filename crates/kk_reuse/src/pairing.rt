@@ -269,29 +269,12 @@ fn paired_last(
             free_all(steps, tokens)?;
             Ok(TokenedLast::TailCall(*function, Vec::from_slice(alloc, arguments)?))
         }
-        Last::If(variable, positive, negative) => Ok(TokenedLast::If(
-            *variable,
-            boxed(alloc, behind, tokens, positive)?,
-            boxed(alloc, behind, tokens, negative)?,
-        )),
         Last::Case(variable, decisions, arms) => {
             let decisions = copied_decisions(alloc, decisions)?;
             let arms = paired_arms(alloc, behind, tokens, arms)?;
             Ok(TokenedLast::Case(*variable, decisions, arms))
         }
     }
-}
-
-#[cycle(paired_block)]
-fn boxed(
-    alloc: Global,
-    behind: Behind,
-    tokens: u32,
-    block: &Block,
-) -> Result<Box<TokenedBlock>, NoMemory>
-    ensures { IfOk result (λ made. tokened_code made.value ≡ paired_block behind.makes behind.left tokens (block_code block.now)) }
-{
-    Ok(Box::new(alloc, paired_block(alloc, behind, tokens, block)?)?)
 }
 
 #[cycle(paired_block)]

@@ -1,7 +1,7 @@
-use Rattle.std.proofs.Common.{true, ap, ◌∙◌}
-use Rattle.kk_counted.specs.CountedForms.{block_code, last_code}
+use Rattle.std.proofs.Common.{true}
+use Rattle.kk_counted.specs.CountedForms.{last_code}
 use Rattle.kk_reuse.specs.Following.{leaves}
-use Rattle.kk_reuse.proofs.Walks.{also, arm_leaves, block_leaves, branch_leaves, step_leaves}
+use Rattle.kk_reuse.proofs.Walks.{also, arm_leaves, block_leaves, step_leaves}
 use Rattle.kk_reuse.proofs.following.+leaves.Goals as goal
 
 pub leaves-loop-step-preserved : goal.leaves-loop-step-preserved
@@ -14,13 +14,6 @@ leaves-returns t c =
     also c.last_leaves.result c.last_leaves.ensures
     (block_leaves c.args.tokens c.loop-step.left c.args.block.now c.deref-step-items.result.now c.loop-step.step-index
     c.deref-step-items.ensures.value c.loop-step-test.false c.loop-step.invariant)
-
-pub last_leaves-returns-in_ok-second-in-If : goal.last_leaves-returns-in_ok-second-in-If
-last_leaves-returns-in_ok-second-in-If t c =
-    branch_leaves c.args.last.now c.in-If.field-0 c.args.tokens c.in-If.positive c.in-If.negative c.in_ok-first-in-If.first
-    c.in_ok-second-in-If.second c.max.result c.in-If.is
-    (c.in_ok-first-in-If.ensures ∙ ap (λ block. leaves true c.args.tokens (block_code block)) c.deref.ensures)
-    (c.in_ok-second-in-If.ensures ∙ ap (λ block. leaves true c.args.tokens (block_code block)) c.deref-in-If.ensures) c.max.ensures
 
 pub arms_leave-loop-arm-preserved : goal.arms_leave-loop-arm-preserved
 arms_leave-loop-arm-preserved t c =
