@@ -4,7 +4,7 @@ use Rattle.std.specs.Prelude.{slice_get}
 use Rattle.kk_syntax.specs.Shapes.{without}
 use Rattle.kk_syntax.specs.declared.program.Form.TheVariants.{Construct}
 use Rattle.kk_counted.specs.BareForms.{bare, bare_arms, bare_function, bare_program}
-use Rattle.kk_counted.specs.CountedCodes.{CountedFunction, branch, case, compute, inside, read, open_cell, if_unique, dup, drop, arm}
+use Rattle.kk_counted.specs.CountedCodes.{CountedFunction, case, compute, inside, read, open_cell, if_unique, dup, drop, arm}
 use Rattle.kk_counted.specs.KeptFields.{KnownFields, forget_slot, forget_variable, forget_variables, known_opened}
 use Rattle.kk_counted.specs.TokenSpending.{SpendsTokens, SpendAllTokens, AreTokensSpent}
 use Rattle.kk_counted.specs.TokenedCodes.{Tokened, TokenedArms, TokenedFunction, TokenedProgram}
@@ -16,9 +16,6 @@ mutual
   pub bare_respec : (known : List KnownFields) (code : Tokened) → bare (respec known code) ≡ bare code
   bare_respec known (Tokened.give x) = refl
   bare_respec known (Tokened.tail_call f arguments) = refl
-  bare_respec known (Tokened.branch x positive negative) =
-      ap (λ body. branch x body (bare (respec known negative))) (bare_respec known positive)
-      ∙ ap (branch x (bare positive)) (bare_respec known negative)
   bare_respec known (Tokened.case x decisions arms) = ap (case x decisions) (bare_respec_arms known arms)
   bare_respec known (Tokened.compute x form arguments others rest) =
       ap (compute x form arguments) (bare_respec (forget_variable x known) rest)
@@ -79,8 +76,6 @@ mutual
       → SpendsTokens left unspent held (respec known code)
   respec_spends known (Tokened.give x) left unspent held s = s
   respec_spends known (Tokened.tail_call f arguments) left unspent held s = s
-  respec_spends known (Tokened.branch x positive negative) left unspent held s =
-      (s.0, (respec_spends known positive left unspent [] s.1.0, respec_spends known negative left unspent [] s.1.1))
   respec_spends known (Tokened.case x decisions arms) left unspent held s = (s.0, arms_spend known arms left unspent s.1)
   respec_spends known (Tokened.compute x form arguments others rest) left unspent held s =
       (s.0, respec_spends (forget_variable x known) rest left unspent held s.1)

@@ -49,7 +49,6 @@ mutual
   leaves_all : (known : List KnownFields) (code : Tokened) → LeavesAllKnown known (respec known code)
   leaves_all known (Tokened.give x) = tt
   leaves_all known (Tokened.tail_call f arguments) = tt
-  leaves_all known (Tokened.branch x positive negative) = (leaves_all known positive, leaves_all known negative)
   leaves_all known (Tokened.case x decisions arms) = arms_leave_all known arms
   leaves_all known (Tokened.compute x form arguments others rest) = leaves_all (forget_variable x known) rest
   leaves_all known (Tokened.inside x block rest) = (leaves_all known block, leaves_all [] rest)

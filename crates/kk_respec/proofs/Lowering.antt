@@ -69,7 +69,6 @@ mutual
   leaves_known : (known : List KnownFields) (code : Tokened) → LeavesKnown known (respec known code)
   leaves_known known (Tokened.give x) = tt
   leaves_known known (Tokened.tail_call f arguments) = tt
-  leaves_known known (Tokened.branch x positive negative) = (leaves_known known positive, leaves_known known negative)
   leaves_known known (Tokened.case x decisions arms) = leave_known known arms
   leaves_known known (Tokened.compute x form arguments others rest) = leaves_known (forget_variable x known) rest
   leaves_known known (Tokened.inside x block rest) = (leaves_known known block, leaves_known [] rest)
@@ -100,8 +99,6 @@ mutual
   plain_same : (known : List KnownFields) (code : Tokened) → HasPlainForms code → HasPlainForms (respec known code)
   plain_same known (Tokened.give x) plain = tt
   plain_same known (Tokened.tail_call f arguments) plain = tt
-  plain_same known (Tokened.branch x positive negative) plain =
-      (plain_same known positive plain.0, plain_same known negative plain.1)
   plain_same known (Tokened.case x decisions arms) plain = plain_same_arms known arms plain
   plain_same known (Tokened.compute x form arguments others rest) plain =
       (plain.0, plain_same (forget_variable x known) rest plain.1)
@@ -148,8 +145,6 @@ mutual
   straight_same : (known : List KnownFields) (code : Tokened) → RestStraight known code
   straight_same known (Tokened.give x) held straight = straight
   straight_same known (Tokened.tail_call f arguments) held straight = straight
-  straight_same known (Tokened.branch x positive negative) held straight =
-      (straight.0, (straight_same known positive [] straight.1.0, straight_same known negative [] straight.1.1))
   straight_same known (Tokened.case x decisions arms) held straight = (straight.0, straight_same_arms known arms straight.1)
   straight_same known (Tokened.compute x form arguments others rest) held straight =
       form_straight known x form arguments others held rest (straight_same (forget_variable x known) rest) straight

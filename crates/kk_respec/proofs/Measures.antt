@@ -18,9 +18,6 @@ mutual
   pub slots_same : (known : List KnownFields) (code : Tokened) → slots_in (respec known code) ≡ slots_in code
   slots_same known (Tokened.give x) = refl
   slots_same known (Tokened.tail_call f arguments) = refl
-  slots_same known (Tokened.branch x positive negative) =
-      ap (λ n. max n (slots_in (respec known negative))) (slots_same known positive)
-      ∙ ap (λ n. max (slots_in positive) n) (slots_same known negative)
   slots_same known (Tokened.case x decisions arms) = slots_same_arms known arms
   slots_same known (Tokened.compute x form arguments others rest) =
       ap (max (slots_of others)) (slots_same (forget_variable x known) rest)
@@ -55,7 +52,6 @@ mutual
 ahead_same : (known : List KnownFields) (code : Tokened) → tokens_ahead (respec known code) ≡ tokens_ahead code
 ahead_same known (Tokened.give x) = refl
 ahead_same known (Tokened.tail_call f arguments) = refl
-ahead_same known (Tokened.branch x positive negative) = refl
 ahead_same known (Tokened.case x decisions arms) = refl
 ahead_same known (Tokened.compute x form arguments others rest) = refl
 ahead_same known (Tokened.inside x block rest) = refl
@@ -78,9 +74,6 @@ mutual
   pub room_same : (known : List KnownFields) (code : Tokened) → room_needed (respec known code) ≡ room_needed code
   room_same known (Tokened.give x) = refl
   room_same known (Tokened.tail_call f arguments) = refl
-  room_same known (Tokened.branch x positive negative) =
-      ap (λ n. max n (room_needed (respec known negative))) (room_same known positive)
-      ∙ ap (λ n. max (room_needed positive) n) (room_same known negative)
   room_same known (Tokened.case x decisions arms) = room_same_arms known arms
   room_same known (Tokened.compute x form arguments others rest) =
       ap (max (other_cost * length others)) (room_same (forget_variable x known) rest)
@@ -137,9 +130,6 @@ mutual
   pub length_same : (known : List KnownFields) (code : Tokened) → tokened_length (respec known code) ≡ tokened_length code
   length_same known (Tokened.give x) = refl
   length_same known (Tokened.tail_call f arguments) = refl
-  length_same known (Tokened.branch x positive negative) =
-      ap (λ n. form_length + n + tokened_length (respec known negative)) (length_same known positive)
-      ∙ ap (λ n. form_length + tokened_length positive + n) (length_same known negative)
   length_same known (Tokened.case x decisions arms) =
       ap (λ n. form_length + tests_length decisions + n) (length_same_arms known arms)
   length_same known (Tokened.compute x form arguments others rest) =
@@ -176,9 +166,6 @@ mutual
   pub computes_same : (known : List KnownFields) (code : Tokened) → tokened_computes (respec known code) ≡ tokened_computes code
   computes_same known (Tokened.give x) = refl
   computes_same known (Tokened.tail_call f arguments) = refl
-  computes_same known (Tokened.branch x positive negative) =
-      ap (λ n. n + tokened_computes (respec known negative)) (computes_same known positive)
-      ∙ ap (λ n. tokened_computes positive + n) (computes_same known negative)
   computes_same known (Tokened.case x decisions arms) = computes_same_arms known arms
   computes_same known (Tokened.compute x form arguments others rest) = ap (suc) (computes_same (forget_variable x known) rest)
   computes_same known (Tokened.inside x block rest) =

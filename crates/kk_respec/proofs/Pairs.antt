@@ -24,11 +24,6 @@ mutual
       → IsPaired behind left tokens (respec known code)
   pairs known (Tokened.give x) behind left tokens p = p
   pairs known (Tokened.tail_call f arguments) behind left tokens p = p
-  pairs known (Tokened.branch x positive negative) behind left tokens p = (
-    timely behind tokens known (Tokened.branch x positive negative) p.0,
-    pairs known positive behind left tokens p.1,
-    pairs known negative behind left tokens p.2,
-  )
   pairs known (Tokened.case x decisions arms) behind left tokens p =
       (timely behind tokens known (Tokened.case x decisions arms) p.0, arms_pair known arms behind left tokens p.1)
   pairs known (Tokened.compute x form arguments others rest) behind left tokens p = (

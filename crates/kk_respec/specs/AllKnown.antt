@@ -17,7 +17,6 @@ abbrev mutual
   pub LeavesAllKnown : List KnownFields → Tokened → Type 0
   LeavesAllKnown known (Tokened.give x) = Unit {0}
   LeavesAllKnown known (Tokened.tail_call f arguments) = Unit {0}
-  LeavesAllKnown known (Tokened.branch x positive negative) = LeavesAllKnown known positive × LeavesAllKnown known negative
   LeavesAllKnown known (Tokened.case x decisions arms) = LeaveAllKnown known arms
   LeavesAllKnown known (Tokened.compute x form arguments others rest) = LeavesAllKnown (forget_variable x known) rest
   LeavesAllKnown known (Tokened.inside x block rest) = LeavesAllKnown known block × LeavesAllKnown [] rest

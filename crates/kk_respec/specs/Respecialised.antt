@@ -17,7 +17,6 @@ abbrev mutual
   pub respec : List KnownFields → Tokened → Tokened
   respec known (Tokened.give x) = Tokened.give x
   respec known (Tokened.tail_call f arguments) = Tokened.tail_call f arguments
-  respec known (Tokened.branch x positive negative) = Tokened.branch x (respec known positive) (respec known negative)
   respec known (Tokened.case x decisions arms) = Tokened.case x decisions (respec_arms known arms)
   respec known (Tokened.compute x form arguments others rest) =
       Tokened.compute x form arguments others (respec (forget_variable x known) rest)

@@ -56,10 +56,6 @@ fn mark_last(alloc: Global, known: &[KnownToken], last: &mut TokenedLast) -> Res
 {
     match last {
         TokenedLast::Return(_) | TokenedLast::TailCall(_, _) => Ok(()),
-        TokenedLast::If(_, positive, negative) => {
-            mark_boxed(alloc, known, positive)?;
-            mark_boxed(alloc, known, negative)
-        }
         TokenedLast::Case(_, _, arms) => mark_arms(alloc, known, arms),
         TokenedLast::IfToken(_, there, absent) => {
             mark_boxed(alloc, known, there)?;
