@@ -7,18 +7,17 @@ use Rattle.kk_syntax.specs.Shapes.{is_among as is_bound}
 use Rattle.rv_isa.specs.declared.asm.Action.{Action}
 use Rattle.rv_isa.specs.declared.asm.Action.TheVariants.{Label, Jump, Branch, TailCall, Return}
 use Rattle.rv_isa.specs.declared.asm.Condition.{Condition}
-use Rattle.rv_isa.specs.declared.asm.Condition.TheVariants.{NotEqual}
 use Rattle.rv_isa.specs.declared.asm.Operation.TheVariants as Op
 use Rattle.rv_isa.specs.AsmCode.{Line}
 use Rattle.rv_isa.specs.WellFormed.{is_alive, is_alive_at, most_values, IsSpent, AreLabelsAhead, is_alive_behind}
 use Rattle.rv_isa.proofs.TokensHeld.{HoldsNone}
-use Rattle.rv_lower.specs.Lines.{sets, copies_to, acts, copies, temporaries, constant_word}
-use Rattle.rv_lower.specs.Lowered.{Goal, returns, joins, goal_lines, test_lines}
+use Rattle.rv_lower.specs.Lines.{acts, copies, temporaries}
+use Rattle.rv_lower.specs.Lowered.{Goal, returns, joins, goal_lines}
 use Rattle.rv_lower.proofs.Formed.{AllBound, none_some, Readable, IsWithin, within_more, readable_within, AreFormed, formed_more}
-use Rattle.rv_lower.proofs.Formed.{Good, HasRoom, weaker, alive_line, to_variable, good_hands, readable_more}
+use Rattle.rv_lower.proofs.Formed.{Good, HasRoom, weaker, alive_line, to_variable, good_hands}
 use Rattle.rv_lower.proofs.AbsentLabels.{HasNo, has_no_append, found_none, found_past, found_here, alive_at_past, alive_at_here, other_label}
 use Rattle.rv_lower.proofs.Labels.{found_label}
-use Rattle.rv_lower.proofs.Operations.{Leads, leads_then, leads_weaker, copied, next_temporary, only_bound}
+use Rattle.rv_lower.proofs.Operations.{Leads, copied, only_bound}
 
 -- The goal of a code stands ahead, in what follows: its label is none of the code's own, and there only variables that are bound at
 -- the goal, or the goal's, are alive.
@@ -236,29 +235,6 @@ module _ (base : ℕ) (bound outer : List ℕ) (has : HasRoom base bound) (condi
           tail
           ∙ ap (λ (code : List Line). before ++ (acts (Branch condition low) (temporaries base xs) ∷ code))
           (append_assoc positive (acts (Label low) [] ∷ negative) tail)
-
--- a branch on a variable, before the code of both ways
-pub fits_branch : (base : ℕ) (bound outer : List ℕ) → HasRoom base bound → (x : ℕ) → is_bound bound x ≡ true → (goal : Goal)
-    (low middle high : ℕ) (positive negative : List Line) → Fits base bound outer goal (low + 1) middle positive
-    → Fits base bound outer goal middle high negative
-    → Fits base bound outer goal low high (test_lines base x low ++ (positive ++ (acts (Label low) [] ∷ negative)))
-fits_branch base bound outer has x is goal low middle high positive negative first second =
-    fits_split base bound outer has NotEqual (x ∷ x ∷ []) (omega arith) 2
-    (copies_to x base ∷ sets (constant_word 1) (base + 1) ∷ []) both goal low middle high positive negative first second
-  where
-    copied_one : Leads (Readable base base bound) (Readable base (base + 1) bound) 1 (copies_to x base ∷ [])
-    copied_one = next_temporary base bound has base Op.Mv (x ∷ []) (omega arith) refl (omega arith) (inl is, tt)
-
-    second_set : Leads (Readable base (base + 1) bound) (Readable base (base + 2) bound) 1 (sets (constant_word 1) (base + 1) ∷ [])
-    second_set = leads_weaker (Readable base (base + 1) bound) (Readable base (base + 1) bound)
-        (Readable base (base + 1 + 1) bound) (Readable base (base + 2) bound) 1 1 (sets (constant_word 1) (base + 1) ∷ [])
-        (λ v readable. readable) (readable_more base (base + 2) (base + 1 + 1) bound (omega arith)) (omega arith)
-        (next_temporary base bound has (base + 1) (Op.Li (constant_word 1)) [] (omega arith) refl (omega arith) tt)
-
-    both : Leads (Readable base base bound) (Readable base (base + 2) bound) 2
-        (copies_to x base ∷ sets (constant_word 1) (base + 1) ∷ [])
-    both = leads_then (Readable base base bound) (Readable base (base + 1) bound) (Readable base (base + 2) bound) 1 1
-        (copies_to x base ∷ []) (sets (constant_word 1) (base + 1) ∷ []) copied_one second_set
 
 -- a block whose value a variable takes, before the code that follows: what is bound at the end of the block is so behind it
 module _ (base : ℕ) (bound between outer : List ℕ) (x : ℕ) (less_x : x < base) (goal : Goal) (low middle high : ℕ)

@@ -1,9 +1,8 @@
--- The lines where a code ends or branches, and the parameters of a function.
+-- The lines where a code ends, and the parameters of a function.
 use Rattle.std.specs.Prelude.{ℕ, zero, suc, ◌+◌, List, [], ◌∷◌, ◌++◌}
-use Rattle.rv_isa.specs.declared.asm.Action.TheVariants.{Jump, Branch, TailCall, Return}
-use Rattle.rv_isa.specs.declared.asm.Condition.TheVariants.{NotEqual}
+use Rattle.rv_isa.specs.declared.asm.Action.TheVariants.{Jump, TailCall, Return}
 use Rattle.rv_isa.specs.AsmCode.{Line}
-use Rattle.rv_lower.specs.Lines.{sets, copies_to, acts, copies, temporaries, constant_word}
+use Rattle.rv_lower.specs.Lines.{copies_to, acts, copies, temporaries}
 
 -- where the value of a block goes: to the caller; or to a variable, and the code goes on at a label
 pub data Goal : Type 0 where
@@ -17,11 +16,6 @@ goal_lines (joins y label) x = copies_to x y ∷ acts (Jump label) [] ∷ []
 -- a tail call
 abbrev pub tail_lines : ℕ → ℕ → List ℕ → List Line
 tail_lines base f arguments = copies base arguments ++ acts (TailCall f) (temporaries base arguments) ∷ []
-
--- the branch of an `if`: to a label where the variable is not `True`
-abbrev pub test_lines : ℕ → ℕ → ℕ → List Line
-test_lines base x label =
-    copies_to x base ∷ sets (constant_word 1) (base + 1) ∷ acts (Branch NotEqual label) (base ∷ (base + 1) ∷ []) ∷ []
 
 -- numbers one after the other
 abbrev pub from_to : ℕ → ℕ → List ℕ

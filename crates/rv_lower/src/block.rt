@@ -1,16 +1,15 @@
-// Where a code ends or branches.
+// Where a code ends.
 
 ghost use Rattle.std.specs.Prelude.{[], ◌∷◌, OnOk};
 ghost use Rattle.rv_isa.specs.declared.asm.Action.TheVariants.{Label};
 ghost use Rattle.rv_lower.specs.Lines.{acts};
-ghost use Rattle.rv_lower.specs.Lowered.{goal_lines, tail_lines, test_lines};
+ghost use Rattle.rv_lower.specs.Lowered.{goal_lines, tail_lines};
 ghost use Rattle.rv_lower.specs.Written.{goal_of, Wrote};
 
-use crate::line::{Reads, act, copy, set};
+use crate::line::{Reads, act, copy};
 use crate::lowering::Lowering;
-use crate::operation::constant_of;
 use kk_base::NoMemory;
-use rv_isa::{Action, Condition};
+use rv_isa::Action;
 
 /// Where the value of a code goes.
 #[derive(Clone, Copy, Debug)]
@@ -21,30 +20,11 @@ pub enum Goal {
     Join(u32, u32),
 }
 
-/// The number of the constructor `True`.
-const TRUE: u32 = 1;
-
 /// Writes a label.
 pub fn write_label(lowering: &mut Lowering, label: u32) -> Result<(), NoMemory>
     ensures { OnOk result (Wrote (acts (Label label) [] ∷ []) lowering.old lowering.new) }
 {
     lowering.write(&[act(Action::Label(label), Reads::Nothing)])
-}
-
-/// A branch to a label where the variable is not `True`.
-pub fn write_test(lowering: &mut Lowering, variable: u32, label: u32) -> Result<(), NoMemory>
-    ensures { OnOk result (Wrote (test_lines lowering.old.base variable label) lowering.old lowering.new) }
-{
-    let (tested, positive) = (lowering.base, lowering.temporary(1)?);
-    let word = constant_of(TRUE)?;
-    lowering.write(&[
-        copy(variable, tested),
-        set(word, positive),
-        act(
-            Action::Branch(Condition::NotEqual, label),
-            Reads::Two(tested, positive),
-        ),
-    ])
 }
 
 /// The value of a variable goes to the goal.

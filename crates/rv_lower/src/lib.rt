@@ -7,7 +7,7 @@ mod lowering;
 mod operation;
 mod program;
 
-pub use block::{Goal, write_label, write_tail_call, write_test, write_value};
+pub use block::{Goal, write_label, write_tail_call, write_value};
 pub use line::{Reads, Short, act, constant, copy, set, unary};
 pub use lowering::{Lowering, next};
 pub use program::parameters;
