@@ -4,7 +4,7 @@ use Rattle.kk_syntax.specs.declared.program.Form.{Form}
 use Rattle.kk_syntax.specs.declared.program.Form.TheVariants.{Number, Unit as Nothing, ReadByte, PrintText, Unary, Binary, Print, Construct, Call}
 use Rattle.kk_source.specs.Live.{value_of}
 use Rattle.kk_source.specs.State.{Value, integer, unit, constant, place, Environment}
-use Rattle.kk_counted.specs.CountedCodes.{Counted, give, tail_call, branch, case, compute, inside, read, open_cell, if_unique, dup, drop}
+use Rattle.kk_counted.specs.CountedCodes.{Counted, give, tail_call, case, compute, inside, read, open_cell, if_unique, dup, drop}
 use Rattle.kk_counted.specs.CountedStates.{CountedJoin, CountedFrame, CountedControl, running, stopped, stuck}
 use Rattle.kk_counted.specs.CountedMachine.{NotStuck}
 use Rattle.kk_counted.specs.Heaps.{Heap}
@@ -50,7 +50,6 @@ module _ (unmarked : NamesNoCell) (marks : CellMarks) where
       → RunFits marks holds result code environment joins → FitsAt (running code environment joins)
   code_fits holds result (give x) environment joins fits = tt
   code_fits holds result (tail_call f arguments) environment joins fits = tt
-  code_fits holds result (branch x positive negative) environment joins fits = tt
   code_fits holds result (case x decisions arms) environment joins fits = tt
   code_fits holds result (compute x form arguments rest) environment joins fits =
       takes_none holds environment (unmarked marks holds result (compute x form arguments rest) environment joins fits) form
@@ -75,7 +74,6 @@ module _ (unmarked : NamesNoCell) (marks : CellMarks) where
 pub special_fits : (control : CountedControl) → FitsAt control → FitsAt (special_control control)
 special_fits (running (give x) environment joins) fits = tt
 special_fits (running (tail_call f arguments) environment joins) fits = tt
-special_fits (running (branch x positive negative) environment joins) fits = tt
 special_fits (running (case x decisions arms) environment joins) fits = tt
 special_fits (running (compute x form arguments rest) environment joins) fits = fits
 special_fits (running (inside x block rest) environment joins) fits = tt

@@ -4,7 +4,7 @@ use Rattle.std.specs.Prelude.{slice_get}
 use Rattle.kk_source.specs.Live.{value_of}
 use Rattle.kk_source.specs.State.{Environment}
 use Rattle.kk_core.proofs.TakenKinds.{tests_alike}
-use Rattle.kk_counted.specs.CountedCodes.{Counted, give, tail_call, branch, case, compute, inside, read, open_cell, if_unique, dup, drop}
+use Rattle.kk_counted.specs.CountedCodes.{Counted, give, tail_call, case, compute, inside, read, open_cell, if_unique, dup, drop}
 use Rattle.kk_counted.specs.CountedStates.{CountedJoin, CountedControl, running, stopped, stuck}
 use Rattle.kk_counted.specs.Heaps.{Heap, forwards}
 use Rattle.kk_counted.specs.Kinds.{HasKinds}
@@ -15,7 +15,6 @@ module _ (alike other : ℕ → ℕ → Type 0) (fields many : ℕ → ℕ) (wid
       → HasKinds alike fields heap (running code environment joins) → HasKinds other many heap (running code environment joins)
   code_kinds (give x) environment joins kinds = tt
   code_kinds (tail_call f arguments) environment joins kinds = tt
-  code_kinds (branch x positive negative) environment joins kinds = kinds
   code_kinds (case x decisions arms) environment joins kinds =
       tests_alike alike other fields many wider same (slice_get (forwards heap)) (value_of environment x) decisions kinds
   code_kinds (compute x form arguments rest) environment joins kinds = kinds
