@@ -27,7 +27,6 @@ abbrev mutual
   pub FitArities : Tokened → Type 0
   FitArities (Tokened.give x) = Unit {0}
   FitArities (Tokened.tail_call f arguments) = Unit {0}
-  FitArities (Tokened.branch x positive negative) = FitArities positive × FitArities negative
   FitArities (Tokened.case x decisions arms) = FitAllArities arms
   FitArities (Tokened.compute x form arguments others rest) = HasArity form arguments × FitArities rest
   FitArities (Tokened.inside x block rest) = FitArities block × FitArities rest
@@ -53,8 +52,6 @@ mutual
       → FitArities code
   fit_arities (Tokened.give x) left unspent held s a = tt
   fit_arities (Tokened.tail_call f arguments) left unspent held s a = tt
-  fit_arities (Tokened.branch x positive negative) left unspent held s a =
-      (fit_arities positive left unspent [] s.1.0 a.0, fit_arities negative left unspent [] s.1.1 a.1)
   fit_arities (Tokened.case x decisions arms) left unspent held s a = fit_all_arities arms left unspent s.1 a
   fit_arities (Tokened.compute x form arguments others rest) left unspent held s a =
       (a.0, fit_arities rest left unspent held s.1 a.1)
@@ -180,7 +177,6 @@ module _ (setting : Setting) (variables : ℕ) where
         begins = record { line = call.line; more = call.more; is = lines.0 ∙ call.is; no_label = call.no_label };
         apart = tt;
       }
-  act_own goal low (Tokened.branch x positive negative) own high lines arity act = cc act
   act_own goal low (Tokened.case x decisions arms) own high lines arity act = cc act
   act_own goal low (Tokened.compute x form arguments others rest) own high lines arity act =
       own_by own lines.0 lines.1 _ _ lines.5

@@ -11,7 +11,7 @@ use Rattle.rv_isa.specs.declared.asm.Condition.TheVariants.{Equal}
 use Rattle.rv_isa.specs.declared.asm.Operation.TheVariants as Op
 use Rattle.rv_isa.specs.AsmCode.{Line}
 use Rattle.rv_lower.specs.Lines.{sets, copies_to, acts}
-use Rattle.rv_lower.specs.Lowered.{Goal, joins, test_lines}
+use Rattle.rv_lower.specs.Lowered.{Goal, joins}
 use Rattle.rv_cells.specs.CellLines.{dup_lines, drop_lines}
 use Rattle.rv_cells.specs.CountedLines.{Setting}
 use Rattle.rv_cells.specs.TokenedLines.{CodeLines, ArmsLines}
@@ -68,11 +68,6 @@ module _ (setting : Setting) (variables : ℕ) where
         → CodeLines setting variables goal low code own high → Parts
     parts_in goal low (Tokened.give x) own high lines = no_part
     parts_in goal low (Tokened.tail_call f arguments) own high lines = no_part
-    parts_in goal low (Tokened.branch x positive negative) own high lines =
-        part (0 ∷ []) (test_lines setting.base x low)
-        (tree positive lines.0 (parts_in goal (low + 1) positive lines.0 lines.2 lines.3))
-        (part (1 ∷ []) ((test_lines setting.base x low ++ lines.0) ++ (acts (Label low) [] ∷ []))
-        (tree negative lines.1 (parts_in goal lines.2 negative lines.1 high lines.4)) no_part)
     parts_in goal low (Tokened.case x decisions arms) own high lines =
         arms_in goal low (lines.2 + length decisions) arms lines.1 high 0 lines.0 lines.5
     parts_in goal low (Tokened.compute x form arguments others rest) own high lines =

@@ -8,7 +8,7 @@ use Rattle.rv_isa.specs.declared.asm.Condition.TheVariants.{Equal}
 use Rattle.rv_isa.specs.declared.asm.Operation.TheVariants as Op
 use Rattle.rv_isa.specs.AsmCode.{Line}
 use Rattle.rv_lower.specs.Lines.{sets, copies_to, acts}
-use Rattle.rv_lower.specs.Lowered.{Goal, joins, test_lines}
+use Rattle.rv_lower.specs.Lowered.{Goal, joins}
 use Rattle.rv_cells.specs.CellLines.{dup_lines, drop_lines}
 use Rattle.rv_cells.specs.CountedLines.{Setting}
 use Rattle.rv_cells.specs.TokenedLines.{CodeLines, ArmsLines}
@@ -64,33 +64,6 @@ module _ (setting : Setting) (variables : ℕ) where
         → AreOrderly own 0 (parts_in setting variables goal low code own high lines)
     orderly goal low (Tokened.give x) own high lines a = tt
     orderly goal low (Tokened.tail_call f arguments) own high lines a = tt
-    orderly goal low (Tokened.branch x positive negative) own high lines a =
-        let test = test_lines setting.base x low in
-        let label = acts (Label low) [] in (
-          omega arith,
-          (
-            (label ∷ lines.1, lines.5),
-            (
-              (
-                act_own setting variables goal (low + 1) positive lines.0 lines.2 lines.3 a.0,
-                orderly goal (low + 1) positive lines.0 lines.2 lines.3 a.0,
-              ),
-              (
-                two_longer test lines.0 label,
-                (
-                  ([], behind_two own test lines.0 lines.1 label lines.5),
-                  (
-                    (
-                      act_own setting variables goal lines.2 negative lines.1 high lines.4 a.1,
-                      orderly goal lines.2 negative lines.1 high lines.4 a.1,
-                    ),
-                    tt,
-                  ),
-                ),
-              ),
-            ),
-          ),
-        )
     orderly goal low (Tokened.case x decisions arms) own high lines a =
         orderly_less own (length lines.0) 0
         (arms_in setting variables goal low (lines.2 + length decisions) arms lines.1 high 0 lines.0 lines.5) (omega arith)

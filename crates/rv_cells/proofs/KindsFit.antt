@@ -14,7 +14,7 @@ use Rattle.kk_core.specs.Kinds as Kinds
 use Rattle.kk_core.specs.declared.decisions.Answer.{Answer}
 use Rattle.kk_core.specs.declared.decisions.Answer.TheVariants.{Number as OfNumber, Constructor}
 use Rattle.kk_core.specs.declared.decisions.Edge.{Edge}
-use Rattle.kk_counted.specs.CountedCodes.{give, tail_call, branch, case, compute, inside, read, open_cell, if_unique, dup, drop}
+use Rattle.kk_counted.specs.CountedCodes.{give, tail_call, case, compute, inside, read, open_cell, if_unique, dup, drop}
 use Rattle.kk_counted.specs.CountedStates.{CountedControl, running, stopped, stuck}
 use Rattle.kk_counted.specs.Heaps.{Held, Heap, forwards, held_at, count_in, count_at, if_counted, cell_at, fields_if_held}
 use Rattle.kk_counted.specs.Int32.{AreInt32, IsAnswerInt32, AreEdgesInt32, IsNodeInt32, AreNodesInt32, IsHeapInt32, IsControlInt32}
@@ -230,7 +230,6 @@ pub control_fits : (layout : Layout) (heap : Heap) (control : CountedControl)
     → FitsControl layout heap control
 control_fits layout heap (running (give x) environment joins) kinds numbers small = tt
 control_fits layout heap (running (tail_call f arguments) environment joins) kinds numbers small = tt
-control_fits layout heap (running (branch x positive negative) environment joins) kinds numbers small = kinds
 control_fits layout heap (running (case x decisions arms) environment joins) kinds numbers small =
     from_fits layout heap small (value_of environment x) (value_int32 environment x numbers.bound) decisions numbers.ahead.0
     (length decisions) 0 kinds

@@ -50,7 +50,6 @@ use Rattle.kk_counted.specs.CountedCodes.{
   Counted,
   give,
   tail_call,
-  branch,
   case,
   compute,
   inside,
@@ -234,12 +233,6 @@ module _ (holds : ℕ → Bool) where
         }
         found (tail_call f arguments) bound given marks has gives right = record
             { keeps = keeps_all marks; tells = λ v is. absurd (none_is v is) }
-        found (branch x positive negative) bound given marks has gives right =
-            both (given_by positive) (given_by negative) given marks (marks_behind table positive marks)
-            (marks_behind table negative (marks_behind table positive marks))
-            (found positive bound given marks has.1.1.0 gives.0 right)
-            (λ keeps. found negative bound given (marks_behind table positive marks) has.1.1.1 gives.1
-            (right_keeps marks (marks_behind table positive marks) bound keeps right))
         found (case x decisions arms) bound given marks has gives right = found_arms arms bound given marks has.1 gives right
         found (compute x form arguments rest) bound given marks has gives right =
             behind_mark given (given_by rest) x (mark_of_form table form arguments) marks
@@ -393,19 +386,6 @@ module _ (holds : ℕ → Bool) where
             λ base is.
                 is,
           )
-          now (branch x positive negative) bound given marks has gives right keeps =
-              let first = found table result positive bound given marks has.1.1.0 gives.0 right in
-              let middle : List Bool = marks_behind table positive marks in
-              let right_there : AreRight middle bound = right_keeps marks middle bound first.keeps right in
-              let second = found table result negative bound given middle has.1.1.1 gives.1 right_there in
-              let keeps_there : Keeps middle last = keeps_then middle (marks_behind table negative middle) last second.keeps
-              keeps in
-              let yes = now positive bound given marks has.1.1.0 gives.0 right keeps_there in
-              let no = now negative bound given middle has.1.1.1 gives.1 right_there keeps in (
-                (has.0, ((keeps_there.1 x (right_there x has.0)).1 ∙ has.1.0, (yes.0, no.0))),
-                λ base is.
-                    (yes.1 base is.0, no.1 base is.1),
-              )
           now (case x decisions arms) bound given marks has gives right keeps =
               let all = now_arms arms bound given marks has.1 gives right keeps in ((has.0, all.0), all.1)
           now (compute x form arguments rest) bound given marks has gives right keeps =
@@ -499,8 +479,6 @@ module _ (table : CellMarks) (base : ℕ) where
         → length (marks_behind table code marks) ≤ base
     behind_short (give x) bound marks is short = short
     behind_short (tail_call f arguments) bound marks is short = short
-    behind_short (branch x positive negative) bound marks is short =
-        behind_short negative bound (marks_behind table positive marks) is.1 (behind_short positive bound marks is.0 short)
     behind_short (case x decisions arms) bound marks is short = arms_short arms bound marks is short
     behind_short (compute x form arguments rest) bound marks is short =
         behind_short rest (x ∷ bound) (marked x (mark_of_form table form arguments) marks) is.1.1

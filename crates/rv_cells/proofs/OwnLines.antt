@@ -207,16 +207,6 @@ module _ (setting : Setting) (variables : ℕ) where
     way_there goal low (Tokened.tail_call f arguments) own high lines [] act is does =
         reaches_itself (tree_in setting variables goal low (Tokened.tail_call f arguments) own high lines) refl
     way_there goal low (Tokened.tail_call f arguments) own high lines (n ∷ way) act is does = cc is
-    way_there goal low (Tokened.branch x positive negative) own high lines [] act is does =
-        absurd (false_not (act_here (bare (Tokened.branch x positive negative)) act is does))
-    way_there goal low (Tokened.branch x positive negative) own high lines (zero ∷ way) act is does =
-        reaches_behind (tree_in setting variables goal low (Tokened.branch x positive negative) own high lines) _ way (inl refl)
-        (way_there goal (low + 1) positive lines.0 lines.2 lines.3 way act is does)
-    way_there goal low (Tokened.branch x positive negative) own high lines (suc zero ∷ way) act is does =
-        reaches_behind (tree_in setting variables goal low (Tokened.branch x positive negative) own high lines) _ way
-        (inr (inl refl))
-        (way_there goal lines.2 negative lines.1 high lines.4 way act is does)
-    way_there goal low (Tokened.branch x positive negative) own high lines (suc (suc n) ∷ way) act is does = cc is
     way_there goal low (Tokened.case x decisions arms) own high lines [] act is does =
         absurd (false_not (act_here (bare (Tokened.case x decisions arms)) act is does))
     way_there goal low (Tokened.case x decisions arms) own high lines (n ∷ way) act is does =

@@ -1,35 +1,30 @@
--- The lines of branches, and of tests of tokens, do the steps of the machine with tokens.
-use Rattle.std.proofs.Common.{inl, inr, ◌≡◌, ◌≢◌, ℕ, suc, ◌+◌, ◌*◌, ◌<◌, ◌≤◌, Bool, true, false, not, nat_eq, List, [], ◌∷◌, ◌++◌, length, Option, Some, refl, sym, ◌∙◌, ap, subst, arith, append_assoc, ne_eqb}
+-- The lines of tests of tokens do the steps of the machine with tokens.
+use Rattle.std.proofs.Common.{inl, inr, ◌≡◌, ◌≢◌, ℕ, suc, ◌+◌, ◌<◌, ◌≤◌, Bool, true, false, not, List, [], ◌∷◌, ◌++◌, length, Option, Some, refl, sym, ◌∙◌, ap, subst, arith, append_assoc, ne_eqb}
 use Rattle.std.specs.Prelude.{if◌then◌else◌}
-use Rattle.kk_source.specs.State.{Value}
-use Rattle.kk_source.specs.Live.{value_of}
-use Rattle.kk_source.specs.FormEffects.{truth, is_true}
 use Rattle.kk_source.specs.Actions.{goes}
 use Rattle.kk_counted.specs.Heaps.{Heap}
 use Rattle.kk_counted.specs.Lowerable.{AreNumbered}
 use Rattle.kk_counted.specs.Marks.{HasMark}
-use Rattle.kk_counted.specs.TokenKeeping.{Lists, IsJudged, ListsAfter, AreKeptBy}
+use Rattle.kk_counted.specs.TokenKeeping.{Lists, IsJudged}
 use Rattle.kk_counted.specs.TokenMachine.{token_code_step}
-use Rattle.kk_counted.specs.TokenRuns.{AllLead}
 use Rattle.kk_counted.specs.TokenStates.{TokenJoin, TokenFrame, TokenState}
 use Rattle.kk_counted.specs.TokenedCodes.{Tokened}
 use Rattle.kk_counted.specs.Tokens.{Slot, is_token, Tokens, is_linked}
 use Rattle.kk_counted.proofs.Chaining.{frames_many}
 use Rattle.kk_counted.proofs.TokenForms.{Has, is_null, has_cell, unspent_has}
 use Rattle.rv_isa.specs.declared.asm.Action.TheVariants.{Label, Branch}
-use Rattle.rv_isa.specs.declared.asm.Condition.TheVariants.{Equal, NotEqual}
+use Rattle.rv_isa.specs.declared.asm.Condition.TheVariants.{Equal}
 use Rattle.rv_isa.specs.AsmCode.{Line}
 use Rattle.rv_isa.specs.Frames.{Frame}
 use Rattle.cell_heap.specs.Blocks.{Cells}
 use Rattle.cell_heap.specs.Pool.{Pool, IsCell}
-use Rattle.rv_lower.specs.Lines.{acts, copies_to, sets, constant_word}
-use Rattle.rv_lower.specs.Lowered.{test_lines}
+use Rattle.rv_lower.specs.Lines.{acts, copies_to}
 use Rattle.rv_lower.proofs.Orders.{split_at}
 use Rattle.rv_lower.proofs.Performing.{put_same, put_other}
-use Rattle.rv_cells.specs.Layout.{Layout, word_in}
+use Rattle.rv_cells.specs.Layout.{Layout}
 use Rattle.rv_cells.specs.Follows.{Owner, Follows}
 use Rattle.rv_cells.proofs.FormPlaces.{stands_behind, stands_behind_three}
-use Rattle.rv_cells.proofs.Acting.{put_in, copy_runs, sets_runs, label_runs, falls_runs, branch_runs, falls_one_runs, branch_one_runs}
+use Rattle.rv_cells.proofs.Acting.{put_in, copy_runs, label_runs, falls_one_runs, branch_one_runs}
 use Rattle.rv_cells.proofs.FormWords.{has_same}
 use Rattle.rv_cells.proofs.LineCosts.{most_moves}
 use Rattle.rv_cells.proofs.Runs.{turn_of, Runs, runs_then}
@@ -38,7 +33,7 @@ use Rattle.rv_cells.proofs.Words.{hand_owned, aside_owned}
 use Rattle.rv_cells.proofs.TokenFrames.{slots_moved}
 use Rattle.rv_cells.proofs.TokenLineCosts.{forms}
 use Rattle.rv_cells.proofs.TokenStanding.{SlotIs, IsTokenCell, token_words, Lowering, target, setting, upper, Placed, At, IsFitFrom, by_lines, finds, Follows_step}
-use Rattle.rv_cells.proofs.TokenLanding.{token_at, machine_at, CodeSteps, seen_action, does_by, kept_after, kept_quiet}
+use Rattle.rv_cells.proofs.TokenLanding.{token_at, machine_at, CodeSteps, seen_action, does_by, kept_quiet}
 
 -- the cell of a token, whether it is held or in hand
 pub token_cell : {pool : Pool} {layout : Layout} {address : ℕ → ℕ} {owners : ℕ → Owner} {heap : Heap} {cells : Cells}
@@ -106,176 +101,6 @@ module _ (program : Lowering) where
             bytes = at.bytes;
           };
         }))
-
-  -- ---- branches
-
-  module _ (x : ℕ) (positive negative : Tokened) (idle : ℕ) (inner : List TokenJoin) (frames : List TokenFrame) (tokens : Tokens)
-      (input : List ℕ) (s : Spot) (fs : List (Frame Line)) (left : List Line)
-      (idle_is : idle ≡ forms (Tokened.branch x positive negative))
-      (at : At program (Tokened.branch x positive negative) inner frames tokens input s fs left)
-      (fit : IsFitFrom program
-      (token_at program (Tokened.branch x positive negative) s.environment inner frames s.heap tokens input)) where
-    abbrev base : ℕ
-    base = at.shape.variables + at.shape.slots
-
-    abbrev low : ℕ
-    low = at.does.placed.low
-
-    abbrev test : List Line
-    test = test_lines (at.shape.variables + at.shape.slots) x at.does.placed.low
-
-    abbrev yes : List Line
-    yes = at.does.placed.lines.0
-
-    abbrev no : List Line
-    no = at.does.placed.lines.1
-
-    abbrev label : Line
-    label = acts (Label at.does.placed.low) []
-
-    abbrev behind : List Line
-    behind = (at.does.placed.lines.0 ++ (acts (Label at.does.placed.low) [] ∷ at.does.placed.lines.1)) ++ at.does.placed.after
-
-    left_parts : left ≡ (test ++ (yes ++ (label ∷ no))) ++ at.does.placed.after
-    left_parts = at.does.placed.left_is ∙ ap (λ own. own ++ at.does.placed.after) at.does.placed.lines.5
-
-    part_at : s.frame.whole ≡ (at.does.placed.before ++ test) ++ behind
-    part_at = split_at s.frame.whole at.does.placed.before left test (yes ++ (label ∷ no)) at.does.placed.after at.does.placed.place
-        left_parts
-
-    label_at : s.frame.whole ≡ ((at.does.placed.before ++ test) ++ yes) ++ (label ∷ (no ++ at.does.placed.after))
-    label_at = split_at s.frame.whole (at.does.placed.before ++ test) behind yes (label ∷ no) at.does.placed.after part_at refl
-
-    abbrev word : ℕ
-    word = word_in program.layout s.address (value_of s.environment x)
-
-    -- the frame behind the copies of the test
-    abbrev tested : Frame Line
-    tested = put_in (at.shape.variables + at.shape.slots + 1) (constant_word 1) (put_in (at.shape.variables + at.shape.slots)
-        (word_in program.layout s.address (value_of s.environment x)) s.frame)
-
-    abbrev branching : List Line
-    branching = acts (Branch NotEqual at.does.placed.low)
-        ((at.shape.variables + at.shape.slots) ∷ (at.shape.variables + at.shape.slots + 1) ∷ []) ∷ behind
-
-    copied : Runs (target program) ((most_moves + 2) + (most_moves + 2)) (1 + 1) (turn_of (test ++ behind) s.frame fs s.world)
-        (turn_of branching tested fs s.world)
-    copied =
-        let f = put_in base word s.frame in
-        let second = sets (constant_word 1) (base + 1) ∷ branching in
-        runs_then (target program) (most_moves + 2) (most_moves + 2) 1 1 (turn_of (test ++ behind) s.frame fs s.world)
-        (turn_of second f fs s.world) (turn_of branching tested fs s.world)
-        (copy_runs (target program) second s.frame fs s.world x base word (at.has.values.words x at.does.placed.marked.0))
-        (sets_runs (target program) branching f fs s.world (constant_word 1) (base + 1))
-
-    first_word : tested.cells base ≡ Some word
-    first_word = put_other (base + 1) base (constant_word 1) (put_in base word s.frame).cells (λ e. omega (arith, e))
-        ∙ put_same base word s.frame.cells
-
-    second_word : tested.cells (base + 1) ≡ Some (constant_word 1)
-    second_word = put_same (base + 1) (constant_word 1) (put_in base word s.frame).cells
-
-    same_below : (z : ℕ) → z < base → tested.cells z ≡ s.frame.cells z
-    same_below z less = put_other (base + 1) z (constant_word 1) (put_in base word s.frame).cells (λ e. omega (arith, e, less))
-        ∙ put_other base z word s.frame.cells (λ e. omega (arith, e, less))
-
-    -- the code of one side
-    side : (b : Bool) → value_of s.environment x ≡ truth b → (there : List Line) (n cost : ℕ)
-        → Placed program at.shape at.does.goal at.does.given s.bound s.frame.whole
-        (if is_true (truth b) then positive else negative) there
-        → Runs (target program) cost n (turn_of (test ++ behind) s.frame fs s.world) (turn_of there tested fs s.world)
-        → cost ≤ 4 * most_moves + 7 → suc (forms (if is_true (truth b) then positive else negative)) ≤ idle
-        → Follows_step program idle
-        (token_at program (Tokened.branch x positive negative) s.environment inner frames s.heap tokens input)
-        (turn_of left s.frame fs s.world)
-    side b is there n cost placed runs cheap few =
-        let code = Tokened.branch x positive negative in
-        let next = if is_true (truth b) then positive else negative in
-        let from = machine_at program code s.environment inner frames s.heap tokens in
-        let step : token_code_step (setting program) code s.environment inner from
-        ≡ goes (machine_at program next s.environment inner frames s.heap tokens)
-        = ap (λ (v : Value). goes (machine_at program (if is_true v then positive else negative) s.environment inner frames s.heap
-        tokens)) is in
-        let kept = subst (AllLead (AreKeptBy program.pool.cells (ListsAfter code inner at.lists))) step
-        (kept_after program code inner frames tokens input s fs left at (fit 0).keeps refl) in
-        let lines_are : left ≡ test ++ behind = left_parts ∙ append_assoc test (yes ++ (label ∷ no)) at.does.placed.after in
-        turns_to code inner frames tokens input s fs left at idle fit next there tested.cells n cost same_below placed
-        (subst (λ (l : Lists). IsJudged program.pool.cells l.left l.unspent l.held l.older next inner frames s.heap tokens)
-        kept.1.0 kept.1.1)
-        (subst (λ ls. Runs (target program) cost n (turn_of ls s.frame fs s.world) (turn_of there tested fs s.world))
-        (sym lines_are) runs)
-        (omega (arith, cheap)) few (ap (λ action. seen_action program action input) step)
-
-    by_truth : (b : Bool) → value_of s.environment x ≡ truth b
-        → Follows_step program idle
-        (token_at program (Tokened.branch x positive negative) s.environment inner frames s.heap tokens input)
-        (turn_of left s.frame fs s.world)
-    by_truth true is =
-        let m = most_moves in
-        let p = at.does.placed in
-        let few = p.short in
-        let word_is : word ≡ 3
-        = ap (word_in program.layout s.address) is ∙ ap (λ t. 2 * t + 1) program.truth_is in
-        let falls = falls_runs (target program) behind tested fs s.world NotEqual low base (base + 1) word
-        (constant_word 1) first_word second_word (ap (λ w. not (nat_eq w 3)) word_is) in
-        side true is behind (1 + 1 + 1) ((m + 2) + (m + 2) + (m + 3))
-        (record {
-          before = p.before ++ test;
-          own = yes;
-          after = label ∷ (no ++ p.after);
-          low = low + 1;
-          high = p.lines.2;
-          lines = p.lines.3;
-          left_is = append_assoc yes (label ∷ no) p.after;
-          place = part_at;
-          stands = stands_behind p.stands (record { way = 0 ∷ []; is_part = inl refl; code_is = refl });
-          marked = p.marked.1.1.0;
-          numbered = p.numbered.0;
-          has = p.has.0;
-          plain = p.plain.0;
-          short = omega arith;
-        })
-        (runs_then (target program) ((m + 2) + (m + 2)) (m + 3) (1 + 1) 1 (turn_of (test ++ behind) s.frame fs s.world)
-        (turn_of branching tested fs s.world) (turn_of behind tested fs s.world) copied falls)
-        (omega arith) (omega (arith, idle_is))
-    by_truth false is =
-        let m = most_moves in
-        let p = at.does.placed in
-        let few = p.short in
-        let word_is : word ≡ 1
-        = ap (word_in program.layout s.address) is ∙ ap (λ t. 2 * t + 1) program.falsity in
-        let there = no ++ p.after in
-        let jumps = branch_runs (target program) behind tested fs s.world NotEqual low base (base + 1) word (constant_word 1)
-        (label ∷ there) first_word second_word (ap (λ w. not (nat_eq w 3)) word_is)
-        (finds low s.frame.whole ((p.before ++ test) ++ yes) there at.has.formed label_at) in
-        let labelled = label_runs (target program) there tested fs s.world low in
-        side false is there (1 + 1 + (1 + 1)) ((m + 2) + (m + 2) + ((m + 3) + (m + 0)))
-        (record {
-          before = ((p.before ++ test) ++ yes) ++ (label ∷ []);
-          own = no;
-          after = p.after;
-          low = p.lines.2;
-          high = p.high;
-          lines = p.lines.4;
-          left_is = refl;
-          place = label_at ∙ sym (append_assoc ((p.before ++ test) ++ yes) (label ∷ []) there);
-          stands = stands_behind_three p.stands test yes (label ∷ [])
-              (record { way = 1 ∷ []; is_part = inr (inl refl); code_is = refl });
-          marked = p.marked.1.1.1;
-          numbered = p.numbered.1;
-          has = p.has.1;
-          plain = p.plain.1;
-          short = omega arith;
-        })
-        (runs_then (target program) ((m + 2) + (m + 2)) ((m + 3) + (m + 0)) (1 + 1) (1 + 1)
-        (turn_of (test ++ behind) s.frame fs s.world) (turn_of branching tested fs s.world) (turn_of there tested fs s.world) copied
-        (runs_then (target program) (m + 3) (m + 0) 1 1 (turn_of branching tested fs s.world)
-        (turn_of (label ∷ there) tested fs s.world) (turn_of there tested fs s.world) jumps labelled))
-        (omega arith) (omega (arith, idle_is))
-
-  pub at_branch : (x : ℕ) (positive negative : Tokened) → CodeSteps program (Tokened.branch x positive negative)
-  at_branch x positive negative idle inner frames tokens input s fs left idle_is at fit =
-      by_truth x positive negative idle inner frames tokens input s fs left idle_is at fit (fit 0).bare.fits.0 (fit 0).bare.fits.1
 
   -- ---- tests of tokens
 

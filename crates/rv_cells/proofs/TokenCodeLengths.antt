@@ -17,7 +17,7 @@ use Rattle.rv_isa.specs.declared.asm.Condition.TheVariants.{Equal}
 use Rattle.rv_isa.specs.AsmCode.{Line, Lines}
 use Rattle.rv_isa.specs.Costs.{code_length, functions_length}
 use Rattle.rv_lower.specs.Lines.{Texts, acts, copies_to}
-use Rattle.rv_lower.specs.Lowered.{Goal, returns, joins, test_lines}
+use Rattle.rv_lower.specs.Lowered.{Goal, returns, joins}
 use Rattle.rv_lower.specs.Written.{texts_of}
 use Rattle.rv_lower.proofs.Functions.{from_to_length}
 use Rattle.rv_world.specs.Operations.{all_bytes}
@@ -61,14 +61,6 @@ module _ (setting : Setting) (variables : ℕ) (table : CellMarks) (narrow : (c 
     code_short (Tokened.tail_call f arguments) bound given goal low high lines left unspent held marked arities plain spends is =
         let whole = ap code_length is.0 in
         let own = tail_length setting.base f arguments (omega (arith, arities)) in omega (arith, whole, own)
-    code_short (Tokened.branch x positive negative) bound given goal low high lines left unspent held marked arities plain spends is =
-        let whole = ap code_length is.5 in
-        let apart = lines_append (test_lines setting.base x low) (is.0 ++ (acts (Label low) [] ∷ is.1)) in
-        let ways = lines_append is.0 (acts (Label low) [] ∷ is.1) in
-        let yes = code_short positive bound given goal (low + 1) is.2 is.0 left unspent [] marked.1.1.0 arities.0 plain.0 spends.1.0
-        is.3 in
-        let no = code_short negative bound given goal is.2 high is.1 left unspent [] marked.1.1.1 arities.1 plain.1 spends.1.1 is.4 in
-        omega (arith, whole, apart, ways, yes, no)
     code_short (Tokened.case x decisions arms) bound given goal low high lines left unspent held marked arities plain spends is =
         let whole = ap code_length is.6 in
         let apart = lines_append is.0 is.1 in

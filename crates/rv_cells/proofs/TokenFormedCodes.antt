@@ -29,7 +29,7 @@ use Rattle.rv_lower.specs.Lines.{Texts, computes, copies_to, sets, acts}
 use Rattle.rv_lower.specs.Lowered.{Goal, joins, goal_lines, tail_lines}
 use Rattle.rv_lower.proofs.Formed.{Each, Readable, HasRoom, IsWithin, within_more, room_more, to_variable}
 use Rattle.rv_lower.proofs.Operations.{Leads, next_temporary}
-use Rattle.rv_lower.proofs.Codes.{Fits, fits_weaker, fits_give, fits_tail_call, fits_branch, fits_inside, fits_split}
+use Rattle.rv_lower.proofs.Codes.{Fits, fits_weaker, fits_give, fits_tail_call, fits_inside, fits_split}
 use Rattle.rv_cells.specs.Layout.{Layout, header_of}
 use Rattle.rv_cells.specs.CountedLines.{Setting, ComputeLines}
 use Rattle.rv_cells.specs.TokenedLines.{values_of_slots, HasSlots, HaveSlots, AskLines, CodeLines, ArmsLines}
@@ -276,18 +276,6 @@ module _ (layout : Layout) (holds : ℕ → Bool) (texts : Texts) (marks : CellM
         (fits_tail_call (variables + slots) (reads unspent bound) (has_room unspent bound has) (reads left outer) f arguments goal
         low arities (all_bound (reads unspent bound) arguments
         (bound_within bound (reads unspent bound) arguments (variable_there variables slots unspent bound) marked.0)))))
-    code_fits (Tokened.branch x positive negative) bound outer unspent left held given goal low high lines has within marked
-        numbered arms some arities few plain at spends below apart is =
-        none_held held (reads unspent bound) (reads left outer) goal low high lines at.0
-        (subst (FitsCode (reads unspent bound) (reads left outer) goal low high) (sym is.5)
-        (fits_branch (variables + slots) (reads unspent bound) (reads left outer) (has_room unspent bound has) x
-        (variable_there variables slots unspent bound x marked.0) goal low is.2 high is.0 is.1
-        (fits_held (variables + slots) (reads unspent bound) (reads left outer) goal (low + 1) is.2 is.0
-        (code_fits positive bound outer unspent left [] given goal (low + 1) is.2 is.0 has within marked.1.1.0 numbered.0 arms.0
-        some.0 arities.0 few.0 plain.0 at.1.0 spends.1.0 tt tt is.3))
-        (fits_held (variables + slots) (reads unspent bound) (reads left outer) goal is.2 high is.1
-        (code_fits negative bound outer unspent left [] given goal is.2 high is.1 has within marked.1.1.1 numbered.1 arms.1 some.1
-        arities.1 few.1 plain.1 at.1.1 spends.1.1 tt tt is.4))))
     code_fits (Tokened.case x decisions arms) bound outer unspent left held given goal low high lines has within marked numbered
         orderly some arities few plain at spends below apart is =
         none_held held (reads unspent bound) (reads left outer) goal low high lines at.0

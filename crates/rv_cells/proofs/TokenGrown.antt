@@ -26,7 +26,7 @@ use Rattle.rv_isa.specs.declared.asm.Operation.TheVariants.{Free}
 use Rattle.rv_isa.specs.AsmCode.{Line}
 use Rattle.rv_lower.specs.declared.lowering.Lowering.{Lowering}
 use Rattle.rv_lower.specs.Lines.{sets, copies_to, acts}
-use Rattle.rv_lower.specs.Lowered.{Goal, joins, goal_lines, tail_lines, test_lines}
+use Rattle.rv_lower.specs.Lowered.{Goal, joins, goal_lines, tail_lines}
 use Rattle.rv_lower.specs.Written.{lines_written, texts_written, Wrote, WroteLines, TookLabel, Grows}
 use Rattle.rv_lower.proofs.Grown.{grows_of, grows_took, grows_none, grows_then, grows_more, later_texts}
 use Rattle.rv_cells.specs.declared.decide.Targets.{Targets}
@@ -371,26 +371,6 @@ module _ {facts : Facts} {variables : ℕ} {goal : Goal} {label : ℕ} {positive
   second_way later = code_same facts variables goal negative second.lines f.next_label
       (labelled.base ∙ first.grows.base ∙ tested.base ∙ took.base) refl labelled.label (second.are later)
 
-pub code_branches : {facts : Facts} {variables : ℕ} {goal : Goal} {x label : ℕ} {positive negative : Tokened}
-    {a b c d e f : Lowering}
-    → TookLabel label a b → Wrote (test_lines b.base x label) b c → WroteTokened facts variables goal positive c d
-    → Wrote (acts (Label label) [] ∷ []) d e → WroteTokened facts variables goal negative e f
-    → WroteTokened facts variables goal (Tokened.branch x positive negative) a f
-code_branches {facts} {variables} {goal} {x} {label} {positive} {negative} {a} {b} {c} {d} {e} {f} took test first labelled
-    second = record {
-      lines = ways_lines took test first labelled second;
-      grows = ways_grow took test first labelled second;
-      are = λ later. subst (λ (low : ℕ). CodeLines (setting_in facts a.base (texts_written f ++ later)) variables goal low
-          (Tokened.branch x positive negative) (ways_lines took test first labelled second) f.next_label) took.is (
-            first.lines,
-            second.lines,
-            d.next_label,
-            first_way took test first labelled second later,
-            second_way took test first labelled second later,
-            ap (λ (base : ℕ). test_lines base x label ++ (first.lines ++ (acts (Label label) [] ∷ second.lines))) took.base,
-          );
-    }
-
 pub code_if_tokens : {facts : Facts} {variables : ℕ} {goal : Goal} {y label : ℕ} {there absent : Tokened}
     {a b c d e f : Lowering}
     → TookLabel label a b → Wrote (token_test_lines b.base (variables + y) label) b c
@@ -534,14 +514,6 @@ blocks_more blocks i block within is =
     ap (λ (b : TokenedBlock). map tokened_code (take i blocks) ++ tokened_code b ∷ []) (sym is)
     ∙ sym (map-append tokened_code (take i blocks) (get_or blocks i block ∷ []))
     ∙ ap (map tokened_code) (sym (take_more blocks i block within))
-
-pub code_of_if : (last : TokenedLast) (x : ℕ) (p n : _) (positive negative : TokenedBlock) → last ≡ OfLast.If x p n
-    → positive ≡ p.value → negative ≡ n.value
-    → Tokened.branch x (tokened_code positive) (tokened_code negative) ≡ tokened_last_code last
-code_of_if last x p n positive negative is first second =
-    ap (λ (b : TokenedBlock). Tokened.branch x (tokened_code b) (tokened_code negative)) first
-    ∙ ap (λ (b : TokenedBlock). Tokened.branch x (tokened_code p.value) (tokened_code b)) second
-    ∙ sym (Views.if_end x p n) ∙ ap tokened_last_code (sym is)
 
 pub code_of_if_token : (last : TokenedLast) (y : ℕ) (p n : _) (there absent : TokenedBlock) → last ≡ OfLast.IfToken y p n
     → there ≡ p.value → absent ≡ n.value

@@ -7,7 +7,6 @@ abbrev mutual
   pub forms : Tokened → ℕ
   forms (Tokened.give x) = 1
   forms (Tokened.tail_call f arguments) = 1
-  forms (Tokened.branch x positive negative) = suc (forms positive + forms negative)
   forms (Tokened.case x decisions arms) = suc (arms_forms arms)
   forms (Tokened.compute x form arguments others rest) = suc (forms rest)
   forms (Tokened.inside x block rest) = suc (forms block + forms rest)

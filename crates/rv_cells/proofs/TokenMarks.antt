@@ -110,10 +110,6 @@ mutual
   pub has_slots : (n : ℕ) (code : Tokened) → slots_in code ≤ n → HasSlots n code
   has_slots n (Tokened.give x) few = tt
   has_slots n (Tokened.tail_call f arguments) few = tt
-  has_slots n (Tokened.branch x positive negative) few = (
-    has_slots n positive (left_below (slots_in positive) (slots_in negative) n few),
-    has_slots n negative (right_below (slots_in positive) (slots_in negative) n few),
-  )
   has_slots n (Tokened.case x decisions arms) few = have_slots n arms few
   has_slots n (Tokened.compute x form arguments others rest) few = (
     below_slots n others (left_below (slots_of others) (slots_in rest) n few),

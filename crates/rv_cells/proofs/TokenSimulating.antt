@@ -45,7 +45,7 @@ use Rattle.rv_cells.proofs.TokenCelled.{at_dup, at_drop}
 use Rattle.rv_cells.proofs.TokenSlots.{at_null, at_free}
 use Rattle.rv_cells.proofs.TokenMoves.{at_move}
 use Rattle.rv_cells.proofs.TokenHolds.{at_hold, at_unhold}
-use Rattle.rv_cells.proofs.TokenBlocks.{at_branch, at_if_token}
+use Rattle.rv_cells.proofs.TokenBlocks.{at_if_token}
 use Rattle.rv_cells.proofs.TokenDeciding.{at_case}
 use Rattle.rv_cells.proofs.TokenComputing.{at_plain}
 use Rattle.rv_cells.proofs.TokenConstructing.{at_construct}
@@ -76,7 +76,6 @@ module _ (program : Lowering) where
   at_code : (code : Tokened) → CodeSteps program code
   at_code (Tokened.give x) = at_give program x
   at_code (Tokened.tail_call f arguments) = at_tail program f arguments
-  at_code (Tokened.branch x positive negative) = at_branch program x positive negative
   at_code (Tokened.case x decisions arms) = at_case program x decisions arms
   at_code (Tokened.compute x form arguments [] rest) = at_compute x form arguments rest
   at_code (Tokened.compute x form arguments (other ∷ others) rest) =

@@ -11,7 +11,7 @@ use Rattle.kk_core.specs.declared.decisions.Answer.{Answer}
 use Rattle.kk_core.specs.declared.decisions.Answer.TheVariants.{Number as OfNumber, Constructor}
 use Rattle.kk_core.specs.declared.decisions.Edge.{Edge}
 use Rattle.kk_core.specs.Kinds.{IsTruth}
-use Rattle.kk_counted.specs.CountedCodes.{Counted, branch, case, compute}
+use Rattle.kk_counted.specs.CountedCodes.{Counted, case, compute}
 use Rattle.kk_counted.specs.CountedStates.{CountedJoin, CountedControl, running, CountedConfiguration}
 use Rattle.kk_counted.specs.CountedMachine.{NotStuck}
 use Rattle.kk_counted.specs.Heaps.{Heap, count_at, cell_at}
@@ -76,7 +76,6 @@ module _ (layout : Layout) (cells : ℕ → Option Cell) (v : Value) where
 -- ---- states
 
 abbrev pub FitsControl : Layout → Heap → CountedControl → Type 0
-FitsControl layout heap (running (branch x positive negative) environment joins) = IsTruth (value_of environment x)
 FitsControl layout heap (running (case x decisions arms) environment joins) =
     FitsFrom layout (cell_at heap) (value_of environment x) decisions (length decisions) 0
 FitsControl layout heap (running (compute x form arguments rest) environment joins) =

@@ -7,7 +7,6 @@ use Rattle.kk_counted.specs.CountedCodes.{
   Counted,
   give,
   tail_call,
-  branch,
   case,
   compute,
   inside,
@@ -54,7 +53,6 @@ module _ (table : CellMarks) where
     pub marks_behind : Counted → List Bool → List Bool
     marks_behind (give x) marks = marks
     marks_behind (tail_call f arguments) marks = marks
-    marks_behind (branch x positive negative) marks = marks_behind negative (marks_behind positive marks)
     marks_behind (case x decisions arms) marks = marks_behind_arms arms marks
     marks_behind (compute x form arguments rest) marks = marks_behind rest (marked x (mark_of_form form arguments) marks)
     marks_behind (inside x block rest) marks =

@@ -16,7 +16,7 @@ use Rattle.rv_isa.specs.declared.asm.Condition.TheVariants.{Equal}
 use Rattle.rv_isa.specs.declared.asm.Operation.TheVariants as Op
 use Rattle.rv_isa.specs.AsmCode.{Line, Lines}
 use Rattle.rv_lower.specs.Lines.{sets, copies_to, acts, copies, temporaries, Texts}
-use Rattle.rv_lower.specs.Lowered.{Goal, returns, joins, goal_lines, test_lines, from_to}
+use Rattle.rv_lower.specs.Lowered.{Goal, returns, joins, goal_lines, from_to}
 use Rattle.rv_cells.specs.Layout.{Layout, header_of}
 use Rattle.rv_cells.specs.CellLines.{FillLines, ReadLines, TokenUniqueLines, dup_lines, drop_lines}
 use Rattle.rv_cells.specs.CountedLines.{Setting, ComputeLines, NodesLines}
@@ -33,7 +33,6 @@ module _ (slots : ℕ) where
     pub HasSlots : Tokened → Type 0
     HasSlots (Tokened.give x) = Unit {0}
     HasSlots (Tokened.tail_call f arguments) = Unit {0}
-    HasSlots (Tokened.branch x positive negative) = HasSlots positive × HasSlots negative
     HasSlots (Tokened.case x decisions arms) = HaveSlots arms
     HasSlots (Tokened.compute x form arguments others rest) = AreBelow slots others × HasSlots rest
     HasSlots (Tokened.inside x block rest) = HasSlots block × HasSlots rest
@@ -76,10 +75,6 @@ abbrev mutual
   CodeLines setting variables goal low (Tokened.give x) lines high = (lines ≡ goal_lines goal x) × (low ≡ high)
   CodeLines setting variables goal low (Tokened.tail_call f arguments) lines high =
       (lines ≡ copies setting.base arguments ++ acts (TailCall f) (temporaries setting.base arguments) ∷ []) × (low ≡ high)
-  CodeLines setting variables goal low (Tokened.branch x positive negative) lines high =
-      (yes : List Line) × (no : List Line) × (middle : ℕ) × CodeLines setting variables goal (low + 1) positive yes middle
-      × CodeLines setting variables goal middle negative no high
-      × (lines ≡ test_lines setting.base x low ++ (yes ++ (acts (Label low) [] ∷ no)))
   CodeLines setting variables goal low (Tokened.case x decisions arms) lines high =
       (choice : List Line) × (bodies : List Line) × (nodes : ℕ) × (nodes ≡ low + arm_count (bare_arms arms))
       × NodesLines setting.layout setting.base nodes low x 0 decisions choice

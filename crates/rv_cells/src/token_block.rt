@@ -17,7 +17,7 @@ use crate::token_cells::{
 };
 use kk_base::NoMemory;
 use kk_counted::{TokenedBlock, TokenedLast, TokenedStep};
-use rv_lower::{Goal, Lowering, next, write_label, write_tail_call, write_test, write_value};
+use rv_lower::{Goal, Lowering, next, write_label, write_tail_call, write_value};
 
 /// Writes the code of a block. The recursion is as deep as the block.
 #[cycle(write)]
@@ -170,13 +170,6 @@ fn write_last(
         TokenedLast::Return(variable) => write_value(lowering, *variable, goal),
         TokenedLast::TailCall(function, arguments) => {
             write_tail_call(lowering, *function, arguments)
-        }
-        TokenedLast::If(variable, positive, negative) => {
-            let label = lowering.take_label()?;
-            write_test(lowering, *variable, label)?;
-            write_tokened(lowering, known, positive, goal)?;
-            write_label(lowering, label)?;
-            write_tokened(lowering, known, negative, goal)
         }
         TokenedLast::Case(variable, decisions, arms) => {
             let targets = take_targets(lowering, decisions, arms.len())?;

@@ -43,10 +43,6 @@ fn given_at(last: &TokenedLast) -> Option<u32>
     match last {
         TokenedLast::Return(variable) => Some(*variable),
         TokenedLast::TailCall(_, _) => None,
-        TokenedLast::If(_, positive, negative) => match given(positive) {
-            Some(variable) => Some(variable),
-            None => given(negative),
-        },
         TokenedLast::Case(_, _, arms) => given_in(arms),
         TokenedLast::IfToken(_, there, _) => given(there),
     }
@@ -143,10 +139,6 @@ fn mark_last(marks: &mut Vec<bool>, shape: &Shape, last: &TokenedLast) -> Result
     match last {
         TokenedLast::Return(_) => Ok(()),
         TokenedLast::TailCall(_, _) => Ok(()),
-        TokenedLast::If(_, positive, negative) => {
-            mark_block(marks, shape, positive)?;
-            mark_block(marks, shape, negative)
-        }
         TokenedLast::Case(_, _, arms) => mark_arms(marks, shape, arms),
         TokenedLast::IfToken(_, there, _) => mark_block(marks, shape, there),
     }

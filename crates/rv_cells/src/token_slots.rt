@@ -73,11 +73,6 @@ fn slots_of_last(last: &TokenedLast) -> Result<u32, NoMemory>
 {
     match last {
         TokenedLast::Return(_) | TokenedLast::TailCall(_, _) => Ok(0),
-        TokenedLast::If(_, positive, negative) => {
-            let first = slots_of_block(positive)?;
-            let second = slots_of_block(negative)?;
-            Ok(first.max(second))
-        }
         TokenedLast::Case(_, _, arms) => slots_of_arms(arms),
         TokenedLast::IfToken(slot, there, absent) => {
             let first = slots_of_block(there)?;

@@ -31,9 +31,7 @@ use Rattle.rv_cells.proofs.TokenGrown.{
   step_of_hold,
   step_of_unhold,
   arms_then,
-  code_branches,
   code_if_tokens,
-  code_of_if,
   code_of_if_token,
   cases_written,
   steps_more,
@@ -151,18 +149,6 @@ write_inside-returns t c =
     c.args.block.now)
     c.in_ok-label.ensures c.in_ok-write_tokened.ensures labelled)
     c.write_label.ensures
-
-pub write_last-returns-in_ok-write_label-in-If : goal.write_last-returns-in_ok-write_label-in-If
-write_last-returns-in_ok-write_label-in-If t c =
-    on_ok_weaker c.write_tokened-in-If.result
-    (λ second. subst (λ (code : Tokened). WroteTokened (facts_of c.args.known.now) (variables_known c.args.known.now) (goal_of
-    c.args.goal)
-    code c.args.lowering.now c.write_tokened-in-If.new.lowering)
-    (code_of_if c.args.last.now c.in-If.variable c.in-If.positive c.in-If.negative c.deref-in-If.result.now
-    c.deref-in-If-2.result.now c.in-If.is c.deref-in-If.ensures c.deref-in-If-2.ensures)
-    (code_branches c.in_ok-label-in-If.ensures c.in_ok-write_test-in-If.ensures c.in_ok-write_tokened-in-If.ensures
-    c.in_ok-write_label-in-If.ensures second))
-    c.write_tokened-in-If.ensures
 
 pub write_last-returns-in_ok-write_label-in-IfToken : goal.write_last-returns-in_ok-write_label-in-IfToken
 write_last-returns-in_ok-write_label-in-IfToken t c =
