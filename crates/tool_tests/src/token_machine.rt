@@ -449,11 +449,6 @@ impl<'a> TokenMachine<'a> {
                 self.bindings.truncate(self.base);
                 self.enter(*function, &values)
             }
-            TokenedLast::If(variable, positive, negative) => {
-                let holds = self.value_of(*variable) == Value::Constant(Program::TRUE);
-                self.code = code_of(if holds { positive } else { negative });
-                Ok(None)
-            }
             TokenedLast::Case(variable, decisions, arms) => {
                 let row = chosen(&self.heap, self.value_of(*variable), decisions)?;
                 let arm = arms.get(row as usize).ok_or("no such arm")?;
