@@ -7,13 +7,13 @@ use Rattle.kk_syntax.specs.GroundTyping.{Table}
 use Rattle.kk_syntax.specs.Programs.{ConstructorTree}
 use Rattle.kk_syntax.specs.PositionsOf.{is_lent}
 use Rattle.kk_syntax.specs.Types.{unit_type}
-use Rattle.kk_source.specs.FormEffects.{FormEffect, gives, prints, reads, makes, enters, is_true, form_effect, effect_step}
+use Rattle.kk_source.specs.FormEffects.{FormEffect, gives, prints, reads, makes, enters, form_effect, effect_step}
 use Rattle.kk_source.specs.Live.{value_of, live}
 use Rattle.kk_source.specs.Matching.{and_then}
 use Rattle.kk_source.specs.State.{Value, unit, place, Environment, heap_full, stack_full}
 use Rattle.kk_source.specs.Step.{lent_places}
 use Rattle.kk_source.proofs.Kept.{LeadsTo, print_leads, run_keeps}
-use Rattle.kk_core.specs.Codes.{Code, give, tail_call, branch, case, compute, use_of, unpack, inside, Arms, no_arm, arm, FunctionCode}
+use Rattle.kk_core.specs.Codes.{Code, give, tail_call, case, compute, use_of, unpack, inside, Arms, no_arm, arm, FunctionCode}
 use Rattle.kk_core.specs.CoreMachine.{arm_at, held_for, held_by_frames, fields_opened, bound_then, at_end, unpack_step, case_step, give_step, in_code, tail_step, construct_step, call_step, code_step, core_step_at, core_step_of, core_ending_of, core_machine}
 use Rattle.kk_core.specs.CoreStates.{CoreSetting, Join, CallFrame, CoreControl, running, stopped, CoreConfiguration, CoreState, no_code, core_start, core_first_state}
 use Rattle.kk_core.specs.CoreTyping.{IsCoreTyped}
@@ -127,11 +127,6 @@ module _ (constructors : List ConstructorTree) where
         give_asks (value_of environment x) joins from.frames environment from waits now.1 now.1
     code_asks (tail_call f arguments) environment joins from asks waits now =
         tail_asks f (slice_get setting.code.functions f) (map (value_of environment) arguments) from refl now
-    code_asks (branch x positive negative) environment joins from asks waits now = by_test (is_true (value_of environment x))
-      where
-        by_test : (test : Bool) → (AskTyped constructors (if test then positive else negative) × JoinsAsk joins) × FramesAsk from.frames
-        by_test true = ((asks.0, waits), now.1)
-        by_test false = ((asks.1, waits), now.1)
     code_asks (case x decisions arms) environment joins from asks waits now =
         case_asks (and_then (chosen (slice_get from.store) (value_of environment x) decisions) (arm_at arms)) environment joins from
         (λ body is. row_asks arms (chosen (slice_get from.store) (value_of environment x) decisions) body asks.1 is) waits now
@@ -183,8 +178,6 @@ module _ (table : Table) (setting : CoreSetting) (typed : IsCoreTyped table sett
           → Kinds (running code environment joins) c
       by_code (give x) runs asked = tt
       by_code (tail_call f arguments) runs asked = tt
-      by_code (branch x positive negative) runs asked =
-          code_fits table setting typed c environment joins at.0 at.2 (branch x positive negative) runs
       by_code (case x decisions arms) runs asked =
           asked.0 runs.typed.0 c.store (value_of environment x)
           (patterns_typed table runs.tail runs.facts x runs.typed.0 arms runs.type runs.typed.2)

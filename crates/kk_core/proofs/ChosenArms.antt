@@ -13,7 +13,7 @@ use Rattle.kk_source.specs.Matching.{matched}
 use Rattle.kk_source.specs.ValueTypes.{Content, HasContent, IsContentOf, IsOf}
 use Rattle.kk_source.proofs.Matching.{outline_in, outline_typed, clashes}
 use Rattle.kk_core.specs.Choosing.{matches, first_row}
-use Rattle.kk_core.specs.Codes.{Code, give, tail_call, branch, case, compute, use_of, unpack, inside, Arms, no_arm, arm, patterns_of}
+use Rattle.kk_core.specs.Codes.{Code, give, tail_call, case, compute, use_of, unpack, inside, Arms, no_arm, arm, patterns_of}
 use Rattle.kk_core.specs.CoreMachine.{arm_at}
 use Rattle.kk_core.specs.CoreTyping.{Facts, knowing, HasCodeType, AreArmsTyped}
 use Rattle.kk_core.specs.Sizes.{Ordered, OrderedArms}
@@ -24,9 +24,6 @@ mutual
   pub ordered_le : (names : List ℕ) (low : ℕ) (code : Code) (high : ℕ) → Ordered names low code high → low ≤ high
   ordered_le names low (give x) high ordered = ordered.1
   ordered_le names low (tail_call f arguments) high ordered = ordered.1
-  ordered_le names low (branch x positive negative) high ordered =
-      let first = ordered_le names low positive ordered.0 ordered.2 in
-      let second = ordered_le names ordered.0 negative high ordered.3 in omega (arith, first, second)
   ordered_le names low (case x decisions arms) high ordered = arms_le names low arms high ordered.1
   ordered_le names low (compute x form arguments rest) high ordered =
       let more = ordered_le (x ∷ names) (x + 1) rest high ordered.2 in omega (arith, ordered.1, more)

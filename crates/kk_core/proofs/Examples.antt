@@ -13,10 +13,11 @@ use Rattle.kk_syntax.specs.PositionsOf.{all_owned}
 use Rattle.kk_source.specs.State.{ended, stack_full}
 use Rattle.kk_source.specs.Notes.{seen, built, called}
 use Rattle.kk_core.specs.declared.decisions.Answer.TheVariants.{Constructor}
-use Rattle.kk_core.specs.Codes.{Code, give, branch, case, compute, unpack, no_arm, arm, FunctionCode}
+use Rattle.kk_core.specs.Codes.{Code, give, case, compute, unpack, no_arm, arm, FunctionCode}
 use Rattle.kk_core.specs.CoreStates.{CoreSetting, CoreState, core_first_state}
 use Rattle.kk_core.specs.Decisions.{NodeTree, chooses, tests}
 use Rattle.kk_core.specs.CoreMachine.{core_machine}
+use Rattle.kk_core.specs.Truths.{truth_case}
 
 abbrev setting : List FunctionCode → ℕ → ℕ → CoreSetting
 setting functions main depth = record {
@@ -58,7 +59,7 @@ sum = record {
   parameters = 1;
   variables = 8;
   body = compute 1 (Number (pos 0)) [] (compute 2 (Binary Equal) (0 ∷ 1 ∷ [])
-      (branch 2 (compute 3 (Number (pos 0)) [] (give 3))
+      (truth_case 2 (compute 3 (Number (pos 0)) [] (give 3))
       (compute 4 (Number (pos 1)) [] (compute 5 (Binary Subtract) (0 ∷ 4 ∷ [])
       (compute 6 (Call 0) (5 ∷ []) (compute 7 (Binary Add) (0 ∷ 6 ∷ []) (give 7)))))));
 }

@@ -4,13 +4,13 @@ use Rattle.std.specs.Prelude.{slice_get, nat_le, if◌then◌else◌}
 use Rattle.std.proofs.lemmas.Option.{get_or_from_slice_get}
 use Rattle.kk_base.specs.Machines.{state}
 use Rattle.kk_syntax.specs.PositionsOf.{is_lent}
-use Rattle.kk_source.specs.FormEffects.{FormEffect, gives, prints, reads, makes, enters, is_true, form_effect, effect_step}
+use Rattle.kk_source.specs.FormEffects.{FormEffect, gives, prints, reads, makes, enters, form_effect, effect_step}
 use Rattle.kk_source.specs.Live.{value_of, live}
 use Rattle.kk_source.specs.Matching.{and_then}
 use Rattle.kk_source.specs.State.{Value, unit, place, Store, Environment, heap_full, stack_full}
 use Rattle.kk_source.specs.Step.{lent_places}
 use Rattle.kk_source.proofs.Kept.{LeadsTo, print_leads, run_keeps}
-use Rattle.kk_core.specs.Codes.{Code, give, tail_call, branch, case, compute, use_of, unpack, inside, Arms, no_arm, arm, FunctionCode}
+use Rattle.kk_core.specs.Codes.{Code, give, tail_call, case, compute, use_of, unpack, inside, Arms, no_arm, arm, FunctionCode}
 use Rattle.kk_core.specs.CoreMachine.{arm_at, held_for, held_by_frames, fields_opened, bound_then, at_end, unpack_step, case_step, give_step, in_code, tail_step, construct_step, call_step, code_step, core_step_at, core_step_of, core_ending_of, core_machine}
 use Rattle.kk_core.specs.CoreStates.{CoreSetting, Join, CallFrame, CoreControl, running, stopped, CoreConfiguration, CoreState, no_code, core_start, core_first_state}
 use Rattle.kk_core.specs.Costs.{parts_seen, step_cost, part_cost, control_cost, core_cost}
@@ -27,7 +27,6 @@ abbrev mutual
   pub HasFewParts : MostSeen → Code → Type 0
   HasFewParts most (give x) = Unit {0}
   HasFewParts most (tail_call f arguments) = length arguments ≤ most.parts
-  HasFewParts most (branch x positive negative) = HasFewParts most positive × HasFewParts most negative
   HasFewParts most (case x decisions arms) = HasFewLooks decisions most.looks × HaveFewParts most arms
   HasFewParts most (compute x form arguments rest) = (length arguments ≤ most.parts) × HasFewParts most rest
   HasFewParts most (use_of x rest) = HasFewParts most rest
@@ -101,11 +100,6 @@ unpack_few : (most : MostSeen) (values : Option (List Value)) (fields : List ℕ
 unpack_few most None fields rest environment joins from few later stays = stays
 unpack_few most (Some vs) fields rest environment joins from few later stays = ((few, later), stays.1)
 
-branch_few : (most : MostSeen) (test : Bool) (positive negative : Code) → HasFewParts most positive → HasFewParts most negative
-    → HasFewParts most (if test then positive else negative)
-branch_few most true positive negative first second = first
-branch_few most false positive negative first second = second
-
 either_few : (most : MostSeen) (full : Bool) (one other : CoreConfiguration) → StateFew most one → StateFew most other
     → StateFew most (if full then one else other)
 either_few most true one other first second = first
@@ -169,8 +163,6 @@ module _ (setting : CoreSetting) (most : MostSeen)
         give_few most (value_of environment x) joins from.frames environment from later stays.1 stays.1
     code_few (tail_call f arguments) environment joins from few later stays =
         tail_few f (slice_get setting.code.functions f) (map (value_of environment) arguments) from refl stays
-    code_few (branch x positive negative) environment joins from few later stays =
-        ((branch_few most (is_true (value_of environment x)) positive negative few.0 few.1, later), stays.1)
     code_few (case x decisions arms) environment joins from few later stays =
         case_few most (and_then (chosen (slice_get from.store) (value_of environment x) decisions) (arm_at arms)) environment joins from
         (chosen_few most arms (chosen (slice_get from.store) (value_of environment x) decisions) few.1) later stays
@@ -195,7 +187,6 @@ module _ (setting : CoreSetting) (most : MostSeen)
         → parts_seen code environment store ≤ most_seen most code
     seen_few (give x) environment store few = omega arith
     seen_few (tail_call f arguments) environment store few = few
-    seen_few (branch x positive negative) environment store few = omega arith
     seen_few (case x decisions arms) environment store few = few.0 (slice_get store) (value_of environment x) (length decisions) 0
     seen_few (compute x form arguments rest) environment store few = few.0
     seen_few (use_of x rest) environment store few = omega arith

@@ -7,5 +7,6 @@ mod SafeRuns
 mod SafeSteps
 mod Stands
 pub mod TakenKinds
+pub mod Truths
 mod TypedExamples
 mod TypedStates

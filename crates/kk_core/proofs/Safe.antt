@@ -7,15 +7,14 @@ use Rattle.kk_syntax.specs.OfType.{field_types}
 use Rattle.kk_syntax.specs.Patterns.{Pattern, constructor, Patterns, part}
 use Rattle.kk_syntax.specs.GroundTyping.{Signature}
 use Rattle.kk_syntax.specs.Types.{TypeTree}
-use Rattle.kk_syntax.specs.Typing.{bool}
 use Rattle.kk_source.specs.Live.{value_of}
 use Rattle.kk_source.specs.NeverStuck.{IsBound}
 use Rattle.kk_source.specs.Matching.{fields_made_by, fields_under}
 use Rattle.kk_source.specs.State.{Value, integer, unit, constant, place, Cell, Store, Environment}
 use Rattle.kk_source.specs.ValueTypes.{IsOf, AreOf}
 use Rattle.kk_source.proofs.Operators.{as_many, arguments_fit}
-use Rattle.kk_source.proofs.Values.{bool_is, unit_is, fields_are}
-use Rattle.kk_core.specs.Codes.{Code, give, tail_call, branch, case, compute, use_of, unpack, inside, Arms, patterns_of, FunctionCode}
+use Rattle.kk_source.proofs.Values.{unit_is, fields_are}
+use Rattle.kk_core.specs.Codes.{Code, give, tail_call, case, compute, use_of, unpack, inside, Arms, patterns_of, FunctionCode}
 use Rattle.kk_core.specs.CoreMachine.{fields_opened}
 use Rattle.kk_core.specs.CoreStates.{CoreSetting, Join, CallFrame, CoreControl, running, stopped, CoreConfiguration}
 use Rattle.kk_core.specs.CoreTyping.{Has, HaveTypes, IsCodeTyped, AreCodesTyped, IsCoreTyped}
@@ -164,9 +163,6 @@ module _ (table : Table) (setting : CoreSetting) (typed : IsCoreTyped table sett
         call_fits f runs.typed.1 runs.type (map (value_of environment) arguments) runs.typed.3
         (as_many table.constructors from.store runs.typed.1 (map (value_of environment) arguments)
         (values_typed (tail_call f arguments) runs arguments runs.typed.1 runs.typed.2))
-    code_fits (branch x positive negative) runs =
-        bool_is table.constructors from.store typed.truths (value_of environment x)
-        (value_typed (branch x positive negative) runs x bool runs.typed.0)
     code_fits (case x decisions arms) runs =
         let arm = taken x decisions arms runs in (arm.0, arm.2.body, arm.1, arm.2.is)
     code_fits (compute x form arguments rest) runs =
@@ -190,7 +186,6 @@ module _ (table : Table) (setting : CoreSetting) (typed : IsCoreTyped table sett
     code_bound (give x) runs = (there_of (give x) runs x runs.type runs.typed, tt)
     code_bound (tail_call f arguments) runs =
         all_there (tail_call f arguments) runs arguments runs.typed.1 runs.typed.2
-    code_bound (branch x positive negative) runs = (there_of (branch x positive negative) runs x bool runs.typed.0, tt)
     code_bound (case x decisions arms) runs = (there_of (case x decisions arms) runs x runs.typed.0 runs.typed.1, tt)
     code_bound (compute x form arguments rest) runs =
         all_there (compute x form arguments rest) runs arguments runs.typed.1 runs.typed.2

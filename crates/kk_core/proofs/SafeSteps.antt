@@ -7,7 +7,7 @@ use Rattle.kk_syntax.specs.Patterns.{part}
 use Rattle.kk_syntax.specs.GroundTyping.{Signature}
 use Rattle.kk_syntax.specs.PositionsOf.{is_lent}
 use Rattle.kk_syntax.specs.Types.{TypeTree}
-use Rattle.kk_source.specs.FormEffects.{FormEffect, gives, prints, reads, makes, enters, is_true, byte_value, form_effect, effect_step}
+use Rattle.kk_source.specs.FormEffects.{FormEffect, gives, prints, reads, makes, enters, byte_value, form_effect, effect_step}
 use Rattle.kk_source.specs.Live.{value_of, live}
 use Rattle.kk_source.specs.Matching.{and_then}
 use Rattle.kk_source.specs.State.{Value, unit, place, Store, Environment, heap_full, stack_full}
@@ -16,7 +16,7 @@ use Rattle.kk_source.specs.ValueTypes.{IsOf, AreOf}
 use Rattle.kk_source.proofs.Kept.{LeadsTo, print_leads}
 use Rattle.kk_source.proofs.Operators.{byte_typed, EffectTyped, effect_typed}
 use Rattle.kk_source.proofs.Values.{get_behind, all_longer, construct_of, of_unit}
-use Rattle.kk_core.specs.Codes.{Code, give, tail_call, branch, case, compute, use_of, unpack, inside, FunctionCode}
+use Rattle.kk_core.specs.Codes.{Code, give, tail_call, case, compute, use_of, unpack, inside, FunctionCode}
 use Rattle.kk_core.specs.CoreMachine.{arm_at, held_for, held_by_frames, bound_then, at_end, bind_fields, unpack_step, case_step, give_step, in_code, tail_step, construct_step, call_step, code_step, core_step_at, core_step_of}
 use Rattle.kk_core.specs.CoreStates.{CoreSetting, Join, CallFrame, CoreControl, running, stopped, CoreConfiguration}
 use Rattle.kk_core.specs.CoreTyping.{Facts, typing, typing_parameters, knowing, knowing_fields, HasCodeType, IsCodeTyped, IsCoreTyped}
@@ -219,43 +219,6 @@ module _ (table : Table) (setting : CoreSetting) (typed : IsCoreTyped table sett
 
   -- ---- the step at a code
 
-  branch_runs : (x : ℕ) (positive negative : Code) → Runs table from.store (branch x positive negative) environment joins r
-      → (test : Bool) → Runs table from.store (if test then positive else negative) environment joins r
-  branch_runs x positive negative runs true =
-      let middle : ℕ = runs.ordered.0 in
-      record {
-        facts = runs.facts;
-        names = runs.names;
-        low = runs.low;
-        high = middle;
-        tail = runs.tail;
-        type = runs.type;
-        stand = runs.stand;
-        ordered = runs.ordered.2;
-        typed = runs.typed.1;
-        alone = runs.alone;
-        wait = joins_move table from.store environment environment runs.low runs.low runs.high middle joins runs.type r
-            (unchanged _ _) (omega arith) (ordered_le runs.names middle negative runs.high runs.ordered.3) runs.wait;
-      }
-  branch_runs x positive negative runs false =
-      let middle : ℕ = runs.ordered.0 in
-      let le = ordered_le runs.names runs.low positive middle runs.ordered.2 in
-      record {
-        facts = runs.facts;
-        names = runs.names;
-        low = middle;
-        high = runs.high;
-        tail = runs.tail;
-        type = runs.type;
-        stand = stand_move table.constructors from.store runs.facts environment environment runs.low middle (unchanged _ _) le
-            runs.stand;
-        ordered = runs.ordered.3;
-        typed = runs.typed.2;
-        alone = runs.alone;
-        wait = joins_move table from.store environment environment runs.low middle runs.high runs.high joins runs.type r
-            (unchanged _ _) le (omega arith) runs.wait;
-      }
-
   pub code_safe : (code : Code) → Runs table from.store code environment joins r
       → LeadsTo (IsStateTyped table) (code_step setting code environment joins from)
   code_safe (give x) runs =
@@ -272,7 +235,6 @@ module _ (table : Table) (setting : CoreSetting) (typed : IsCoreTyped table sett
       by_joins [] none wait =
           subst (λ t. slice_get table.functions f ≡ Some (record { parameters = runs.typed.1; result = t })) wait runs.typed.3
       by_joins (join ∷ others) none wait = absurd (cc)
-  code_safe (branch x positive negative) runs = (r, branch_runs x positive negative runs (is_true (value_of environment x)), older)
   code_safe (case x decisions arms) runs =
       let arm = taken table setting typed from environment joins r older x decisions arms runs in
       let inner = arm.2 in

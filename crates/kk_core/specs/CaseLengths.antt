@@ -1,6 +1,6 @@
 -- How long the tests of cases are, at most, once they are in an image.
 use Rattle.std.specs.Prelude.{ℕ, ◌+◌, ◌*◌, List, [], ◌∷◌, length}
-use Rattle.kk_core.specs.Codes.{Code, give, tail_call, branch, case, compute, use_of, unpack, inside, Arms, no_arm, arm, FunctionCode}
+use Rattle.kk_core.specs.Codes.{Code, give, tail_call, case, compute, use_of, unpack, inside, Arms, no_arm, arm, FunctionCode}
 use Rattle.kk_core.specs.Decisions.{NodeTree, chooses, tests}
 use Rattle.kk_core.specs.Sizes.{most_nodes, most_program_nodes}
 
@@ -19,7 +19,6 @@ abbrev mutual
   pub cases_length : Code → ℕ
   cases_length (give x) = 0
   cases_length (tail_call f arguments) = 0
-  cases_length (branch x positive negative) = cases_length positive + cases_length negative
   cases_length (case x decisions arms) = tests_length decisions + arms_cases_length arms
   cases_length (compute x form arguments rest) = cases_length rest
   cases_length (use_of x rest) = cases_length rest

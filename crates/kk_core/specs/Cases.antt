@@ -2,7 +2,7 @@
 use Rattle.std.specs.Prelude.{◌≡◌, ◌+◌, ◌*◌, ℕ, List, length, sum_by, Some, slice_get}
 use Rattle.kk_syntax.specs.Patterns.{Pattern}
 use Rattle.kk_syntax.specs.Shapes.{nodes_of_pattern}
-use Rattle.kk_core.specs.Codes.{Code, give, tail_call, branch, case, compute, use_of, unpack, inside, Arms, patterns_of, no_arm, arm, FunctionCode, ProgramCode}
+use Rattle.kk_core.specs.Codes.{Code, give, tail_call, case, compute, use_of, unpack, inside, Arms, patterns_of, no_arm, arm, FunctionCode, ProgramCode}
 use Rattle.kk_core.specs.Decisions.{NodeTree, AreOrderly}
 use Rattle.kk_core.specs.Edges.{HasFewEdges}
 use Rattle.kk_core.specs.Looks.{HasFewLooks}
@@ -13,7 +13,6 @@ module _ (P : List NodeTree → List Pattern → Type 0) where
     pub EachCase : Code → Type 0
     EachCase (give x) = Unit {0}
     EachCase (tail_call f arguments) = Unit {0}
-    EachCase (branch x positive negative) = EachCase positive × EachCase negative
     EachCase (case x decisions arms) = P decisions (patterns_of arms) × EachCaseOfArms arms
     EachCase (compute x form arguments rest) = EachCase rest
     EachCase (use_of x rest) = EachCase rest

@@ -6,7 +6,7 @@ use Rattle.kk_core.specs.declared.form.Arm.{Arm}
 use Rattle.kk_core.specs.declared.form.Block.{Block}
 use Rattle.kk_core.specs.declared.form.Last.{Last}
 use Rattle.kk_core.specs.declared.form.Step.{Step}
-use Rattle.kk_core.specs.declared.form.Last.TheOpen.{Arm-F, Block-F, Last-F, Step-F, Let, Use, Open, Inside, Return, TailCall, If, Case}
+use Rattle.kk_core.specs.declared.form.Last.TheOpen.{Arm-F, Block-F, Last-F, Step-F, Let, Use, Open, Inside, Return, TailCall, Case}
 use Rattle.kk_core.specs.declared.form.Last.TheFolds.{fold-Block, fold-Last, fold-Step, fold-Arm}
 use Rattle.kk_core.specs.declared.form.CoreFunction.{CoreFunction}
 use Rattle.kk_core.specs.declared.form.Core.{Core}
@@ -15,7 +15,6 @@ use Rattle.kk_core.specs.Decisions.{NodeTree, node_tree}
 -- A code, which is what a block does from one of its steps on.
 -- give: it ends with the value of a variable.
 -- tail_call: it ends as the call of a function on variables.
--- branch: it goes on as the first code where the variable is `True`, and else as the second.
 -- case: it goes on as the arm of the row that the decisions choose for the value of the variable.
 -- compute: the variable takes the value of the form on variables, and the rest comes.
 -- use_of: the variable is still of use, and the rest comes.
@@ -26,7 +25,6 @@ mutual
   pub data Code : Type 0 where
     give : (variable : ℕ) → Code
     tail_call : (function : ℕ) → (arguments : List ℕ) → Code
-    branch : (on : ℕ) → (positive : Code) → (negative : Code) → Code
     case : (on : ℕ) → (decisions : List NodeTree) → (arms : Arms) → Code
     compute : (variable : ℕ) → (form : Form) → (arguments : List ℕ) → (rest : Code) → Code
     use_of : (variable : ℕ) → (rest : Code) → Code
@@ -82,7 +80,6 @@ block_step b = plug b.steps.items b.last
 abbrev pub last_step : Last-F Code Piece ArmCode Code → Code
 last_step (Return x) = give x
 last_step (TailCall f arguments) = tail_call f arguments.items
-last_step (If x positive negative) = branch x positive.value negative.value
 last_step (Case x decisions arms) = case x (map node_tree decisions.nodes.items) (arms_of arms.items)
 
 abbrev pub step_step : Step-F Code Piece ArmCode Code → Piece

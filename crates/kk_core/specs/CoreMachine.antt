@@ -1,6 +1,6 @@
 -- The steps of the core machine. It tells the same notes as the store machine: each event, the live places at each
 -- construction with fields, and the call frames at each call that is no tail call.
-use Rattle.std.specs.Prelude.{ℕ, zero, suc, List, [], ◌∷◌, ◌++◌, map, length, Option, Some, None, if◌then◌else◌, slice_get}
+use Rattle.std.specs.Prelude.{ℕ, zero, suc, List, [], ◌∷◌, ◌++◌, map, length, Option, Some, None, slice_get}
 use Rattle.kk_base.specs.Trace.{Event}
 use Rattle.kk_base.specs.Machines.{Machine, weighing, mapped}
 use Rattle.kk_syntax.specs.declared.program.Form.{Form}
@@ -11,9 +11,9 @@ use Rattle.kk_source.specs.Live.{value_of, live}
 use Rattle.kk_source.specs.Matching.{fields_made_by, and_then}
 use Rattle.kk_source.specs.Notes.{Note, events_of}
 use Rattle.kk_source.specs.Actions.{Action, goes, build_step, enter_step, performed}
-use Rattle.kk_source.specs.FormEffects.{is_true, form_effect, effect_step}
+use Rattle.kk_source.specs.FormEffects.{form_effect, effect_step}
 use Rattle.kk_source.specs.Step.{bind_parameters, lent_places}
-use Rattle.kk_core.specs.Codes.{Code, give, tail_call, branch, case, compute, use_of, unpack, inside, Arms, no_arm, arm, FunctionCode}
+use Rattle.kk_core.specs.Codes.{Code, give, tail_call, case, compute, use_of, unpack, inside, Arms, no_arm, arm, FunctionCode}
 use Rattle.kk_core.specs.Decisions.{chosen}
 use Rattle.kk_core.specs.Needed.{needed}
 use Rattle.kk_core.specs.CoreStates.{CoreSetting, Join, CallFrame, CoreControl, running, stopped, CoreConfiguration, CoreState, core_end_at}
@@ -122,8 +122,6 @@ module _ (setting : CoreSetting) where
   code_step (give x) environment joins from = give_step (value_of environment x) joins from.frames environment from
   code_step (tail_call f arguments) environment joins from =
       tail_step (slice_get setting.code.functions f) (map (value_of environment) arguments) from
-  code_step (branch x positive negative) environment joins from =
-      goes (at_code (if is_true (value_of environment x) then positive else negative) environment joins from)
   code_step (case x decisions arms) environment joins from =
       case_step (and_then (chosen (slice_get from.store) (value_of environment x) decisions) (arm_at arms)) environment joins from
   code_step (compute x form arguments rest) environment joins from =

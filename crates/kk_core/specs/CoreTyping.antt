@@ -8,9 +8,8 @@ use Rattle.kk_syntax.specs.Outlines.{outline_of}
 use Rattle.kk_syntax.specs.Patterns.{Pattern, anything, constructor, Patterns, part}
 use Rattle.kk_syntax.specs.GroundTyping.{Signature}
 use Rattle.kk_syntax.specs.Types.{TypeTree, unit_type}
-use Rattle.kk_syntax.specs.Typing.{bool}
 use Rattle.kk_core.specs.Choosing.{Decides}
-use Rattle.kk_core.specs.Codes.{Code, give, tail_call, branch, case, compute, use_of, unpack, inside, Arms, patterns_of, arm, no_arm, FunctionCode, ProgramCode}
+use Rattle.kk_core.specs.Codes.{Code, give, tail_call, case, compute, use_of, unpack, inside, Arms, patterns_of, arm, no_arm, FunctionCode, ProgramCode}
 use Rattle.kk_core.specs.CaseLengths.{all_cases_length, most_cases_length}
 use Rattle.kk_core.specs.Sizes.{forms, IsOrdered, most_parameters, most_variables, most_forms, most_instances, most_program_forms}
 
@@ -72,8 +71,6 @@ abbrev mutual
   HasCodeType table tail facts (tail_call f arguments) t =
       (tail ≡ true) × (ts : List TypeTree) × HaveTypes facts arguments ts
       × (slice_get table.functions f ≡ Some (record { parameters = ts; result = t }))
-  HasCodeType table tail facts (branch x positive negative) t =
-      Has facts x bool × HasCodeType table tail facts positive t × HasCodeType table tail facts negative t
   HasCodeType table tail facts (case x decisions arms) t =
       (u : TypeTree) × Has facts x u × AreArmsTyped table tail facts x u arms t
       × IsCovered (values_of table.constructors) u (map outline_of (patterns_of arms))

@@ -1,4 +1,4 @@
--- Of which kind values are where code runs as its types tell: operators and prints take numbers, `!` and branches take truths,
+-- Of which kind values are where code runs as its types tell: operators and prints take numbers, `!` takes a truth,
 -- and a test finds an answer of the type of its edges.
 use Rattle.std.specs.Prelude.{◌≡◌, ℕ, zero, suc, ℤ, Bool, true, false, List, [], ◌∷◌, map, length, Option, Some, None, nat_eq, slice_get, slice_index_or}
 use Rattle.kk_base.specs.Machines.{state}
@@ -16,7 +16,7 @@ use Rattle.kk_source.specs.Live.{value_of}
 use Rattle.kk_source.specs.State.{Value, integer, place, Cell, Store}
 use Rattle.kk_source.specs.ValueTypes.{IsOf}
 use Rattle.kk_core.specs.Cases.{EachCase, EachCaseOfArms, EachCaseOfAll}
-use Rattle.kk_core.specs.Codes.{Code, branch, case, compute, Arms, ProgramCode}
+use Rattle.kk_core.specs.Codes.{Code, case, compute, Arms, ProgramCode}
 use Rattle.kk_core.specs.CoreMachine.{core_machine}
 use Rattle.kk_core.specs.CoreStates.{CoreSetting, CoreControl, running, CoreConfiguration, CoreState, core_first_state}
 use Rattle.kk_core.specs.Decisions.{NodeTree, chooses, tests, value_at, answer_of, next_by}
@@ -116,7 +116,6 @@ AllAskTyped constructors = EachCaseOfAll (λ decisions patterns. AsksTyped const
 
 -- what the code of a state takes is of the kinds that it asks for
 abbrev pub HasKinds : (ℕ → ℕ → Type 0) → (ℕ → ℕ) → CoreControl → CoreConfiguration → Type 0
-HasKinds alike fields (running (branch x positive negative) environment joins) c = IsTruth (value_of environment x)
 HasKinds alike fields (running (case x decisions arms) environment joins) c =
     TestsAlike alike fields (slice_get c.store) (value_of environment x) decisions
 HasKinds alike fields (running (compute x form arguments rest) environment joins) c =

@@ -15,4 +15,5 @@ pub mod Looks
 pub mod Needed
 pub mod NeverStuck
 pub mod Sizes
+pub mod Truths
 pub mod Unpackings

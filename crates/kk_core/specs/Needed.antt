@@ -1,14 +1,13 @@
 -- The variables that a code needs: those that it reads and has not bound itself.
 use Rattle.std.specs.Prelude.{ℕ, List, [], ◌∷◌, ◌++◌}
 use Rattle.kk_syntax.specs.Shapes.{without}
-use Rattle.kk_core.specs.Codes.{Code, give, tail_call, branch, case, compute, use_of, unpack, inside, Arms, no_arm, arm}
+use Rattle.kk_core.specs.Codes.{Code, give, tail_call, case, compute, use_of, unpack, inside, Arms, no_arm, arm}
 
 -- the variables that a code needs, where what comes after its end needs some; as often as they are read
 abbrev mutual
   pub needed : List ℕ → Code → List ℕ
   needed later (give x) = x ∷ later
   needed later (tail_call f arguments) = arguments ++ later
-  needed later (branch x positive negative) = x ∷ (needed later positive ++ needed later negative)
   needed later (case x decisions arms) = x ∷ needed_by_arms later arms
   needed later (compute x form arguments rest) = arguments ++ without (x ∷ []) (needed later rest)
   needed later (use_of x rest) = x ∷ needed later rest

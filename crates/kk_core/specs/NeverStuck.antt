@@ -1,14 +1,13 @@
 -- What it is that a run of the core machine is never stuck: in each of its states, the variables that the step reads are bound,
 -- and it finds what it asks for. The machine itself has an answer for everything: it stays where no arm is chosen, no cell of
 -- that constructor is named or no function is there, and takes a default for what is missing.
-use Rattle.std.specs.Prelude.{◌≡◌, ℕ, Bool, List, [], ◌∷◌, map, length, Some, slice_get}
+use Rattle.std.specs.Prelude.{◌≡◌, ℕ, List, [], ◌∷◌, map, length, Some, slice_get}
 use Rattle.kk_base.specs.Machines.{state}
 use Rattle.kk_syntax.specs.Programs.{ConstructorTree}
 use Rattle.kk_source.specs.State.{Value, unit, place, Environment}
 use Rattle.kk_source.specs.Live.{value_of}
-use Rattle.kk_source.specs.FormEffects.{truth}
 use Rattle.kk_source.specs.NeverStuck.{IsBound, ArgumentsFit}
-use Rattle.kk_core.specs.Codes.{Code, give, tail_call, branch, case, compute, use_of, unpack, inside, FunctionCode, ProgramCode}
+use Rattle.kk_core.specs.Codes.{Code, give, tail_call, case, compute, use_of, unpack, inside, FunctionCode, ProgramCode}
 use Rattle.kk_core.specs.CoreMachine.{arm_at, core_machine}
 use Rattle.kk_core.specs.CoreStates.{CoreSetting, Join, CallFrame, CoreControl, running, stopped, CoreConfiguration, CoreState, core_first_state}
 use Rattle.kk_core.specs.Decisions.{chosen}
@@ -22,7 +21,6 @@ AreBound environment (x ∷ xs) = IsBound environment x × AreBound environment 
 abbrev pub read_by : Code → List ℕ
 read_by (give x) = x ∷ []
 read_by (tail_call f arguments) = arguments
-read_by (branch x positive negative) = x ∷ []
 read_by (case x decisions arms) = x ∷ []
 read_by (compute x form arguments rest) = arguments
 read_by (use_of x rest) = []
@@ -39,12 +37,11 @@ module _ (constructors : List ConstructorTree) (program : ProgramCode) where
   ResultFits v [] [] = v ≡ unit
   ResultFits v _ _ = Unit {0}
 
-  -- What a code asks. A branch tests `False` or `True`; decisions choose a row that has an arm; an opening finds a cell of its
+  -- What a code asks. Decisions choose a row that has an arm; an opening finds a cell of its
   -- constructor, with as many fields; and a form has the arguments that it asks for in the store machine, too.
   abbrev pub CodeFits : Code → Environment → List Join → CoreConfiguration → Type 0
   CodeFits (give x) environment joins c = ResultFits (value_of environment x) joins c.frames
   CodeFits (tail_call f arguments) environment joins c = CallFits f (map (value_of environment) arguments)
-  CodeFits (branch x positive negative) environment joins c = (t : Bool) × (value_of environment x ≡ truth t)
   CodeFits (case x decisions arms) environment joins c =
       (row : ℕ) × (body : Code) × (chosen (slice_get c.store) (value_of environment x) decisions ≡ Some row)
       × (arm_at arms row ≡ Some body)

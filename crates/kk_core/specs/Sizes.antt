@@ -3,7 +3,7 @@ use Rattle.std.specs.Prelude.{◌≡◌, ℕ, zero, suc, ◌+◌, ◌*◌, ◌�
 use Rattle.kk_base.specs.declared.limit.LimitKind.TheVariants.{Parameters, FunctionNodes, Instances, ProgramNodes}
 use Rattle.kk_base.specs.Limits.{greatest_of}
 use Rattle.kk_syntax.specs.Shapes.{is_among}
-use Rattle.kk_core.specs.Codes.{Code, give, tail_call, branch, case, compute, use_of, unpack, inside, Arms, no_arm, arm, FunctionCode}
+use Rattle.kk_core.specs.Codes.{Code, give, tail_call, case, compute, use_of, unpack, inside, Arms, no_arm, arm, FunctionCode}
 
 -- the limits of a program: the parameters of a function, the nodes of its body, the functions, and all nodes together
 abbrev pub most_parameters : ℕ
@@ -34,7 +34,6 @@ abbrev mutual
   pub forms : Code → ℕ
   forms (give x) = 1
   forms (tail_call f arguments) = 1
-  forms (branch x positive negative) = forms positive + forms negative + 1
   forms (case x decisions arms) = forms_of_arms arms + 1
   forms (compute x form arguments rest) = forms rest + 1
   forms (use_of x rest) = forms rest + 1
@@ -61,7 +60,6 @@ abbrev mutual
   pub Ordered : List ℕ → ℕ → Code → ℕ → Type 0
   Ordered bound low (give x) high = (is_among bound x ≡ true) × (low ≤ high)
   Ordered bound low (tail_call f arguments) high = AreBound bound arguments × (low ≤ high)
-  Ordered bound low (branch x positive negative) high = (middle : ℕ) × (is_among bound x ≡ true) × Ordered bound low positive middle × Ordered bound middle negative high
   Ordered bound low (case x decisions arms) high = (is_among bound x ≡ true) × OrderedArms bound low arms high
   Ordered bound low (compute x form arguments rest) high = AreBound bound arguments × (low ≤ x) × Ordered (x ∷ bound) (x + 1) rest high
   Ordered bound low (use_of x rest) high = (is_among bound x ≡ true) × Ordered bound low rest high

@@ -1,13 +1,12 @@
 -- How many cells core code opens on a path.
 use Rattle.std.specs.Prelude.{◌≡◌, ℕ, suc, ◌+◌, ◌≤◌, Some, max, slice_get}
-use Rattle.kk_core.specs.Codes.{Code, give, tail_call, branch, case, compute, use_of, unpack, inside, Arms, no_arm, arm, FunctionCode, ProgramCode}
+use Rattle.kk_core.specs.Codes.{Code, give, tail_call, case, compute, use_of, unpack, inside, Arms, no_arm, arm, FunctionCode, ProgramCode}
 
 -- the most openings on a path of a code
 abbrev mutual
   pub unpackings : Code → ℕ
   unpackings (give x) = 0
   unpackings (tail_call f arguments) = 0
-  unpackings (branch x positive negative) = max (unpackings positive) (unpackings negative)
   unpackings (case x decisions arms) = unpackings_of arms
   unpackings (compute x form arguments rest) = unpackings rest
   unpackings (use_of x rest) = unpackings rest

@@ -70,8 +70,6 @@ pub enum Last {
     Return(u32),
     /// By calling a function, whose value is given.
     TailCall(u32, Vec<u32>),
-    /// As the first block where the variable is `True`, and else as the second.
-    If(u32, Box<Block>, Box<Block>),
     /// As the arm of the row that the decisions choose for the variable's value: arm `i`, from 0, is that of row `i`. Where
     /// they choose none, or a row without an arm, the machine stays; in a typed program they choose the first row whose
     /// pattern matches, and there is one.

@@ -13,9 +13,8 @@ pub fn typed_code_is_never_stuck()
         → IsCoreTyped table setting.code → NeverStuck table.constructors weight setting input }
 {}
 
-/// In each state of a run of a typed program, whose cases ask what types tell, values are of the kinds that the code takes: a branch
-/// finds a truth, operators and prints find numbers and truths, and each answer that a test of a case finds is of the type of its
-/// edges. It is a law, and does nothing.
+/// In each state of a run of a typed program, whose cases ask what types tell, values are of the kinds that the code takes: operators
+/// and prints find numbers and truths, and each answer that a test of a case finds is of the type of its edges. It is a law, and does nothing.
 pub fn typed_code_has_its_kinds()
     ensures { (table : Table) (setting : CoreSetting) (weight : CoreState → ℕ) (input : List ℕ)
         → IsCoreTyped table setting.code → AllAskTyped table.constructors setting.code

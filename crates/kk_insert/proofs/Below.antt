@@ -4,7 +4,7 @@ use Rattle.std.specs.Prelude.{filter}
 use Rattle.kk_syntax.specs.Shapes.{is_among, without}
 use Rattle.kk_syntax.specs.declared.program.Form.TheVariants.{Call}
 use Rattle.kk_syntax.specs.PositionsOf.{PositionTable}
-use Rattle.kk_core.specs.Codes.{Code, give, tail_call, branch, case, compute, use_of, unpack, inside, Arms, no_arm, arm}
+use Rattle.kk_core.specs.Codes.{Code, give, tail_call, case, compute, use_of, unpack, inside, Arms, no_arm, arm}
 use Rattle.kk_core.specs.Sizes.{AreBound, Rise, Ordered, OrderedArms}
 use Rattle.kk_insert.specs.Insertion.{before, used, lends, owns, own, own_arms}
 use Rattle.kk_insert.proofs.Fine.{AreBelow, one_below, rise_high, rise_in, ordered_high, arms_high, bound_part}
@@ -50,14 +50,6 @@ module _ (positions : PositionTable) (lent : List ℕ) (most : ℕ) where
         owns_below (used positions (Call f) arguments) left
         (λ y is. some_of bound low arguments below (omega (arith, o.1, le)) o.0 y
         (used_part positions (Call f) arguments y is)) under
-    own_below left bound low (branch x positive negative) high o le below under =
-        let more : low ≤ o.0 = ordered_high bound low positive o.0 o.2 in
-        let middle : o.0 ≤ high = ordered_high bound o.0 negative high o.3 in
-        owns_below (x ∷ []) (before (own positions lent left positive) (own positions lent left negative))
-        (one_of bound low x below (omega (arith, more, middle, le)) o.1)
-        (before_below (own positions lent left positive) (own positions lent left negative)
-        (own_below left bound low positive o.0 o.2 (omega (arith, middle, le)) below under)
-        (own_below left bound o.0 negative high o.3 le (more_below low o.0 bound more below) under))
     own_below left bound low (case x decisions arms) high o le below under =
         let more : low ≤ high = arms_high bound low arms high o.1 in
         owns_below (x ∷ []) (own_arms positions lent left arms) (one_of bound low x below (omega (arith, more, le)) o.0)

@@ -3,7 +3,7 @@
 use Rattle.std.proofs.Common.{◌≡◌, ◌⊎◌, inl, inr, ℕ, ◌+◌, ◌≤◌, ◌<◌, ◌==◌, Bool, true, false, List, [], ◌∷◌, ◌++◌, arith, refl, sym, ap, ◌∙◌}
 use Rattle.std.specs.Prelude.{if◌then◌else◌}
 use Rattle.kk_syntax.specs.Shapes.{is_among}
-use Rattle.kk_core.specs.Codes.{Code, give, tail_call, branch, case, compute, use_of, unpack, inside, Arms, no_arm, arm}
+use Rattle.kk_core.specs.Codes.{Code, give, tail_call, case, compute, use_of, unpack, inside, Arms, no_arm, arm}
 use Rattle.kk_core.specs.Sizes.{AreBound, Rise, Ordered, OrderedArms}
 use Rattle.kk_counted.specs.Spending.{AreApart}
 use Rattle.kk_counted.proofs.Counting.{same}
@@ -18,7 +18,6 @@ module _ (lent : List ℕ) where
     pub IsFine : List ℕ → Code → Type 0
     IsFine bound (give x) = is_among bound x ≡ true
     IsFine bound (tail_call f arguments) = Part arguments bound
-    IsFine bound (branch x positive negative) = (is_among bound x ≡ true) × (IsFine bound positive × IsFine bound negative)
     IsFine bound (case x decisions arms) = (is_among bound x ≡ true) × AreFine bound arms
     IsFine bound (compute x form arguments rest) =
         Part arguments bound × ((is_among bound x ≡ false) × ((is_among lent x ≡ false) × IsFine (x ∷ bound) rest))
@@ -67,8 +66,6 @@ mutual
   pub ordered_high : (bound : List ℕ) (low : ℕ) (code : Code) (high : ℕ) → Ordered bound low code high → low ≤ high
   ordered_high bound low (give x) high o = o.1
   ordered_high bound low (tail_call f arguments) high o = o.1
-  ordered_high bound low (branch x positive negative) high o =
-      omega (arith, ordered_high bound low positive o.0 o.2, ordered_high bound o.0 negative high o.3)
   ordered_high bound low (case x decisions arms) high o = arms_high bound low arms high o.1
   ordered_high bound low (compute x form arguments rest) high o = omega (arith, o.1, ordered_high (x ∷ bound) (x + 1) rest high o.2)
   ordered_high bound low (use_of x rest) high o = ordered_high bound low rest high o.1
@@ -100,10 +97,6 @@ mutual
       → is_among (lent_in lent code) y ≡ is_among lent y
   lent_before lent bound low (give x) high y o less = refl
   lent_before lent bound low (tail_call f arguments) high y o less = refl
-  lent_before lent bound low (branch x positive negative) high y o less =
-      lent_before (lent_in lent positive) bound o.0 negative high y o.3
-      (omega (arith, less, ordered_high bound low positive o.0 o.2))
-      ∙ lent_before lent bound low positive o.0 y o.2 less
   lent_before lent bound low (case x decisions arms) high y o less = lent_before_arms lent bound low arms high y o.1 less
   lent_before lent bound low (compute x form arguments rest) high y o less =
       lent_before lent (x ∷ bound) (x + 1) rest high y o.2 (omega (arith, less, o.1))
@@ -138,8 +131,6 @@ mutual
       → is_among (lent_in lent code) y ≡ true → y < high
   lent_below lent bound low (give x) high o below y is = omega (arith, below y is, o.1)
   lent_below lent bound low (tail_call f arguments) high o below y is = omega (arith, below y is, o.1)
-  lent_below lent bound low (branch x positive negative) high o below y is =
-      lent_below (lent_in lent positive) bound o.0 negative high o.3 (λ z. lent_below lent bound low positive o.0 o.2 below z) y is
   lent_below lent bound low (case x decisions arms) high o below y is = lent_below_arms lent bound low arms high o.1 below y is
   lent_below lent bound low (compute x form arguments rest) high o below y is =
       lent_below lent (x ∷ bound) (x + 1) rest high o.2 (λ z there. omega (arith, below z there, o.1)) y is
@@ -204,17 +195,6 @@ module _ (lent : List ℕ) where
         → ((y : ℕ) → y < high → is_among lent y ≡ is_among (lent_in now code) y) → IsFine lent bound code
     ordered_fine now bound low (give x) high o below now_below alike = o.0
     ordered_fine now bound low (tail_call f arguments) high o below now_below alike = bound_part bound arguments o.0
-    ordered_fine now bound low (branch x positive negative) high o below now_below alike = (
-      o.1,
-      (
-        ordered_fine now bound low positive o.0 o.2 below now_below
-            (λ y less. alike y (omega (arith, less, ordered_high bound o.0 negative high o.3))
-            ∙ lent_before (lent_in now positive) bound o.0 negative high y o.3 less),
-        ordered_fine (lent_in now positive) bound o.0 negative high o.3
-            (λ y is. omega (arith, below y is, ordered_high bound low positive o.0 o.2))
-            (λ y is. lent_below now bound low positive o.0 o.2 now_below y is) alike,
-      ),
-    )
     ordered_fine now bound low (case x decisions arms) high o below now_below alike =
         (o.0, ordered_fine_arms now bound low arms high o.1 below now_below alike)
     ordered_fine now bound low (compute x form arguments rest) high o below now_below alike = (

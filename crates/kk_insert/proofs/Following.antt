@@ -1,4 +1,4 @@
--- The counted machine follows the core machine at blocks, branches, cases, uses and openings.
+-- The counted machine follows the core machine at blocks, cases, uses and openings.
 use Rattle.std.proofs.Common.{◌≡◌, ◌⊎◌, inl, inr, ℕ, zero, suc, ◌+◌, ◌*◌, ◌≤◌, ◌==◌, ◌||◌, ◌&&◌, Bool, true, false, not, List, [], ◌∷◌, ◌++◌, length, Option, Some, None, arith, refl, sym, ap, ◌∙◌, subst}
 use Rattle.std.specs.Prelude.{if◌then◌else◌, slice_get, filter}
 use Rattle.kk_syntax.specs.Shapes.{is_among, without}
@@ -7,13 +7,11 @@ use Rattle.kk_source.specs.Live.{value_of, fields_in, Among, Reached}
 use Rattle.kk_source.specs.Matching.{fields_made_by, and_then}
 use Rattle.kk_source.specs.Notes.{Note}
 use Rattle.kk_source.specs.Actions.{Action, goes, performed}
-use Rattle.kk_source.specs.FormEffects.{is_true}
-use Rattle.kk_core.specs.Codes.{Code, branch, case, use_of, unpack, inside, Arms, no_arm, arm}
+use Rattle.kk_core.specs.Codes.{Code, case, use_of, unpack, inside, Arms, no_arm, arm}
 use Rattle.kk_core.specs.CoreStates.{CoreSetting, Join, CoreConfiguration, CoreState}
 use Rattle.kk_core.specs.CoreMachine.{at_code, bind_fields, fields_opened, unpack_step, arm_at, case_step}
 use Rattle.kk_core.specs.Costs.{step_cost, part_cost}
 use Rattle.kk_core.specs.Decisions.{NodeTree, chosen}
-use Rattle.kk_core.specs.Kinds.{IsTruth}
 use Rattle.kk_core.specs.Looks.{looks_taken}
 use Rattle.kk_core.specs.Sizes.{forms, forms_of_arms, most_forms}
 use Rattle.kk_counted.proofs.ListLengths.{filter_length}
@@ -149,71 +147,6 @@ module _ (room : ℕ) (setting : CoreSetting) (from : CoreConfiguration) (lent :
         })
         (own_apart setting.positions lent (left_by left) (use_of x rest) ok.apart)
         (owns_after setting.positions lent (x ∷ []) (owning rest)) sound
-
-    pub follows_branch : (x : ℕ) (positive negative : Code) (most : ℕ)
-        → room + step_cost + credit_of (owning (branch x positive negative)) ≤ most → Ok (branch x positive negative)
-        → SoundNow (branch x positive negative) → IsTruth (value_of environment x)
-        → Does 1 most (goes (at_code (if is_true (value_of environment x) then positive else negative) environment joins from))
-        (inserted_code (branch x positive negative))
-    follows_branch x positive negative most costs ok sound tested = by_test (is_true (value_of environment x)) refl
-      where
-        by_test : (t : Bool) → is_true (value_of environment x) ≡ t
-            → Does 1 most (goes (at_code (if t then positive else negative) environment joins from))
-            (inserted_code (branch x positive negative))
-        by_test true is =
-            path_step (inserted_at room setting) 0 most (credit_of (owning (branch x positive negative))) [] []
-            (StandsAs (performed (goes (at_code positive environment joins from)) input))
-            (with_input (conf (inserted_code (branch x positive negative)) environment
-            (image_joins setting.positions setting.code.functions lent joins) frames heap) input)
-            (with_input (conf (dropping (owning (branch x positive negative)) (owning positive) (inserted_code positive))
-            environment (image_joins setting.positions setting.code.functions lent joins) frames heap) input)
-            (ap (λ t. performed (goes (conf
-            (if t then dropping (owning (branch x positive negative)) (owning positive) (inserted_code positive) else dropping
-            (owning (branch x positive negative)) (owning negative) (inserted_code negative)) environment
-            (image_joins setting.positions setting.code.functions lent joins) frames heap)) input) is)
-            (tt, (tt, (tt, (tt, tested))))
-            (omega (arith, costs))
-            (dropped_first (owning (branch x positive negative)) positive
-            (credit_of (owning (branch x positive negative))) (omega arith)
-            (record {
-              bound = ok.bound;
-              fine = ok.fine.1.0;
-              lends_on = ok.lends_on.0;
-              part = ok.part;
-              apart = ok.apart;
-              small
-                  = omega (arith, ok.small);
-            })
-            (own_apart setting.positions lent (left_by left) (branch x positive negative) ok.apart)
-            (λ y is. owns_after setting.positions lent (x ∷ []) (before (owning positive) (owning negative)) y
-            (before_front (owning positive) (owning negative) y is)) sound)
-        by_test false is =
-            path_step (inserted_at room setting) 0 most (credit_of (owning (branch x positive negative))) [] []
-            (StandsAs (performed (goes (at_code negative environment joins from)) input))
-            (with_input (conf (inserted_code (branch x positive negative)) environment
-            (image_joins setting.positions setting.code.functions lent joins) frames heap) input)
-            (with_input (conf (dropping (owning (branch x positive negative)) (owning negative) (inserted_code negative))
-            environment (image_joins setting.positions setting.code.functions lent joins) frames heap) input)
-            (ap (λ t. performed (goes (conf
-            (if t then dropping (owning (branch x positive negative)) (owning positive) (inserted_code positive) else dropping
-            (owning (branch x positive negative)) (owning negative) (inserted_code negative)) environment
-            (image_joins setting.positions setting.code.functions lent joins) frames heap)) input) is)
-            (tt, (tt, (tt, (tt, tested))))
-            (omega (arith, costs))
-            (dropped_first (owning (branch x positive negative)) negative
-            (credit_of (owning (branch x positive negative))) (omega arith)
-            (record {
-              bound = ok.bound;
-              fine = ok.fine.1.1;
-              lends_on = ok.lends_on.1;
-              part = ok.part;
-              apart = ok.apart;
-              small
-                  = omega (arith, ok.small);
-            })
-            (own_apart setting.positions lent (left_by left) (branch x positive negative) ok.apart)
-            (λ y is. owns_after setting.positions lent (x ∷ []) (before (owning positive) (owning negative)) y
-            (before_back (owning positive) (owning negative) y is)) sound)
 
     pub follows_inside : (x : ℕ) (block rest : Code) (most : ℕ) → room + step_cost + credit_of (owning (inside x block rest)) ≤ most
         → Ok (inside x block rest) → SoundNow (inside x block rest)

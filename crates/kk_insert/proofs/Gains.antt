@@ -8,7 +8,7 @@ use Rattle.kk_syntax.specs.PositionsOf.{PositionTable, is_lent}
 use Rattle.kk_syntax.specs.Types.{TypeTree}
 use Rattle.kk_syntax.specs.declared.program.Form.{Form}
 use Rattle.kk_syntax.specs.declared.program.Form.TheVariants.{Number, Unit as Nothing, ReadByte, PrintText, Unary, Binary, Print, Construct, Call}
-use Rattle.kk_core.specs.Codes.{Code, give, tail_call, branch, case, compute, use_of, unpack, inside, Arms, no_arm, arm, FunctionCode}
+use Rattle.kk_core.specs.Codes.{Code, give, tail_call, case, compute, use_of, unpack, inside, Arms, no_arm, arm, FunctionCode}
 use Rattle.kk_core.specs.CoreTyping.{Facts, HasCodeType, AreArmsTyped}
 use Rattle.kk_core.specs.Sizes.{forms, forms_of_arms}
 use Rattle.kk_counted.proofs.ListLengths.{total_ones, filter_few, positions_few}
@@ -101,13 +101,6 @@ module _ (table : Table) (few : HasFew table) where
           let many = same_length facts arguments has.1 has.2 in
           let eight = few.parameters f (record { parameters = has.1; result = t }) has.3 in
           omega (arith, same, most, fewer, many, eight)
-      gained left (branch x positive negative) tail facts t has =
-          let all = own positions lent left (branch x positive negative) in
-          let one = dropping_gains all (own positions lent left positive) (insert positions lent left positive) in
-          let two = dropping_gains all (own positions lent left negative) (insert positions lent left negative) in
-          let first = gained left positive tail facts t has.1 in
-          let second = gained left negative tail facts t has.2 in
-          omega (arith, one, two, first, second)
       gained left (case x decisions arms) tail facts t has =
           let each = arms_gained left (own positions lent left (case x decisions arms)) arms tail facts x has.0 t has.2 in
           omega (arith, each)

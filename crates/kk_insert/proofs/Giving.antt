@@ -9,7 +9,7 @@ use Rattle.kk_syntax.specs.PositionsOf.{PositionTable}
 use Rattle.kk_syntax.specs.Types.{TypeTree}
 use Rattle.kk_syntax.specs.declared.program.Form.{Form}
 use Rattle.kk_syntax.specs.declared.program.Form.TheVariants.{Number, Unit as Nothing, ReadByte, PrintText, Unary, Binary, Print, Construct, Call}
-use Rattle.kk_core.specs.Codes.{Code, give, tail_call, branch, case, compute, use_of, unpack, inside, Arms, patterns_of, no_arm, arm, FunctionCode}
+use Rattle.kk_core.specs.Codes.{Code, give, tail_call, case, compute, use_of, unpack, inside, Arms, patterns_of, no_arm, arm, FunctionCode}
 use Rattle.kk_core.specs.CoreTyping.{Facts, HaveTypes, HasCodeType, AreArmsTyped}
 use Rattle.kk_counted.specs.CountedCodes as Counted
 use Rattle.kk_counted.specs.CountBounds.{HasAnArm, EachHasAnArm, AllHaveAnArm}
@@ -47,14 +47,6 @@ module _ (positions : PositionTable) (lent : List ℕ) (table : Table) where
     gives left (give x) facts t has =
         (x, through_dups (Gives x) (λ y code is. is) (λ y code is. is) (wants lent (x ∷ []) left) (Counted.give x) refl)
     gives left (tail_call f arguments) facts t has = absurd (let never : false ≡ true = has.0 in cc)
-    gives left (branch x positive negative) facts t has =
-        let first = gives left positive facts t has.1 in
-        let all = own positions lent left (branch x positive negative) in
-        let one = through_dropping (Gives first.0) (λ y code is. is) (λ y code is. is) all (own positions lent left positive) (insert positions lent left positive) first.1 in (
-          first.0,
-          given_first (given_by (dropping all (own positions lent left positive) (insert positions lent left positive)))
-              (given_by (dropping all (own positions lent left negative) (insert positions lent left negative))) first.0 one,
-        )
     gives left (case x decisions arms) facts t has =
         arms_give left (own positions lent left (case x decisions arms)) arms facts x has.0 t has.2 (some_arm table has.0 arms has.3)
     gives left (compute x form arguments rest) facts t has =
@@ -133,11 +125,6 @@ module _ (positions : PositionTable) (lent : List ℕ) (table : Table) where
       well left (tail_call f arguments) tail facts t has =
           through_dups Well (λ y code is. is) (λ y code is. is) (wants lent (used positions (Call f) arguments) left)
           (Counted.tail_call f arguments) (tt, (tt, has_arity (Call f) facts arguments has.1 t has.2 has.3))
-      well left (branch x positive negative) tail facts t has =
-          let all = own positions lent left (branch x positive negative) in
-          let one = through_dropping Well (λ y code is. is) (λ y code is. is) all (own positions lent left positive) (insert positions lent left positive) (well left positive tail facts t has.1) in
-          let two = through_dropping Well (λ y code is. is) (λ y code is. is) all (own positions lent left negative) (insert positions lent left negative) (well left negative tail facts t has.2) in
-          ((one.0, two.0), ((one.1.0, two.1.0), (one.1.1, two.1.1)))
       well left (case x decisions arms) tail facts t has =
           let all = own positions lent left (case x decisions arms) in
           let each = arms_well left all arms tail facts x has.0 t has.2 in

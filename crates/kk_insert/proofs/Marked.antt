@@ -3,7 +3,7 @@ use Rattle.std.proofs.Common.{◌≡◌, ◌⊎◌, inl, inr, ℕ, ◌||◌, Boo
 use Rattle.kk_syntax.specs.Shapes.{is_among, without}
 use Rattle.kk_syntax.specs.PositionsOf.{PositionTable}
 use Rattle.kk_syntax.specs.declared.program.Form.TheVariants.{Call}
-use Rattle.kk_core.specs.Codes.{Code, give, tail_call, branch, case, compute, use_of, unpack, inside, Arms, no_arm, arm}
+use Rattle.kk_core.specs.Codes.{Code, give, tail_call, case, compute, use_of, unpack, inside, Arms, no_arm, arm}
 use Rattle.kk_core.specs.Sizes.{AreBound}
 use Rattle.kk_counted.specs.CountedCodes as Counted
 use Rattle.kk_counted.specs.Marks.{CellMarks, parameter_marks, result_mark, field_marks, HaveMarks, IsFormMarked, Opens, HasMark, HaveMark}
@@ -19,7 +19,6 @@ module _ (marks : CellMarks) (holds : ℕ → Bool) (result : Bool) where
     pub CoreMark : Bool → Code → Type 0
     CoreMark given (give x) = holds x ≡ given
     CoreMark given (tail_call f arguments) = HaveMarks holds arguments (parameter_marks marks f) × (result_mark marks f ≡ result)
-    CoreMark given (branch x positive negative) = (holds x ≡ false) × (CoreMark given positive × CoreMark given negative)
     CoreMark given (case x decisions arms) = ArmsMark given arms
     CoreMark given (compute x form arguments rest) = IsFormMarked marks holds form arguments (holds x) × CoreMark given rest
     CoreMark given (use_of x rest) = CoreMark given rest
@@ -92,20 +91,6 @@ module _ (marks : CellMarks) (holds : ℕ → Bool) (result : Bool) where
           (wants_part lent (used positions (Call f) arguments) left bound
           (λ y is. fine y (used_part positions (Call f) arguments y is)) part)
           (bound_all arguments bound fine, mark)
-      insert_marked left bound given (branch x positive negative) fine part mark = (
-        fine.0,
-        (
-          mark.0,
-          (
-            dropping_marked (own positions lent left (branch x positive negative)) (own positions lent left positive) bound given
-                (insert positions lent left positive) (own_part positions lent left bound (branch x positive negative) fine part)
-                (insert_marked left bound given positive fine.1.0 part mark.1.0),
-            dropping_marked (own positions lent left (branch x positive negative)) (own positions lent left negative) bound given
-                (insert positions lent left negative) (own_part positions lent left bound (branch x positive negative) fine part)
-                (insert_marked left bound given negative fine.1.1 part mark.1.1),
-          ),
-        ),
-      )
       insert_marked left bound given (case x decisions arms) fine part mark = (
         fine.0,
         arms_marked left (own positions lent left (case x decisions arms)) bound given arms fine.1 part
@@ -191,10 +176,6 @@ module _ (marks : CellMarks) (holds : ℕ → Bool) (result : Bool) where
         → Marked more given code
     bound_more bound more given (Counted.give x) part mark = (part x mark.0, mark.1)
     bound_more bound more given (Counted.tail_call f arguments) part mark = (all_more arguments bound more part mark.0, mark.1)
-    bound_more bound more given (Counted.branch x positive negative) part mark = (
-      part x mark.0,
-      (mark.1.0, (bound_more bound more given positive part mark.1.1.0, bound_more bound more given negative part mark.1.1.1)),
-    )
     bound_more bound more given (Counted.case x decisions arms) part mark =
         (part x mark.0, arms_more bound more given arms part mark.1)
     bound_more bound more given (Counted.compute x form arguments rest) part mark = (

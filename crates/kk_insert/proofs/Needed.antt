@@ -9,7 +9,7 @@ use Rattle.kk_source.specs.State.{Value, place, Store, Environment}
 use Rattle.kk_source.specs.Live.{value_of, fields_at, Among, Leads, Reached, is_live, counted as passing, live}
 use Rattle.kk_source.specs.Sound.{AllWithin}
 use Rattle.kk_source.proofs.Live.{among_front, among_back, among_split, live_reached, reached_live}
-use Rattle.kk_core.specs.Codes.{Code, give, tail_call, branch, case, compute, use_of, unpack, inside, Arms, no_arm, arm, FunctionCode}
+use Rattle.kk_core.specs.Codes.{Code, give, tail_call, case, compute, use_of, unpack, inside, Arms, no_arm, arm, FunctionCode}
 use Rattle.kk_core.specs.CoreStates.{Join, CallFrame}
 use Rattle.kk_core.specs.CoreMachine.{needed_after, held_for, held_by_frames}
 use Rattle.kk_core.specs.Needed.{needed, needed_by_arms}
@@ -86,13 +86,6 @@ module _ (positions : PositionTable) (lent : List ℕ) where
           | inl one ↦ in_front arguments later y (used_part positions (Call f) arguments y one)
           | inr two ↦ in_back arguments later y (part y two)
         ]
-    own_needed left later (branch x positive negative) part =
-        owns_one x (before (own positions lent left positive) (own positions lent left negative))
-        (needed later positive ++ needed later negative)
-        (λ y is. elim (before_either (own positions lent left positive) (own positions lent left negative) y is) [
-          | inl one ↦ in_front (needed later positive) (needed later negative) y (own_needed left later positive part y one)
-          | inr two ↦ in_back (needed later positive) (needed later negative) y (own_needed left later negative part y two)
-        ])
     own_needed left later (case x decisions arms) part = owns_one x (own_arms positions lent left arms) (needed_by_arms later arms)
         (own_needed_arms left later arms part)
     own_needed left later (compute x form arguments rest) part =
@@ -173,19 +166,6 @@ module _ (positions : PositionTable) (lent : List ℕ) where
           ])
           (covered_wider later left (owns lent (used positions (Call f) arguments) left)
           (owns_after positions lent (used positions (Call f) arguments) left) covered)
-      need_covered left later tail (branch x positive negative) on covered =
-          covered_one x (needed later positive ++ needed later negative)
-          (before (own positions lent left positive) (own positions lent left negative))
-          (covered_both (needed later positive) (needed later negative)
-          (before (own positions lent left positive) (own positions lent left negative))
-          (covered_wider (needed later positive) (own positions lent left positive)
-          (before (own positions lent left positive) (own positions lent left negative))
-          (λ y is. before_front (own positions lent left positive) (own positions lent left negative) y is)
-          (need_covered left later tail positive on.0 covered))
-          (covered_wider (needed later negative) (own positions lent left negative)
-          (before (own positions lent left positive) (own positions lent left negative))
-          (λ y is. before_back (own positions lent left positive) (own positions lent left negative) y is)
-          (need_covered left later tail negative on.1 covered)))
       need_covered left later tail (case x decisions arms) on covered =
           covered_one x (needed_by_arms later arms) (own_arms positions lent left arms)
           (need_covered_arms left later tail arms on covered)

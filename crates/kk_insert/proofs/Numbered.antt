@@ -3,7 +3,7 @@ use Rattle.std.proofs.Common.{◌≡◌, ℕ, zero, suc, ◌+◌, ◌≤◌, ◌
 use Rattle.kk_syntax.specs.Shapes.{is_among, without}
 use Rattle.kk_syntax.specs.declared.program.Form.TheVariants.{Call}
 use Rattle.kk_syntax.specs.PositionsOf.{PositionTable}
-use Rattle.kk_core.specs.Codes.{Code, give, tail_call, branch, case, compute, use_of, unpack, inside, Arms, no_arm, arm, FunctionCode}
+use Rattle.kk_core.specs.Codes.{Code, give, tail_call, case, compute, use_of, unpack, inside, Arms, no_arm, arm, FunctionCode}
 use Rattle.kk_core.specs.Sizes.{Rise, Ordered, OrderedArms, below, IsOrdered}
 use Rattle.kk_counted.specs.CountedCodes as Counted
 use Rattle.kk_counted.specs.Lowerable.{AreBelow, AreFieldsNumbered, AreNumbered, AreArmsNumbered}
@@ -80,15 +80,6 @@ module _ (positions : PositionTable) (lent : List ℕ) (base : ℕ) where
     numbered left bound names low (tail_call f arguments) high o le under named =
         through_dups (Has names) (kept_dup names) (kept_drop names) (wants lent (used positions (Call f) arguments) left)
         (Counted.tail_call f arguments) tt
-    numbered left bound names low (branch x positive negative) high o le under named =
-        let all = own positions lent left (branch x positive negative) in
-        let more : low ≤ o.0 = ordered_high bound low positive o.0 o.2 in
-        let middle : o.0 ≤ high = ordered_high bound o.0 negative high o.3 in (
-          through_dropping (Has names) (kept_dup names) (kept_drop names) all (own positions lent left positive) (insert positions lent left positive)
-              (numbered left bound names low positive o.0 o.2 (omega (arith, middle, le)) under named),
-          through_dropping (Has names) (kept_dup names) (kept_drop names) all (own positions lent left negative) (insert positions lent left negative)
-              (numbered left bound names o.0 negative high o.3 le (below_more low o.0 bound more under) (below_more low o.0 names more named)),
-        )
     numbered left bound names low (case x decisions arms) high o le under named =
         arms_numbered left (own positions lent left (case x decisions arms)) bound names low arms high o.1 le under named
     numbered left bound names low (compute x form arguments rest) high o le under named =

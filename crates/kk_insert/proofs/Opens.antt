@@ -4,7 +4,7 @@ use Rattle.std.specs.Prelude.{slice_get}
 use Rattle.kk_syntax.specs.declared.program.Form.TheVariants.{Call}
 use Rattle.kk_syntax.specs.Shapes.{is_among, without}
 use Rattle.kk_syntax.specs.PositionsOf.{PositionTable}
-use Rattle.kk_core.specs.Codes.{Code, give, tail_call, branch, case, compute, use_of, unpack, inside, Arms, no_arm, arm, FunctionCode, ProgramCode}
+use Rattle.kk_core.specs.Codes.{Code, give, tail_call, case, compute, use_of, unpack, inside, Arms, no_arm, arm, FunctionCode, ProgramCode}
 use Rattle.kk_core.specs.Unpackings.{unpackings, unpackings_of, UnpackAtMost}
 use Rattle.kk_counted.specs.CountedCodes as Counted
 use Rattle.kk_counted.specs.CountedCodes.{CountedFunction}
@@ -32,15 +32,6 @@ module _ (positions : PositionTable) where
       insert_opens (give x) left = omega (arith, dups_open (wants lent (x ∷ []) left) (Counted.give x))
       insert_opens (tail_call f arguments) left =
           omega (arith, dups_open (wants lent (used positions (Call f) arguments) left) (Counted.tail_call f arguments))
-      insert_opens (branch x positive negative) left =
-          let all : List ℕ = own positions lent left (branch x positive negative) in
-          omega (
-            arith,
-            drops_open (without (own positions lent left positive) all) (insert positions lent left positive),
-            drops_open (without (own positions lent left negative) all) (insert positions lent left negative),
-            insert_opens positive left,
-            insert_opens negative left,
-          )
       insert_opens (case x decisions arms) left = arms_open arms left (own positions lent left (case x decisions arms))
       insert_opens (compute x form arguments rest) left =
           let now : List ℕ = own positions lent left rest in

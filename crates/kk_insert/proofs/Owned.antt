@@ -5,7 +5,7 @@ use Rattle.kk_syntax.specs.declared.program.Form.{Form}
 use Rattle.kk_syntax.specs.declared.program.Form.TheVariants.{Number, Unit as Nothing, ReadByte, PrintText, Unary, Binary, Print, Construct, Call}
 use Rattle.kk_syntax.specs.Shapes.{is_among, without}
 use Rattle.kk_syntax.specs.PositionsOf.{PositionTable, is_lent}
-use Rattle.kk_core.specs.Codes.{Code, give, tail_call, branch, case, compute, use_of, unpack, inside, Arms, no_arm, arm}
+use Rattle.kk_core.specs.Codes.{Code, give, tail_call, case, compute, use_of, unpack, inside, Arms, no_arm, arm}
 use Rattle.kk_counted.specs.CountedCodes.{CountedFunction}
 use Rattle.kk_counted.specs.Spending.{AreEven, AreApart, at_positions, is_owned, used_by, lent_by}
 use Rattle.kk_insert.specs.Insertion.{before, extra, common, used, lends, owns, wants, own, own_arms}
@@ -150,11 +150,6 @@ module _ (positions : PositionTable) (lent : List ℕ) where
         (λ y is. subst (λ z. is_among bound z ≡ true) (one_only x y is) fine) part
     own_part left bound (tail_call f arguments) fine part =
         owns_part (used positions (Call f) arguments) left bound (λ y is. fine y (used_part positions (Call f) arguments y is)) part
-    own_part left bound (branch x positive negative) fine part =
-        owns_part (x ∷ []) (before (own positions lent left positive) (own positions lent left negative)) bound
-        (λ y is. subst (λ z. is_among bound z ≡ true) (one_only x y is) fine.0)
-        (before_part (own positions lent left positive) (own positions lent left negative) bound
-        (own_part left bound positive fine.1.0 part) (own_part left bound negative fine.1.1 part))
     own_part left bound (case x decisions arms) fine part =
         owns_part (x ∷ []) (own_arms positions lent left arms) bound
         (λ y is. subst (λ z. is_among bound z ≡ true) (one_only x y is) fine.0) (own_arms_part left bound arms fine.1 part)
@@ -190,10 +185,6 @@ module _ (positions : PositionTable) (lent : List ℕ) where
     pub own_clear : (left : List ℕ) (code : Code) → Clear left lent → Clear (own positions lent left code) lent
     own_clear left (give x) clear = owns_clear (x ∷ []) left clear
     own_clear left (tail_call f arguments) clear = owns_clear (used positions (Call f) arguments) left clear
-    own_clear left (branch x positive negative) clear =
-        owns_clear (x ∷ []) (before (own positions lent left positive) (own positions lent left negative))
-        (λ y is. elim (before_either (own positions lent left positive) (own positions lent left negative) y is)
-        [ inl here ↦ own_clear left positive clear y here | inr there ↦ own_clear left negative clear y there ])
     own_clear left (case x decisions arms) clear = owns_clear (x ∷ []) (own_arms positions lent left arms)
         (own_arms_clear left arms clear)
     own_clear left (compute x form arguments rest) clear =
@@ -219,9 +210,6 @@ module _ (positions : PositionTable) (lent : List ℕ) where
     pub own_apart : (left : List ℕ) (code : Code) → AreApart left → AreApart (own positions lent left code)
     own_apart left (give x) apart = owns_apart (x ∷ []) left apart
     own_apart left (tail_call f arguments) apart = owns_apart (used positions (Call f) arguments) left apart
-    own_apart left (branch x positive negative) apart =
-        owns_apart (x ∷ []) (before (own positions lent left positive) (own positions lent left negative))
-        (apart_before (own positions lent left positive) (own positions lent left negative) (own_apart left negative apart))
     own_apart left (case x decisions arms) apart = owns_apart (x ∷ []) (own_arms positions lent left arms)
         (own_arms_apart left arms apart)
     own_apart left (compute x form arguments rest) apart =

@@ -6,8 +6,8 @@ use Rattle.kk_source.specs.Live.{value_of}
 use Rattle.kk_source.specs.Actions.{Action, goes, performed}
 use Rattle.kk_source.specs.Notes.{Note}
 use Rattle.kk_core.specs.Decisions.{NodeTree}
-use Rattle.kk_core.specs.Kinds.{IsTruth, TakesKinds}
-use Rattle.kk_counted.specs.CountedCodes.{Counted, give, tail_call, branch, case, compute, inside, read, open_cell, if_unique, dup, drop}
+use Rattle.kk_core.specs.Kinds.{TakesKinds}
+use Rattle.kk_counted.specs.CountedCodes.{Counted, give, tail_call, case, compute, inside, read, open_cell, if_unique, dup, drop}
 use Rattle.kk_counted.specs.Heaps.{Heap, forwards, dup_value, drop_value}
 use Rattle.kk_counted.specs.CountedStates.{CountedSetting, CountedJoin, CountedFrame, CountedControl, running, stopped, stuck, CountedConfiguration, CountedState}
 use Rattle.kk_counted.specs.CountedCosts.{roomy_cost}
@@ -30,7 +30,6 @@ no_test store v decisions = ⊥
 
 -- what a code takes is of the kinds that it asks for, where that is known of cases
 abbrev pub IsFed : (Store → Value → List NodeTree → Type 0) → Heap → CountedControl → Type 0
-IsFed Test heap (running (branch x positive negative) environment joins) = IsTruth (value_of environment x)
 IsFed Test heap (running (case x decisions arms) environment joins) = Test (forwards heap) (value_of environment x) decisions
 IsFed Test heap (running (compute x form arguments rest) environment joins) =
     TakesKinds form (map (value_of environment) arguments)
@@ -56,7 +55,6 @@ passing_by Test setting t passing =
         → IsFed no_test heap (running code environment joins) → IsFed Test heap (running code environment joins)
     by_code heap environment joins (give x) fed = tt
     by_code heap environment joins (tail_call f arguments) fed = tt
-    by_code heap environment joins (branch x positive negative) fed = fed
     by_code heap environment joins (case x decisions arms) fed = absurd fed
     by_code heap environment joins (compute x form arguments rest) fed = fed
     by_code heap environment joins (inside x block rest) fed = tt

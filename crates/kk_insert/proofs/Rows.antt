@@ -3,7 +3,7 @@ use Rattle.std.proofs.Common.{◌≡◌, ℕ, suc, ◌||◌, Bool, true, false, 
 use Rattle.kk_syntax.specs.Shapes.{is_among, without}
 use Rattle.kk_syntax.specs.declared.program.Form.TheVariants.{Call}
 use Rattle.kk_syntax.specs.PositionsOf.{PositionTable}
-use Rattle.kk_core.specs.Codes.{Code, give, tail_call, branch, case, compute, use_of, unpack, inside, Arms, patterns_of, no_arm, arm, FunctionCode}
+use Rattle.kk_core.specs.Codes.{Code, give, tail_call, case, compute, use_of, unpack, inside, Arms, patterns_of, no_arm, arm, FunctionCode}
 use Rattle.kk_core.specs.Decisions.{AreOrderly}
 use Rattle.kk_counted.specs.Arms.{arm_count, HasArms, HaveArms}
 use Rattle.kk_counted.specs.CountedCodes as Counted
@@ -37,10 +37,6 @@ module _ (positions : PositionTable) (lent : List ℕ) where
     insert_has : (left : List ℕ) (code : Code) → HasRows code → HasArms (insert positions lent left code)
     insert_has left (give x) has = dups_arms (wants lent (x ∷ []) left) (Counted.give x) tt
     insert_has left (tail_call f arguments) has = dups_arms (wants lent (used positions (Call f) arguments) left) (Counted.tail_call f arguments) tt
-    insert_has left (branch x positive negative) has = (
-      dropping_arms (own positions lent left (branch x positive negative)) (own positions lent left positive) (insert positions lent left positive) (insert_has left positive has.0),
-      dropping_arms (own positions lent left (branch x positive negative)) (own positions lent left negative) (insert positions lent left negative) (insert_has left negative has.1),
-    )
     insert_has left (case x decisions arms) has = (
       subst (AreOrderly decisions) (sym (arms_counted left (own positions lent left (case x decisions arms)) arms)) has.0,
       insert_have left (own positions lent left (case x decisions arms)) arms has.1,

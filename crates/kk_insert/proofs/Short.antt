@@ -6,7 +6,7 @@ use Rattle.kk_syntax.specs.PositionsOf.{PositionTable}
 use Rattle.kk_syntax.specs.Types.{TypeTree}
 use Rattle.kk_syntax.specs.declared.program.Form.TheVariants.{Call}
 use Rattle.kk_core.specs.CaseLengths.{cases_length, arms_cases_length, all_cases_length}
-use Rattle.kk_core.specs.Codes.{Code, give, tail_call, branch, case, compute, use_of, unpack, inside, Arms, no_arm, arm, FunctionCode, ProgramCode}
+use Rattle.kk_core.specs.Codes.{Code, give, tail_call, case, compute, use_of, unpack, inside, Arms, no_arm, arm, FunctionCode, ProgramCode}
 use Rattle.kk_core.specs.CoreTyping.{Facts, HasCodeType, AreArmsTyped, AreCodesTyped, IsCoreTyped, AreSmall, all_forms, IsSmall, typing_parameters}
 use Rattle.kk_core.specs.Sizes.{Ordered, OrderedArms, below, forms, forms_of_arms, most_variables, most_program_forms}
 use Rattle.kk_counted.proofs.ListLengths.{filter_few, positions_few, numbers_length}
@@ -90,19 +90,6 @@ module _ (table : Table) (few : HasFew table) (positions : PositionTable) (lent 
         let many = same_length facts arguments has.1 has.2 in
         let eight = few.parameters f (record { parameters = has.1; result = t }) has.3 in
         omega (arith, same, wanted, fewer, many, eight)
-    long left bound low (branch x positive negative) high tail facts t o le under most apart has =
-        let code : Code = branch x positive negative in
-        let all = own positions lent left code in
-        let each = own_apart positions lent left code apart in
-        let less = own_below positions lent most_variables left bound low code high o le under most in
-        let more : low ≤ o.0 = ordered_high bound low positive o.0 o.2 in
-        let middle : o.0 ≤ high = ordered_high bound o.0 negative high o.3 in
-        let one = arm_length all (own positions lent left positive) (insert positions lent left positive) each less in
-        let two = arm_length all (own positions lent left negative) (insert positions lent left negative) each less in
-        let first = long left bound low positive o.0 tail facts t o.2 (omega (arith, middle, le)) under most apart has.1 in
-        let second = long left bound o.0 negative high tail facts t o.3 le (more_below low o.0 bound more under) most apart
-        has.2 in
-        omega (arith, one, two, first, second)
     long left bound low (case x decisions arms) high tail facts t o le under most apart has =
         let code : Code = case x decisions arms in
         let all = own positions lent left code in
@@ -200,13 +187,6 @@ module _ (positions : PositionTable) (lent : List ℕ) where
     few_forms left (tail_call f arguments) =
         let same = dups_forms (wants lent (used positions (Call f) arguments) left) (Counted.tail_call f arguments) in
         omega (arith, same)
-    few_forms left (branch x positive negative) =
-        let all = own positions lent left (branch x positive negative) in
-        let one = dropping_forms all (own positions lent left positive) (insert positions lent left positive) in
-        let two = dropping_forms all (own positions lent left negative) (insert positions lent left negative) in
-        let first = few_forms left positive in
-        let second = few_forms left negative in
-        omega (arith, one, two, first, second)
     few_forms left (case x decisions arms) =
         let each = arms_few left (own positions lent left (case x decisions arms)) arms in omega (arith, each)
     few_forms left (compute x form arguments rest) =
@@ -249,7 +229,6 @@ mutual
   computes_few : (code : Counted.Counted) → computes code ≤ forms_in code
   computes_few (Counted.give x) = omega arith
   computes_few (Counted.tail_call f arguments) = omega arith
-  computes_few (Counted.branch x positive negative) = omega (arith, computes_few positive, computes_few negative)
   computes_few (Counted.case x decisions arms) = omega (arith, arms_compute_few arms)
   computes_few (Counted.compute x form arguments rest) = omega (arith, computes_few rest)
   computes_few (Counted.inside x block rest) = omega (arith, computes_few block, computes_few rest)

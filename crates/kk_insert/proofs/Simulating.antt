@@ -13,7 +13,7 @@ use Rattle.kk_source.specs.Live as Places
 use Rattle.kk_source.specs.Live.{value_of}
 use Rattle.kk_source.specs.Actions.{performed}
 use Rattle.kk_source.specs.Notes.{Note}
-use Rattle.kk_core.specs.Codes.{Code, give, tail_call, branch, case, compute, use_of, unpack, inside, FunctionCode}
+use Rattle.kk_core.specs.Codes.{Code, give, tail_call, case, compute, use_of, unpack, inside, FunctionCode}
 use Rattle.kk_core.specs.CoreStates.{CoreSetting, Join, CoreControl, running, stopped, CoreConfiguration, CoreState, no_code, core_start, core_first_state, core_end_at}
 use Rattle.kk_core.specs.CoreMachine.{code_step, core_step_at, core_machine}
 use Rattle.kk_core.specs.Costs.{roomy_control_cost, roomy_core_cost}
@@ -44,7 +44,7 @@ use Rattle.kk_insert.proofs.Owned.{own_part}
 use Rattle.kk_insert.proofs.Programs.{is_fine, inserted_there, inserted_is_spent}
 use Rattle.kk_insert.proofs.Paths.{lower, IsFed, PassingBy, Passing, passing_by, conf, with_input, PathBy, path_by}
 use Rattle.kk_insert.proofs.Standing.{inserted_at, left_of, image_joins, CodeOk, Active, StandsAt, Stands, FollowsBy, Follows}
-use Rattle.kk_insert.proofs.Following.{follows_use, follows_branch, follows_case, follows_inside, follows_unpack}
+use Rattle.kk_insert.proofs.Following.{follows_use, follows_case, follows_inside, follows_unpack}
 use Rattle.kk_insert.proofs.Entering.{follows_give}
 use Rattle.kk_insert.proofs.Calling.{follows_tail}
 use Rattle.kk_insert.proofs.Computing.{follows_compute}
@@ -57,7 +57,6 @@ uses_first _ = 0
 uses_few : (code : Code) → uses_first code ≤ forms code
 uses_few (give x) = omega arith
 uses_few (tail_call f arguments) = omega arith
-uses_few (branch x positive negative) = omega arith
 uses_few (case x decisions arms) = omega arith
 uses_few (compute x form arguments rest) = omega arith
 uses_few (use_of x rest) = omega (arith, uses_few rest)
@@ -147,12 +146,6 @@ module _ (room : ℕ) (setting : CoreSetting) (constructors : List ConstructorTr
           (follows_tail room setting promise from active.lent active.below active.frames active.heap active.store active.waits input f
           arguments environment joins fits.0 ok active.reached sound fits.1 fits.2
           (roomy_control_cost room (running (tail_call f arguments) environment joins) from.store + credit) (omega (arith, saved)))
-      by_code (branch x positive negative) ok sound saved fits tested =
-          widened (branch x positive negative)
-          (follows_branch room setting from active.lent active.below active.frames active.heap active.store active.waits input environment
-          joins active.joins_ok active.reached x positive negative
-          (roomy_control_cost room (running (branch x positive negative) environment joins) from.store + credit) (omega (arith, saved))
-          ok sound fits)
       by_code (case x decisions arms) ok sound saved fits tested =
           follows_case room setting from active.lent active.below active.frames active.heap active.store active.waits input environment
           joins active.joins_ok active.reached Test x decisions arms fits.0 fits.1
@@ -233,7 +226,6 @@ module _ (room : ℕ) (setting : CoreSetting) (constructors : List ConstructorTr
     uses_less (use_of x rest) environment joins from input none = omega arith
     uses_less (give x) environment joins from input none = absurd (omega (arith, none))
     uses_less (tail_call f arguments) environment joins from input none = absurd (omega (arith, none))
-    uses_less (branch x positive negative) environment joins from input none = absurd (omega (arith, none))
     uses_less (case x decisions arms) environment joins from input none = absurd (omega (arith, none))
     uses_less (compute x form arguments rest) environment joins from input none = absurd (omega (arith, none))
     uses_less (unpack x c fields rest) environment joins from input none = absurd (omega (arith, none))
@@ -438,7 +430,6 @@ any_tested room setting constructors promise (running code environment joins) c 
     by_code : (code : Code) → IsTested room setting constructors promise any_test (running code environment joins) c
     by_code (give x) = tt
     by_code (tail_call f arguments) = tt
-    by_code (branch x positive negative) = tt
     by_code (case x decisions arms) = tt
     by_code (compute x form arguments rest) = tt
     by_code (use_of x rest) = tt
@@ -506,7 +497,6 @@ module _ (alike : ℕ → ℕ → Type 0) (fields : ℕ → ℕ) where
             → IsTested room setting constructors promise alike_test (running code environment joins) c
         by_code (give x) kinds = tt
         by_code (tail_call f arguments) kinds = tt
-        by_code (branch x positive negative) kinds = tt
         by_code (case x decisions arms) kinds = kinds
         by_code (compute x form arguments rest) kinds = tt
         by_code (use_of x rest) kinds = tt
@@ -523,7 +513,6 @@ module _ (alike : ℕ → ℕ → Type 0) (fields : ℕ → ℕ) where
           → HasKinds alike fields heap (Counted.running code environment joins)
       by_code (Codes.give x) fed = tt
       by_code (Codes.tail_call f arguments) fed = tt
-      by_code (Codes.branch x positive negative) fed = fed
       by_code (Codes.case x decisions arms) fed = fed
       by_code (Codes.compute x form arguments rest) fed = fed
       by_code (Codes.inside x block rest) fed = tt

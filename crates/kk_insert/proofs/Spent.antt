@@ -5,7 +5,7 @@ use Rattle.kk_syntax.specs.declared.program.Form.{Form}
 use Rattle.kk_syntax.specs.declared.program.Form.TheVariants.{Number, Unit as Nothing, ReadByte, PrintText, Unary, Binary, Print, Construct, Call}
 use Rattle.kk_syntax.specs.Shapes.{is_among, without}
 use Rattle.kk_syntax.specs.PositionsOf.{PositionTable}
-use Rattle.kk_core.specs.Codes.{Code, give, tail_call, branch, case, compute, use_of, unpack, inside, Arms, no_arm, arm, FunctionCode}
+use Rattle.kk_core.specs.Codes.{Code, give, tail_call, case, compute, use_of, unpack, inside, Arms, no_arm, arm, FunctionCode}
 use Rattle.kk_counted.specs.CountedCodes as Counted
 use Rattle.kk_counted.specs.CountedCodes.{CountedFunction}
 use Rattle.kk_counted.specs.Spending.{total, AreEven, AllAmong, AreFresh, AreApart, left_by, HasAsMany, FitsForm, Spends, SpendsAll}
@@ -109,7 +109,6 @@ module _ (positions : PositionTable) (source : List FunctionCode) (functions : L
       → Spent readable left owned code
   more_readable readable left owned (Counted.give x) s = s
   more_readable readable left owned (Counted.tail_call f arguments) s = s
-  more_readable readable left owned (Counted.branch x positive negative) s = s
   more_readable readable left owned (Counted.case x decisions arms) s = s
   more_readable readable left owned (Counted.compute x form arguments rest) s = s
   more_readable readable left owned (Counted.inside x block rest) s = s
@@ -373,34 +372,6 @@ module _ (positions : PositionTable) (source : List FunctionCode) (functions : L
           ),
         )
     spends (tail_call f arguments) bound (Some left) fine on part apart = absurd (cc)
-    spends (branch x positive negative) bound left fine on part apart = (
-      own positions lent (left_by left) (branch x positive negative),
-      (
-        λ weight. refl,
-        (
-          looked_at positions lent x (before (own positions lent (left_by left) positive)
-              (own positions lent (left_by left) negative)),
-          (
-            spends_dropping (own positions lent (left_by left) (branch x positive negative))
-                (own positions lent (left_by left) positive) left (insert positions lent (left_by left) positive)
-                (own_apart positions lent (left_by left) (branch x positive negative) apart)
-                (own_apart positions lent (left_by left) positive apart)
-                (λ y is. owns_after positions lent (x ∷ [])
-                (before (own positions lent (left_by left) positive) (own positions lent (left_by left) negative)) y
-                (before_front (own positions lent (left_by left) positive) (own positions lent (left_by left) negative) y is))
-                (spends positive bound left fine.1.0 on.0 part apart),
-            spends_dropping (own positions lent (left_by left) (branch x positive negative))
-                (own positions lent (left_by left) negative) left (insert positions lent (left_by left) negative)
-                (own_apart positions lent (left_by left) (branch x positive negative) apart)
-                (own_apart positions lent (left_by left) negative apart)
-                (λ y is. owns_after positions lent (x ∷ [])
-                (before (own positions lent (left_by left) positive) (own positions lent (left_by left) negative)) y
-                (before_back (own positions lent (left_by left) positive) (own positions lent (left_by left) negative) y is))
-                (spends negative bound left fine.1.1 on.1 part apart),
-          ),
-        ),
-      ),
-    )
     spends (case x decisions arms) bound left fine on part apart = (
       own positions lent (left_by left) (case x decisions arms),
       (

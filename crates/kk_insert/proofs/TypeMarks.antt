@@ -64,7 +64,7 @@ module _ (table : Table) where
   unit_none : cells unit_type ≡ false
   unit_none = none_any (λ c. makes_cells c unit_type) table.constructors (λ i x is. refl)
 
-  pub bool_none : HasTruths table.constructors → cells bool ≡ false
+  bool_none : HasTruths table.constructors → cells bool ≡ false
   bool_none truths = none_any (λ c. makes_cells c bool) table.constructors
       (λ c k there. each c k there (fields_of (Some k) 0 no_type) refl)
     where

@@ -7,7 +7,7 @@ use Rattle.kk_syntax.specs.GroundTyping.{Table, IsFormTyped}
 use Rattle.kk_syntax.specs.GroundTyping.{Signature}
 use Rattle.kk_syntax.specs.PositionsOf.{PositionTable}
 use Rattle.kk_syntax.specs.Types.{TypeTree}
-use Rattle.kk_core.specs.Codes.{Code, give, tail_call, branch, case, compute, use_of, unpack, inside, Arms, no_arm, arm, FunctionCode, ProgramCode}
+use Rattle.kk_core.specs.Codes.{Code, give, tail_call, case, compute, use_of, unpack, inside, Arms, no_arm, arm, FunctionCode, ProgramCode}
 use Rattle.kk_core.specs.CoreTyping.{Facts, HaveTypes, HasCodeType, AreArmsTyped, IsCodeTyped, AreCodesTyped, IsCoreTyped, AreSmall, IsSmall}
 use Rattle.kk_core.specs.Sizes.{forms, most_forms}
 use Rattle.kk_insert.specs.Insertion.{lent_of}
@@ -85,8 +85,6 @@ module _ (positions : PositionTable) (table : Table) (source : List FunctionCode
           → LendsTails positions lent code → LendsOn positions source lent tail code
       lends_on (give x) tail facts t has lends = tt
       lends_on (tail_call f arguments) tail facts t has lends = (has.0, (lends, takes f facts arguments has.1 t has.2 has.3))
-      lends_on (branch x positive negative) tail facts t has lends =
-          (lends_on positive tail facts t has.1 lends.0, lends_on negative tail facts t has.2 lends.1)
       lends_on (case x decisions arms) tail facts t has lends = arms_lend_on arms tail facts x has.0 t has.2 lends
       lends_on (compute x form arguments rest) tail facts t has lends =
           (form_takes form facts arguments has.1 has.0 has.2 has.3, lends_on rest tail _ t has.4 lends)

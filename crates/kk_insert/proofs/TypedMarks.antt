@@ -1,7 +1,7 @@
 -- The marks of the variables of typed code: each takes that of its type.
 use Rattle.std.proofs.Common.{◌≡◌, ℕ, suc, ◌+◌, ◌≤◌, ◌<◌, ◌==◌, Bool, true, false, List, [], ◌∷◌, ◌++◌, length, map, Option, Some, None, arith, refl, sym, ap, ◌∙◌, subst}
 use Rattle.std.specs.Prelude.{if◌then◌else◌, nat_le, slice_get}
-use Rattle.kk_core.specs.Codes.{Code, give, tail_call, branch, case, compute, use_of, unpack, inside, Arms, no_arm, arm}
+use Rattle.kk_core.specs.Codes.{Code, give, tail_call, case, compute, use_of, unpack, inside, Arms, no_arm, arm}
 use Rattle.kk_core.specs.CoreTyping.{Fact, Facts, fact_in, knowing, typing, typing_parameters, knowing_fields, HaveTypes, HasCodeType, AreArmsTyped}
 use Rattle.kk_core.specs.Sizes.{Rise, Ordered, OrderedArms}
 use Rattle.kk_counted.proofs.Counting.{same, itself}
@@ -9,7 +9,7 @@ use Rattle.kk_counted.specs.Marks.{HaveMarks}
 use Rattle.kk_counted.specs.Spending.{numbers_from}
 use Rattle.kk_insert.proofs.Fine.{ordered_high, arms_high, rise_high}
 use Rattle.kk_insert.proofs.Marked.{CoreMark, ArmsMark}
-use Rattle.kk_insert.proofs.TypeMarks.{cells, bool_none, has_some, form_marked, field_marks_are, parameter_marks_are, result_mark_is}
+use Rattle.kk_insert.proofs.TypeMarks.{cells, has_some, form_marked, field_marks_are, parameter_marks_are, result_mark_is}
 use Rattle.kk_insert.specs.MarkTables.{marks_of_types, AreGround}
 use Rattle.kk_syntax.specs.GroundTyping.{Table, HasTruths}
 use Rattle.kk_syntax.specs.OfType.{IsPatternOf, ArePatternsOf, values_of, field_types}
@@ -151,20 +151,6 @@ module _ (table : Table) (ground : AreGround table.constructors) (truths : HasTr
         result_mark_is table f typed.1 t typed.3 ∙ sym (whole typed.0),
       ),
     )
-    choose bound low high tail facts t (branch x positive negative) typed o whole =
-        let one = choose bound low o.0 tail facts t positive typed.1 o.2 whole in
-        let two = choose bound o.0 high tail facts t negative typed.2 o.3 whole in
-        let first : low ≤ o.0 = ordered_high bound low positive o.0 o.2 in
-        let second : o.0 ≤ high = ordered_high bound o.0 negative high o.3 in (
-          split o.0 one.0 two.0,
-          λ holds fit alike. (
-            (fit x _ typed.0.1).0 ∙ bool_none table truths,
-            (
-              one.1 holds fit (λ y least most. alike y least (omega (arith, most, second)) ∙ split_low o.0 one.0 two.0 y most),
-              two.1 holds fit (λ y least most. alike y (omega (arith, least, first)) most ∙ split_high o.0 one.0 two.0 y least),
-            ),
-          ),
-        )
     choose bound low high tail facts t (case x decisions arms) typed o whole =
         let chosen = choose_arms bound low high tail facts x typed.0 t arms typed.2 o.1 whole in
         (chosen.0, λ holds fit alike. chosen.1 holds fit (fit x _ typed.1.1).0 alike)

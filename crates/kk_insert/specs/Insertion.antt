@@ -5,7 +5,7 @@ use Rattle.kk_syntax.specs.declared.program.Form.{Form}
 use Rattle.kk_syntax.specs.declared.program.Form.TheVariants.{Call}
 use Rattle.kk_syntax.specs.Shapes.{is_among, without}
 use Rattle.kk_syntax.specs.PositionsOf.{PositionTable, is_lent}
-use Rattle.kk_core.specs.Codes.{Code, give, tail_call, branch, case, compute, use_of, unpack, inside, Arms, no_arm, arm, FunctionCode, ProgramCode}
+use Rattle.kk_core.specs.Codes.{Code, give, tail_call, case, compute, use_of, unpack, inside, Arms, no_arm, arm, FunctionCode, ProgramCode}
 use Rattle.kk_counted.specs.CountedCodes as Counted
 use Rattle.kk_counted.specs.CountedCodes.{CountedFunction, CountedProgram}
 use Rattle.kk_counted.specs.Spending.{at_positions, numbers_from, is_owned, used_by, lent_by}
@@ -56,7 +56,6 @@ abbrev mutual
   pub lent_in : List ℕ → Code → List ℕ
   lent_in lent (give x) = lent
   lent_in lent (tail_call f arguments) = lent
-  lent_in lent (branch x positive negative) = lent_in (lent_in lent positive) negative
   lent_in lent (case x decisions arms) = lent_in_arms lent arms
   lent_in lent (compute x form arguments rest) = lent_in lent rest
   lent_in lent (use_of x rest) = lent_in lent rest
@@ -101,7 +100,6 @@ module _ (positions : PositionTable) where
       pub own : List ℕ → Code → List ℕ
       own left (give x) = owns lent (x ∷ []) left
       own left (tail_call f arguments) = owns lent (used (Call f) arguments) left
-      own left (branch x positive negative) = owns lent (x ∷ []) (before (own left positive) (own left negative))
       own left (case x decisions arms) = owns lent (x ∷ []) (own_arms left arms)
       own left (compute x form arguments rest) =
           owns lent (used form arguments) (owns lent (lends form arguments) (without (x ∷ []) (own left rest)))
@@ -118,10 +116,6 @@ module _ (positions : PositionTable) where
       pub insert : List ℕ → Code → Counted.Counted
       insert left (give x) = dups (wants lent (x ∷ []) left) (Counted.give x)
       insert left (tail_call f arguments) = dups (wants lent (used (Call f) arguments) left) (Counted.tail_call f arguments)
-      insert left (branch x positive negative) =
-          Counted.branch x
-          (dropping (own left (branch x positive negative)) (own left positive) (insert left positive))
-          (dropping (own left (branch x positive negative)) (own left negative) (insert left negative))
       insert left (case x decisions arms) =
           Counted.case x decisions (insert_arms left (own left (case x decisions arms)) arms)
       insert left (compute x form arguments rest) =

@@ -25,7 +25,7 @@ abbrev pub own_each : List ℕ → List PartCode → List ℕ
 own_each left [] = left
 own_each left (part ∷ parts) = before part.owned (own_each left parts)
 
--- an arm of a branch before which all of that is owned, and the arms
+-- an arm of a case before which all of that is owned, and the arms
 abbrev pub arm_in : List ℕ → PartCode → Counted
 arm_in all part = dropping all part.owned part.code
 

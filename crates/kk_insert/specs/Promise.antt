@@ -3,7 +3,7 @@ use Rattle.std.specs.Prelude.{◌≡◌, ◌≤◌, ℕ, Bool, true, false, List
 use Rattle.kk_syntax.specs.declared.program.Form.{Form}
 use Rattle.kk_syntax.specs.declared.program.Form.TheVariants.{Call}
 use Rattle.kk_syntax.specs.PositionsOf.{PositionTable}
-use Rattle.kk_core.specs.Codes.{Code, give, tail_call, branch, case, compute, use_of, unpack, inside, Arms, patterns_of, no_arm, arm, FunctionCode, ProgramCode}
+use Rattle.kk_core.specs.Codes.{Code, give, tail_call, case, compute, use_of, unpack, inside, Arms, patterns_of, no_arm, arm, FunctionCode, ProgramCode}
 use Rattle.kk_core.specs.Decisions.{AreOrderly}
 use Rattle.kk_core.specs.Sizes.{IsOrdered, forms, most_forms}
 use Rattle.kk_counted.specs.Spending.{AllAmong}
@@ -27,7 +27,6 @@ module _ (positions : PositionTable) (functions : List FunctionCode) where
     LendsOn lent tail (give x) = Unit {0}
     LendsOn lent tail (tail_call f arguments) =
         (tail ≡ true) × (AllAmong (lends positions (Call f) arguments) lent × TakesAsMany f arguments)
-    LendsOn lent tail (branch x positive negative) = LendsOn lent tail positive × LendsOn lent tail negative
     LendsOn lent tail (case x decisions arms) = AllLendOn lent tail arms
     LendsOn lent tail (compute x form arguments rest) = FormTakes form arguments × LendsOn lent tail rest
     LendsOn lent tail (use_of x rest) = LendsOn lent tail rest
@@ -57,7 +56,6 @@ module _ (positions : PositionTable) (lent : List ℕ) where
     pub LendsTails : Code → Type 0
     LendsTails (give x) = Unit {0}
     LendsTails (tail_call f arguments) = AllAmong (lends positions (Call f) arguments) lent
-    LendsTails (branch x positive negative) = LendsTails positive × LendsTails negative
     LendsTails (case x decisions arms) = AllLendTails arms
     LendsTails (compute x form arguments rest) = LendsTails rest
     LendsTails (use_of x rest) = LendsTails rest
@@ -80,7 +78,6 @@ abbrev mutual
   pub HasRows : Code → Type 0
   HasRows (give x) = Unit {0}
   HasRows (tail_call f arguments) = Unit {0}
-  HasRows (branch x positive negative) = HasRows positive × HasRows negative
   HasRows (case x decisions arms) = AreOrderly decisions (length (patterns_of arms)) × HaveRows arms
   HasRows (compute x form arguments rest) = HasRows rest
   HasRows (use_of x rest) = HasRows rest

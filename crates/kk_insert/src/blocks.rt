@@ -2,9 +2,9 @@ ghost use Rattle.std.specs.Prelude.{◌≡◌, ◌∷◌, [], map, IfOk};
 ghost use Rattle.kk_syntax.specs.PositionsOf.{positions_of};
 ghost use Rattle.kk_core.specs.Codes.{computes, uses, unpacks, runs, step_piece, arm_code};
 ghost use Rattle.kk_core.specs.Codes.{block_code as core_block_code, last_code as core_last_code};
-ghost use Rattle.kk_counted.specs.CountedCodes.{branch, case};
+ghost use Rattle.kk_counted.specs.CountedCodes.{case};
 ghost use Rattle.kk_counted.specs.CountedForms.{block_code, last_code, decisions_of, arms_of};
-ghost use Rattle.kk_insert.specs.Insertion.{before, owns, wants, dups, own, insert, dropping};
+ghost use Rattle.kk_insert.specs.Insertion.{owns, wants, dups, own, insert, dropping};
 ghost use Rattle.kk_insert.specs.Steps.{own_before, insert_before};
 ghost use Rattle.kk_insert.specs.Parts.{own_each, insert_each, part_of, part_in, arm_in};
 
@@ -182,11 +182,6 @@ impl<'a> Insertion<'a> {
                 let copy = Vec::from_slice(self.alloc, arguments)?;
                 self.end(left, &spent, Last::TailCall(*function, copy))
             }
-            kk_core::Last::If(variable, positive, negative) => {
-                let positive = self.block(left, positive)?;
-                let negative = self.block(left, negative)?;
-                self.branch(*variable, positive, negative)
-            }
             kk_core::Last::Case(variable, decisions, arms) => {
                 let parts = self.arms(left, arms)?;
                 let part = self.case(left, *variable, decisions, parts)?;
@@ -208,24 +203,6 @@ impl<'a> Insertion<'a> {
             last,
         };
         put_dups(&mut block, &wanted)?;
-        Ok(Part { owned, block })
-    }
-
-    fn branch(&self, variable: u32, positive: Part, negative: Part) -> Result<Part, NoMemory>
-        ensures owned { IfOk result (λ part. part.owned.items
-            ≡ owns self.now.lent.now (variable ∷ []) (before positive.owned.items negative.owned.items)) }
-        ensures code { IfOk result (λ part. block_code part.block
-            ≡ branch variable (dropping part.owned.items positive.owned.items (block_code positive.block))
-            (dropping part.owned.items negative.owned.items (block_code negative.block))) }
-    {
-        let either = before(self.alloc, &positive.owned, &negative.owned)?;
-        let owned = owns(self.alloc, self.lent, &[variable], &either)?;
-        let positive = Box::new(self.alloc, self.arm(&owned, positive)?)?;
-        let negative = Box::new(self.alloc, self.arm(&owned, negative)?)?;
-        let block = Block {
-            steps: Vec::new(self.alloc),
-            last: Last::If(variable, positive, negative),
-        };
         Ok(Part { owned, block })
     }
 
@@ -252,7 +229,7 @@ impl<'a> Insertion<'a> {
         Ok(Part { owned, block })
     }
 
-    // The arms of a branch, where all of that is owned before it.
+    // The arms of a case, where all of that is owned before it.
     fn arms_behind(&self, all: &[u32], parts: Vec<Part>) -> Result<Vec<Block>, NoMemory>
         ensures { IfOk result (λ arms. map block_code arms.items ≡ map (arm_in all.now) (map part_of parts.items)) }
     {
@@ -263,7 +240,7 @@ impl<'a> Insertion<'a> {
         Ok(arms)
     }
 
-    // An arm, where all of that is owned before its branch.
+    // An arm, where all of that is owned before its case.
     fn arm(&self, all: &[u32], part: Part) -> Result<Block, NoMemory>
         ensures { IfOk result (λ block. block_code block ≡ dropping all.now part.owned.items (block_code part.block)) }
     {

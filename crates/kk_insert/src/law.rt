@@ -52,7 +52,7 @@ pub fn inserted_code_keeps_meaning()
 {}
 
 /// The code of an inserted program has the shape of a typed program in each state, its operators and prints take values without
-/// cells, and it takes values of the kinds that it asks for where core code does: a branch finds a truth, operators and prints find
+/// cells, and it takes values of the kinds that it asks for where core code does: operators and prints find
 /// numbers and truths, and each answer that a test of a case finds is of the type of its edges. The core program must never be
 /// stuck. It is a law, and does nothing.
 pub fn inserted_code_has_its_kinds()

@@ -58,10 +58,6 @@ fn lent_last(alloc: Global, lent: Vec<u32>, last: &Last) -> Result<Vec<u32>, NoM
     match last {
         Last::Return(_) => Ok(lent),
         Last::TailCall(_, _) => Ok(lent),
-        Last::If(_, positive, negative) => {
-            let found = lent_block(alloc, lent, positive)?;
-            lent_block(alloc, found, negative)
-        }
         Last::Case(_, _, arms) => lent_arms(alloc, lent, arms),
     }
 }

@@ -13,6 +13,7 @@ use Rattle.kk_core.specs.Kinds.{AsksTyped}
 use Rattle.kk_norm.specs.Names.{Names}
 use Rattle.kk_norm.specs.Normalized.{Then, final, next, after_use, within, joined, finish, opened, opened_all, IsCode, AreCodes, AreArms, AreCoresOf, IsCoreForm}
 use Rattle.kk_norm.proofs.CoreTyped.{patterns_are}
+use Rattle.kk_norm.proofs.Truths.{truths_ask}
 
 module _ (constructors : List ConstructorTree) where
   -- ---- what comes after
@@ -77,7 +78,13 @@ module _ (constructors : List ConstructorTree) where
     code_asks k names n (apply form es) c is then = codes_ask names n es _ c is (finish_asks k _ form _ then)
     code_asks k names n (branch e positive negative) c is then =
         code_asks _ names n e c is.4
-        (joined_asks k _ _ (code_asks (within k) names _ positive is.0 is.2 (within_asks k), code_asks (within k) names _ negative is.1 is.3 (within_asks k)) then)
+        (joined_asks k _ _ (
+          truths_ask constructors,
+          (
+            code_asks (within k) names _ positive is.0 is.2 (within_asks k),
+            (code_asks (within k) names _ negative is.1 is.3 (within_asks k), tt),
+          ),
+        ) then)
     code_asks k names n (match e rows) c is then =
         code_asks _ names n e c is.4
         (joined_asks k _ _ (

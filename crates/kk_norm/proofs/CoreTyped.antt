@@ -4,7 +4,7 @@ use Rattle.std.specs.Prelude.{slice_get}
 use Rattle.kk_syntax.specs.declared.program.Form.{Form}
 use Rattle.kk_syntax.specs.declared.program.Form.TheVariants.{Call}
 use Rattle.kk_syntax.specs.Covered.{IsCovered}
-use Rattle.kk_syntax.specs.GroundTyping.{Table, IsFormTyped, HasType, HaveTypes, AreRowsTyped, with_pattern, with_parts, types_or_none}
+use Rattle.kk_syntax.specs.GroundTyping.{Table, HasTruths, IsFormTyped, HasType, HaveTypes, AreRowsTyped, with_pattern, with_parts, types_or_none}
 use Rattle.kk_syntax.specs.OfType.{IsPatternOf, ArePatternsOf, values_of, field_types}
 use Rattle.kk_syntax.specs.Outlines.{Outline, outline_of, outlines_of}
 use Rattle.kk_syntax.specs.Patterns.{Pattern, anything, variable as pattern_variable, exactly, constructor, Patterns, no_part, part}
@@ -14,12 +14,13 @@ use Rattle.kk_syntax.specs.Types.{TypeTree}
 use Rattle.kk_syntax.specs.Typing.{Scope, bool, with_binder}
 use Rattle.kk_syntax.specs.Trees.{Tree, variable, apply, branch, match, sequence, Trees, no_tree, tree, Rows, no_row, row}
 use Rattle.kk_core.specs.Choosing.{Decides}
-use Rattle.kk_core.specs.Codes as Core
 use Rattle.kk_core.specs.Codes.{Code, give, tail_call, case, compute, use_of, unpack, inside, Arms, no_arm, arm, patterns_of}
 use Rattle.kk_core.specs.CoreTyping as Typed
 use Rattle.kk_core.specs.CoreTyping.{Facts, fact_in, knowing, typing, knowing_fields, Has, HasCodeType, AreArmsTyped}
 use Rattle.kk_core.specs.Decisions.{NodeTree}
 use Rattle.kk_core.specs.Sizes.{AreBound, Rise, Ordered, OrderedArms}
+use Rattle.kk_core.specs.Truths.{true_pattern, false_pattern, truth_decisions, truth_case}
+use Rattle.kk_core.proofs.Truths.{true_typed, false_typed, truths_covered, truths_decide}
 use Rattle.kk_norm.specs.Names.{Names, name_of, named}
 use Rattle.kk_norm.specs.Normalized.{part_count, pattern_size, parts_size, numbers, Then, final, next, size, size_all, size_rows, atom, atoms, after, after_use, within, joined, finish, finish_call, opened, opened_all, pattern_names, parts_names, patterns_in, IsCode, AreCodes, AreArms}
 use Rattle.kk_norm.proofs.Facts.{known_in, has_here, fact_is_known, has_is_known, Grows, SameFacts, grows_not, grows_more, grows_one, same_grows, grows_known, AreNamed, named_later, named_one, named_bound, FieldsKnown, AsMany, fields_still_known, fields_known, known_fields, numbers_rise, fields_as_many, fact_here}
@@ -49,8 +50,6 @@ mutual
   ordered_more : (xs ys : List ℕ) (low : ℕ) (c : Code) (high : ℕ) → MoreNames xs ys → Ordered xs low c high → Ordered ys low c high
   ordered_more xs ys low (give x) high more is = (more x is.0, is.1)
   ordered_more xs ys low (tail_call f arguments) high more is = (bound_more xs ys arguments more is.0, is.1)
-  ordered_more xs ys low (Core.branch x positive negative) high more is =
-      (is.0, more x is.1, ordered_more xs ys low positive is.0 more is.2, ordered_more xs ys is.0 negative high more is.3)
   ordered_more xs ys low (case x decisions arms) high more is = (more x is.0, arms_more xs ys low arms high more is.1)
   ordered_more xs ys low (compute x form arguments rest) high more is =
       (bound_more xs ys arguments more is.0, is.1, ordered_more (x ∷ xs) (x ∷ ys) (x + 1) rest high (more_one xs ys x more) is.2)
@@ -100,16 +99,6 @@ fits_compute : (table : Table) (tail : Bool) (facts : Facts) (low x high : ℕ) 
 fits_compute table tail facts low x high form xs rest ts s t have is le fits =
     record { typed = (s, ts, have, is, fits.typed); ordered = (types_are_bound facts xs ts have, le, fits.ordered) }
 
-fits_branch : (table : Table) (tail : Bool) (facts : Facts) (low x middle high : ℕ) (positive negative : Code) (t : TypeTree)
-    → Has facts x bool → Fits table tail facts low positive middle t → Fits table tail facts middle negative high t
-    → Fits table tail facts low (Core.branch x positive negative) high t
-fits_branch table tail facts low x middle high positive negative t has first second =
-    record {
-      typed = (has, first.typed, second.typed);
-      ordered =
-          (middle, has_is_known facts x bool has, first.ordered, second.ordered);
-    }
-
 fits_inside : (table : Table) (tail : Bool) (facts : Facts) (low x high : ℕ) (block rest : Code) (s t : TypeTree)
     → Fits table false facts low block x s → Fits table tail (typing x s facts) (x + 1) rest high t
     → Fits table tail facts low (inside x block rest) high t
@@ -141,6 +130,19 @@ fits_arm table tail facts a u low middle high pattern body rest t has of first o
         others.ordered,
       );
     }
+
+fits_truth : (table : Table) → HasTruths table.constructors → (tail : Bool) (facts : Facts) (low x middle high : ℕ)
+    (positive negative : Code) (t : TypeTree)
+    → Has facts x bool → Fits table tail (knowing x bool true_pattern facts) low positive middle t
+    → Fits table tail (knowing x bool false_pattern facts) middle negative high t
+    → Fits table tail facts low (truth_case x positive negative) high t
+fits_truth table truths tail facts low x middle high positive negative t has first second =
+    fits_case table tail facts low x high truth_decisions (arm true_pattern positive (arm false_pattern negative no_arm)) bool t has
+    (fits_arm table tail facts x bool low middle high true_pattern positive (arm false_pattern negative no_arm) t has
+    (true_typed table.constructors truths) first
+    (fits_arm table tail facts x bool middle high high false_pattern negative no_arm t has
+    (false_typed table.constructors truths) second (record { typed = tt; ordered = omega arith })))
+    (truths_covered table.constructors truths) (truths_decide table.constructors)
 
 -- ---- what comes after an expression
 
@@ -354,89 +356,97 @@ patterns_are constructors k names a n (row pattern body rest) arms are =
 
 mutual
   -- with the names of a scope's variables, the code fits where what comes after it does
-  pub code_fits : (table : Table) (tail : Bool) (k : Then) (names : Names) (n : ℕ) (e : Tree) (c : Code) (scope : Scope)
+  pub code_fits : (table : Table) → HasTruths table.constructors
+      → (tail : Bool) (k : Then) (names : Names) (n : ℕ) (e : Tree) (c : Code) (scope : Scope)
       (facts : Facts) (low high : ℕ) (s t : TypeTree)
       → IsCode table.constructors k names n e c → HasType table scope e s → AreNamed names scope facts n → low ≤ n
       → Goes table tail facts n k (atom names n e) (n + size e) s high t
       → Fits table tail facts low c high t
-  code_fits table tail k names n (variable x) c scope facts low high s t coded has are le goes =
+  code_fits table truths tail k names n (variable x) c scope facts low high s t coded has are le goes =
       let here = are x s has in
       subst (λ (code : Code). Fits table tail facts low code high t) (sym coded)
       (fits_after_use table tail facts n low (name_of names x) (n + 0) high k s t goes here.0 (omega (arith, here.1)) (omega arith))
-  code_fits table tail k names n (apply form es) c scope facts low high s t coded has are le goes =
+  code_fits table truths tail k names n (apply form es) c scope facts low high s t coded has are le goes =
       let x : ℕ = n + size_all es in
-      codes_fit table tail names n es (finish k x form (atoms names n es)) c scope facts low high has.0 t coded has.1 are le
+      codes_fit table truths tail names n es (finish k x form (atoms names n es)) c scope facts low high has.0 t coded has.1 are le
       (λ later low_later grows have room. fits_form table tail facts later n low_later x (n + (size_all es + 1)) high k form
       (atoms names n es) has.0 s t goes grows have has.2 (omega arith) room (omega arith))
-  code_fits table tail k names n (branch e positive negative) c scope facts low high s t coded has are le goes =
+  code_fits table truths tail k names n (branch e positive negative) c scope facts low high s t coded has are le goes =
       let a : ℕ = atom names n e in
       let second : ℕ = n + size e in
       let third : ℕ = n + size e + size positive in
       let x : ℕ = n + size e + size positive + size negative in
-      let own : Code = Core.branch a coded.0 coded.1 in
-      code_fits table tail (next (joined k x own)) names n e c scope facts low high bool t coded.4 has.0 are le
+      let own : Code = truth_case a coded.0 coded.1 in
+      code_fits table truths tail (next (joined k x own)) names n e c scope facts low high bool t coded.4 has.0 are le
       (λ later low_later grows has_a less room.
       fits_joined table tail facts later n low_later x (n + (size e + size positive + size negative + 1)) high k own s t goes grows
       (omega arith) (omega arith)
       (λ inner top u inside_goes.
-      fits_branch table inner later low_later a third top coded.0 coded.1 u has_a
-      (code_fits table inner (within k) names second positive coded.0 scope later low_later third s u coded.2 has.1
-      (named_later names scope facts later n second are grows (omega arith)) room
-      (goes_within table inner later later n second x (atom names second positive) x third top third k s u inside_goes
+      let is_true : Facts = knowing a bool true_pattern later in
+      let is_false : Facts = knowing a bool false_pattern later in
+      fits_truth table truths inner later low_later a third top coded.0 coded.1 u has_a
+      (code_fits table truths inner (within k) names second positive coded.0 scope is_true low_later third s u coded.2 has.1
+      (named_later names scope facts is_true n second are
+      (grows_more n n facts later is_true (omega arith) grows (grows_known n a bool true_pattern later has_a)) (omega arith)) room
+      (goes_within table inner later is_true n second x (atom names second positive) x third top third k s u inside_goes
       (omega arith)))
-      (code_fits table inner (within k) names third negative coded.1 scope later third top s u coded.3 has.2
-      (named_later names scope facts later n third are grows (omega arith)) (omega arith)
-      (goes_within table inner later later n third x (atom names third negative) x
+      (code_fits table truths inner (within k) names third negative coded.1 scope is_false third top s u coded.3 has.2
+      (named_later names scope facts is_false n third are
+      (grows_more n n facts later is_false (omega arith) grows (grows_known n a bool false_pattern later has_a)) (omega arith))
+      (omega arith)
+      (goes_within table inner later is_false n third x (atom names third negative) x
       (third + size negative) top top k s u inside_goes (within_high table inner later n x x top k s u inside_goes)))))
-  code_fits table tail k names n (match e of) c scope facts low high s t coded has are le goes =
+  code_fits table truths tail k names n (match e of) c scope facts low high s t coded has are le goes =
       let a : ℕ = atom names n e in
       let second : ℕ = n + size e in
       let x : ℕ = n + size e + size_rows of in
       let own : Code = case a coded.0 coded.1 in
       let same : patterns_of coded.1 ≡ patterns_in of
       = patterns_are table.constructors (within k) names a second of coded.1 coded.3 in
-      code_fits table tail (next (joined k x own)) names n e c scope facts low high has.0 t coded.4 has.1 are le
+      code_fits table truths tail (next (joined k x own)) names n e c scope facts low high has.0 t coded.4 has.1 are le
       (λ later low_later grows has_a less room.
       fits_joined table tail facts later n low_later x (n + (size e + size_rows of + 1)) high k own s t goes grows (omega arith)
       (omega arith)
       (λ inner top u inside_goes.
       fits_case table inner later low_later a top coded.0 coded.1 has.0 u has_a
-      (arms_fit table inner k names a second of coded.1 scope later low_later x top has.0 s u n x coded.3 has.2
+      (arms_fit table truths inner k names a second of coded.1 scope later low_later x top has.0 s u n x coded.3 has.2
       (named_later names scope facts later n second are grows (omega arith)) has_a less room inside_goes
       (within_high table inner later n x x top k s u inside_goes))
       (subst (λ (outlines : List Outline). IsCovered (values_of table.constructors) has.0 outlines)
       (asked_are of ∙ ap (map outline_of) (sym same)) has.3)
       (subst (λ (patterns : List Pattern). Decides table.constructors patterns coded.0) (sym same) coded.2.decides)))
-  code_fits table tail k names n (sequence binder first rest) c scope facts low high s t coded has are le goes =
+  code_fits table truths tail k names n (sequence binder first rest) c scope facts low high s t coded has are le goes =
       let a : ℕ = atom names n first in
       let from : ℕ = n + size first in
       let bound_names : Names = named (variable_of binder) a names in
-      code_fits table tail (next coded.0) names n first c scope facts low high has.0 t coded.2 has.1 are le
+      code_fits table truths tail (next coded.0) names n first c scope facts low high has.0 t coded.2 has.1 are le
       (λ later low_later grows has_a less room.
-      code_fits table tail k bound_names from rest coded.0 (with_binder binder has.0 scope) later low_later high s t coded.1 has.2
+      code_fits table truths tail k bound_names from rest coded.0 (with_binder binder has.0 scope) later low_later high s t coded.1
+      has.2
       (named_bound binder a has.0 names scope later from
       (named_later names scope facts later n from are grows (omega arith)) has_a less)
       room
       (goes_later table tail facts later n from (atom bound_names from rest) (n + (size first + size rest))
       (from + size rest) high k s t goes grows (omega arith) (omega arith)))
 
-  codes_fit : (table : Table) (tail : Bool) (names : Names) (n : ℕ) (es : Trees) (last c : Code) (scope : Scope) (facts : Facts)
+  codes_fit : (table : Table) → HasTruths table.constructors
+      → (tail : Bool) (names : Names) (n : ℕ) (es : Trees) (last c : Code) (scope : Scope) (facts : Facts)
       (low high : ℕ) (ts : List TypeTree) (t : TypeTree)
       → AreCodes table.constructors names n es last c → HaveTypes table scope es ts → AreNamed names scope facts n → low ≤ n
       → ((later : Facts) (low_later : ℕ) → Grows n facts later → Typed.HaveTypes later (atoms names n es) ts
       → low_later ≤ n + size_all es → Fits table tail later low_later last high t)
       → Fits table tail facts low c high t
-  codes_fit table tail names n no_tree last c scope facts low high [] t coded have are le behind =
+  codes_fit table truths tail names n no_tree last c scope facts low high [] t coded have are le behind =
       subst (λ (code : Code). Fits table tail facts low code high t) (sym coded)
       (behind facts low (grows_not n facts) tt (omega arith))
-  codes_fit table tail names n no_tree last c scope facts low high (s ∷ ts) t coded have are le behind = absurd have
-  codes_fit table tail names n (tree first rest) last c scope facts low high [] t coded have are le behind = absurd have
-  codes_fit table tail names n (tree first rest) last c scope facts low high (s ∷ ts) t coded have are le behind =
+  codes_fit table truths tail names n no_tree last c scope facts low high (s ∷ ts) t coded have are le behind = absurd have
+  codes_fit table truths tail names n (tree first rest) last c scope facts low high [] t coded have are le behind = absurd have
+  codes_fit table truths tail names n (tree first rest) last c scope facts low high (s ∷ ts) t coded have are le behind =
       let a : ℕ = atom names n first in
       let from : ℕ = n + size first in
-      code_fits table tail (next coded.0) names n first c scope facts low high s t coded.2 have.0 are le
+      code_fits table truths tail (next coded.0) names n first c scope facts low high s t coded.2 have.0 are le
       (λ later low_later grows has_a less room.
-      codes_fit table tail names from rest last coded.0 scope later low_later high ts t coded.1 have.1
+      codes_fit table truths tail names from rest last coded.0 scope later low_later high ts t coded.1 have.1
       (named_later names scope facts later n from are grows (omega arith)) room
       (λ last_facts last_low last_grows last_have last_room.
       behind last_facts last_low (grows_more n from facts later last_facts (omega arith) grows last_grows)
@@ -444,16 +454,17 @@ mutual
       (omega arith)))
 
   -- the arms of a match whose numbers end below `to`
-  arms_fit : (table : Table) (tail : Bool) (k : Then) (names : Names) (a n : ℕ) (of : Rows) (arms : Arms) (scope : Scope)
+  arms_fit : (table : Table) → HasTruths table.constructors
+      → (tail : Bool) (k : Then) (names : Names) (a n : ℕ) (of : Rows) (arms : Arms) (scope : Scope)
       (facts : Facts) (low to high : ℕ) (u s t : TypeTree) (m x : ℕ)
       → AreArms table.constructors (within k) names a n of arms → AreRowsTyped table scope of u s → AreNamed names scope facts n
       → Has facts a u → a < n → low ≤ n
       → Goes table tail facts m (within k) x x s high t → n + size_rows of ≤ high
       → FitArms table tail facts a u low arms high t
-  arms_fit table tail k names a n no_row arms scope facts low to high u s t m x coded typed are has less le goes room =
+  arms_fit table truths tail k names a n no_row arms scope facts low to high u s t m x coded typed are has less le goes room =
       subst (λ (all : Arms). FitArms table tail facts a u low all high t) (sym coded) (record { typed = tt; ordered = omega arith })
-  arms_fit table tail k names a n (row pattern body rest) arms scope facts low to high u s t m x coded typed are has less le goes
-      room =
+  arms_fit table truths tail k names a n (row pattern body rest) arms scope facts low to high u s t m x coded typed are has less le
+      goes room =
       let from : ℕ = n + pattern_size pattern in
       let end : ℕ = from + size body in
       let names_here : Names = pattern_names a n pattern names in
@@ -463,9 +474,9 @@ mutual
       (opened_fits table tail a n low pattern names scope inside_facts coded.0 u end t (fact_here a u pattern facts) less
       (named_later names scope facts inside_facts n n are (grows_known n a u pattern facts has) (omega arith)) le typed.0
       (λ later low_later same named_so low_le.
-      code_fits table tail (within k) names_here from body coded.0
+      code_fits table truths tail (within k) names_here from body coded.0
       (with_pattern table.constructors pattern u scope) later low_later end s t coded.3 typed.1 named_so low_le
       (goes_within table tail facts later m from x (atom names_here from body) x end high end k s t goes (omega arith))))
-      (arms_fit table tail k names a end rest coded.1 scope facts end to high u s t m x coded.4 typed.2
+      (arms_fit table truths tail k names a end rest coded.1 scope facts end to high u s t m x coded.4 typed.2
       (named_later names scope facts facts n end are (λ y r below known. known) (omega arith)) has (omega arith) (omega arith) goes
       (omega arith)))

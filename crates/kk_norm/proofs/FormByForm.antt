@@ -10,10 +10,11 @@ use Rattle.kk_syntax.specs.Programs.{ConstructorTree, FunctionTree, ProgramTree}
 use Rattle.kk_syntax.specs.Shapes.{nodes_of, nodes_of_all, nodes_of_rows, nodes_of_pattern, nodes_of_patterns, greatest_of, greatest_nodes, variable_of}
 use Rattle.kk_syntax.specs.Trees.{Tree, variable, apply, branch, match, sequence, Trees, no_tree, tree, Rows, no_row, row}
 use Rattle.kk_core.specs.Cases.{EachCase, EachCaseOfArms, EachCaseOfAll, IsWhole, CasesAreWhole, IsLean, CasesAreLean}
-use Rattle.kk_core.specs.Codes as Core
 use Rattle.kk_core.specs.Codes.{Code, give, tail_call, case, compute, use_of, unpack, inside, Arms, patterns_of, no_arm, arm, FunctionCode, ProgramCode}
 use Rattle.kk_core.specs.Decisions.{NodeTree}
+use Rattle.kk_core.specs.Truths.{truth_patterns, truth_decisions, truth_case}
 use Rattle.kk_core.proofs.FewParts.{MostSeen, HasFewParts, HaveFewParts}
+use Rattle.kk_core.proofs.Truths.{truths_orderly, truths_look, truths_lean}
 use Rattle.kk_norm.specs.Deciding.{AreDecisions}
 use Rattle.kk_norm.specs.Names.{Names, name_of, named}
 use Rattle.kk_norm.specs.Normalized.{part_count, pattern_size, Then, final, next, size, size_all, size_rows, atom, atoms, after, after_use, within, joined, finish, finish_call, numbers, opened, opened_all, pattern_names, patterns_in, IsCode, AreCodes, AreArms, AreCoresOf, IsCoreForm}
@@ -53,7 +54,7 @@ patterns_few (row pattern body rest) =
 pub record HoldsByForms (constructors : List ConstructorTree) (most : ℕ) (Q : Code → Type 0) (Each : Arms → Type 0) : Type 0 where
   pub gives : (x : ℕ) → Q (give x)
   pub tails : (f : ℕ) (xs : List ℕ) → length xs < most → Q (tail_call f xs)
-  pub branches : (x : ℕ) (positive negative : Code) → Q positive → Q negative → Q (Core.branch x positive negative)
+  pub truths : (x : ℕ) (positive negative : Code) → 3 < most → Q positive → Q negative → Q (truth_case x positive negative)
   pub cases : (x : ℕ) (decisions : List NodeTree) (arms : Arms) → AreDecisions constructors (patterns_of arms) decisions
       → sum_by nodes_of_pattern (patterns_of arms) < most → Each arms → Q (case x decisions arms)
   pub computes : (x : ℕ) (form : Form) (xs : List ℕ) (rest : Code) → length xs < most → Q rest → Q (compute x form xs rest)
@@ -124,13 +125,14 @@ module _ (constructors : List ConstructorTree) (most : ℕ) (Q : Code → Type 0
         (finish_holds k (n + size_all es) form (atoms names n es) (omega (arith, few, atoms_few names n es)) later)
     code_holds k names n (branch e positive negative) c coded few later =
         let m : ℕ = n + size e + size positive + size negative in
-        let own : Code = Core.branch (atom names n e) coded.0 coded.1 in
+        let own : Code = truth_case (atom names n e) coded.0 coded.1 in
         let first : Q coded.0
         = code_holds (within k) names (n + size e) positive coded.0 coded.2 (omega (arith, few)) (within_holds k) in
         let second : Q coded.1
         = code_holds (within k) names (n + size e + size positive) negative coded.1 coded.3 (omega (arith, few)) (within_holds k) in
         code_holds (next (joined k m own)) names n e c coded.4 (omega (arith, few))
-        (joined_holds k m own (holds.branches (atom names n e) coded.0 coded.1 first second) later)
+        (joined_holds k m own (holds.truths (atom names n e) coded.0 coded.1
+        (omega (arith, few, tree_some e, tree_some positive, tree_some negative)) first second) later)
     code_holds k names n (match e of) c coded few later =
         let m : ℕ = n + size e + size_rows of in
         let a : ℕ = atom names n e in
@@ -189,13 +191,14 @@ module _ (constructors : List ConstructorTree) (most : ℕ) (Q : Code → Type 0
 -- ---- cases
 
 cases_hold : (constructors : List ConstructorTree) (most : ℕ) (P : List NodeTree → List Pattern → Type 0)
+    → P truth_decisions truth_patterns
     → ((decisions : List NodeTree) (patterns : List Pattern) → AreDecisions constructors patterns decisions → P decisions patterns)
     → HoldsByForms constructors most (EachCase P) (EachCaseOfArms P)
-cases_hold constructors most P each =
+cases_hold constructors most P truths each =
     record {
       gives = λ x. tt;
       tails = λ f xs few. tt;
-      branches = λ x positive negative first second. (first, second);
+      truths = λ x positive negative large first second. (truths, (first, (second, tt)));
       cases = λ x decisions arms are few inner. (each decisions (patterns_of arms) are, inner);
       computes = λ x form xs rest few later. later;
       uses = λ x rest later. later;
@@ -206,19 +209,21 @@ cases_hold constructors most P each =
     }
 
 each_case : (program : ProgramTree) (code : ProgramCode) (P : List NodeTree → List Pattern → Type 0) → IsCoreForm program code
+    → P truth_decisions truth_patterns
     → ((decisions : List NodeTree) (patterns : List Pattern) → AreDecisions program.constructors patterns decisions → P decisions patterns)
     → EachCaseOfAll P code
-each_case program code P form each =
+each_case program code P form truths each =
     cores_hold program.constructors (greatest_nodes program) (EachCase P) (EachCaseOfArms P)
-    (cases_hold program.constructors (greatest_nodes program) P each) program.functions code.functions form.functions (omega arith)
+    (cases_hold program.constructors (greatest_nodes program) P truths each) program.functions code.functions form.functions
+    (omega arith)
 
 -- each case of a core form has an arm for each row of its decisions
 pub are_whole : (program : ProgramTree) (code : ProgramCode) → IsCoreForm program code → CasesAreWhole code
-are_whole program code form = each_case program code IsWhole form (λ decisions patterns are. are.orderly)
+are_whole program code form = each_case program code IsWhole form truths_orderly (λ decisions patterns are. are.orderly)
 
 -- and looks at little
 pub are_lean : (program : ProgramTree) (code : ProgramCode) → IsCoreForm program code → CasesAreLean code
-are_lean program code form = each_case program code IsLean form (λ decisions patterns are. are.lean)
+are_lean program code form = each_case program code IsLean form truths_lean (λ decisions patterns are. are.lean)
 
 -- ---- parts
 
@@ -229,13 +234,23 @@ most_by most = record { parts = most; looks = most * (most + 1) }
 one_more : (few most : ℕ) → few ≤ most → few + 1 ≤ most + 1
 one_more few most le = omega (arith, le)
 
+two_at_least : (most : ℕ) → 3 < suc most → 2 ≤ most
+two_at_least most large = omega (arith, large)
+
 parts_hold : (constructors : List ConstructorTree) (most : ℕ)
     → HoldsByForms constructors (suc most) (HasFewParts (most_by most)) (HaveFewParts (most_by most))
 parts_hold constructors most =
     record {
       gives = λ x. tt;
       tails = λ f xs few. omega (arith, few);
-      branches = λ x positive negative first second. (first, second);
+      truths = λ x positive negative large first second. (
+        (λ cells v steps k. omega (
+          arith,
+          truths_look cells v steps k,
+          mul-le-mul (two_at_least most large) (one_more 2 most (two_at_least most large)),
+        )),
+        (first, (second, tt)),
+      );
       cases = λ x decisions arms are few inner. (
         (λ cells v steps k. let small : sum_by nodes_of_pattern (patterns_of arms) ≤ most = omega (arith, few) in omega (
           arith,

@@ -6,10 +6,10 @@ use Rattle.kk_syntax.specs.Patterns.{Pattern, anything, variable as pattern_vari
 use Rattle.kk_syntax.specs.Shapes.{nodes_of, nodes_of_all, nodes_of_rows, nodes_of_pattern, nodes_of_patterns, variable_of}
 use Rattle.kk_syntax.specs.Trees.{Tree, variable, apply, branch, match, sequence, Trees, no_tree, tree, Rows, no_row, row}
 use Rattle.kk_syntax.specs.Programs.{ConstructorTree, FunctionTree, ProgramTree}
-use Rattle.kk_core.specs.Codes as Core
 use Rattle.kk_core.specs.Codes.{Code, case, Arms, FunctionCode, ProgramCode}
 use Rattle.kk_core.specs.CoreTyping.{IsFunctionSmall, AreSmall, all_forms, IsSmall}
 use Rattle.kk_core.specs.Sizes.{forms, forms_of_arms}
+use Rattle.kk_core.specs.Truths.{truth_case}
 use Rattle.kk_norm.specs.Names.{Names, name_of, named}
 use Rattle.kk_norm.specs.Normal.{IsFunctionWithin, AreWithin, all_nodes, IsWithin}
 use Rattle.kk_norm.proofs.Lengths.{all_short}
@@ -92,7 +92,7 @@ mutual
   opened_all_small a n (part first others) rest =
       omega (arith, opened_small a n first (opened_all (a + 1) (n + pattern_size first) others rest), opened_all_small (a + 1) (n + pattern_size first) others rest)
 
-branch_sum : (e p q first second own inner outer whole : ℕ) → whole ≤ 2 * e + own → own ≤ (first + second + 1) + (outer + 1) → first ≤ 2 * p + inner → second ≤ 2 * q + inner → inner ≡ 0
+branch_sum : (e p q first second own inner outer whole : ℕ) → whole ≤ 2 * e + own → own ≤ (first + (second + 0) + 1) + (outer + 1) → first ≤ 2 * p + inner → second ≤ 2 * q + inner → inner ≡ 0
     → whole ≤ 2 * (e + p + q + 1) + outer
 branch_sum e p q first second own inner outer whole one two three four none = omega arith
 
@@ -102,7 +102,7 @@ mutual
   forms_small constructors k names n (apply form es) c coded =
       omega (arith, forms_all_small constructors names n es (finish k (n + size_all es) form (atoms names n es)) c coded, forms_finish k (n + size_all es) form (atoms names n es))
   forms_small constructors k names n (branch e positive negative) c coded =
-      let own : Code = Core.branch (atom names n e) coded.0 coded.1 in
+      let own : Code = truth_case (atom names n e) coded.0 coded.1 in
       let m : ℕ = n + size e + size positive + size negative in
       branch_sum (nodes_of e) (nodes_of positive) (nodes_of negative) (forms coded.0) (forms coded.1) (forms (joined k m own)) (forms_then (within k)) (forms_then k) (forms c)
       (forms_small constructors (next (joined k m own)) names n e c coded.4) (forms_joined k m own)

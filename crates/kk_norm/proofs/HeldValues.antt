@@ -5,17 +5,17 @@ use Rattle.kk_syntax.specs.Shapes.{free, free_all, free_rows, is_among, without}
 use Rattle.kk_source.specs.State.{Value, place, Store, Environment, Frame, arguments, branches, rows, statement, call}
 use Rattle.kk_source.specs.Live.{value_of, awaited, held_by_all, Among, live}
 use Rattle.kk_source.proofs.Live as Places
-use Rattle.kk_core.specs.Codes as Core
 use Rattle.kk_core.specs.Codes.{Code, case}
 use Rattle.kk_core.specs.CoreStates.{Join, CallFrame}
 use Rattle.kk_core.specs.CoreMachine.{needed_after, held_for, held_by_frames}
 use Rattle.kk_core.specs.Needed.{needed, needed_by_arms}
+use Rattle.kk_core.specs.Truths.{truth_case}
 use Rattle.kk_norm.specs.Names.{Names, name_of, named}
 use Rattle.kk_norm.specs.Normalized.{Then, final, next, size, size_rows, atom, atoms, after, within, joined, finish}
 use Rattle.kk_norm.proofs.Bounds.{Bounds}
 use Rattle.kk_norm.proofs.Variables.{or_else, Stands, AllBelow, among_left, among_right, among_split, among_head, among_without, left_over, first_among, later_among, not_alone, another}
 use Rattle.kk_norm.proofs.Waits.{Goal, nowhere, returns, goes_on, goal_of, Fresh, fresh_top, Waits}
-use Rattle.kk_norm.proofs.NeededVariables.{IsNameOf, NeededAfter, NeededThen, needed_within, joined_needs, joined_needs_all, out_of_branch, into_branch, form_needs, form_needs_all, after_form, form_after, awaited_name, name_awaited, choice_needs, case_needs, Needs, arms_keep, after_end, only, only_all, only_rows, kept, kept_all, named_needed, named_needed_all, named_needed_rows}
+use Rattle.kk_norm.proofs.NeededVariables.{IsNameOf, NeededAfter, NeededThen, needed_within, joined_needs, joined_needs_all, out_of_branch, into_branch, form_needs, form_needs_all, after_form, form_after, awaited_name, name_awaited, choice_needs, case_needs, Needs, arms_keep, end_is, after_end, only, only_all, only_rows, kept, kept_all, named_needed, named_needed_all, named_needed_rows}
 
 -- ---- what is needed where a value goes
 
@@ -153,7 +153,7 @@ module _ (at : ℕ) where
       let inner : List ℕ = needed_within later k m in
       let y : ℕ = is.0 in
       let own : List Value = map (value_of environment) (free positive ++ free negative) in
-      let own_code : Code = Core.branch a waits.first waits.second in
+      let own_code : Code = truth_case a waits.first waits.second in
       let need : Needs later (joined k m own_code) y = subst (λ (code : Code). Needs later code y) waits.rest_is is.1.0 in
       let onward : NeededAfter later k m y → Among (own ++ held_by_all fs) at
       = λ after_it. Places.among_back own (held_by_all fs) at
@@ -166,9 +166,11 @@ module _ (at : ℕ) where
       (λ in_first. or_else (only given.constructors inner (within k) names n positive waits.first y waits.first_is in_first)
       (λ one. found (one.0, among_left (free positive) (free negative) one.0 one.1, one.2))
       (λ after_it. onward (out_of_branch later k m (atom names n positive) y after_it)))
+      (λ others. or_else others
       (λ in_second. or_else (only given.constructors inner (within k) names third negative waits.second y waits.second_is in_second)
       (λ one. found (one.0, among_right (free positive) (free negative) one.0 one.1, one.2))
       (λ after_it. onward (out_of_branch later k m (atom names third negative) y after_it)))
+      (λ ended. onward (out_of_branch later k m a y (end_is inner k a y ended))))
   core_held given (rows of environment ∷ fs) (goes_on rest a joins) core low high frames waits (inr marked) =
       Places.among_back (map (value_of environment) (free_rows of)) (held_by_all fs) at
       (core_held given fs (goal_of waits.at.k (waits.at.n + size_rows of) joins) core low waits.at.top frames waits.later
@@ -293,7 +295,7 @@ module _ (at : ℕ) where
       let own : List Value = map (value_of environment) (free positive ++ free negative) in
       let first_code : Code = waits.first in
       let second_code : Code = waits.second in
-      let choice : Code = Core.branch a first_code second_code in
+      let choice : Code = truth_case a first_code second_code in
       let needs : (y : ℕ) → y < low → (is_among (needed inner first_code) y ≡ true) ⊎
       (is_among (needed inner second_code) y ≡ true) → value_of core y ≡ place at
       → HeldBy (NeededBelow low (goes_on rest a joins)) core frames at
@@ -301,9 +303,10 @@ module _ (at : ℕ) where
         y,
         (
           subst (λ (code : Code). is_among (needed later code) y ≡ true) (sym waits.rest_is)
-              (joined_needs_all later k m choice y (later_among a (needed inner first_code ++ needed inner second_code) y
-              (or_else need (λ here. among_left (needed inner first_code) (needed inner second_code) y here)
-              (λ there. among_right (needed inner first_code) (needed inner second_code) y there)))),
+              (joined_needs_all later k m choice y (later_among a (needed inner first_code ++ (needed inner second_code ++ inner)) y
+              (or_else need (λ here. among_left (needed inner first_code) (needed inner second_code ++ inner) y here)
+              (λ there. among_right (needed inner first_code) (needed inner second_code ++ inner) y
+              (among_left (needed inner second_code) inner y there))))),
           below,
         ),
         value,

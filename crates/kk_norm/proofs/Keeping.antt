@@ -8,12 +8,13 @@ use Rattle.kk_syntax.specs.PositionsOf.{PositionTable}
 use Rattle.kk_syntax.specs.Shapes.{greatest_of}
 use Rattle.kk_syntax.specs.Shapes as Shapes
 use Rattle.kk_syntax.specs.Programs.{FunctionTree, ProgramTree, no_function}
-use Rattle.kk_syntax.specs.Trees.{Rows}
-use Rattle.kk_source.specs.State.{Setting, Value, Store, Environment, Frame, rows, value}
+use Rattle.kk_syntax.specs.Trees.{Tree, Rows}
+use Rattle.kk_source.specs.State.{Setting, Value, Store, Environment, Frame, branches, rows, value}
 use Rattle.kk_source.specs.SourceAfter.{first_state, step, State}
 use Rattle.kk_core.specs.Codes.{FunctionCode, ProgramCode}
 use Rattle.kk_core.specs.CoreStates.{CoreState, no_code, core_first_state}
 use Rattle.kk_core.specs.CoreMachine.{core_machine}
+use Rattle.kk_core.specs.Kinds.{IsTruth}
 use Rattle.kk_norm.specs.Meaning.{weighed_store_machine, openings_at, core_setting_of, setting_of}
 use Rattle.kk_norm.specs.Normalized.{final, size}
 use Rattle.kk_norm.proofs.Bounds.{Bounds}
@@ -67,8 +68,8 @@ module _ (program : ProgramTree) (code : ProgramCode) (given : Bounds) (good : A
         later = (refl, refl);
       }
 
-  -- The machines agree, where something holds of each state of the source by which a row of each match matches, and the steps
-  -- of the source weigh enough: as much as any two steps of the core, and those that open its cells.
+  -- The machines agree, where something holds of each state of the source by which a row of each match matches and each condition
+  -- is a truth, and the steps of the source weigh enough: as much as any two steps of the core, and those that open its cells.
   pub agrees : (positions : PositionTable) (cells depth : ℕ) (input : List ℕ) (cost : ℕ) (weight : CoreState → ℕ)
       → ((t : CoreState) → weight t ≤ cost) → (opening : ℕ) → OpensFor opening weight
       → (Sane : State → Type 0) (heavy : State → ℕ)
@@ -76,6 +77,8 @@ module _ (program : ProgramTree) (code : ProgramCode) (given : Bounds) (good : A
       → ((of : Rows) (environment : Environment) (fs : List Frame) (v : Value) (store : Store) (input : List ℕ)
       → given.matches ≡ true → Sane (source_at (value v) (rows of environment ∷ fs) store input)
       → RowFound given.constructors of store v)
+      → ((positive negative : Tree) (environment : Environment) (fs : List Frame) (v : Value) (store : Store) (input : List ℕ)
+      → Sane (source_at (value v) (branches positive negative environment ∷ fs) store input) → IsTruth v)
       → ((s : State) → openings_at s.machine.control s.machine.frames s.machine.store ≤ given.cells
       → 2 * cost + openings_at s.machine.control s.machine.frames s.machine.store * opening ≤ heavy s)
       → Sane (first_state (setting_of program positions cells depth) input)
@@ -83,11 +86,13 @@ module _ (program : ProgramTree) (code : ProgramCode) (given : Bounds) (good : A
       (core_machine weight (core_setting_of code positions cells depth)) 0 (λ m. m * (given.most + 1) + given.most + 1)
       (first_state (setting_of program positions cells depth) input)
       (core_first_state (core_setting_of code positions cells depth) input)
-  agrees positions cells depth input cost weight light opening opens_for Sane heavy stays_sane row_there enough sane =
+  agrees positions cells depth input cost weight light opening opens_for Sane heavy stays_sane row_there truth_there enough sane =
       let setting : Setting = setting_of program positions cells depth in
       simulates_agree (weighed_store_machine heavy setting) (core_machine weight (core_setting_of code positions cells depth))
-      (Steps.SaneRelated setting code given cost weight light opening opens_for good texts Sane heavy stays_sane row_there enough)
+      (Steps.SaneRelated setting code given cost weight light opening opens_for good texts Sane heavy stays_sane row_there truth_there
+      enough)
       Passing (given.most + 1)
-      (Steps.simulates setting code given cost weight light opening opens_for good texts Sane heavy stays_sane row_there enough)
+      (Steps.simulates setting code given cost weight light opening opens_for good texts Sane heavy stays_sane row_there truth_there
+      enough)
       0 given.most (first_state setting input) (core_first_state (core_setting_of code positions cells depth) input)
       (starts positions cells depth input, sane)

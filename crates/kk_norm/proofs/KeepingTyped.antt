@@ -5,7 +5,7 @@ use Rattle.std.proofs.lemmas.List.{length-map}
 use Rattle.std.proofs.lemmas.Option.{slice_get_within, slice_get-get_or}
 use Rattle.kk_base.specs.Agreements.{Agree}
 use Rattle.kk_syntax.specs.Covered.{Each, asked_by}
-use Rattle.kk_syntax.specs.GroundTyping.{table_of, IsGroundTyped}
+use Rattle.kk_syntax.specs.GroundTyping.{table_of, HasTruths, IsGroundTyped}
 use Rattle.kk_syntax.specs.OfType.{IsPatternOf, values_of}
 use Rattle.kk_syntax.specs.Outlines.{Outline}
 use Rattle.kk_syntax.specs.Patterns.{Pattern, anything, variable as pattern_variable, exactly, constructor, Patterns, no_part, part}
@@ -14,7 +14,8 @@ use Rattle.kk_syntax.specs.PositionsOf.{PositionTable}
 use Rattle.kk_syntax.specs.Programs.{FunctionTree, ProgramTree, no_function}
 use Rattle.kk_syntax.specs.Shapes.{greatest_nodes, nodes_of, nodes_of_all, nodes_of_rows, nodes_of_pattern, nodes_of_patterns}
 use Rattle.kk_syntax.specs.Trees.{Tree, variable, apply, branch, match, sequence, Trees, no_tree, tree, Rows, no_row, row}
-use Rattle.kk_source.specs.State.{Setting, Value, Store, Environment, Frame, rows, value}
+use Rattle.kk_syntax.specs.Typing.{bool}
+use Rattle.kk_source.specs.State.{Setting, Value, Store, Environment, Frame, branches, rows, value}
 use Rattle.kk_source.specs.SourceAfter.{first_state, State}
 use Rattle.kk_source.specs.Step.{step_of}
 use Rattle.kk_source.proofs.Bindings.{rows_of_type}
@@ -22,10 +23,12 @@ use Rattle.kk_source.proofs.Kept.{performed_keeps}
 use Rattle.kk_source.proofs.Matching.{takes_one}
 use Rattle.kk_source.proofs.Safe.{IsStateTyped, step_safe}
 use Rattle.kk_source.proofs.SafeRuns.{start_typed}
-use Rattle.kk_core.specs.Codes.{Code, give, tail_call, branch as core_branch, case, compute, use_of, unpack, inside, ProgramCode}
+use Rattle.kk_source.proofs.Values.{at_type, bool_is}
+use Rattle.kk_core.specs.Codes.{Code, give, tail_call, case, compute, use_of, unpack, inside, ProgramCode}
 use Rattle.kk_core.specs.CoreMachine.{core_step, core_ending_of, core_machine}
 use Rattle.kk_core.specs.CoreStates.{CoreSetting, CoreControl, running, stopped, CoreState, core_first_state}
 use Rattle.kk_core.specs.Costs.{step_cost, part_cost, control_cost, most_room, roomy_control_cost}
+use Rattle.kk_core.specs.Kinds.{IsTruth}
 use Rattle.kk_core.proofs.FewParts.{most_seen, most_cost, run_cheap}
 use Rattle.kk_norm.specs.Meaning.{KeepsMeaningByCells, CostsLittle, weighed_store_machine, core_steps, openings_at, core_setting_of, core_after, setting_of}
 use Rattle.kk_norm.specs.Normalized.{IsCoreForm}
@@ -129,6 +132,14 @@ typed_row program of environment fs v store input typed =
       first = first.1;
     }
 
+-- where an `if` has its condition, it is a truth
+typed_truth : (program : ProgramTree) → HasTruths program.constructors
+    → (positive negative : Tree) (environment : Environment) (fs : List Frame) (v : Value) (store : Store) (input : List ℕ)
+    → IsStateTyped (table_of program) (source_at (value v) (branches positive negative environment ∷ fs) store input).machine
+    → IsTruth v
+typed_truth program truths positive negative environment fs v store input typed =
+    bool_is program.constructors store truths v (at_type program.constructors store typed.0 bool v typed.2.1.0 typed.1)
+
 main_there : (program : ProgramTree) → IsGroundTyped program → program.main < length program.functions
 main_there program typed =
     omega (
@@ -166,6 +177,7 @@ typed_agrees program code typed form positions cells depth input cost opening mo
     (λ s sane. performed_keeps (IsStateTyped (table_of program)) (step_of setting s.machine) s.input
     (step_safe setting typed s.machine sane))
     (λ of environment fs v store rest some sane. typed_row program of environment fs v store rest sane)
+    (typed_truth program typed.truths)
     enough (start_typed setting typed))
 
 pub typed_keeps_meaning : (program : ProgramTree) (code : ProgramCode) → IsGroundTyped program → IsCoreForm program code
@@ -188,7 +200,6 @@ costs_of : (most : ℕ) (code : Code)
     → step_cost + part_cost * most_seen (most_by most) code ≤ step_cost + part_cost * (most * (most + 1))
 costs_of most (give x) = omega arith
 costs_of most (tail_call f arguments) = omega arith
-costs_of most (core_branch x positive negative) = omega arith
 costs_of most (case x decisions arms) = omega arith
 costs_of most (compute x form arguments rest) = omega arith
 costs_of most (use_of x rest) = omega arith

@@ -8,11 +8,11 @@ use Rattle.kk_syntax.specs.Patterns.{Pattern, anything, variable as pattern_vari
 use Rattle.kk_syntax.specs.Shapes.{nodes_of, nodes_of_all, nodes_of_rows, nodes_of_pattern, variable_of}
 use Rattle.kk_syntax.specs.Trees.{Tree, variable, apply, branch, match, sequence, Trees, no_tree, tree, Rows, no_row, row}
 use Rattle.kk_syntax.specs.Programs.{ConstructorTree, FunctionTree}
-use Rattle.kk_core.specs.Codes as Core
 use Rattle.kk_core.specs.Codes.{Code, case, Arms, FunctionCode}
 use Rattle.kk_core.specs.CaseLengths.{tests_length, cases_length, arms_cases_length, all_cases_length}
 use Rattle.kk_core.specs.Decisions.{NodeTree}
 use Rattle.kk_core.specs.Sizes.{most_nodes}
+use Rattle.kk_core.specs.Truths.{truth_case}
 use Rattle.kk_match.proofs.Short.{rows_few}
 use Rattle.kk_norm.specs.Deciding.{AreDecisions}
 use Rattle.kk_norm.specs.Names.{Names, name_of, named}
@@ -109,7 +109,7 @@ mutual
       (omega (arith, few)) in
       omega (arith, all, cases_finish k (n + size_all es) form (atoms names n es))
   code_short constructors k names n (branch e positive negative) c coded few =
-      let own : Code = Core.branch (atom names n e) coded.0 coded.1 in
+      let own : Code = truth_case (atom names n e) coded.0 coded.1 in
       let m : ℕ = n + size e + size positive + size negative in
       let whole = code_short constructors (next (joined k m own)) names n e c coded.4 (omega (arith, few)) in
       let first = code_short constructors (within k) names (n + size e) positive coded.0 coded.2 (omega (arith, few)) in

@@ -27,6 +27,7 @@ mod RunExamples
 pub mod Scopes
 pub mod Simulation
 pub mod Steps
+pub mod Truths
 pub mod TypeNumbers
 mod Unpackings
 pub mod Variables

@@ -9,10 +9,10 @@ use Rattle.kk_syntax.specs.Trees.{Tree, variable, apply, branch, match, sequence
 use Rattle.kk_syntax.specs.Patterns.{Pattern}
 use Rattle.kk_syntax.specs.Shapes.{free, free_all, free_rows, is_among, without, bound, bound_by, variable_of}
 use Rattle.kk_source.specs.Live.{awaited}
-use Rattle.kk_core.specs.Codes as Core
 use Rattle.kk_core.specs.Codes.{Code, case, compute, Arms}
 use Rattle.kk_core.specs.Decisions.{NodeTree}
 use Rattle.kk_core.specs.Needed.{needed, needed_by_arms}
+use Rattle.kk_core.specs.Truths.{truth_case}
 use Rattle.kk_norm.specs.Names.{Names, name_of, named}
 use Rattle.kk_norm.specs.Normalized.{Then, final, next, size, size_all, size_rows, pattern_size, pattern_names, opened, atom, atoms, after, after_use, within, joined, finish, finish_call, IsCode, AreCodes, AreArms}
 use Rattle.kk_norm.proofs.PatternNames.{unbound_name, bound_name, opened_needs, opened_keeps}
@@ -166,13 +166,14 @@ ruled_out : {A B : Type 0} → A ⊎ B → (A → ⊥) → B
 ruled_out (inl a) out = absurd (out a)
 ruled_out (inr b) out = b
 
--- a branch needs what its parts need, and the variable that it looks at
+-- the case of a truth needs what its parts need, what comes after it, and the variable that it looks at
 pub choice_needs : (later : List ℕ) (a : ℕ) (first second : Code) (y : ℕ) → (y ≡ a → ⊥)
-    → is_among (needed later (Core.branch a first second)) y ≡ true
-    → (is_among (needed later first) y ≡ true) ⊎ (is_among (needed later second) y ≡ true)
+    → is_among (needed later (truth_case a first second)) y ≡ true
+    → (is_among (needed later first) y ≡ true) ⊎ ((is_among (needed later second) y ≡ true) ⊎ (is_among later y ≡ true))
 choice_needs later a first second y other is =
-    or_else (among_head a (needed later first ++ needed later second) y is) (λ same. absurd (other (sym same)))
-    (λ parts. among_split (needed later first) (needed later second) y parts.1)
+    or_else (among_head a (needed later first ++ (needed later second ++ later)) y is) (λ same. absurd (other (sym same)))
+    (λ parts. or_else (among_split (needed later first) (needed later second ++ later) y parts.1) (λ here. inl here)
+    (λ there. inr (among_split (needed later second) later y there)))
 
 variable_needs : (later : List ℕ) (k : Then) (names : Names) (x y : ℕ)
     → is_among (needed later (after_use k (name_of names x))) y ≡ true → NamedOrAfter later k names (x ∷ []) (name_of names x) y
@@ -237,7 +238,7 @@ ends_anywhere : (later : List ℕ) (k : Then) (a b y : ℕ) → NeededAfter late
 ends_anywhere later (final tail) a b y is = is
 ends_anywhere later (next rest) a b y is = is
 
-end_is : (later : List ℕ) (k : Then) (a y : ℕ) → is_among later y ≡ true → NeededAfter later (within k) a y
+pub end_is : (later : List ℕ) (k : Then) (a y : ℕ) → is_among later y ≡ true → NeededAfter later (within k) a y
 end_is later (final tail) a y is = is
 end_is later (next rest) a y is = is
 
@@ -272,7 +273,7 @@ module _ (constructors : List ConstructorTree) where
         let third : ℕ = n + size e + size positive in
         let m : ℕ = n + size e + size positive + size negative in
         let inner : List ℕ = needed_within later k m in
-        let own : Code = Core.branch a coded.0 coded.1 in
+        let own : Code = truth_case a coded.0 coded.1 in
         let all : List ℕ = free positive ++ free negative in
         or_else (only later (next (joined k m own)) names n e c y coded.4 is)
         (λ here. inl (name_left names (free e) all y here))
@@ -280,9 +281,11 @@ module _ (constructors : List ConstructorTree) where
         (λ in_first. either (only inner (within k) names second positive coded.0 y coded.2 in_first)
         (λ here. name_right names (free e) all y (name_left names (free positive) (free negative) y here))
         (λ after_it. out_of_branch later k m (atom names second positive) y after_it))
+        (λ others. or_else others
         (λ in_second. either (only inner (within k) names third negative coded.1 y coded.3 in_second)
         (λ here. name_right names (free e) all y (name_right names (free positive) (free negative) y here))
-        (λ after_it. out_of_branch later k m (atom names third negative) y after_it)))
+        (λ after_it. out_of_branch later k m (atom names third negative) y after_it))
+        (λ ended. inr (out_of_branch later k m a y (end_is inner k a y ended)))))
     only later k names n (match e of) c y coded is =
         let a : ℕ = atom names n e in
         let m : ℕ = n + size e + size_rows of in
@@ -350,11 +353,11 @@ module _ (constructors : List ConstructorTree) where
         let a : ℕ = atom names n e in
         let m : ℕ = n + size e + size positive + size negative in
         let inner : List ℕ = needed_within later k m in
-        let own : Code = Core.branch a coded.0 coded.1 in
+        let own : Code = truth_case a coded.0 coded.1 in
         kept later (next (joined k m own)) names n e c y coded.4
         (joined_needs_all later k m own y
-        (later_among a (needed inner coded.0 ++ needed inner coded.1) y
-        (among_left (needed inner coded.0) (needed inner coded.1) y
+        (later_among a (needed inner coded.0 ++ (needed inner coded.1 ++ inner)) y
+        (among_left (needed inner coded.0) (needed inner coded.1 ++ inner) y
         (kept inner (within k) names (n + size e) positive coded.0 y coded.2
         (into_branch later k m y is (λ same. absurd (omega arith))) (omega arith)))))
         low
@@ -399,17 +402,18 @@ module _ (constructors : List ConstructorTree) where
         let third : ℕ = n + size e + size positive in
         let m : ℕ = n + size e + size positive + size negative in
         let inner : List ℕ = needed_within later k m in
-        let own : Code = Core.branch a coded.0 coded.1 in
+        let own : Code = truth_case a coded.0 coded.1 in
         or_else (name_split names (free e) (free positive ++ free negative) y is)
         (λ here. named_needed later (next (joined k m own)) names n e c y coded.4 here low)
         (λ there. kept later (next (joined k m own)) names n e c y coded.4
         (joined_needs_all later k m own y
-        (later_among a (needed inner coded.0 ++ needed inner coded.1) y
+        (later_among a (needed inner coded.0 ++ (needed inner coded.1 ++ inner)) y
         (or_else (name_split names (free positive) (free negative) y there)
-        (λ here. among_left (needed inner coded.0) (needed inner coded.1) y
+        (λ here. among_left (needed inner coded.0) (needed inner coded.1 ++ inner) y
         (named_needed inner (within k) names second positive coded.0 y coded.2 here (omega arith)))
-        (λ here. among_right (needed inner coded.0) (needed inner coded.1) y
-        (named_needed inner (within k) names third negative coded.1 y coded.3 here (omega arith))))))
+        (λ here. among_right (needed inner coded.0) (needed inner coded.1 ++ inner) y
+        (among_left (needed inner coded.1) inner y
+        (named_needed inner (within k) names third negative coded.1 y coded.3 here (omega arith)))))))
         low)
     named_needed later k names n (match e of) c y coded is low =
         let a : ℕ = atom names n e in

@@ -21,7 +21,8 @@ use Rattle.kk_source.specs.State.{Setting, End, ended, heap_full}
 use Rattle.kk_source.specs.SourceAfter.{store_machine, first_state}
 use Rattle.kk_source.proofs.Builder.{number, binary, called, made, printed, of_made, bound_to, then, program}
 use Rattle.kk_core.specs.declared.decisions.Answer.TheVariants.{Constructor}
-use Rattle.kk_core.specs.Codes.{Code, give, tail_call, branch, case, compute, use_of, unpack, no_arm, arm, FunctionCode}
+use Rattle.kk_core.specs.Codes.{Code, give, tail_call, case, compute, use_of, unpack, no_arm, arm, FunctionCode}
+use Rattle.kk_core.specs.Truths.{truth_case}
 use Rattle.kk_core.specs.CoreMachine.{core_machine}
 use Rattle.kk_core.specs.CoreStates.{CoreSetting, core_first_state}
 use Rattle.kk_core.specs.Decisions.{NodeTree, chooses, tests}
@@ -93,7 +94,7 @@ build =
 abbrev build_code : FunctionCode
 build_code =
     code 1 9
-    (use_of 0 (compute 1 (Number (pos 0)) [] (compute 2 (Binary Equal) (0 ∷ 1 ∷ []) (branch 2
+    (use_of 0 (compute 1 (Number (pos 0)) [] (compute 2 (Binary Equal) (0 ∷ 1 ∷ []) (truth_case 2
     (compute 3 (Construct 2) [] (give 3))
     (use_of 0 (use_of 0 (compute 4 (Number (pos 1)) [] (compute 5 (Binary Subtract) (0 ∷ 4 ∷ [])
     (compute 6 (Call 0) (5 ∷ []) (compute 7 (Construct 3) (0 ∷ 6 ∷ []) (give 7)))))))))))

@@ -14,14 +14,17 @@ use Rattle.kk_source.specs.Notes.{Note}
 use Rattle.kk_source.specs.State.{Setting, Value, unit, place, Store, Environment, Frame, arguments, branches, rows, statement, call, End, heap_full, stack_full, Control, expression, stopped, Configuration}
 use Rattle.kk_source.specs.Live.{value_of, awaited, held_by_all, live}
 use Rattle.kk_source.specs.Actions.{Action, goes as leads_to, builds, calls, print_step, performed}
-use Rattle.kk_source.specs.FormEffects.{is_true, byte_value, FormEffect, gives, prints, reads, makes, enters, form_effect, effect_step}
+use Rattle.kk_source.specs.FormEffects.{truth, byte_value, FormEffect, gives, prints, reads, makes, enters, form_effect, effect_step}
 use Rattle.kk_source.specs.SourceAfter.{State}
 use Rattle.kk_source.specs.Step.{bind_parameters, call_frames, lent_places, at_end, at_value, at_new_place, in_body, construct_step, form_step, call_step, push_step}
-use Rattle.kk_core.specs.Codes as Codes
-use Rattle.kk_core.specs.Codes.{Code, give, tail_call, FunctionCode, ProgramCode}
+use Rattle.kk_source.specs.Matching.{and_then}
+use Rattle.kk_core.specs.Codes.{Code, tail_call, Arms, no_arm, arm, FunctionCode, ProgramCode}
+use Rattle.kk_core.specs.Decisions.{chosen}
+use Rattle.kk_core.specs.Truths.{true_pattern, false_pattern, truth_decisions, truth_case}
 use Rattle.kk_core.specs.CoreStates.{CoreSetting, Join, CallFrame, CoreConfiguration, CoreState}
 use Rattle.kk_core.specs.CoreMachine as Core
 use Rattle.kk_core.specs.CoreMachine.{held_for, held_by_frames}
+use Rattle.kk_core.proofs.Truths.{truth_chosen}
 use Rattle.kk_norm.specs.Names.{Names}
 use Rattle.kk_norm.specs.Normalized.{Then, final, next, size, atom, after, within, joined, finish, finish_call, IsCode}
 use Rattle.kk_norm.specs.Meaning.{core_setting_of}
@@ -276,17 +279,38 @@ module _ (setting : Setting) (code : ProgramCode) (given : Bounds) (cost : ℕ) 
       negative_opens (omega arith) (omega arith) fresh
       (waits_move given fs (goal_of k (atom names m negative) joins) core core low m top top frames (λ z below. refl) (omega arith) (omega arith) (waits (atom names m negative)))
 
+  -- the case of a truth goes on as its first code or its second
+  truth_goes : (x : ℕ) (test : Bool) (first second : Code) (core : Environment) (joins : List Join) (frames : List CallFrame)
+      (store : Store) (input : List ℕ) → value_of core x ≡ truth test
+      → lower.step (core_at (truth_case x first second) core joins frames store input)
+      ≡ ([], core_at (if test then first else second) core joins frames store input)
+  truth_goes x test first second core joins frames store input is =
+      let arms : Arms = arm true_pattern first (arm false_pattern second no_arm) in
+      let from = (core_at (truth_case x first second) core joins frames store input).machine in
+      ap (λ (v : Value). performed (Core.case_step (and_then (chosen (slice_get store) v truth_decisions) (Core.arm_at arms)) core
+      joins from) input) is
+      ∙ (ap (λ (row : Option ℕ). performed (Core.case_step (and_then row (Core.arm_at arms)) core joins from) input)
+      (truth_chosen (slice_get store) test) ∙ by_test test)
+    where
+      by_test : (test : Bool)
+          → performed (Core.case_step (and_then (Some (if test then 0 else 1))
+          (Core.arm_at (arm true_pattern first (arm false_pattern second no_arm)))) core joins
+          (core_at (truth_case x first second) core joins frames store input).machine) input
+          ≡ ([], core_at (if test then first else second) core joins frames store input)
+      by_test true = refl
+      by_test false = refl
+
   -- a condition decides which branch comes
   pub branch_goes : (test : Bool) (k : Then) (positive negative : Tree) (first second : Code) (names : Names) (environment : Environment) (n low top : ℕ) (core : Environment) (joins : List Join) (x : ℕ) (frames : List CallFrame) (fs : List Frame) (store : Store) (input : List ℕ) (w : ℕ) (room : 2 * cost ≤ w) (idle : ℕ)
-      → is_true (value_of core x) ≡ test → IsCode given.constructors (within k) names n positive first → IsCode given.constructors (within k) names (n + size positive) negative second
+      → value_of core x ≡ truth test → IsCode given.constructors (within k) names n positive first → IsCode given.constructors (within k) names (n + size positive) negative second
       → low ≤ n → Stands names environment core low (free positive ++ free negative) → OpensAtMost given positive → OpensAtMost given negative → nodes_of positive + nodes_of negative ≤ given.most
       → Fresh k joins (n + size positive + size negative + 1) top → Waits given fs (goal_of k (n + size positive + size negative) joins) core low top frames
-      → Follows w idle [] (source_at (expression (if test then positive else negative) environment) fs store input) (core_at (joined k (n + size positive + size negative) (Codes.branch x first second)) core joins frames store input)
+      → Follows w idle [] (source_at (expression (if test then positive else negative) environment) fs store input) (core_at (joined k (n + size positive + size negative) (truth_case x first second)) core joins frames store input)
   branch_goes test (final tail) positive negative first second names environment n low top core joins x frames fs store input w room idle is first_is second_is le stands positive_opens negative_opens small fresh waits =
       let k : Then = final tail in
-      Delivery.follows_step side given cost weight light w room idle given.most 0 [] (source_at (expression (if test then positive else negative) environment) fs store input) (core_at (Codes.branch x first second) core joins frames store input)
+      Delivery.follows_step side given cost weight light w room idle given.most 0 [] (source_at (expression (if test then positive else negative) environment) fs store input) (core_at (truth_case x first second) core joins frames store input)
       (core_at (if test then first else second) core joins frames store input)
-      (ap (λ (b : Bool). ([], core_at (if b then first else second) core joins frames store input)) is)
+      (truth_goes x test first second core joins frames store input is)
       (omega arith) (omega arith) refl
       (in_branch test k positive negative first second names environment n low top core joins frames fs store input first_is second_is le stands positive_opens negative_opens small
       (fresh_less k joins (n + size positive + size negative) (n + size positive + size negative + 1) top (omega arith) fresh)
@@ -295,12 +319,11 @@ module _ (setting : Setting) (code : ProgramCode) (given : Bounds) (cost : ℕ) 
       let k : Then = final false in
       let m : ℕ = n + size positive + size negative in
       let join : Join = record { variable = m; rest = rest } in
-      let between : CoreState = core_at (Codes.branch x first second) core (join ∷ joins) frames store input in
+      let between : CoreState = core_at (truth_case x first second) core (join ∷ joins) frames store input in
       let taken : CoreState = core_at (if test then first else second) core (join ∷ joins) frames store input in
-      let goes : lower.step between ≡ ([], taken)
-      = ap (λ (b : Bool). ([], core_at (if b then first else second) core (join ∷ joins) frames store input)) is in
+      let goes : lower.step between ≡ ([], taken) = truth_goes x test first second core (join ∷ joins) frames store input is in
       let s : State = source_at (expression (if test then positive else negative) environment) fs store input in
-      Delivery.follows_step side given cost weight light w room idle given.most 1 [] s (core_at (joined (next rest) m (Codes.branch x first second)) core joins frames store input)
+      Delivery.follows_step side given cost weight light w room idle given.most 1 [] s (core_at (joined (next rest) m (truth_case x first second)) core joins frames store input)
       between refl (omega arith) (omega arith)
       (subst (λ (one : List Note × CoreState). one.0 ++ [] ≡ []) (sym goes) refl)
       (subst (λ (one : List Note × CoreState). Related given 0 given.most s one.1) (sym goes)

@@ -1,5 +1,5 @@
 -- The core machine does the steps of the store machine at an expression and at a value.
-use Rattle.std.proofs.Common.{◌≡◌, ℕ, ◌+◌, ◌*◌, ◌<◌, ◌≤◌, true, List, [], ◌∷◌, ◌++◌, None, refl, sym, ap, subst, ◌∙◌, arith, append_assoc}
+use Rattle.std.proofs.Common.{◌≡◌, ℕ, ◌+◌, ◌*◌, ◌<◌, ◌≤◌, Bool, true, false, List, [], ◌∷◌, ◌++◌, None, refl, sym, ap, subst, ◌∙◌, arith, append_assoc}
 use Rattle.kk_base.specs.Machines.{Machine}
 use Rattle.kk_base.specs.Simulations.{Reaches, Simulates}
 use Rattle.kk_base.proofs.Simulations.{simulates_until_ended}
@@ -9,11 +9,12 @@ use Rattle.kk_source.specs.Notes.{Note}
 use Rattle.kk_source.specs.State.{Setting, Value, Store, Environment, Frame, arguments, branches, rows, statement, call, End, ended, Control, expression, value, stopped, end_at}
 use Rattle.kk_source.specs.Live.{value_of}
 use Rattle.kk_source.specs.Actions.{performed}
-use Rattle.kk_source.specs.FormEffects.{is_true}
+use Rattle.kk_source.specs.FormEffects.{truth}
 use Rattle.kk_source.specs.Step.{bind, form_step}
 use Rattle.kk_source.specs.SourceAfter.{step, State}
-use Rattle.kk_core.specs.Codes as Codes
 use Rattle.kk_core.specs.Codes.{Code, give, case, ProgramCode}
+use Rattle.kk_core.specs.Kinds.{IsTruth}
+use Rattle.kk_core.specs.Truths.{truth_case}
 use Rattle.kk_core.specs.CoreStates.{CoreSetting, Join, CallFrame, CoreState, core_end_at}
 use Rattle.kk_norm.specs.Names.{Names, name_of, named}
 use Rattle.kk_norm.specs.Normalized.{Then, next, size, size_all, size_rows, atom, atoms, within, joined, finish, IsCode, AreCodes}
@@ -86,7 +87,7 @@ module _ (setting : Setting) (code : ProgramCode) (given : Bounds) (cost : ℕ) 
       let n : ℕ = a.n + size e in
       let m : ℕ = n + size positive + size negative in
       let x : ℕ = atom a.names a.n e in
-      let rest : Code = joined a.k m (Codes.branch x a.coded.0 a.coded.1) in
+      let rest : Code = joined a.k m (truth_case x a.coded.0 a.coded.1) in
       let waits : Waits given (branches positive negative environment ∷ fs) (goes_on rest x a.joins) a.core a.n n a.frames
       = record {
         at = record { k = a.k; names = a.names; n = n; top = a.top };
@@ -151,25 +152,40 @@ module _ (setting : Setting) (code : ProgramCode) (given : Bounds) (cost : ℕ) 
 
   -- at the condition of an `if`, by what comes after it
   branch_step : (k : Then) (positive negative : Tree) (first second : Code) (names : Names) (environment : Environment) (n low top : ℕ) (core : Environment) (joins : List Join) (x : ℕ) (v : Value) (frames : List CallFrame) (fs : List Frame) (store : Store) (input : List ℕ) (w : ℕ) (room : 2 * cost ≤ w) (idle : ℕ)
-      → value_of core x ≡ v → IsCode given.constructors (within k) names n positive first → IsCode given.constructors (within k) names (n + size positive) negative second
+      → value_of core x ≡ v → IsTruth v → IsCode given.constructors (within k) names n positive first → IsCode given.constructors (within k) names (n + size positive) negative second
       → low ≤ n → Stands names environment core low (free positive ++ free negative) → OpensAtMost given positive → OpensAtMost given negative → nodes_of positive + nodes_of negative ≤ given.most
       → Fresh k joins (n + size positive + size negative + 1) top → Waits given fs (goal_of k (n + size positive + size negative) joins) core low top frames
-      → Steps w idle (source_at (value v) (branches positive negative environment ∷ fs) store input) (core_at (joined k (n + size positive + size negative) (Codes.branch x first second)) core joins frames store input)
-  branch_step k positive negative first second names environment n low top core joins x v frames fs store input w room idle has first_is second_is le stands positive_opens negative_opens small fresh waits =
-      subst (λ (v : Value). Steps w idle (source_at (value v) (branches positive negative environment ∷ fs) store input) (core_at (joined k (n + size positive + size negative) (Codes.branch x first second)) core joins frames store input)) has
-      (Forms.branch_goes setting code given cost weight light good texts (is_true (value_of core x)) k positive negative first second names environment n low top core joins x frames fs store input w room idle refl first_is second_is le stands positive_opens negative_opens small fresh waits)
+      → Steps w idle (source_at (value v) (branches positive negative environment ∷ fs) store input) (core_at (joined k (n + size positive + size negative) (truth_case x first second)) core joins frames store input)
+  branch_step k positive negative first second names environment n low top core joins x v frames fs store input w room idle has of first_is second_is le stands positive_opens negative_opens small fresh waits =
+      subst (λ (v : Value). Steps w idle (source_at (value v) (branches positive negative environment ∷ fs) store input) after_it)
+      (sym of.1) (by_test of.0 (has ∙ of.1))
+    where
+      after_it : CoreState
+      after_it = core_at (joined k (n + size positive + size negative) (truth_case x first second)) core joins frames store input
 
-  -- where a match has its scrutinee, a row matches, and there is weight for it
+      by_test : (test : Bool) → value_of core x ≡ truth test
+          → Steps w idle (source_at (value (truth test)) (branches positive negative environment ∷ fs) store input) after_it
+      by_test true is =
+          Forms.branch_goes setting code given cost weight light good texts true k positive negative first second names environment n
+          low top core joins x frames fs store input w room idle is first_is second_is le stands positive_opens negative_opens small
+          fresh waits
+      by_test false is =
+          Forms.branch_goes setting code given cost weight light good texts false k positive negative first second names environment n
+          low top core joins x frames fs store input w room idle is first_is second_is le stands positive_opens negative_opens small
+          fresh waits
+
+  -- where a match has its scrutinee, a row matches, and there is weight for it; and where an `if` has its condition, it is a truth
   abbrev pub IsReadyFor : List Frame → Store → Value → ℕ → Type 0
   IsReadyFor (rows of environment ∷ fs) store v w =
       (given.matches ≡ true → RowFound given.constructors of store v) × (openings_of_rows store of v environment ≤ given.cells → 2 * cost + openings_of_rows store of v environment * opening ≤ w)
+  IsReadyFor (branches positive negative environment ∷ fs) store v w = IsTruth v
   IsReadyFor fs store v w = Unit {0}
 
   ready_more : (fs : List Frame) (store : Store) (v : Value) (w more : ℕ) → w ≤ more → IsReadyFor fs store v w → IsReadyFor fs store v more
   ready_more (rows of environment ∷ fs) store v w more le ready = (ready.0, λ few. let least : 2 * cost + openings_of_rows store of v environment * opening ≤ w = ready.1 few in omega arith)
   ready_more [] store v w more le ready = tt
   ready_more (arguments form vs es environment ∷ fs) store v w more le ready = tt
-  ready_more (branches positive negative environment ∷ fs) store v w more le ready = tt
+  ready_more (branches positive negative environment ∷ fs) store v w more le ready = ready
   ready_more (statement awaits e environment ∷ fs) store v w more le ready = tt
   ready_more (call lent ∷ fs) store v w more le ready = tt
 
@@ -217,7 +233,7 @@ module _ (setting : Setting) (code : ProgramCode) (given : Bounds) (cost : ℕ) 
       (Forms.acts setting code given cost weight light good texts form xs waits.at.k waits.m low waits.at.top core joins frames fs store input w room idle (value v) older (omega (arith, waits.from, waits.number_is)) waits.fresh waits.later stay))
   value_goes (branches positive negative environment ∷ fs) (goes_on rest x joins) a low top core frames v store input w room idle has less within_top idles waits ready =
       subst (λ (at : Code). Steps w idle (source_at (value v) (branches positive negative environment ∷ fs) store input) (core_at at core joins frames store input)) (sym waits.rest_is)
-      (branch_step waits.at.k positive negative waits.first waits.second waits.at.names environment waits.at.n low waits.at.top core joins x v frames fs store input w room idle has waits.first_is waits.second_is (omega (arith, waits.from)) waits.stands waits.positive_opens waits.negative_opens waits.small waits.fresh waits.later)
+      (branch_step waits.at.k positive negative waits.first waits.second waits.at.names environment waits.at.n low waits.at.top core joins x v frames fs store input w room idle has ready waits.first_is waits.second_is (omega (arith, waits.from)) waits.stands waits.positive_opens waits.negative_opens waits.small waits.fresh waits.later)
   value_goes (statement awaits e environment ∷ fs) (goes_on rest x joins) a low top core frames v store input w room idle has less within_top idles waits ready =
       Delivery.follows side given cost weight light w room idle (nodes_of e) 0 [] (source_at (expression e (bind awaits v environment)) fs store input) (core_at rest core joins frames store input) (omega arith) (omega arith) refl
       (Delivery.at_code given (nodes_of e) waits.at.k (named awaits x waits.at.names) e rest (bind awaits v environment) waits.at.n waits.at.top core joins frames fs store input waits.rest_is
@@ -265,11 +281,13 @@ module _ (setting : Setting) (code : ProgramCode) (given : Bounds) (cost : ℕ) 
   ends_alike (value v) fs store input idle t at = ap (λ (t : CoreState). core_end_at t.machine.control) at.is
   ends_alike (stopped by) fs store input idle t at = ap core_end_at at
 
-  -- What holds of each state of the source: it is kept, and where a match has its scrutinee a row matches. Each step weighs
-  -- at least as much as the core's steps for it.
+  -- What holds of each state of the source: it is kept, where a match has its scrutinee a row matches, and where an `if` has its
+  -- condition it is a truth. Each step weighs at least as much as the core's steps for it.
   module _ (Sane : State → Type 0) (heavy : State → ℕ)
       (stays_sane : (s : State) → Sane s → Sane (step setting s).1)
       (row_there : (of : Rows) (environment : Environment) (fs : List Frame) (v : Value) (store : Store) (input : List ℕ) → given.matches ≡ true → Sane (source_at (value v) (rows of environment ∷ fs) store input) → RowFound given.constructors of store v)
+      (truth_there : (positive negative : Tree) (environment : Environment) (fs : List Frame) (v : Value) (store : Store)
+          (input : List ℕ) → Sane (source_at (value v) (branches positive negative environment ∷ fs) store input) → IsTruth v)
       (enough : (s : State) → openings_at s.machine.control s.machine.frames s.machine.store ≤ given.cells → 2 * cost + openings_at s.machine.control s.machine.frames s.machine.store * opening ≤ heavy s) where
     abbrev pub upper : Machine State Note End
     upper = weighed_store_machine heavy setting
@@ -282,7 +300,8 @@ module _ (setting : Setting) (code : ProgramCode) (given : Bounds) (cost : ℕ) 
         (λ some. row_there of environment fs v store input some sane, λ few. enough (source_at (value v) (rows of environment ∷ fs) store input) few)
     ready_frames [] v store input sane = tt
     ready_frames (arguments form vs es environment ∷ fs) v store input sane = tt
-    ready_frames (branches positive negative environment ∷ fs) v store input sane = tt
+    ready_frames (branches positive negative environment ∷ fs) v store input sane =
+        truth_there positive negative environment fs v store input sane
     ready_frames (statement awaits e environment ∷ fs) v store input sane = tt
     ready_frames (call lent ∷ fs) v store input sane = tt
 

@@ -8,8 +8,8 @@ use Rattle.kk_syntax.specs.Patterns.{Pattern, anything, variable as pattern_vari
 use Rattle.kk_syntax.specs.Programs.{ConstructorTree, FunctionTree, ProgramTree}
 use Rattle.kk_syntax.specs.Shapes.{nodes_of, nodes_of_all, nodes_of_rows, nodes_of_pattern, nodes_of_patterns, greatest_of, greatest_nodes, variable_of}
 use Rattle.kk_syntax.specs.Trees.{Tree, variable, apply, branch, match, sequence, Trees, no_tree, tree, Rows, no_row, row}
-use Rattle.kk_core.specs.Codes as Core
 use Rattle.kk_core.specs.Codes.{Code, case, Arms, FunctionCode, ProgramCode}
+use Rattle.kk_core.specs.Truths.{truth_case}
 use Rattle.kk_core.specs.Unpackings.{unpackings, unpackings_of, UnpackAtMost}
 use Rattle.kk_norm.specs.Names.{Names, name_of, named}
 use Rattle.kk_norm.specs.Normalized.{part_count, pattern_size, Then, final, next, size, size_all, size_rows, atom, atoms, after, after_use, within, joined, finish, finish_call, opened, opened_all, pattern_names, IsCode, AreCodes, AreArms, AreCoresOf, IsCoreForm}
@@ -83,7 +83,7 @@ mutual
         finish_opens k (n + size_all es) form (atoms names n es),
       )
   code_opens constructors k names n (branch e positive negative) c coded =
-      let own : Code = Core.branch (atom names n e) coded.0 coded.1 in
+      let own : Code = truth_case (atom names n e) coded.0 coded.1 in
       let m : ℕ = n + size e + size positive + size negative in
       omega (
         arith,

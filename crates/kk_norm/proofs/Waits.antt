@@ -7,9 +7,9 @@ use Rattle.kk_syntax.specs.Shapes.{free, free_all, free_rows, nodes_of, nodes_of
 use Rattle.kk_source.specs.State.{Value, Environment, Frame, arguments, branches, rows, statement, call}
 use Rattle.kk_source.specs.Live.{value_of, awaited}
 use Rattle.kk_source.specs.Step.{call_frames}
-use Rattle.kk_core.specs.Codes as Core
 use Rattle.kk_core.specs.Codes.{Code, case, Arms}
 use Rattle.kk_core.specs.Choosing.{Decides}
+use Rattle.kk_core.specs.Truths.{truth_case}
 use Rattle.kk_core.specs.Decisions.{NodeTree}
 use Rattle.kk_core.specs.CoreStates.{Join, CallFrame}
 use Rattle.kk_norm.specs.Names.{Names, named}
@@ -81,7 +81,7 @@ pub record BranchesWait (given : Bounds) (positive negative : Tree) (environment
   pub second : Code
   pub first_is : IsCode given.constructors (within at.k) at.names at.n positive first
   pub second_is : IsCode given.constructors (within at.k) at.names (at.n + size positive) negative second
-  pub rest_is : rest ≡ joined at.k (at.n + size positive + size negative) (Core.branch a first second)
+  pub rest_is : rest ≡ joined at.k (at.n + size positive + size negative) (truth_case a first second)
   pub stands : Stands at.names environment core low (free positive ++ free negative)
   pub positive_opens : OpensAtMost given positive
   pub negative_opens : OpensAtMost given negative

@@ -1,12 +1,15 @@
 -- What steps that are pushed add to a code, and what the code of each form is.
 use Rattle.std.proofs.Common.{◌≡◌, ℕ, ◌+◌, ◌<◌, ◌==◌, List, [], ◌∷◌, ◌++◌, length, take, map, get_or, drop, suc, refl, sym, ap, subst, ◌∙◌, arith}
 use Rattle.std.proofs.Math.Seq.{take-suc, drop-cons}
+use Rattle.std.specs.Global.{Vec}
 use Rattle.std.specs.Prelude.{if◌then◌else◌}
 use Rattle.std.proofs.lemmas.List.{map-append}
 use Rattle.kk_syntax.specs.declared.program.Form.{Form}
 use Rattle.kk_syntax.specs.Patterns.{Pattern, pattern_tree}
-use Rattle.kk_core.specs.Codes.{Code, give, tail_call, branch, Piece, case, computes, uses, unpacks, runs, put, plug, ArmCode, arms_of, arm_code, last_step, step_step, arm_step, block_step, block_code, last_code, step_piece}
-use Rattle.kk_core.specs.Decisions.{node_tree}
+use Rattle.kk_core.specs.Codes.{Code, give, tail_call, Piece, case, computes, uses, unpacks, runs, put, plug, ArmCode, arms_of, arm_code, last_step, step_step, arm_step, block_step, block_code, last_code, step_piece}
+use Rattle.kk_core.specs.Decisions.{NodeTree, node_tree}
+use Rattle.kk_core.specs.declared.decisions.Decisions.{Decisions}
+use Rattle.kk_core.specs.Truths.{true_pattern, false_pattern, truth_decisions, truth_case}
 use Rattle.kk_core.specs.declared.form.Arm.{Arm}
 use Rattle.kk_core.specs.declared.form.Block.{Block}
 use Rattle.kk_core.specs.declared.form.Last.TheVariants as OfLast
@@ -75,14 +78,24 @@ return_code x = ap last_code (sym (OfLast.rolls-Return x)) ∙ fold-roll-Last Co
 pub tail_call_code : (f : ℕ) (arguments : _) → last_code (OfLast.TailCall f arguments) ≡ tail_call f arguments.items
 tail_call_code f arguments = ap last_code (sym (OfLast.rolls-TailCall f arguments)) ∙ fold-roll-Last Code Piece ArmCode Code last_step step_step arm_step block_step _
 
-pub if_code : (x : ℕ) (positive negative : _) → last_code (OfLast.If x positive negative) ≡ branch x (block_code positive.value) (block_code negative.value)
-if_code x positive negative = ap last_code (sym (OfLast.rolls-If x positive negative)) ∙ fold-roll-Last Code Piece ArmCode Code last_step step_step arm_step block_step _
-
 pub case_code : (x : ℕ) (decisions : _) (arms : _) → last_code (OfLast.Case x decisions arms) ≡ case x (map node_tree decisions.nodes.items) (arms_of (map arm_code arms.items))
 case_code x decisions arms = ap last_code (sym (OfLast.rolls-Case x decisions arms)) ∙ fold-roll-Last Code Piece ArmCode Code last_step step_step arm_step block_step _
 
 pub arm_is : (arm : Arm) → arm_code arm ≡ record { pattern = pattern_tree arm.pattern; body = block_code arm.body }
 arm_is arm = fold_out-Arm Code Piece ArmCode Code last_step step_step arm_step block_step arm
+
+-- the case of a truth, of two arms
+pub truth_code : (x : ℕ) (decisions : Decisions) (arms : Vec Arm) (first second : Arm) (positive negative : Code)
+    → map node_tree decisions.nodes.items ≡ truth_decisions → arms.items ≡ first ∷ second ∷ []
+    → arm_code first ≡ record { pattern = true_pattern; body = positive }
+    → arm_code second ≡ record { pattern = false_pattern; body = negative }
+    → last_code (OfLast.Case x decisions arms) ≡ truth_case x positive negative
+truth_code x decisions arms first second positive negative decided are one two =
+    case_code x decisions arms
+    ∙ (ap (λ (nodes : List NodeTree). case x nodes (arms_of (map arm_code arms.items))) decided
+    ∙ (ap (λ (items : List Arm). case x truth_decisions (arms_of (map arm_code items))) are
+    ∙ (ap (λ (a : ArmCode). case x truth_decisions (arms_of (a ∷ arm_code second ∷ []))) one
+    ∙ ap (λ (a : ArmCode). case x truth_decisions (arms_of (record { pattern = true_pattern; body = positive } ∷ a ∷ []))) two)))
 
 -- one more arm is pushed
 pub arms_pushed : (before after : List Arm) (one : Arm) (pattern : Pattern) → after ≡ before ++ one ∷ [] → pattern_tree one.pattern ≡ pattern

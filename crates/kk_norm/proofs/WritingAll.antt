@@ -7,8 +7,8 @@ use Rattle.kk_syntax.specs.declared.program.Form.{Form}
 use Rattle.kk_syntax.specs.declared.program.Form.TheVariants.{Call}
 use Rattle.kk_syntax.specs.Programs.{ConstructorTree}
 use Rattle.kk_syntax.specs.Trees.{Tree, Trees, no_tree, tree, variable, apply, branch as if_tree, StatementTree, block_of}
-use Rattle.kk_core.specs.Codes as Codes
 use Rattle.kk_core.specs.Codes.{Code, give, compute, use_of, inside, computes, uses, runs, plug, step_piece}
+use Rattle.kk_core.specs.Truths.{truth_case}
 use Rattle.kk_norm.specs.declared.naming.Named.{Named}
 use Rattle.kk_norm.specs.declared.writer.Writer.{Writer}
 use Rattle.kk_norm.specs.MatchRows.{MatchesHaveRows, AllMatchesHaveRows}
@@ -282,7 +282,7 @@ choice_value {constructors} e condition positive negative old now new last x is 
       value = second.is ∙ first.number;
       steps = λ rest.
           let parts = first.last_is in
-          let own : inside now.next last rest ≡ inside m (Codes.branch a parts.0 parts.1) rest
+          let own : inside now.next last rest ≡ inside m (truth_case a parts.0 parts.1) rest
           = ap (λ (n : ℕ). inside n last rest) first.number ∙ ap (λ (block : Code). inside m block rest) parts.4 in
           let one = first.steps (inside now.next last rest) in
           (one.0, (parts.0, parts.1, parts.2, parts.3, subst (λ (behind_it : Code). IsCode constructors (next behind_it) names old.next condition one.0) own one.1), second.steps rest ∙ one.2);
@@ -308,7 +308,7 @@ choice_end {constructors} tail e condition positive negative old now new last is
 -- a condition and two blocks
 pub choice_done : {constructors : List ConstructorTree} → (tail : Bool) (condition positive negative : Tree) (old first second third : Writer) (x : ℕ) (yes_code no_code last : Code)
     → WritesValue constructors condition old first x → WritesBlock constructors tail positive first second yes_code → WritesBlock constructors tail negative second third no_code
-    → last ≡ Codes.branch x yes_code no_code → WritesChoice constructors tail condition positive negative old third last
+    → last ≡ truth_case x yes_code no_code → WritesChoice constructors tail condition positive negative old third last
 choice_done {constructors} tail condition positive negative old first second third x yes_code no_code last writes one two last_is =
     let names : Names = names_of old.names.items in
     let here : names_of first.names.items ≡ names = ap names_of writes.names in
@@ -321,7 +321,7 @@ choice_done {constructors} tail condition positive negative old first second thi
         no_code,
         subst (λ (n : ℕ). IsCode constructors (final tail) names n positive yes_code) writes.number (subst (λ (some : Names). IsCode constructors (final tail) some first.next positive yes_code) here one.block_is),
         subst (λ (n : ℕ). IsCode constructors (final tail) names n negative no_code) (second_at writes.number one.number) (subst (λ (some : Names). IsCode constructors (final tail) some second.next negative no_code) there two.block_is),
-        last_is ∙ ap (λ (y : ℕ). Codes.branch y yes_code no_code) writes.value,
+        last_is ∙ ap (λ (y : ℕ). truth_case y yes_code no_code) writes.value,
       );
       steps = λ rest.
           let whole = writes.steps rest in

@@ -9,8 +9,8 @@ use Rattle.kk_syntax.specs.Programs.{ConstructorTree, FunctionTree, ProgramTree}
 use Rattle.kk_syntax.specs.Patterns.{Pattern, anything, variable as pattern_variable, exactly, constructor, Patterns, no_part, part}
 use Rattle.kk_syntax.specs.Shapes.{variable_of}
 use Rattle.kk_core.specs.Codes.{Code, give, tail_call, case, compute, use_of, unpack, inside, Arms, no_arm, arm, FunctionCode, ProgramCode}
-use Rattle.kk_core.specs.Codes as Core
 use Rattle.kk_core.specs.Decisions.{NodeTree}
+use Rattle.kk_core.specs.Truths.{truth_case}
 use Rattle.kk_norm.specs.Deciding.{AreDecisions}
 use Rattle.kk_norm.specs.Names.{Names, name_of, named}
 
@@ -148,7 +148,7 @@ abbrev mutual
       (first : Code) × (second : Code)
       × IsCode constructors (within k) names (n + size e) positive first
       × IsCode constructors (within k) names (n + size e + size positive) negative second
-      × IsCode constructors (next (joined k (n + size e + size positive + size negative) (Core.branch (atom names n e) first second))) names n e c
+      × IsCode constructors (next (joined k (n + size e + size positive + size negative) (truth_case (atom names n e) first second))) names n e c
   IsCode constructors k names n (match e rows) c =
       (decisions : List NodeTree) × (arms : Arms) × AreDecisions constructors (patterns_in rows) decisions
       × AreArms constructors (within k) names (atom names n e) (n + size e) rows arms

@@ -3,8 +3,9 @@ use Rattle.std.specs.Prelude.{◌≡◌, ◌+◌, ◌≤◌, ℕ, List, [], ◌�
 use Rattle.kk_syntax.specs.Patterns.{Pattern, Patterns}
 use Rattle.kk_syntax.specs.Programs.{ConstructorTree}
 use Rattle.kk_syntax.specs.Trees.{Tree, Trees, Rows, StatementTree, block_of}
-use Rattle.kk_core.specs.Codes.{Code, branch, case, Arms, Piece, put, plug, step_piece}
+use Rattle.kk_core.specs.Codes.{Code, case, Arms, Piece, put, plug, step_piece}
 use Rattle.kk_core.specs.Decisions.{NodeTree}
+use Rattle.kk_core.specs.Truths.{truth_case}
 use Rattle.kk_norm.specs.declared.naming.Named.{Named}
 use Rattle.kk_norm.specs.declared.writer.Writer.{Writer}
 use Rattle.kk_norm.specs.Deciding.{AreDecisions}
@@ -77,7 +78,7 @@ pub record WritesEnd (constructors : List ConstructorTree) (tail : Bool) (e : Tr
 abbrev pub IsChoice : List ConstructorTree → Bool → Names → ℕ → ℕ → Tree → Tree → Code → Type 0
 IsChoice constructors tail names n a positive negative code =
     (first : Code) × (second : Code) × IsCode constructors (final tail) names n positive first
-    × IsCode constructors (final tail) names (n + size positive) negative second × (code ≡ branch a first second)
+    × IsCode constructors (final tail) names (n + size positive) negative second × (code ≡ truth_case a first second)
 
 -- a condition is written, and `last` goes on by it; the parts take the numbers behind its own
 pub record WritesChoice (constructors : List ConstructorTree) (tail : Bool) (e positive negative : Tree) (old new : Writer) (last : Code) : Type 0 where

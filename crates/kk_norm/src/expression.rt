@@ -9,6 +9,7 @@ ghost use Rattle.kk_norm.specs.MatchRows.{MatchesHaveRows, AllMatchesHaveRows, I
 ghost use Rattle.kk_norm.specs.Normalized.{size, size_all, size_rows, pattern_size, patterns_in};
 ghost use Rattle.kk_norm.specs.Written.{WritesValue, WritesValues, WritesStatements, KeepsNames, WritesEnd, WritesChoice, WritesCase, WritesArms, WritesArm, WritesBlock};
 
+use crate::truth::case_by_truth;
 use crate::writer::Writer;
 use kk_base::NoMemory;
 use kk_core::{Arm, Block, Decisions, Last};
@@ -136,9 +137,7 @@ impl Writer {
         let on = self.value(given, condition)?;
         let positive = self.block(given, tail, positive)?;
         let negative = self.block(given, tail, negative)?;
-        let positive = Box::new(self.alloc, positive)?;
-        let negative = Box::new(self.alloc, negative)?;
-        Ok(Last::If(on, positive, negative))
+        case_by_truth(self.alloc, on, positive, negative)
     }
 
     /// Writes a scrutinee, and gives the end of a block that goes on by it.

@@ -8,6 +8,7 @@ mod law;
 mod naming;
 mod opening;
 mod program;
+mod truth;
 mod writer;
 
 pub use law::{

@@ -7,15 +7,14 @@ use Rattle.kk_syntax.specs.declared.program.Row.{Row}
 use Rattle.kk_syntax.specs.Patterns.{pattern_tree}
 use Rattle.kk_syntax.specs.GroundPrograms.{ground_program}
 use Rattle.kk_syntax.specs.Trees.{StatementTree, Trees, Rows, expr_tree, row_tree, rows_of, statement_tree, trees_of}
-use Rattle.kk_core.specs.Codes.{Code, branch, runs, plug, step_piece, block_code, last_code, ArmCode, arm_code}
+use Rattle.kk_core.specs.Codes.{Code, runs, plug, step_piece, block_code, last_code, ArmCode, arm_code}
 use Rattle.kk_core.specs.declared.form.Arm.{Arm}
-use Rattle.kk_core.specs.declared.form.Block.{Block}
 use Rattle.kk_core.specs.declared.form.Step.{Step}
 use Rattle.kk_norm.specs.declared.writer.Writer.{Writer}
 use Rattle.kk_norm.specs.Written.{WritesStep}
 use Rattle.kk_syntax.proofs.Views.{variable_is, apply_is, branch_is, match_is, block_is}
 use Rattle.kk_norm.proofs.ProgramTrees.{next_expr, next_row, next_statement}
-use Rattle.kk_norm.proofs.Writing.{return_code, if_code, case_code, arms_pushed}
+use Rattle.kk_norm.proofs.Writing.{return_code, case_code, arms_pushed}
 use Rattle.kk_norm.proofs.Writing as Writing
 use Rattle.kk_norm.proofs.WritingAll.{if_ok_three, ValuesSoFar, values_more, variable_end, apply_end, choice_value, choice_end, choice_done, block_done, StatementsSoFar, statements_more, value_asked, statement_asked, statements_asked, last_asked, names_back, block_value, block_end, variable_value, apply_value}
 use Rattle.kk_norm.proofs.WritingMatches.{ArmsSoFar, arms_more, arms_done, arm_asked, arm_done, case_done, case_value, case_end}
@@ -117,11 +116,12 @@ block-returns t c =
 
 pub choice-returns : goal.choice-returns
 choice-returns t c =
-    choice_done c.args.tail (expr_tree c.args.condition.now) (expr_tree c.args.positive.now) (expr_tree c.args.negative.now) c.args.self.now c.value.new.self c.block.new.self c.block-2.new.self
-    c.in_ok-on.on (block_code c.in_ok-positive.positive) (block_code c.in_ok-negative.negative) _ c.in_ok-on.ensures c.in_ok-positive.ensures c.in_ok-negative.ensures
-    (if_code c.in_ok-on.on c.in_ok-positive-2.positive c.in_ok-negative-2.negative
-    ∙ (ap (λ (block : Block). branch c.in_ok-on.on (block_code block) (block_code c.in_ok-negative-2.negative.value)) c.in_ok-positive-2.ensures.ok
-    ∙ ap (λ (block : Block). branch c.in_ok-on.on (block_code c.in_ok-positive.positive) (block_code block)) c.in_ok-negative-2.ensures.ok))
+    IfOk-weaker c.case_by_truth.result _ _
+    (λ last is. choice_done c.args.tail (expr_tree c.args.condition.now) (expr_tree c.args.positive.now)
+    (expr_tree c.args.negative.now) c.args.self.now c.value.new.self c.block.new.self c.block-2.new.self c.in_ok-on.on
+    (block_code c.in_ok-positive.positive) (block_code c.in_ok-negative.negative) (last_code last) c.in_ok-on.ensures
+    c.in_ok-positive.ensures c.in_ok-negative.ensures is)
+    c.case_by_truth.ensures
 
 pub end-returns-in-Variable : goal.end-returns-in-Variable
 end-returns-in-Variable t c =
