@@ -4,6 +4,7 @@ use Rattle.std.specs.List.{slice_get}
 use Rattle.std.specs.Ordering.{nat_cmp}
 use Rattle.std.specs.BTreeMap.{get}
 use Rattle.rv_isa.specs.declared.register.Register.{Register}
+use Rattle.rv_isa.specs.declared.immediate.Immediate.{Immediate}
 use Rattle.rv_isa.specs.declared.instr.Instr.{Instr}
 use Rattle.rv_isa.specs.declared.asm.Condition.{Condition}
 use Rattle.rv_isa.specs.declared.asm.Condition.TheVariants.{Equal}
@@ -25,13 +26,13 @@ use Rattle.rv_isa.proofs.Same.{same_register}
 use Rattle.rv_place.specs.Registers.{sp, t0}
 use Rattle.rv_place.specs.Instructions.{words_of_jump, JumpsTo, CallsTo, BranchesOn, words_of_operation}
 use Rattle.rv_place.specs.Addresses.{slot_offset, words_of_shift, slots_of_place, slots_of_operands, words_of_action, words_of_line, words_of_lines, forms_of, entry_words, entries_from, words_of_function, words_of_functions}
-use Rattle.rv_place.specs.Lines.{Map, IsFromPointer, CallsForToken, IsSymbolAt, EntersAt, LinesAt, FunctionsAt, BranchesTo}
+use Rattle.rv_place.specs.Lines.{Map, IsFromPointer, IsOffsetOf, IsSymbolAt, EntersAt, LinesAt, FunctionsAt, BranchesTo}
 use Rattle.rv_place.specs.declared.reach.Forms.{Forms}
 use Rattle.rv_place.specs.declared.reach.Reach.{Reach}
 use Rattle.rv_place.specs.declared.reach.Reach.TheVariants.{Near, Far}
 use Rattle.rv_place.specs.declared.chart.Chart.{Chart}
 use Rattle.rv_place.specs.declared.labels.Labels.{Labels}
-use Rattle.rv_place.specs.Emitted.{Grew, TokenCalled, Charts, JumpReaches, BranchReaches, IsInText, IsInFunction, AreSymbols, IsAddressOf, register_or_zero, ReturnBy, HasLabels, OperationBy, ActionBy, LineBy, LinesBy, MoveBy, EntryBy, FunctionBy, FunctionsBy}
+use Rattle.rv_place.specs.Emitted.{Grew, TokenHeld, TokenUnheld, Charts, JumpReaches, BranchReaches, IsInText, IsInFunction, AreSymbols, IsAddressOf, register_or_zero, ReturnBy, HasLabels, OperationBy, ActionBy, LineBy, LinesBy, MoveBy, EntryBy, FunctionBy, FunctionsBy}
 use Rattle.rv_place.proofs.Emitting.{grew_so, grew_then}
 use Rattle.rv_place.proofs.Near.{short_function, jump_reaches, text_reaches, label_reaches, branch_reaches, function_front, function_back, text_front, text_back}
 use Rattle.rv_place.proofs.Jumping.{BranchGrew}
@@ -55,31 +56,12 @@ token_slot (arg ∷ []) k is = by arg.place refl is
     by (register r) at same = cc
     by (slot j) at same = let e : j ≡ k = cc in rw at (omega arith)
 
--- a token is held or taken back
-pub on_token : (chart : Chart) (labels : Labels) (from : ℕ) (args : List Operand) (name : Symbol) {old new : List Instr} (word : ℕ) → 4 * slots_of_operands args + 4 ≤ chart.frame
-    → ((runtime : ℕ) (names : List (Symbol × ℕ)) → AreSymbols runtime names chart.symbols → IsAddressOf runtime names name word)
-    → Grew (1 + words_of_jump labels.forms.jumps) (TokenCalled labels.forms.jumps args word from) old new
-    → Grew (1 + words_of_jump labels.forms.jumps) (λ code at. at ≡ from → (map : Map) → Charts chart map → (start : ℕ) (whole : List PlacedLine) → HasLabels labels start whole
-    → IsInFunction map labels.forms start whole at (1 + words_of_jump labels.forms.jumps) → CallsForToken map labels.forms code at name args) old new
-on_token chart labels from args name word inside word_is emitted =
-    grew_so refl
-    (λ code at here is_at map charts start whole has within k slot_is target there.
-    let sets = here.sets k slot_is in
-    let high = charts.symbols_in name there.0 there.1 in
-    let target_is : target ≡ map.runtime + 4 * there.0 = there.2 in
-    let same : word ≡ target = word_is map.runtime map.labels charts.symbols there.0 there.1 ∙ sym target_is in
-    let behind = function_back 1 (words_of_jump labels.forms.jumps) within in
-    let reaches : JumpReaches labels.forms.jumps (at + 4) target =
-    text_reaches charts behind target (omega (arith, target_is, charts.first_word)) (omega (arith, target_is)) (omega (arith, target_is, high)) in
-    let room : slot_offset k + 4 ≤ chart.frame = omega (arith, token_slot args k slot_is, inside) in (
-      (
-        sets.0,
-        (subst (λ (j : Reach). IsFromPointer j (slot_offset k) sets.0) within.jumps sets.1, subst (λ f. slot_offset k + 4 ≤ f) charts.frame room),
-        sets.2,
-      ),
-      subst (CallsTo labels.forms.jumps code (at + 4)) same (here.calls is_at (subst (JumpReaches labels.forms.jumps (at + 4)) (sym same) reaches)),
-    ))
-    emitted
+-- the slot of a token in a frame of the map
+slot_from : {chart : Chart} {map : Map} → Charts chart map → (jumps : Reach) → jumps ≡ map.jumps → (args : List Operand) → 4 * slots_of_operands args + 4 ≤ chart.frame → (k : ℕ) → only_slot args ≡ Some k
+    → (offset : Immediate) → IsFromPointer jumps (slot_offset k) offset → IsOffsetOf map k offset
+slot_from {chart} {map} charts jumps same args inside k slot_is offset offset_is =
+    let room : slot_offset k + 4 ≤ chart.frame = omega (arith, token_slot args k slot_is, inside) in
+    (subst (λ (j : Reach). IsFromPointer j (slot_offset k) offset) same offset_is, subst (λ f. slot_offset k + 4 ≤ f) charts.frame room)
 
 module _ (chart : Chart) (labels : Labels) (from : ℕ) (args : List Operand) (into : Option Operand) where
   abbrev jumps : Reach
@@ -171,12 +153,30 @@ module _ (chart : Chart) (labels : Labels) (from : ℕ) (args : List Operand) (i
         emitted)
 
     pub on_hold : {word : ℕ} → action ≡ Hold → 4 * slots_of_operands args + 4 ≤ chart.frame → ((runtime : ℕ) (names : List (Symbol × ℕ)) → AreSymbols runtime names chart.symbols → IsAddressOf runtime names symbol.Hold word)
-        → Grew (1 + words_of_jump jumps) (TokenCalled jumps args word from) old new → Acted old new action
-    on_hold {word} is inside word_is emitted = subst (Acted old new) (sym is) (on_token chart labels from args symbol.Hold word inside word_is emitted)
+        → Grew (1 + words_of_jump jumps) (TokenHeld jumps args word from) old new → Acted old new action
+    on_hold {word} is inside word_is emitted =
+        subst (Acted old new) (sym is)
+        (grew_so refl
+        (λ code at here is_at map charts start whole has within k slot_is target there.
+        let sets = here.sets k slot_is in
+        let high = charts.symbols_in symbol.Hold there.0 there.1 in
+        let target_is : target ≡ map.runtime + 4 * there.0 = there.2 in
+        let same : word ≡ target = word_is map.runtime map.labels charts.symbols there.0 there.1 ∙ sym target_is in
+        let behind = function_back 1 (words_of_jump jumps) within in
+        let reaches : JumpReaches jumps (at + 4) target =
+        text_reaches charts behind target (omega (arith, target_is, charts.first_word)) (omega (arith, target_is)) (omega (arith, target_is, high)) in (
+          (sets.0, slot_from charts jumps within.jumps args inside k slot_is sets.0 sets.1, sets.2),
+          subst (CallsTo jumps code (at + 4)) same (here.calls is_at (subst (JumpReaches jumps (at + 4)) (sym same) reaches)),
+        ))
+        emitted)
 
-    pub on_unhold : {word : ℕ} → action ≡ Unhold → 4 * slots_of_operands args + 4 ≤ chart.frame → ((runtime : ℕ) (names : List (Symbol × ℕ)) → AreSymbols runtime names chart.symbols → IsAddressOf runtime names symbol.Unhold word)
-        → Grew (1 + words_of_jump jumps) (TokenCalled jumps args word from) old new → Acted old new action
-    on_unhold {word} is inside word_is emitted = subst (Acted old new) (sym is) (on_token chart labels from args symbol.Unhold word inside word_is emitted)
+    pub on_unhold : action ≡ Unhold → 4 * slots_of_operands args + 4 ≤ chart.frame → Grew 3 (TokenUnheld jumps args) old new → Acted old new action
+    on_unhold is inside emitted =
+        subst (Acted old new) (sym is)
+        (grew_so refl
+        (λ code at here is_at map charts start whole has within k slot_is.
+        let row = here k slot_is in (row.0, slot_from charts jumps within.jumps args inside k slot_is row.0 row.1, row.2))
+        emitted)
 
 -- the branch of an entry, to the stop for a full stack
 pub entry_branch : {chart : Chart} {map : Map} → Charts chart map → (code : Code) (at target from : ℕ) → at ≡ from → IsInText map at (entry_words map.jumps) → {a b : Register} → a.number ≡ 2 → b.number ≡ 5

@@ -23,7 +23,7 @@ use Rattle.cell_runtime.specs.Prints.{buffer_bytes, IsPrintInt, IsPrintText, IsR
 use Rattle.cell_runtime.specs.Stops.{IsStop}
 use Rattle.cell_runtime.specs.Takes.{IsTake}
 use Rattle.cell_runtime.specs.Drops.{IsDrop}
-use Rattle.cell_runtime.specs.Tokens.{IsHold, IsUnhold}
+use Rattle.cell_runtime.specs.Tokens.{IsHold}
 use Rattle.rv_place.specs.Images.{code_in}
 use Rattle.rv_place.specs.declared.words.Words.{Words}
 use Rattle.rv_place.specs.Addresses.{jump_words, words_of_functions, IsBehind, frame_size}
@@ -51,9 +51,6 @@ behind_drop = inr (λ e. cc, inr (λ e. cc, inr (λ e. cc, inr (λ e. cc, inl (r
 
 behind_hold : IsBehind symbol.Hold 60 runtime_labels
 behind_hold = inr (λ e. cc, inr (λ e. cc, inr (λ e. cc, inr (λ e. cc, inr (λ e. cc, inl (refl, refl))))))
-
-behind_unhold : IsBehind symbol.Unhold 66 runtime_labels
-behind_unhold = inr (λ e. cc, inr (λ e. cc, inr (λ e. cc, inr (λ e. cc, inr (λ e. cc, inr (λ e. cc, inl (refl, refl)))))))
 
 behind_print_int : IsBehind (symbol.Routine routine.PrintInt) 70 runtime_labels
 behind_print_int =
@@ -169,7 +166,6 @@ module _ {cells depth : ℕ} {runtime program : Placed} {words : Words} (is_runt
         take = routine-at (symbol.Routine routine.Take) 15 (IsTake (pool_in cells runtime program) own_code) behind_take stands.take;
         give_up = routine-at (symbol.Routine routine.Drop) 32 (IsDrop own_code) behind_drop stands.give_up;
         hold = routine-at symbol.Hold 60 (IsHold (pool_in cells runtime program) own_code) behind_hold stands.hold;
-        unhold = routine-at symbol.Unhold 66 (IsUnhold (pool_in cells runtime program) own_code) behind_unhold stands.unhold;
         print_int = routine-at (symbol.Routine routine.PrintInt) 70 (IsPrintInt memory own_code) behind_print_int (rw memory_is stands.print_int);
         print_text = routine-at (symbol.Routine routine.PrintText) 94 (IsPrintText own_code) behind_print_text stands.print_text;
         read_byte = routine-at (symbol.Routine routine.ReadByte) 100 (IsReadByte memory own_code) behind_read_byte (rw memory_is stands.read_byte);

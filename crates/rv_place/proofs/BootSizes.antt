@@ -5,37 +5,24 @@ use Rattle.kk_base.specs.Sizes.{greatest_depth}
 use Rattle.elf_image.specs.Program.{text_start, memory_start}
 use Rattle.rv_isa.specs.declared.asm.Action.{Action}
 use Rattle.rv_isa.specs.declared.asm.Action.TheVariants.{Compute, Label, Jump, Branch, Call, TailCall, Return, Routine, Hold, Unhold}
-use Rattle.rv_isa.specs.declared.asm.Operation.{Operation}
 use Rattle.rv_isa.specs.declared.placed.Placed.{Placed}
-use Rattle.rv_isa.specs.Costs.{operation_instructions, action_length, placed_line_length, placed_code_length, placed_functions_length}
+use Rattle.rv_isa.specs.Costs.{action_length, placed_line_length, placed_code_length, placed_functions_length}
 use Rattle.rv_isa.specs.PlacedCode.{PlacedLine, does, moves, PlacedLines, placed_functions, placed_constants}
 use Rattle.cell_runtime.specs.Layouts.{next_page}
 use Rattle.rv_world.specs.Operations.{all_bytes}
 use Rattle.rv_place.specs.declared.words.Words.{Words}
-use Rattle.rv_place.specs.Instructions.{words_of_operation}
 use Rattle.rv_place.specs.Addresses.{words_of_action, words_of_line, words_of_lines, words_of_functions, forms_of}
 use Rattle.rv_place.specs.declared.reach.Forms.{Forms}
 use Rattle.rv_place.specs.declared.reach.Reach.{Reach}
 use Rattle.rv_place.proofs.RunningLines.{jump_most, shift_most, branch_most}
+use Rattle.rv_place.proofs.RunningMoves.{operation_weighs}
 use Rattle.rv_place.specs.Texts.{ArePlaceable, most_text_words, most_constant_bytes, text_words, text_bytes, memory_of, ArePlacedWords, jumps_of}
 use Rattle.rv_place.specs.Bytes.{IsTextOf}
 
 -- ---- how many instructions code is
 
-operation_most : (operation : Operation) → words_of_operation operation ≤ operation_instructions operation
-operation_most (Operation.Register operation) = omega arith
-operation_most (Operation.Immediate operation immediate) = omega arith
-operation_most (Operation.Shift operation amount) = omega arith
-operation_most (Operation.Li word) = omega arith
-operation_most Operation.Mv = omega arith
-operation_most (Operation.La index) = omega arith
-operation_most (Operation.Lw offset) = omega arith
-operation_most (Operation.Sw offset) = omega arith
-operation_most Operation.Dup = omega arith
-operation_most Operation.Free = omega arith
-
 action_most : (forms : Forms) (action : Action) → words_of_action forms action ≤ action_length action
-action_most forms (Compute operation) = operation_most operation
+action_most forms (Compute operation) = (operation_weighs operation).1
 action_most forms (Label l) = omega arith
 action_most forms (Jump l) = jump_most forms.jumps
 action_most forms (Branch condition l) = branch_most forms.jumps forms.branches
@@ -44,7 +31,7 @@ action_most forms (TailCall f) = jump_most forms.jumps
 action_most forms Return = omega (arith, shift_most forms.jumps)
 action_most forms (Routine routine) = jump_most forms.jumps
 action_most forms Hold = omega (arith, jump_most forms.jumps)
-action_most forms Unhold = omega (arith, jump_most forms.jumps)
+action_most forms Unhold = omega arith
 
 line_most : (forms : Forms) (line : PlacedLine) → words_of_line forms line ≤ placed_line_length line
 line_most forms (does alive action args into) = action_most forms action

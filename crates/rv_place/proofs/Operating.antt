@@ -4,8 +4,9 @@ use Rattle.std.specs.List.{slice_get}
 use Rattle.rv_isa.specs.declared.register.Register.{Register}
 use Rattle.rv_isa.specs.declared.immediate.Immediate.{Immediate}
 use Rattle.rv_isa.specs.declared.immediate.ShiftAmount.{ShiftAmount}
+use Rattle.rv_isa.specs.declared.immediate.UpperImmediate.{UpperImmediate}
 use Rattle.rv_isa.specs.declared.instr.Instr.{Instr}
-use Rattle.rv_isa.specs.declared.instr.Instr.TheVariants.{Addi, Lw, Sw}
+use Rattle.rv_isa.specs.declared.instr.Instr.TheVariants.{Addi, Lui, Lw, Sw}
 use Rattle.rv_isa.specs.declared.asm.Operation.{Operation}
 use Rattle.rv_isa.specs.declared.asm.RegisterOperation.{RegisterOperation}
 use Rattle.rv_isa.specs.declared.asm.ImmediateOperation.{ImmediateOperation}
@@ -13,8 +14,11 @@ use Rattle.rv_isa.specs.declared.asm.ShiftOperation.{ShiftOperation}
 use Rattle.rv_isa.specs.declared.placed.Operand.{Operand}
 use Rattle.rv_isa.specs.Standing.{Code}
 use Rattle.rv_world.specs.Operations.{Constants, address_in}
-use Rattle.rv_place.specs.Instructions.{Zero, LoadsWord, RaisesCount, FreesToken, Computes, register_instruction, immediate_instruction, shift_instruction, words_of_operation}
+use Rattle.rv_place.specs.Instructions.{Zero, LoadsWord, form_of, SetsBy, words_of_form, SetsWord, words_of_constant, RaisesCount, FreesToken, Computes, register_instruction, immediate_instruction, shift_instruction, words_of_operation}
 use Rattle.rv_place.specs.declared.chart.Chart.{Chart}
+use Rattle.rv_place.specs.declared.constant.WordForm.{WordForm}
+use Rattle.rv_place.specs.declared.constant.WordForm.TheVariants.{Short, Upper}
+use Rattle.cell_runtime.proofs.SameLines.{same_addi}
 use Rattle.rv_place.specs.Emitted.{Grew, register_or_zero, OperationBy}
 use Rattle.rv_place.proofs.Emitting.{grew_so}
 use Rattle.rv_place.proofs.Operands.{register_in, operand_register, register_of_into}
@@ -46,7 +50,7 @@ module _ (constants : Constants) (code : Code) (at : ℕ) where
   computes_copy imm (a ∷ []) rd zero here = (imm, zero, here)
   computes_copy imm (a ∷ more ∷ rest) rd zero here = tt
 
-  computes_word : (word : ℕ) (registers : List Register) (rd : Register) → LoadsWord code at rd word → Computes constants code at (Operation.Li word) registers rd
+  computes_word : (word : ℕ) (registers : List Register) (rd : Register) → SetsWord code at rd word → Computes constants code at (Operation.Li word) registers rd
   computes_word word [] rd here = here
   computes_word word (more ∷ rest) rd here = tt
 
@@ -75,6 +79,20 @@ module _ (constants : Constants) (code : Code) (at : ℕ) where
   computes_free [] rd here = tt
   computes_free (a ∷ []) rd here = here
   computes_free (a ∷ more ∷ rest) rd here = tt
+
+-- a constant that one instruction makes
+module _ {word : ℕ} {rd : Register} {old new : List Instr} where
+  pub set_short : {zero : Register} → Short ≡ form_of word → zero.number ≡ 0 → (imm : Immediate) → imm.word ≡ word → Grew 1 (λ code at. code at ≡ Some (Addi rd zero imm)) old new
+      → Grew (words_of_constant word) (λ code at. SetsWord code at rd word) old new
+  set_short form zero_is imm imm_is grew =
+      subst (λ (f : WordForm). Grew (words_of_form f) (λ code at. SetsBy f code at rd word) old new) form
+      (grew_so refl (λ code at here. (imm, imm_is, here ∙ ap Some (same_addi refl zero_is refl))) grew)
+
+  pub set_upper : Upper ≡ form_of word → (upper : UpperImmediate) → upper.word ≡ word → Grew 1 (λ code at. code at ≡ Some (Lui rd upper)) old new
+      → Grew (words_of_constant word) (λ code at. SetsWord code at rd word) old new
+  set_upper form upper upper_is grew =
+      subst (λ (f : WordForm). Grew (words_of_form f) (λ code at. SetsBy f code at rd word) old new) form
+      (grew_so refl (λ code at here. (upper, upper_is, here)) grew)
 
 module _ (chart : Chart) (args : List Operand) (into : Option Operand) {old new : List Instr} {operation : Operation} where
   -- an operation that is one instruction, on the registers of its result and of its arguments
@@ -125,12 +143,12 @@ module _ (chart : Chart) (args : List Operand) (into : Option Operand) {old new 
       (λ constants code at registers goal here. computes_copy constants code at imm registers goal zero here) is rd_is a_is refl refl emitted
 
   pub on_word : {word : ℕ} {rd : Register} → operation ≡ Operation.Li word → rd ≡ register_or_zero into
-      → Grew 2 (λ code at. LoadsWord code at rd word) old new → Grew (words_of_operation operation) (OperationBy chart operation args into) old new
+      → Grew (words_of_constant word) (λ code at. SetsWord code at rd word) old new → Grew (words_of_operation operation) (OperationBy chart operation args into) old new
   on_word {word} {rd} is rd_is emitted =
       subst (λ o. Grew (words_of_operation o) (OperationBy chart o args into) old new) (sym is)
       (grew_so refl
       (λ code at here map charts registers goal are goes.
-      computes_word map.constants code at word registers goal (subst (λ r. LoadsWord code at r word) (rd_is ∙ register_of_into into goal goes) here))
+      computes_word map.constants code at word registers goal (subst (λ r. SetsWord code at r word) (rd_is ∙ register_of_into into goal goes) here))
       emitted)
 
   pub on_address : {index word : ℕ} {rd : Register} → operation ≡ Operation.La index → rd ≡ register_or_zero into

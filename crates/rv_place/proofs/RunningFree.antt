@@ -1,14 +1,15 @@
 -- Words that are apart from each free cell: those behind the cells, and those of the program's own blocks.
-use Rattle.std.proofs.Common.{◌≡◌, ◌≢◌, ◌≤◌, ◌⊎◌, inl, inr, ℕ, ◌+◌, List, [], ◌∷◌, All, refl, arith}
+use Rattle.std.proofs.Common.{◌≡◌, ◌≢◌, ◌≤◌, ◌⊎◌, inl, inr, ℕ, ◌+◌, List, [], ◌∷◌, Option, All, refl, sym, ap, ◌∙◌, arith}
+use Rattle.std.proofs.lemmas.Bool.{cases_lt}
 use Rattle.std.proofs.lemmas.List.Elements.{All-nil, All-cons}
 use Rattle.rv_isa.specs.Bytes.{Apart}
 use Rattle.rv_isa.specs.FreeCells.{free_list}
 use Rattle.rv_isa.specs.Processor.{Processor}
 use Rattle.cell_heap.specs.Cells.{Cell, no_cell, free, token, waiting, counted, occurs}
-use Rattle.cell_heap.specs.Pool.{Pool, end_of}
+use Rattle.cell_heap.specs.Pool.{Pool, end_of, IsCell}
 use Rattle.cell_heap.specs.View.{Link, View}
 use Rattle.cell_heap.specs.Memory.{Memory}
-use Rattle.cell_heap.specs.Blocks.{Cells, seen_cells}
+use Rattle.cell_heap.specs.Blocks.{kept, Cells, fields_of, seen, seen_cells}
 use Rattle.cell_heap.specs.Known.{HoldsCells}
 use Rattle.cell_heap.proofs.Sums.{occurs-first, occurs-later}
 use Rattle.cell_heap.proofs.Frames.{shown-cell, cell-inside}
@@ -27,6 +28,9 @@ free_or_other free = inl refl
 free_or_other (token fields) = inr (λ e. cc)
 free_or_other (waiting body) = inr (λ e. cc)
 free_or_other (counted count body) = inr (λ e. cc)
+
+token_not_free : (fields : List ℕ) → token fields ≢ free
+token_not_free fields e = cc
 
 -- what holds of each free cell of a view holds of each that is listed
 each_free : (pool : Pool) (view : View) (s : Processor) → Memory pool view s → (P : ℕ → Type 0)
@@ -50,3 +54,14 @@ module _ {pool : Pool} {cells : Cells} {links : List Link} {s : Processor} (hold
   apart_misses at apart =
       each_free pool _ s holds.memory (λ x. Apart at 4 x 32)
       (λ x is. elim (apart x is) [ inl before ↦ inr before | inr after ↦ inl after ])
+
+  -- the first word of a held token
+  pub held_misses : {at : ℕ} (words : ℕ → Option ℕ) → cells.blocks at ≡ kept words → IsCell pool at → MissesFree pool.cells s at
+  held_misses {at} words is cell =
+      apart_misses at
+      (λ x is_free.
+      let other = shown-cell holds.memory.shown x free is_free (λ e. cc) in
+      let differ : x ≢ at = λ e. token_not_free (fields_of words) (sym (ap seen is) ∙ ap (seen_cells cells) (sym e) ∙ is_free) in
+      let whole = cell.aligned in
+      let other_whole = other.aligned in
+      elim (cases_lt at x) [ inl below ↦ inl (omega arith) | inr above ↦ inr (omega arith) ])

@@ -32,7 +32,9 @@ use Rattle.cell_heap.proofs.Blocks.{mapped}
 use Rattle.rv_world.specs.World.{World, computed_in, primitives}
 use Rattle.rv_place.specs.Registers.{zero_register, sp}
 use Rattle.rv_place.specs.Addresses.{frame_bias, slot_offset}
-use Rattle.rv_place.specs.Instructions.{words_of_operation}
+use Rattle.rv_place.specs.Instructions.{form_of, words_of_form, words_of_operation}
+use Rattle.rv_place.specs.declared.constant.WordForm.{WordForm}
+use Rattle.rv_place.specs.declared.constant.WordForm.TheVariants.{Short, Upper, Both}
 use Rattle.rv_place.specs.Lines.{Map, register_into, MovesBy, ActsAt}
 use Rattle.rv_place.specs.declared.reach.Forms.{Forms}
 use Rattle.rv_place.specs.Grounds.{Ground, stack_end}
@@ -47,7 +49,7 @@ use Rattle.rv_place.proofs.RunningInside.{walks_done}
 use Rattle.rv_place.proofs.RunningComes.{or_stuck_some, Comes, comes_go, comes_idle, runs_on, agrees_got, sp_low, sp_word, sp_high, constants_kept, stays}
 
 -- a slot is a word of the stack
-slot_word : (base k : ℕ) → base % 4 ≡ 0 → (base + slot_offset k) % 4 ≡ 0
+pub slot_word : (base k : ℕ) → base % 4 ≡ 0 → (base + slot_offset k) % 4 ≡ 0
 slot_word base k word = omega arith
 
 -- an operation gives into a register
@@ -63,12 +65,17 @@ computes_register (OfOperation.Sw imm) place is = cc
 computes_register OfOperation.Dup place is = cc
 computes_register OfOperation.Free place is = cc
 
+form_weighs : (form : WordForm) → (1 ≤ words_of_form form) × (words_of_form form ≤ 2)
+form_weighs Short = (omega arith, omega arith)
+form_weighs Upper = (omega arith, omega arith)
+form_weighs Both = (omega arith, omega arith)
+
 -- an operation is as many instructions as it weighs
 pub operation_weighs : (operation : Operation) → (1 ≤ words_of_operation operation) × (words_of_operation operation ≤ operation_instructions operation)
 operation_weighs (OfOperation.Register operation) = (omega arith, omega arith)
 operation_weighs (OfOperation.Immediate operation imm) = (omega arith, omega arith)
 operation_weighs (OfOperation.Shift operation amount) = (omega arith, omega arith)
-operation_weighs (OfOperation.Li word) = (omega arith, omega arith)
+operation_weighs (OfOperation.Li word) = form_weighs (form_of word)
 operation_weighs OfOperation.Mv = (omega arith, omega arith)
 operation_weighs (OfOperation.La index) = (omega arith, omega arith)
 operation_weighs (OfOperation.Lw imm) = (omega arith, omega arith)
@@ -100,6 +107,35 @@ module _ {map_of : Map} {pool : Pool} {functions : List PlacedLines} {depth buff
         cells = running.cells;
       }) less
 
+  -- ---- slots
+
+  -- the slot that is loaded from, or stored to
+  pub slot_address : (k : ℕ) (offset : ℕ) → sum_word (frame_bias map_of.jumps) offset ≡ slot_offset k → slot_offset k + 4 ≤ map_of.frame → sum_word (value s.registers 2) offset ≡ running.base + slot_offset k
+  slot_address k offset is inside =
+      let high = sp_high ground f fs known world s running in let range = ground.in_range in
+      rw running.base_is (from_pointer running.base (frame_bias map_of.jumps) (slot_offset k) offset is (omega arith))
+
+  pub slot_loads : (k : ℕ) → slot_offset k + 4 ≤ map_of.frame → can_load s.parts (running.base + slot_offset k) 4 ≡ true
+  slot_loads k inside =
+      let low = sp_low ground f fs known world s running in
+      let high = sp_high ground f fs known world s running in
+      let word = sp_word ground f fs known world s running in
+      rw running.rests.parts_are (ground.loads (running.base + slot_offset k) (omega arith) (omega arith) (slot_word running.base k word))
+
+  pub slot_stores : (k : ℕ) → slot_offset k + 4 ≤ map_of.frame → can_store parts (running.base + slot_offset k) 4 ≡ true
+  slot_stores k inside =
+      let low = sp_low ground f fs known world s running in
+      let high = sp_high ground f fs known world s running in
+      let word = sp_word ground f fs known world s running in
+      ground.stores (running.base + slot_offset k) (omega arith) (omega arith) (slot_word running.base k word)
+
+  -- it lies behind the cells
+  pub slot_misses : (k : ℕ) → MissesFree pool.cells s (running.base + slot_offset k)
+  slot_misses k =
+      let low = sp_low ground f fs known world s running in
+      let under = ground.cells_below in
+      behind_misses running.cells (running.base + slot_offset k) (omega arith)
+
   -- ---- moves
 
   module _ (old : ℕ) (is_in : (cells : ℕ → Option ℕ) (next : ℕ) → s.pc + 4 ≡ next → next < 2 ^ 32 → IsIn map_of code (most_lines functions) next (record behind { cells = cells })) where
@@ -109,33 +145,6 @@ module _ {map_of : Map} {pool : Pool} {functions : List PlacedLines} {depth buff
         let fits = holds.2 in
         let same : sum_word v 0 ≡ v = omega arith in
         (rw (none, holds.1) same, fits)
-
-    -- the slot that is loaded from, or stored to
-    slot_address : (k : ℕ) (offset : ℕ) → sum_word (frame_bias map_of.jumps) offset ≡ slot_offset k → slot_offset k + 4 ≤ map_of.frame → sum_word (value s.registers 2) offset ≡ running.base + slot_offset k
-    slot_address k offset is inside =
-        let high = sp_high ground f fs known world s running in let range = ground.in_range in
-        rw running.base_is (from_pointer running.base (frame_bias map_of.jumps) (slot_offset k) offset is (omega arith))
-
-    slot_loads : (k : ℕ) → slot_offset k + 4 ≤ map_of.frame → can_load s.parts (running.base + slot_offset k) 4 ≡ true
-    slot_loads k inside =
-        let low = sp_low ground f fs known world s running in
-        let high = sp_high ground f fs known world s running in
-        let word = sp_word ground f fs known world s running in
-        rw running.rests.parts_are (ground.loads (running.base + slot_offset k) (omega arith) (omega arith) (slot_word running.base k word))
-
-    slot_stores : (k : ℕ) → slot_offset k + 4 ≤ map_of.frame → can_store parts (running.base + slot_offset k) 4 ≡ true
-    slot_stores k inside =
-        let low = sp_low ground f fs known world s running in
-        let high = sp_high ground f fs known world s running in
-        let word = sp_word ground f fs known world s running in
-        ground.stores (running.base + slot_offset k) (omega arith) (omega arith) (slot_word running.base k word)
-
-    -- it lies behind the cells
-    slot_misses : (k : ℕ) → MissesFree pool.cells s (running.base + slot_offset k)
-    slot_misses k =
-        let low = sp_low ground f fs known world s running in
-        let under = ground.cells_below in
-        behind_misses running.cells (running.base + slot_offset k) (omega arith)
 
     -- a word was stored in a slot that holds no held token
     slot_stored : (k : ℕ) (word : Option ℕ) (v : ℕ) → slot_offset k + 4 ≤ map_of.frame → is_among k f.held ≡ false → (u : Processor) → SameRoots s u → u.memory ≡ with_number (running.base + slot_offset k) 4 v s.memory

@@ -94,12 +94,12 @@ module _ {map_of : Map} {pool : Pool} {functions : List PlacedLines} {depth buff
           routine running.frames.0.start args words (line_at running.frames.0 line rest code_is) conform words_are is
       follow_action Hold code_is conform is =
           let line = does alive Hold args into in
-          follow_hold ground f fs known world s running rest (suc (length rest)) running.frames.0.forms (λ next next_is below. goes_behind running.frames.0 line rest code_is next (record f { code = rest }) refl refl refl next_is below) args into words turn good words_are
-          (line_at running.frames.0 line rest code_is) is
+          follow_hold ground f fs known world s running rest (suc (length rest)) args into words turn good words_are running.frames.0.forms
+          (λ next next_is below. goes_behind running.frames.0 line rest code_is next (record f { code = rest }) refl refl refl next_is below) (line_at running.frames.0 line rest code_is) is
       follow_action Unhold code_is conform is =
           let line = does alive Unhold args into in
-          follow_unhold ground f fs known world s running rest (suc (length rest)) running.frames.0.forms (λ next next_is below. goes_behind running.frames.0 line rest code_is next (record f { code = rest }) refl refl refl next_is below) args into words turn good words_are
-          (line_at running.frames.0 line rest code_is) is
+          follow_unhold ground f fs known world s running rest (suc (length rest)) args into words turn good words_are
+          (λ next next_is below. goes_behind running.frames.0 line rest code_is next (record f { code = rest }) refl refl refl next_is below) (line_at running.frames.0 line rest code_is) is
 
     follow_line : (line : PlacedLine) (turn : PlacedTurn World Ending) → f.code ≡ line ∷ rest → placed_line (primitives map_of.constants pool) depth functions f fs known world (line ∷ rest) ≡ turn → turn ≢ stuck
         → Comes map_of pool functions depth stop code parts (placed_line_weight (primitives map_of.constants pool) (f ∷ fs) known world f (line ∷ rest)) (suc (length rest)) turn s

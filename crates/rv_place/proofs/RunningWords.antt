@@ -18,11 +18,13 @@ use Rattle.rv_isa.specs.Processor.{Processor, value}
 use Rattle.rv_isa.specs.Standing.{Code, Stands}
 use Rattle.rv_world.specs.Operations.{Constants, register_word, immediate_word, shift_word, holds, computed}
 use Rattle.rv_place.specs.Registers.{zero_register}
-use Rattle.rv_place.specs.Instructions.{words_of_operation, LoadsWord, words_of_branch, Computes}
+use Rattle.rv_place.specs.Instructions.{form_of, words_of_form, SetsBy, words_of_operation, LoadsWord, words_of_branch, Computes}
 use Rattle.rv_place.specs.declared.reach.Forms.{Forms}
+use Rattle.rv_place.specs.declared.constant.WordForm.{WordForm}
+use Rattle.rv_place.specs.declared.constant.WordForm.TheVariants.{Short, Upper, Both}
 use Rattle.rv_place.specs.Lines.{registers_of, BranchesTo}
 use Rattle.rv_place.specs.Running.{Agrees}
-use Rattle.rv_place.proofs.RunningExecuting.{Gets, Goes, addi_row, register_row, immediate_row, shift_row, plain_fits, plain_gets}
+use Rattle.rv_place.proofs.RunningExecuting.{Gets, Goes, addi_row, lui_row, register_row, immediate_row, shift_row, plain_fits, plain_gets}
 use Rattle.rv_place.proofs.RunningFrames.{known_put}
 use Rattle.rv_place.proofs.RunningRows.{word_gets, branch_taken, branch_passed}
 
@@ -124,6 +126,18 @@ module _ (cells : ℕ) {code : Code} (below : (at : ℕ) (i : Instr) → code at
   loads_next : (word : ℕ) → LoadsWord code at rd word → at + 8 < 2 ^ 32
   loads_next word (upper, lower, sum, has) = let last = below (at + 4) _ has.1.0 in omega arith
 
+  -- a constant comes to its register, in each form
+  sets : (form : WordForm) (word : ℕ) → SetsBy form code at rd word
+      → Gets cells code (words_of_form form) (rd.number ∷ []) rd.number word (at + 4 * words_of_form form) s × (word < 2 ^ 32) × (at + 4 * words_of_form form < 2 ^ 32)
+  sets Short word (imm, is, here) =
+      let range = imm.in_range.0 in
+      let sum : sum_word 0 imm.word ≡ word = omega (arith, is) in
+      (subst (λ w. Gets cells code 1 (rd.number ∷ []) rd.number w (at + 4) s) sum (plain_gets cells below stands pc_is (addi_row rd zero_register imm) here), omega (arith, is), below at _ here)
+  sets Upper word (upper, is, here) =
+      let range = upper.in_range.0 in
+      (subst (λ w. Gets cells code 1 (rd.number ∷ []) rd.number w (at + 4) s) is (plain_gets cells below stands pc_is (lui_row rd upper) here), omega (arith, is), below at _ here)
+  sets Both word loads = (word_gets cells below stands at pc_is rd word loads, loads_fit word loads, loads_next word loads)
+
   pub computes : (operation : Operation) (rs : List Register) (word : ℕ) → AllFit s.registers rs → computed constants operation (words_in s.registers rs) ≡ Some word
       → Computes constants code at operation rs rd → Computed operation word
   computes (OfOperation.Register operation) [] word fit is here = cc
@@ -156,7 +170,7 @@ module _ (cells : ℕ) {code : Code} (below : (at : ℕ) (i : Instr) → code at
   computes (OfOperation.Shift operation amount) (a ∷ b ∷ rs) word fit is here = cc
   computes (OfOperation.Li constant) [] word fit is here =
       let same : constant ≡ word = cc in
-      subst (λ w. Computed (OfOperation.Li constant) w) same (record { gets = word_gets cells below stands at pc_is rd constant here; fits = loads_fit constant here; next_fits = loads_next constant here })
+      subst (λ w. Computed (OfOperation.Li constant) w) same (let set = sets (form_of constant) constant here in record { gets = set.0; fits = set.1; next_fits = set.2 })
   computes (OfOperation.Li constant) (a ∷ rs) word fit is here = cc
   computes OfOperation.Mv [] word fit is here = cc
   computes OfOperation.Mv (a ∷ []) word fit is (imm, none, here) =

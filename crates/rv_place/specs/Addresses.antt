@@ -20,7 +20,7 @@ words_of_shift Near = 1
 words_of_shift Far = 1
 words_of_shift Wide = 2
 
--- how many instructions an action is, by the forms of jumps and branches; a token that is held or taken back takes the address of its slot and a call
+-- how many instructions an action is, by the forms of jumps and branches; a token that is held takes the address of its slot and a call
 abbrev pub words_of_action : Forms → Action → ℕ
 words_of_action forms (Compute operation) = words_of_operation operation
 words_of_action forms (Label l) = 0
@@ -31,7 +31,7 @@ words_of_action forms (TailCall f) = words_of_jump forms.jumps
 words_of_action forms Return = 2 + words_of_shift forms.jumps
 words_of_action forms (Routine routine) = words_of_jump forms.jumps
 words_of_action forms Hold = 1 + words_of_jump forms.jumps
-words_of_action forms Unhold = 1 + words_of_jump forms.jumps
+words_of_action forms Unhold = 3
 
 abbrev pub words_of_line : Forms → PlacedLine → ℕ
 words_of_line forms (does alive action args into) = words_of_action forms action

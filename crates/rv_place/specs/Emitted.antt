@@ -25,7 +25,7 @@ use Rattle.rv_place.specs.Addresses.{words_of_action, words_of_shift, words_of_l
 use Rattle.rv_place.specs.Lines.{Map, IsFromPointer, ShiftsStack, ActsAt, LineAt, LinesAt, FunctionAt, FunctionsAt, EntersAt, MovesBy, ReturnsFrom, registers_of, register_into}
 use Rattle.rv_place.specs.Registers.{zero_register, ra, sp, a0}
 use Rattle.rv_isa.specs.PlacedMachine.{only_slot}
-use Rattle.rv_place.specs.Instructions.{Computes, CallsTo}
+use Rattle.rv_place.specs.Instructions.{Computes, CallsTo, UnholdsToken}
 use Rattle.rv_place.specs.declared.chart.Chart.{Chart}
 use Rattle.rv_place.specs.declared.labels.Labels.{Labels}
 use Rattle.rv_place.specs.declared.reach.Reach.{Reach}
@@ -104,7 +104,6 @@ IsAddressOf runtime labels symbol address = (before : ℕ) → IsBehind symbol b
 pub record AreSymbols (runtime : ℕ) (labels : List (Symbol × ℕ)) (symbols : Symbols) : Type 0 where
   pub stack_full : IsAddressOf runtime labels symbol.StackFull symbols.stack_full
   pub hold : IsAddressOf runtime labels symbol.Hold symbols.hold
-  pub unhold : IsAddressOf runtime labels symbol.Unhold symbols.unhold
   pub take : IsAddressOf runtime labels (symbol.Routine Take) symbols.take
   pub give_up : IsAddressOf runtime labels (symbol.Routine Drop) symbols.give_up
   pub print_int : IsAddressOf runtime labels (symbol.Routine PrintInt) symbols.print_int
@@ -144,10 +143,15 @@ or_next None next = next
 abbrev pub HasLabels : Labels → ℕ → List PlacedLine → Type 0
 HasLabels labels start whole = (l : ℕ) → get nat_cmp labels.addresses l ≡ label_address labels.forms l start whole
 
--- the address of the slot of a token goes to a0, and a routine is called: code that was emitted for an address
-pub record TokenCalled (jumps : Reach) (args : List Operand) (target from : ℕ) (code : Code) (at : ℕ) : Type 0 where
+-- the address of the slot of a token goes to a0, and the routine that holds it is called: code that was emitted for an address
+pub record TokenHeld (jumps : Reach) (args : List Operand) (target from : ℕ) (code : Code) (at : ℕ) : Type 0 where
   pub sets : (k : ℕ) → only_slot args ≡ Some k → (offset : Immediate) × IsFromPointer jumps (slot_offset k) offset × (code at ≡ Some (Addi a0 sp offset))
   pub calls : at ≡ from → JumpReaches jumps (at + 4) target → CallsTo jumps code (at + 4) target
+
+-- a token is taken back from its slot
+abbrev pub TokenUnheld : Reach → List Operand → Code → ℕ → Type 0
+TokenUnheld jumps args code at =
+    (k : ℕ) → only_slot args ≡ Some k → (offset : Immediate) × IsFromPointer jumps (slot_offset k) offset × UnholdsToken code at offset
 
 -- code of each kind that was emitted for an address, `from`, by every map that the chart is of; lines are those of a function that has these labels
 abbrev pub ActionBy : Chart → Labels → ℕ → Action → List Operand → Option Operand → Code → ℕ → Type 0

@@ -1,7 +1,7 @@
 -- The instructions of the assembler's operations, jumps and calls, as they stand in code at an address.
-use Rattle.std.specs.Prelude.{◌≡◌, ℕ, ◌+◌, ◌*◌, List, [], ◌∷◌, Some}
+use Rattle.std.specs.Prelude.{◌≡◌, ℕ, ◌+◌, ◌*◌, ◌%◌, List, [], ◌∷◌, Some, cond, nat_lt, nat_eq}
 use Rattle.rv_isa.specs.declared.register.Register.{Register}
-use Rattle.rv_place.specs.Registers.{zero_register, ra, s0}
+use Rattle.rv_place.specs.Registers.{zero_register, ra, sp, s0, s1}
 use Rattle.rv_isa.specs.declared.immediate.Immediate.{Immediate}
 use Rattle.rv_isa.specs.declared.immediate.BranchOffset.{BranchOffset}
 use Rattle.rv_isa.specs.declared.immediate.JumpOffset.{JumpOffset}
@@ -20,6 +20,8 @@ use Rattle.rv_isa.specs.declared.immediate.ShiftAmount.{ShiftAmount}
 use Rattle.rv_isa.specs.Arithmetic.{sum_word}
 use Rattle.rv_isa.specs.Standing.{Code, Has}
 use Rattle.rv_world.specs.Operations.{Constants, address_in}
+use Rattle.rv_place.specs.declared.constant.WordForm.{WordForm}
+use Rattle.rv_place.specs.declared.constant.WordForm.TheVariants.{Short, Upper, Both}
 use Rattle.rv_place.specs.declared.reach.Reach.{Reach}
 use Rattle.rv_place.specs.declared.reach.Reach.TheVariants.{Near, Far, Wide}
 
@@ -78,11 +80,34 @@ opposite GreaterEqualUnsigned = LessUnsigned
 abbrev pub Zero : Immediate → Type 0
 Zero imm = imm.word ≡ 0
 
--- a word in a register, by LUI and ADDI
+-- a word in a register, by LUI and ADDI whatever it is
 abbrev pub LoadsWord : Code → ℕ → Register → ℕ → Type 0
 LoadsWord code at rd word =
     (upper : UpperImmediate) × (lower : Immediate) × (sum_word upper.word lower.word ≡ word)
     × Has code at (Instr.Lui rd upper ∷ Instr.Addi rd rd lower ∷ [])
+
+-- The form of a constant, the shortest that makes it: one that an immediate holds is added to zero, and one whose lower 12 bits are zero is set
+-- by LUI alone.
+abbrev pub form_of : ℕ → WordForm
+form_of word = cond (nat_lt (sum_word word 2048) 4096) Short (cond (nat_eq (word % 4096) 0) Upper Both)
+
+abbrev pub SetsBy : WordForm → Code → ℕ → Register → ℕ → Type 0
+SetsBy Short code at rd word = (imm : Immediate) × (imm.word ≡ word) × (code at ≡ Some (Instr.Addi rd zero_register imm))
+SetsBy Upper code at rd word = (upper : UpperImmediate) × (upper.word ≡ word) × (code at ≡ Some (Instr.Lui rd upper))
+SetsBy Both code at rd word = LoadsWord code at rd word
+
+-- how many instructions a form is
+abbrev pub words_of_form : WordForm → ℕ
+words_of_form Short = 1
+words_of_form Upper = 1
+words_of_form Both = 2
+
+-- a constant in a register
+abbrev pub SetsWord : Code → ℕ → Register → ℕ → Type 0
+SetsWord code at rd word = SetsBy (form_of word) code at rd word
+
+abbrev pub words_of_constant : ℕ → ℕ
+words_of_constant word = words_of_form (form_of word)
 
 -- how many instructions a jump is, or a call
 abbrev pub words_of_jump : Reach → ℕ
@@ -141,12 +166,19 @@ FreesToken code at a =
     (over : BranchOffset) × (zero : Immediate) × (over.word ≡ 12) × Zero zero
     × Has code at (Instr.Beq a zero_register over ∷ Instr.Sw a s0 zero ∷ Instr.Addi s0 a zero ∷ [])
 
+-- The newest held token is taken back from its slot: it is loaded to ra, and its first word, the address of the one that was held before it, goes to
+-- s1. A branch leads over this where the slot has none.
+abbrev pub UnholdsToken : Code → ℕ → Immediate → Type 0
+UnholdsToken code at slot =
+    (over : BranchOffset) × (zero : Immediate) × (over.word ≡ 8) × Zero zero
+    × Has code at (Instr.Lw ra sp slot ∷ Instr.Beq ra zero_register over ∷ Instr.Lw s1 ra zero ∷ [])
+
 -- an operation whose arguments are in registers, and whose result goes to one. One with another number of arguments is none.
 abbrev pub Computes : Constants → Code → ℕ → Operation → List Register → Register → Type 0
 Computes constants code at (Operation.Register operation) (a ∷ b ∷ []) rd = code at ≡ Some (register_instruction operation rd a b)
 Computes constants code at (Operation.Immediate operation imm) (a ∷ []) rd = code at ≡ Some (immediate_instruction operation rd a imm)
 Computes constants code at (Operation.Shift operation amount) (a ∷ []) rd = code at ≡ Some (shift_instruction operation rd a amount)
-Computes constants code at (Operation.Li word) [] rd = LoadsWord code at rd word
+Computes constants code at (Operation.Li word) [] rd = SetsWord code at rd word
 Computes constants code at Operation.Mv (a ∷ []) rd = (imm : Immediate) × Zero imm × (code at ≡ Some (Instr.Addi rd a imm))
 Computes constants code at (Operation.La index) [] rd =
     (address : ℕ) → address_in constants.first constants.texts index ≡ Some address → LoadsWord code at rd address
@@ -158,7 +190,7 @@ Computes constants code at operation args rd = Unit {0}
 
 -- how many instructions an operation is
 abbrev pub words_of_operation : Operation → ℕ
-words_of_operation (Operation.Li word) = 2
+words_of_operation (Operation.Li word) = words_of_constant word
 words_of_operation (Operation.La index) = 2
 words_of_operation Operation.Dup = 5
 words_of_operation Operation.Free = 3

@@ -21,7 +21,7 @@ use Rattle.rv_isa.specs.PlacedMachine.{only_slot}
 use Rattle.rv_isa.specs.Arithmetic.{sum_word}
 use Rattle.rv_isa.specs.Standing.{Code, Has}
 use Rattle.rv_world.specs.Operations.{Constants}
-use Rattle.rv_place.specs.Instructions.{Zero, words_of_jump, JumpsTo, CallsTo, BranchesOn, Computes}
+use Rattle.rv_place.specs.Instructions.{Zero, words_of_jump, JumpsTo, CallsTo, BranchesOn, UnholdsToken, Computes}
 use Rattle.rv_place.specs.Addresses.{words_of_line, words_of_shift, label_address, forms_of, entry_words, frame_bias, slot_offset, IsBehind}
 use Rattle.rv_place.specs.declared.reach.Forms.{Forms}
 use Rattle.rv_place.specs.declared.reach.Reach.{Reach}
@@ -103,11 +103,16 @@ pub record ReturnsFrom (map : Map) (code : Code) (at : ℕ) : Type 0 where
   pub zero_is : Zero zero
   pub goes : code (at + 4 + 4 * words_of_shift map.jumps) ≡ Some (Jalr zero_register ra zero)
 
--- a token is held or taken back: the routine is called with the address of its slot in a0
-abbrev pub CallsForToken : Map → Forms → Code → ℕ → Symbol → List Operand → Type 0
-CallsForToken map forms code at name args =
-    (k : ℕ) → only_slot args ≡ Some k → (target : ℕ) → IsSymbolAt map name target
+-- a token is held: the routine is called with the address of its slot in a0
+abbrev pub HoldsIn : Map → Forms → Code → ℕ → List Operand → Type 0
+HoldsIn map forms code at args =
+    (k : ℕ) → only_slot args ≡ Some k → (target : ℕ) → IsSymbolAt map symbol.Hold target
     → ((offset : Immediate) × IsOffsetOf map k offset × (code at ≡ Some (Addi a0 sp offset))) × CallsTo forms.jumps code (at + 4) target
+
+-- a token is taken back from its slot
+abbrev pub UnholdsFrom : Map → Code → ℕ → List Operand → Type 0
+UnholdsFrom map code at args =
+    (k : ℕ) → only_slot args ≡ Some k → (offset : Immediate) × IsOffsetOf map k offset × UnholdsToken code at offset
 
 -- What stands at an address for an action of a function of these forms whose lines, `whole`, stand at `start`. Of what is none, as a jump to a label that is
 -- not there, nothing is said.
@@ -124,8 +129,8 @@ ActsAt map forms code start whole at (Call f) args into = (entry : ℕ) → slic
 ActsAt map forms code start whole at (TailCall f) args into = (entry : ℕ) → slice_get map.entries f ≡ Some entry → JumpsTo forms.jumps code at (entry + 4 * entry_words map.jumps)
 ActsAt map forms code start whole at Return args into = ReturnsFrom map code at
 ActsAt map forms code start whole at (Routine routine) args into = (target : ℕ) → IsSymbolAt map (symbol.Routine routine) target → CallsTo forms.jumps code at target
-ActsAt map forms code start whole at Hold args into = CallsForToken map forms code at symbol.Hold args
-ActsAt map forms code start whole at Unhold args into = CallsForToken map forms code at symbol.Unhold args
+ActsAt map forms code start whole at Hold args into = HoldsIn map forms code at args
+ActsAt map forms code start whole at Unhold args into = UnholdsFrom map code at args
 
 abbrev pub LineAt : Map → Forms → Code → ℕ → List PlacedLine → ℕ → PlacedLine → Type 0
 LineAt map forms code start whole at (does alive action args into) = ActsAt map forms code start whole at action args into

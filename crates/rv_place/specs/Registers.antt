@@ -18,6 +18,10 @@ sp = record { number = 2; in_range = lit< tt }
 abbrev pub s0 : Register
 s0 = record { number = 8; in_range = lit< tt }
 
+-- a saved register: the newest held token
+abbrev pub s1 : Register
+s1 = record { number = 9; in_range = lit< tt }
+
 -- the first register of arguments
 abbrev pub a0 : Register
 a0 = record { number = 10; in_range = lit< tt }

@@ -6,7 +6,7 @@ ghost use Rattle.rv_place.specs.Addresses.{greatest_frame, slot_offset, slots_of
 ghost use Rattle.rv_place.specs.Instructions.{RaisesCount, FreesToken, words_of_jump};
 ghost use Rattle.rv_place.specs.Texts.{greatest_address};
 ghost use Rattle.rv_place.specs.Lines.{IsFromPointer};
-ghost use Rattle.rv_place.specs.Emitted.{Grew, TokenCalled};
+ghost use Rattle.rv_place.specs.Emitted.{Grew, TokenHeld, TokenUnheld};
 
 use crate::emit::{emit, emit_call, slot_offset};
 use crate::reach::Reach;
@@ -110,8 +110,8 @@ fn token_offset(jumps: Reach, args: &[Operand]) -> Immediate
     }
 }
 
-/// A token that is held or taken back, at the address `at`: a call with the address of its slot in `a0`.
-pub fn emit_token(
+/// Holds the token of a slot, at the address `at`: a call with the address of the slot in `a0`.
+pub fn emit_hold(
     code: &mut Vec<Instr>,
     at: u32,
     jumps: Reach,
@@ -120,7 +120,7 @@ pub fn emit_token(
 ) -> Result<(), NoMemory>
     requires at { at ≤ greatest_address }
     requires slots { 4 * slots_of_operands args.now + 4 ≤ greatest_frame jumps }
-    ensures { OnOk result (Grew (1 + words_of_jump jumps) (TokenCalled jumps args.now target at) code.old.items code.new.items) }
+    ensures { OnOk result (Grew (1 + words_of_jump jumps) (TokenHeld jumps args.now target at) code.old.items code.new.items) }
 {
     emit(
         code,
@@ -131,5 +131,38 @@ pub fn emit_token(
         },
     )?;
     emit_call(code, at + 4, jumps, target)?;
+    Ok(())
+}
+
+/// Takes the token of a slot back, which is the newest one; where the slot has none, does nothing.
+pub fn emit_unhold(code: &mut Vec<Instr>, jumps: Reach, args: &[Operand]) -> Result<(), NoMemory>
+    requires slots { 4 * slots_of_operands args.now + 4 ≤ greatest_frame jumps }
+    ensures { OnOk result (Grew 3 (TokenUnheld jumps args.now) code.old.items code.new.items) }
+{
+    let over = BranchOffset::new(8);
+    emit(
+        code,
+        Instr::Lw {
+            rd: Register::RA,
+            rs1: Register::SP,
+            imm: token_offset(jumps, args),
+        },
+    )?;
+    emit(
+        code,
+        Instr::Beq {
+            rs1: Register::RA,
+            rs2: Register::ZERO,
+            offset: over,
+        },
+    )?;
+    emit(
+        code,
+        Instr::Lw {
+            rd: Register::S1,
+            rs1: Register::RA,
+            imm: Immediate::ZERO,
+        },
+    )?;
     Ok(())
 }

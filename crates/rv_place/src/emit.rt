@@ -7,12 +7,13 @@ ghost use Rattle.rv_isa.specs.declared.instr.Instr.TheVariants.{Addi};
 ghost use Rattle.rv_place.specs.declared.reach.Reach.TheVariants.{Near, Far, Wide};
 ghost use Rattle.rv_place.specs.Addresses.{slot_offset, slots_of_place, branch_words, jump_words, entry_words, frame_bias, greatest_frame, words_of_shift};
 ghost use Rattle.rv_place.specs.Registers.{zero_register, ra, sp, t0};
-ghost use Rattle.rv_place.specs.Instructions.{LoadsWord, words_of_jump, words_of_branch, JumpsBy, JumpsTo, CallsTo, BranchesOn, branch_instruction, opposite};
+ghost use Rattle.rv_place.specs.Instructions.{LoadsWord, SetsWord, words_of_constant, words_of_jump, words_of_branch, JumpsBy, JumpsTo, CallsTo, BranchesOn, branch_instruction, opposite};
 ghost use Rattle.rv_place.specs.Texts.{greatest_address};
 ghost use Rattle.rv_place.specs.Lines.{IsFromPointer, ShiftsStack};
 ghost use Rattle.rv_place.specs.Emitted.{Grew, AreNear, JumpReaches, BranchReaches, TakesFrame, ReturnBy, EntryBy, MoveBy};
 
 use crate::chart::Chart;
+use crate::constant::WordForm;
 use crate::reach::{Forms, Reach};
 use kk_base::NoMemory;
 use rv_isa::{
@@ -40,7 +41,7 @@ fn split(word: u32) -> (UpperImmediate, Immediate)
     )
 }
 
-/// Makes a register a word.
+/// Makes a register a word, whatever it is.
 pub fn emit_load(code: &mut Vec<Instr>, rd: Register, word: u32) -> Result<(), NoMemory>
     ensures { OnOk result (Grew 2 (λ c at. LoadsWord c at rd word) code.old.items code.new.items) }
 {
@@ -55,6 +56,24 @@ pub fn emit_load(code: &mut Vec<Instr>, rd: Register, word: u32) -> Result<(), N
         },
     )?;
     Ok(())
+}
+
+/// Makes a register a word, by the shortest form.
+pub fn emit_constant(code: &mut Vec<Instr>, rd: Register, word: u32) -> Result<(), NoMemory>
+    ensures { OnOk result (Grew (words_of_constant word) (λ c at. SetsWord c at rd word) code.old.items code.new.items) }
+{
+    match WordForm::of(word) {
+        WordForm::Short => {
+            let imm = Immediate::new(word);
+            let rs1 = Register::ZERO;
+            emit(code, Instr::Addi { rd, rs1, imm })
+        }
+        WordForm::Upper => {
+            let imm = UpperImmediate::new(word);
+            emit(code, Instr::Lui { rd, imm })
+        }
+        WordForm::Both => emit_load(code, rd, word),
+    }
 }
 
 // ---- jumps

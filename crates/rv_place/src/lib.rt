@@ -6,6 +6,7 @@ mod boot;
 mod bytes;
 mod cells;
 mod chart;
+mod constant;
 mod emit;
 mod labels;
 mod law;

@@ -8,7 +8,7 @@ ghost use Rattle.rv_place.specs.Addresses.{words_of_action, words_of_line, words
 ghost use Rattle.rv_place.specs.Texts.{most_text_length, most_functions, greatest_address};
 ghost use Rattle.rv_place.specs.Emitted.{Grew, ActionBy, LineBy, LinesBy, FunctionBy, FunctionsBy};
 
-use crate::cells::emit_token;
+use crate::cells::{emit_hold, emit_unhold};
 use crate::chart::Chart;
 use crate::emit::{emit_branch, emit_call, emit_entry, emit_jump, emit_move, emit_return};
 use crate::labels::Labels;
@@ -56,8 +56,8 @@ fn emit_action(
         Action::TailCall(function) => emit_jump(code, at, jumps, chart.body(function)),
         Action::Return => emit_return(code, chart),
         Action::Routine(routine) => { emit_call(code, at, jumps, chart.symbols.routine(routine)) }
-        Action::Hold => emit_token(code, at, jumps, args, chart.symbols.hold),
-        Action::Unhold => emit_token(code, at, jumps, args, chart.symbols.unhold),
+        Action::Hold => emit_hold(code, at, jumps, args, chart.symbols.hold),
+        Action::Unhold => emit_unhold(code, jumps, args),
     }
 }
 

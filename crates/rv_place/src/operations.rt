@@ -6,7 +6,7 @@ ghost use Rattle.rv_place.specs.Emitted.{Grew, register_or_zero, OperationBy};
 
 use crate::cells::{emit_dup, emit_free};
 use crate::chart::Chart;
-use crate::emit::{emit, emit_load};
+use crate::emit::{emit, emit_constant, emit_load};
 use kk_base::NoMemory;
 use rv_isa::{
     Immediate, ImmediateOperation, Instr, Operand, Operation, Place, Register, RegisterOperation,
@@ -115,7 +115,7 @@ pub fn emit_operation(
         Operation::Register(of) => emit(code, register_instruction(of, rd, rs1, rs2)),
         Operation::Immediate(of, imm) => emit(code, immediate_instruction(of, rd, rs1, imm)),
         Operation::Shift(of, amount) => emit(code, shift_instruction(of, rd, rs1, amount)),
-        Operation::Li(word) => emit_load(code, rd, word),
+        Operation::Li(word) => emit_constant(code, rd, word),
         Operation::Mv => {
             let imm = Immediate::ZERO;
             emit(code, Instr::Addi { rd, rs1, imm })

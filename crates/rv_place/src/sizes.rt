@@ -9,6 +9,7 @@ ghost use Rattle.rv_place.specs.Instructions.{words_of_operation};
 ghost use Rattle.rv_place.specs.Addresses.{words_of_action, words_of_line, words_of_lines, words_of_function, words_of_functions, forms_of, slots_of_place, slots_of_operands, slots_of_line, slots_of_lines, slots_of_functions, frame_size};
 ghost use Rattle.rv_place.specs.Texts.{most_text_length, most_functions, most_runtime_words, most_constant_bytes};
 
+use crate::constant::WordForm;
 use crate::reach::{Forms, Reach};
 use crate::symbols::words_of_native;
 use kk_base::Text;
@@ -20,7 +21,8 @@ fn words_of_operation(operation: Operation) -> u32
     ensures few { result ≤ operation_instructions operation }
 {
     match operation {
-        Operation::Li(_) | Operation::La(_) => 2,
+        Operation::Li(word) => WordForm::of(word).words(),
+        Operation::La(_) => 2,
         Operation::Free => 3,
         Operation::Dup => 5,
         _ => 1,
@@ -39,7 +41,8 @@ fn words_of_action(forms: Forms, action: Action) -> u32
         Action::Jump(_) | Action::Call(_) | Action::TailCall(_) | Action::Routine(_) => jump,
         Action::Branch(_, _) => forms.words_of_branch(),
         Action::Return => 2 + forms.jumps.words_of_shift(),
-        Action::Hold | Action::Unhold => 1 + jump,
+        Action::Hold => 1 + jump,
+        Action::Unhold => 3,
     }
 }
 

@@ -15,7 +15,6 @@ use rv_isa::{Native, Routine, Symbol};
 pub struct Symbols {
     pub stack_full: u32,
     pub hold: u32,
-    pub unhold: u32,
     pub take: u32,
     pub give_up: u32,
     pub print_int: u32,
@@ -32,7 +31,6 @@ impl Symbols {
         Symbols {
             stack_full: address_of(natives, Symbol::StackFull),
             hold: address_of(natives, Symbol::Hold),
-            unhold: address_of(natives, Symbol::Unhold),
             take: address_of(natives, Symbol::Routine(Routine::Take)),
             give_up: address_of(natives, Symbol::Routine(Routine::Drop)),
             print_int: address_of(natives, Symbol::Routine(Routine::PrintInt)),

@@ -46,12 +46,12 @@ returns-in-Routine c =
 
 pub returns-in-Hold : goal.returns-in-Hold
 returns-in-Hold c =
-    on_so c.emit_token.result
+    on_so c.emit_hold.result
     (on_hold c.args.chart.now c.args.labels.now c.args.at c.args.args.now c.args.into c.in-Hold.is c.requires.slots (λ runtime names are. are.hold))
-    c.emit_token.ensures
+    c.emit_hold.ensures
 
 pub returns-in-Unhold : goal.returns-in-Unhold
 returns-in-Unhold c =
-    on_so c.emit_token-in-Unhold.result
-    (on_unhold c.args.chart.now c.args.labels.now c.args.at c.args.args.now c.args.into c.in-Unhold.is c.requires.slots (λ runtime names are. are.unhold))
-    c.emit_token-in-Unhold.ensures
+    on_so c.emit_unhold.result
+    (on_unhold c.args.chart.now c.args.labels.now c.args.at c.args.args.now c.args.into c.in-Unhold.is c.requires.slots)
+    c.emit_unhold.ensures

@@ -22,7 +22,7 @@ returns-in-Shift c =
     c.emit-in-Shift.ensures
 
 pub returns-in-Li : goal.returns-in-Li
-returns-in-Li c = on_so c.emit_load.result (on_word c.args.chart.now c.args.args.now c.args.into c.in-Li.is c.register_or_zero-rd.ensures) c.emit_load.ensures
+returns-in-Li c = on_so c.emit_constant.result (on_word c.args.chart.now c.args.args.now c.args.into c.in-Li.is c.register_or_zero-rd.ensures) c.emit_constant.ensures
 
 pub returns-in-Mv : goal.returns-in-Mv
 returns-in-Mv c =
@@ -30,7 +30,7 @@ returns-in-Mv c =
 
 pub returns-in-La : goal.returns-in-La
 returns-in-La c =
-    on_so c.emit_load-in-La.result (on_address c.args.chart.now c.args.args.now c.args.into c.in-La.is c.register_or_zero-rd.ensures c.constant.ensures) c.emit_load-in-La.ensures
+    on_so c.emit_load.result (on_address c.args.chart.now c.args.args.now c.args.into c.in-La.is c.register_or_zero-rd.ensures c.constant.ensures) c.emit_load.ensures
 
 pub returns-in-Lw : goal.returns-in-Lw
 returns-in-Lw c =

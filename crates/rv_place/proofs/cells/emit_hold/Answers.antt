@@ -1,7 +1,7 @@
 use Rattle.std.proofs.Common.{◌+◌, Some, refl, ap, ◌∙◌}
 use Rattle.cell_runtime.proofs.SameLines.{same_addi}
 use Rattle.rv_place.proofs.Emitting.{grew_so, grew_then}
-use Rattle.rv_place.proofs.cells.emit_token.Goals as goal
+use Rattle.rv_place.proofs.cells.emit_hold.Goals as goal
 
 pub returns : goal.returns
 returns c =

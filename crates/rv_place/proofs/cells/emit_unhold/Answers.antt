@@ -1,0 +1,21 @@
+use Rattle.std.proofs.Common.{Some, refl, ap, ◌∙◌}
+use Rattle.cell_runtime.proofs.Operands.{imm_0}
+use Rattle.cell_runtime.proofs.SameLines.{same_lw, same_beq}
+use Rattle.rv_place.proofs.Emitting.{grew_so, grew_then}
+use Rattle.rv_place.proofs.cells.emit_unhold.Goals as goal
+
+pub returns : goal.returns
+returns c =
+    grew_so refl
+    (λ code at row k is. (
+      c.token_offset.result,
+      c.token_offset.ensures k is,
+      (
+        c.new-over.result,
+        imm_0,
+        c.new-over.ensures,
+        refl,
+        (row.0 ∙ ap Some (same_lw refl refl refl), (row.1.0 ∙ ap Some (same_beq refl refl refl), (row.1.1 ∙ ap Some (same_lw refl refl refl), tt))),
+      ),
+    ))
+    (grew_then c.in_ok-emit.ensures (grew_then c.in_ok-emit-2.ensures c.in_ok-emit-3.ensures))
