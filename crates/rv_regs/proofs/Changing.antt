@@ -47,12 +47,19 @@ some_of_map : (f : Listed → Listed) (o : Option Listed) (l : Listed) → optio
 some_of_map f None l e = cc
 some_of_map f (Some m) l e = (m, refl, cc)
 
--- a listing that stays was there, at the same place, with the same copy if it has one
+-- it is at the same place, with the same copy if it has one; or at the copy alone
+abbrev pub IsLeft : Listed → Listed → Type 0
+IsLeft m l = ((m.place ≡ l.place) × ((m.copy ≡ l.copy) ⊎ (l.copy ≡ None))) ⊎ (IsCopyAt m.copy l.place × (l.copy ≡ None))
+
+-- a listing that stays was there, and is left
 pub record Stayed (alive : List Listed) (l : Listed) : Type 0 where
   pub m : Listed
   pub listed : listed_as l.value alive ≡ Some m
-  pub place : m.place ≡ l.place
-  pub copy : (m.copy ≡ l.copy) ⊎ (l.copy ≡ None)
+  pub stands : IsLeft m l
+
+listed_copied : (o : Option Listed) (place : Place) → IsSomeAnd o (λ before. IsCopyAt before.copy place) → (m : Listed) × (o ≡ Some m) × IsCopyAt m.copy place
+listed_copied None place came = absurd came
+listed_copied (Some m) place came = (m, refl, came)
 
 pub stayed : (alive : List Listed) (action : Option Action) (reads : List Operand) (l : Listed) → StaysListed alive (marks action reads) l → Stayed alive l
 stayed alive action reads l (inl stays) =
@@ -60,16 +67,21 @@ stayed alive action reads l (inl stays) =
     record {
       m = s.0;
       listed = s.1;
-      place = sym (marks_place action reads s.0) ∙ ap (λ (m : Listed). m.place) s.2;
-      copy = inl (sym (marks_copy action reads s.0) ∙ ap (λ (m : Listed). m.copy) s.2);
+      stands = inl (sym (marks_place action reads s.0) ∙ ap (λ (m : Listed). m.place) s.2, inl (sym (marks_copy action reads s.0) ∙ ap (λ (m : Listed). m.copy) s.2));
     }
-stayed alive action reads l (inr stays) =
+stayed alive action reads l (inr (inl stays)) =
     let s = some_of_map (λ m. with_copy None (marks action reads m)) (listed_as l.value alive) l stays in
     record {
       m = s.0;
       listed = s.1;
-      place = sym (marks_place action reads s.0) ∙ ap (λ (m : Listed). m.place) s.2;
-      copy = inr (sym (ap (λ (m : Listed). m.copy) s.2));
+      stands = inl (sym (marks_place action reads s.0) ∙ ap (λ (m : Listed). m.place) s.2, inr (sym (ap (λ (m : Listed). m.copy) s.2)));
+    }
+stayed alive action reads l (inr (inr at)) =
+    let s = listed_copied (listed_as l.value alive) l.place at.0 in
+    record {
+      m = s.0;
+      listed = s.1;
+      stands = inr (s.2, at.1.1);
     }
 
 -- so what held in its places holds in the places that are left
@@ -77,8 +89,16 @@ copy_stays : (P : Place → Type 0) (m l : Listed) → (m.copy ≡ l.copy) ⊎ (
 copy_stays P m l (inl same) all = subst (OnCopy P) same all
 copy_stays P m l (inr none) all = subst (OnCopy P) (sym none) tt
 
+copy_at : (P : Place → Type 0) (copy : Option Register) (place : Place) → IsCopyAt copy place → OnCopy P copy → P place
+copy_at P None place at all = absurd at
+copy_at P (Some r) place at all = subst P at all
+
+both_left : (P : Place → Type 0) (m l : Listed) → IsLeft m l → AtBoth P m → AtBoth P l
+both_left P m l (inl same) both = (subst P same.0 both.0, copy_stays P m l same.1 both.1)
+both_left P m l (inr at) both = (copy_at P m.copy l.place at.0 both.1, subst (OnCopy P) (sym at.1) tt)
+
 pub both_stay : (P : Place → Type 0) (alive : List Listed) (l : Listed) (s : Stayed alive l) → AtBoth P s.m → AtBoth P l
-both_stay P alive l s both = (subst P s.place both.0, copy_stays P s.m l s.copy both.1)
+both_stay P alive l s both = both_left P s.m l s.stands both
 
 pub clear_write : (write : Option Operand) (l : Listed) → IsClearOf write l → (IsWritten write l.value → ⊥) × AtBoth (NotAt write) l
 clear_write None l clear = (λ w. w, (tt, on_copy (NotAt None) l.copy (λ r. tt)))

@@ -17,7 +17,7 @@ use Rattle.rv_isa.specs.WellFormed.{AreDistinct}
 use Rattle.rv_regs.specs.declared.slots.Loaded.{Loaded}
 use Rattle.rv_regs.specs.Alive.{PointLists}
 use Rattle.rv_regs.specs.Listings.{first_alive, listed_as, with_copy, spoils_by, marks}
-use Rattle.rv_regs.specs.Conditions.{OnCopy, AtBoth, StandsAt, AreApart, Apart, IsAtPlace, IsNeeded, IsListed, IsClearOf, IsSafe, IsKept, IsHandedOut, WriteIsHandedOut, IsInSlot, StaysHeld, Fits, AllFit}
+use Rattle.rv_regs.specs.Conditions.{OnCopy, AtBoth, StandsAt, AreApart, Apart, IsAtPlace, IsNeeded, IsListed, IsClearOf, IsSafe, IsAtCopy, IsKept, IsHandedOut, WriteIsHandedOut, IsInSlot, StaysHeld, Fits, AllFit}
 use Rattle.rv_regs.specs.Plain.{place_in, copy_in, listing_at, listings, stored_later, copied_in, loads, stores}
 use Rattle.rv_regs.proofs.Lists.{all_made}
 use Rattle.rv_regs.proofs.InRegisters.{AreLoads, AreAmong, differ_values, differ_registers, no_slot, slot_number, place_same, place_other, place_slot, places_apart, places_handed, copy_same, copy_other, copies_handed, copy_ne}
@@ -90,9 +90,10 @@ module _ (place_of : ℕ → Place) (copy_of : ℕ → Option Register) where
 
       stays : (copy_of v ≡ copy) ⊎ (None ≡ copy)
           → (option_map (marks action reads) (listed_as v (listings place_of copy_of before)) ≡ Some (At copy))
-          ⊎ (option_map (λ m. with_copy None (marks action reads m)) (listed_as v (listings place_of copy_of before)) ≡ Some (At copy))
+          ⊎ ((option_map (λ m. with_copy None (marks action reads m)) (listed_as v (listings place_of copy_of before)) ≡ Some (At copy))
+          ⊎ IsAtCopy (listings place_of copy_of before) (At copy))
       stays (inl stay) = inl (after ∙ ap (λ c. Some (At c)) stay)
-      stays (inr forget) = inr (forgotten ∙ ap (λ c. Some (At c)) forget)
+      stays (inr forget) = inr (inl (forgotten ∙ ap (λ c. Some (At c)) forget))
 
   -- a line fits whose values stand apart
   pub act_fits : (before : PointLists) (reads : List Operand) (write : Option Operand) (action : Option Action) (nexts : List (List Listed))

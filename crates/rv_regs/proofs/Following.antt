@@ -23,7 +23,7 @@ use Rattle.rv_regs.specs.Listings.{first_alive, alive_behind, alive_at_label, bo
 use Rattle.rv_regs.specs.Conditions.{value_of, without_moves, OnCopy, AtBoth, IsAtPlace, IsKept, StaysListed, IsSafe, Fits, AllFit, IsPlacing, ArePlacings}
 use Rattle.rv_regs.specs.Relation.{Holds, HeldAs, SameCode, Stands, WaitsFor, IsSlotOf, Waits, AllWait, StandsFor}
 use Rattle.rv_regs.proofs.Placing.{listed_has, put_same, put_other, at_one, stands_slot}
-use Rattle.rv_regs.proofs.Changing.{Changes, holds_next, change_nothing, change_one, stayed}
+use Rattle.rv_regs.proofs.Changing.{Changes, holds_next, change_nothing, change_one, stayed, both_stay}
 use Rattle.rv_regs.proofs.Chains.{token, IsNext, all_next, held_next, held_both, unheld_both}
 use Rattle.rv_regs.proofs.Tokens.{apart_first, as_many_wait, top_same, Left, left_over}
 use Rattle.rv_regs.proofs.Steps.{both_go, same_go, cond_go, held_go, read_listed, found_both, callee_both, enters}
@@ -87,7 +87,8 @@ kept_in_slot : (alive : List Listed) (action : Option Action) (args : List Opera
 kept_in_slot alive action args values registers slots v l holds same stays safe =
     let s = stayed alive action args l stays in
     let k = safe_slot l.place safe.0 in
-    (safe_copy l.copy safe.1, (k.0, k.1, ap values (sym same) ∙ (holds l.value s.m s.listed).0 ∙ ap (read_at registers slots) (s.place ∙ k.1)))
+    let stands = (both_stay (λ place. values l.value ≡ read_at registers slots place) alive l s (holds l.value s.m s.listed)).0 in
+    (safe_copy l.copy safe.1, (k.0, k.1, ap values (sym same) ∙ stands ∙ ap (read_at registers slots) k.1))
 
 -- what a call leaves alive waits in slots, but for its result
 awaits_call : (alive : List Listed) (f : ℕ) (args : List Operand) (into : Option Operand) (values registers slots : ℕ → Option ℕ) (next : List Listed) → Holds alive values registers slots

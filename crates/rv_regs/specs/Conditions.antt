@@ -91,10 +91,14 @@ IsCopied alive None (Some into) l = (into.value ≡ l.value) × HasCopyIn alive 
 IsCopied alive (Some action) write l = ⊥
 
 -- 7. What is listed next and not written is listed here, at the same place, held if it is held behind the line, and with the
--- same copy, or with none.
+-- same copy, or with none. Or it is listed next at its copy alone.
+abbrev pub IsAtCopy : List Listed → Listed → Type 0
+IsAtCopy alive l = IsSomeAnd (listed_as l.value alive) (λ before. IsCopyAt before.copy l.place) × ((l.held ≡ false) × (l.copy ≡ None))
+
 abbrev pub StaysListed : List Listed → (Listed → Listed) → Listed → Type 0
 StaysListed alive marking l =
-    (option_map marking (listed_as l.value alive) ≡ Some l) ⊎ (option_map (λ m. with_copy None (marking m)) (listed_as l.value alive) ≡ Some l)
+    (option_map marking (listed_as l.value alive) ≡ Some l)
+    ⊎ ((option_map (λ m. with_copy None (marking m)) (listed_as l.value alive) ≡ Some l) ⊎ IsAtCopy alive l)
 
 -- 8. It is not at the place that is written, nor is its copy.
 abbrev pub IsClearOf : Option Operand → Listed → Type 0

@@ -30,10 +30,11 @@ fn plain_function(alloc: Global, function: &AsmFunction) -> Result<PlacedFunctio
 fn checked_function(
     alloc: Global,
     function: &AsmFunction,
+    is_early: bool,
 ) -> Result<Option<PlacedFunction>, NoMemory>
     ensures { IfOk result (λ found. IfSome found (λ placed. IsRight (lines_of function.now) (placed_lines_of placed))) }
 {
-    match local_function(alloc, function)? {
+    match local_function(alloc, function, is_early)? {
         Some(placed) if is_placing(function, &placed) && is_modest(function, &placed) => {
             Ok(Some(placed))
         }
@@ -45,7 +46,10 @@ fn place_function(alloc: Global, function: &AsmFunction) -> Result<PlacedFunctio
     requires { IsWellFormed (lines_of function.now) }
     ensures { IfOk result (λ placed. IsRight (lines_of function.now) (placed_lines_of placed)) }
 {
-    match checked_function(alloc, function)? {
+    if let Some(placed) = checked_function(alloc, function, false)? {
+        return Ok(placed);
+    }
+    match checked_function(alloc, function, true)? {
         Some(placed) => Ok(placed),
         None => plain_function(alloc, function),
     }

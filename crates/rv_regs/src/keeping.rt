@@ -1,10 +1,10 @@
 // What a line keeps of the values that are listed where it goes on.
 
-ghost use Rattle.std.specs.Prelude.{◌≡◌, ◌≢◌, ◌↔◌, [], IsTrue, All, option_map};
+ghost use Rattle.std.specs.Prelude.{◌≡◌, ◌≢◌, ◌⊎◌, ◌↔◌, [], IsTrue, All, option_map};
 ghost use Rattle.std.specs.List.{AllByRecursion};
 ghost use Rattle.rv_isa.specs.declared.placed.Place.{Place};
 ghost use Rattle.rv_regs.specs.Listings.{one_if, both_of, listed_as, with_copy, spoils_by, marks};
-ghost use Rattle.rv_regs.specs.Conditions.{OnCopy, AtBoth, IsNew, HasCopyIn, IsCopied, StaysListed, IsClearOf, IsSafe, IsKept};
+ghost use Rattle.rv_regs.specs.Conditions.{OnCopy, AtBoth, IsNew, HasCopyIn, IsCopied, IsAtCopy, StaysListed, IsClearOf, IsSafe, IsKept};
 ghost use Rattle.rv_regs.specs.Views.{point_of};
 
 use crate::actions::{same_listing, same_place};
@@ -98,8 +98,25 @@ fn is_copied(
     }
 }
 
-fn stays_listed(alive: &[Listed], action: Option<Action>, reads: &[Operand], listed: Listed) -> bool
-    ensures { IsTrue result ↔ StaysListed alive.now (marks action reads.now) listed }
+fn is_at_copy(alive: &[Listed], listed: Listed) -> bool
+    ensures { IsTrue result ↔ IsAtCopy alive.now listed }
+{
+    match listing(alive, listed.value) {
+        Some(before) => {
+            is_copy_at(before.copy, listed.place) && !listed.held && listed.copy.is_none()
+        }
+        None => false,
+    }
+}
+
+fn stays_as_listed(
+    alive: &[Listed],
+    action: Option<Action>,
+    reads: &[Operand],
+    listed: Listed,
+) -> bool
+    ensures { IsTrue result ↔ ((option_map (marks action reads.now) (listed_as listed.value alive.now) ≡ Some listed)
+        ⊎ (option_map (λ m. with_copy None (marks action reads.now m)) (listed_as listed.value alive.now) ≡ Some listed)) }
 {
     match listing(alive, listed.value) {
         Some(before) => {
@@ -108,6 +125,12 @@ fn stays_listed(alive: &[Listed], action: Option<Action>, reads: &[Operand], lis
         }
         None => false,
     }
+}
+
+fn stays_listed(alive: &[Listed], action: Option<Action>, reads: &[Operand], listed: Listed) -> bool
+    ensures { IsTrue result ↔ StaysListed alive.now (marks action reads.now) listed }
+{
+    stays_as_listed(alive, action, reads, listed) || is_at_copy(alive, listed)
 }
 
 fn is_copy_off(place: Place, copy: Option<Register>) -> bool

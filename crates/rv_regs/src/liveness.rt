@@ -94,7 +94,8 @@ pub fn alive_before(
     Ok(values)
 }
 
-fn alive_at(points: &[LabelPoint], label: u32) -> &[u32]
+/// What is alive at a label, by the table.
+pub fn alive_at(points: &[LabelPoint], label: u32) -> &[u32]
     ensures { result.now ≡ last_at label [] points.now }
 {
     let mut found: &[u32] = &[];

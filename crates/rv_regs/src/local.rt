@@ -1,117 +1,69 @@
-// The code of a function whose values stay in registers from one label to the next, where no call comes between.
+// The code of a function whose values stay in registers as long as they can.
 
+use crate::joins::{go_to, join, kept_register, take_state};
+use crate::keeping::may_spoil;
 use crate::liveness::{copy_of, is_one_of};
+use crate::moving::{Walk, put_away, put_copy, put_store, spare_register};
 use crate::places::listing;
-use crate::plans::{Plan, goes_on, lone_labels, plans};
+use crate::plans::{Care, Due, Plan, Plans, goes_on, plans_of, spoils_many};
 use crate::state::{
-    any_register, argument_register, is_free, is_in, is_to_be_had, operands_at, register_for,
-    register_of, same_state, stands_in, state_at, state_behind, state_clear_of, state_uncopied,
-    state_without, without_copy_in,
+    argument_register, is_free, is_in, is_to_be_had, is_wished_for, operands_at, register_of,
+    same_state, stands_in, state_at, state_behind, state_clear_of, state_uncopied, state_without,
+    wished_register,
 };
 use kk_base::NoMemory;
 use rv_isa::{
-    Action, AsmFunction, Item, Listed, Operand, Place, PlacedFunction, Register, Statement, Way,
+    Action, AsmFunction, Item, Listed, Operand, Place, PlacedFunction, Register, Statement,
 };
 use std::alloc::Global;
 
-/// Where values stand at the jump or branch to a label.
-#[derive(Debug, Drop)]
-struct KeptState {
-    label: u32,
-    state: Vec<Listed>,
-}
+/// How often a function is written anew with more care.
+const MOST_ROUNDS: u32 = 16;
 
-/// A walk through the code: the lines so far, where values stand behind them, and where they stand at the labels ahead to which
-/// one jump or branch alone leads.
-#[derive(Debug, Drop)]
-struct Walk {
-    items: Vec<Item>,
-    state: Vec<Listed>,
-    kept: Vec<KeptState>,
-}
-
-// Writes a move, behind which its value is listed as `after`.
-fn put_move(alloc: Global, walk: &mut Walk, way: Way, after: Listed) -> Result<(), NoMemory> {
-    let mut next = Vec::new(alloc);
-    for listed in &walk.state {
-        if listed.value == after.value {
-            next.push(after)?;
-        } else {
-            match way {
-                Way::Copy { to, .. } | Way::Load { to, .. } => {
-                    next.push(without_copy_in(*listed, to))?;
-                }
-                Way::Store { .. } => next.push(*listed)?,
-            }
-        }
-    }
-    let alive = same_state(alloc, &walk.state)?;
-    let value = after.value;
-    walk.items.push(Item::Moves { alive, value, way })?;
-    walk.state = next;
-    Ok(())
-}
-
-fn way_to(listed: Listed, to: Register) -> Way {
-    match (register_of(listed), listed.place) {
-        (Some(from), _) => Way::Copy { from, to },
-        (None, Place::Slot(from)) => Way::Load { from, to },
-        (None, Place::Register(from)) => Way::Copy { from, to },
+// Whether the place is a register that routines spoil, which print and read nothing.
+fn is_soon_spoilt(place: Place) -> bool {
+    match place {
+        Place::Register(register) => matches!(register.number, 5 | 10..=13),
+        Place::Slot(_) => false,
     }
 }
 
-// Writes a move of a value to a register, which has a copy then.
-fn put_copy(alloc: Global, walk: &mut Walk, listed: Listed, to: Register) -> Result<(), NoMemory> {
-    let after = Listed {
-        copy: Some(to),
-        ..listed
-    };
-    put_move(alloc, walk, way_to(listed, to), after)
-}
-
-// Writes a move of a value to a register, which is its place then.
-fn put_away(alloc: Global, walk: &mut Walk, listed: Listed, to: Register) -> Result<(), NoMemory> {
-    let after = Listed {
-        place: Place::Register(to),
-        copy: None,
-        ..listed
-    };
-    put_move(alloc, walk, way_to(listed, to), after)
-}
-
-// Writes the store of a value from the register that is its place.
-fn put_store(
-    alloc: Global,
-    walk: &mut Walk,
-    listed: Listed,
-    from: Register,
-) -> Result<(), NoMemory> {
-    let to = listed.value;
-    let after = Listed {
-        place: Place::Slot(to),
-        copy: Some(from),
-        ..listed
-    };
-    put_move(alloc, walk, Way::Store { from, to }, after)
-}
-
-// Puts a value that has come to a register where it is needed: to its slot, or to a register that is not spoilt.
+// Puts a value that has come to a register where it is needed, if it goes early: to its slot, or to a register that is not spoilt.
 fn settle(
     alloc: Global,
     walk: &mut Walk,
     listed: Listed,
     register: Register,
     plan: &Plan,
+    care: &Care,
 ) -> Result<(), NoMemory> {
-    let is_spoilt = matches!(register.number, 5 | 10..=13);
-    if is_one_of(listed.value, &plan.slotted) {
-        put_store(alloc, walk, listed, register)
-    } else if is_spoilt && is_one_of(listed.value, &plan.crossing) {
-        let to = any_register(&walk.state, &[]);
+    let value = listed.value;
+    let is_spoilt = is_soon_spoilt(Place::Register(register));
+    let is_early = care.is_early(value);
+    if is_one_of(value, &care.slotted) || is_early && is_one_of(value, &plan.slotted) {
+        put_store(alloc, walk, listed)
+    } else if is_spoilt && is_early && is_one_of(value, &plan.crossing) {
+        let to = spare_register(walk, &[])?;
         put_away(alloc, walk, listed, to)
     } else {
         Ok(())
     }
+}
+
+// A register for a value: the one that it has at a label ahead, or the one that it wishes for, else any.
+fn register_for(
+    walk: &mut Walk,
+    keep: &[u32],
+    plan: &Plan,
+    value: u32,
+) -> Result<Register, NoMemory> {
+    if let Some(register) = kept_register(walk, keep, &plan.ahead, value) {
+        return Ok(register);
+    }
+    if let Some(register) = wished_register(&walk.state, keep, &plan.wishes, value) {
+        return Ok(register);
+    }
+    spare_register(walk, keep)
 }
 
 // Each argument of a computation comes to a register.
@@ -119,7 +71,7 @@ fn fetch(alloc: Global, walk: &mut Walk, args: &[u32], plan: &Plan) -> Result<()
     for value in args {
         if let Some(listed) = listing(&walk.state, *value) {
             if register_of(listed).is_none() {
-                let to = register_for(&walk.state, args, plan, *value);
+                let to = register_for(walk, args, plan, *value)?;
                 put_copy(alloc, walk, listed, to)?;
             }
         }
@@ -169,16 +121,12 @@ fn next_argument(state: &[Listed], args: &[u32], is_gentle: bool) -> Option<Argu
 }
 
 // The first value that stands where an argument is taken that is not there.
-fn next_in_the_way(state: &[Listed], args: &[u32]) -> Option<ArgumentMove> {
+fn next_in_the_way(state: &[Listed], args: &[u32]) -> Option<Listed> {
     for (index, value) in args.iter().enumerate() {
         if let Some(to) = argument_register(index) {
             for listed in state {
                 if listed.value != *value && stands_in(*listed, to) {
-                    return Some(ArgumentMove {
-                        listed: *listed,
-                        to: any_register(state, &[]),
-                        is_away: true,
-                    });
+                    return Some(*listed);
                 }
             }
         }
@@ -189,10 +137,7 @@ fn next_in_the_way(state: &[Listed], args: &[u32]) -> Option<ArgumentMove> {
 fn next_move(state: &[Listed], args: &[u32]) -> Option<ArgumentMove> {
     match next_argument(state, args, true) {
         Some(found) => Some(found),
-        None => match next_argument(state, args, false) {
-            Some(found) => Some(found),
-            None => next_in_the_way(state, args),
-        },
+        None => next_argument(state, args, false),
     }
 }
 
@@ -205,16 +150,113 @@ fn arrange(alloc: Global, walk: &mut Walk, args: &[u32]) -> Result<(), NoMemory>
             } else {
                 put_copy(alloc, walk, next.listed, next.to)?;
             }
+        } else if let Some(listed) = next_in_the_way(&walk.state, args) {
+            let to = spare_register(walk, &[])?;
+            put_away(alloc, walk, listed, to)?;
+        }
+    }
+    Ok(())
+}
+
+// What is alive behind an action goes to its slot.
+fn store_all(alloc: Global, walk: &mut Walk, values: &[u32]) -> Result<(), NoMemory> {
+    for value in values {
+        if let Some(listed) = listing(&walk.state, *value) {
+            put_store(alloc, walk, listed)?;
+        }
+    }
+    Ok(())
+}
+
+// Values that have to be in their slots on each way on go there, while moves are left: those in registers that others wish for first.
+fn store_some(
+    alloc: Global,
+    walk: &mut Walk,
+    values: &[u32],
+    behind: &Plan,
+) -> Result<(), NoMemory> {
+    for is_wished in [true, false] {
+        for value in values {
+            if let Some(listed) = listing(&walk.state, *value) {
+                if walk.left > 0 && (!is_wished || is_wished_for(listed, &behind.wishes)) {
+                    put_store(alloc, walk, listed)?;
+                }
+            }
+        }
+    }
+    Ok(())
+}
+
+// What is alive behind an action leaves the registers that the action spoils.
+fn leave_spoilt(
+    alloc: Global,
+    walk: &mut Walk,
+    action: Action,
+    values: &[u32],
+    stored: &[u32],
+) -> Result<(), NoMemory> {
+    for value in values {
+        if let Some(listed) = listing(&walk.state, *value) {
+            if let Place::Register(register) = listed.place {
+                if may_spoil(Some(action), register.number) {
+                    if is_one_of(*value, stored) {
+                        put_store(alloc, walk, listed)?;
+                    } else {
+                        let to = spare_register(walk, &[])?;
+                        put_away(alloc, walk, listed, to)?;
+                    }
+                }
+            }
         }
     }
     Ok(())
 }
 
 // The register that the result of an action comes in.
-fn result_for(state: &[Listed], action: Action, value: u32, plan: &Plan) -> Register {
+fn result_for(
+    walk: &mut Walk,
+    action: Action,
+    value: u32,
+    plan: &Plan,
+) -> Result<Register, NoMemory> {
     match action {
-        Action::Compute(_) => register_for(state, &[], plan, value),
-        _ => Register::A0,
+        Action::Compute(_) => register_for(walk, &[], plan, value),
+        _ => Ok(Register::A0),
+    }
+}
+
+// The result of a statement is listed at its register, and comes to where it is needed.
+fn put_result(
+    alloc: Global,
+    walk: &mut Walk,
+    into: Operand,
+    register: Register,
+    behind: &Plan,
+    care: &Care,
+) -> Result<(), NoMemory> {
+    walk.state = state_clear_of(alloc, &walk.state, register)?;
+    if is_one_of(into.value, &behind.point.alive) {
+        let listed = Listed {
+            value: into.value,
+            place: into.place,
+            held: false,
+            copy: None,
+        };
+        walk.state.push(listed)?;
+        settle(alloc, walk, listed, register, behind, care)?;
+    }
+    Ok(())
+}
+
+// The moves that may stand behind a statement.
+fn moves_behind(statement: &Statement) -> usize {
+    let results = match statement.into {
+        Some(_) => 1,
+        None => 0,
+    };
+    match statement.action {
+        Action::Compute(_) => statement.args.len().saturating_add(results),
+        _ => results,
     }
 }
 
@@ -224,35 +266,29 @@ fn put_line(
     walk: &mut Walk,
     statement: &Statement,
     behind: &Plan,
+    care: &Care,
 ) -> Result<(), NoMemory> {
     let action = statement.action;
     let alive = same_state(alloc, &walk.state)?;
     let args = operands_at(alloc, &walk.state, action, &statement.args)?;
     let unspoilt = state_behind(alloc, &walk.state, action)?;
-    let state = state_at(alloc, &unspoilt, &behind.point)?;
+    walk.state = state_at(alloc, &unspoilt, &behind.point)?;
+    walk.left = moves_behind(statement);
+    walk.moved = Vec::new(alloc);
+    walk.excess = 0;
     match statement.into {
         Some(value) => {
-            let others = state_without(alloc, &state, value)?;
-            let register = result_for(&others, action, value, behind);
+            walk.state = state_without(alloc, &walk.state, value)?;
+            let register = result_for(walk, action, value, behind)?;
             let place = Place::Register(register);
-            let into = Some(Operand { value, place });
+            let into = Operand { value, place };
             walk.items.push(Item::Does {
                 alive,
                 action,
                 args,
-                into,
+                into: Some(into),
             })?;
-            walk.state = state_clear_of(alloc, &others, register)?;
-            if is_one_of(value, &behind.point.alive) {
-                let listed = Listed {
-                    value,
-                    place,
-                    held: false,
-                    copy: None,
-                };
-                walk.state.push(listed)?;
-                settle(alloc, walk, listed, register, behind)?;
-            }
+            put_result(alloc, walk, into, register, behind, care)
         }
         None => {
             walk.items.push(Item::Does {
@@ -261,35 +297,96 @@ fn put_line(
                 args,
                 into: None,
             })?;
-            walk.state = state;
+            Ok(())
         }
+    }
+}
+
+// Values come to where the statement takes them, and leave where it spoils them.
+fn prepare(
+    alloc: Global,
+    walk: &mut Walk,
+    statement: &Statement,
+    before: &Plan,
+    behind: &Plan,
+) -> Result<(), NoMemory> {
+    let action = statement.action;
+    match action {
+        Action::Compute(_) | Action::Branch(..) => fetch(alloc, walk, &statement.args, before),
+        Action::TailCall(_) | Action::Return => arrange(alloc, walk, &statement.args),
+        Action::Call(_) | Action::Routine(_) => {
+            if spoils_many(action) {
+                store_all(alloc, walk, &behind.point.alive)?;
+            } else {
+                leave_spoilt(alloc, walk, action, &behind.point.alive, &behind.stored)?;
+            }
+            arrange(alloc, walk, &statement.args)
+        }
+        Action::Hold | Action::Unhold => {
+            store_all(alloc, walk, &statement.args)?;
+            leave_spoilt(alloc, walk, action, &behind.point.alive, &behind.stored)?;
+            walk.state = state_uncopied(alloc, &walk.state, &statement.args)?;
+            Ok(())
+        }
+        Action::Label(_) | Action::Jump(_) => Ok(()),
+    }
+}
+
+// What is alive before the last statement, if that is no label.
+fn alive_before_last(items: &[Item]) -> &[Listed] {
+    for item in items.iter().rev() {
+        if let Item::Does { alive, action, .. } = item {
+            return match action {
+                Action::Label(_) => &[],
+                _ => alive,
+            };
+        }
+    }
+    &[]
+}
+
+// Where too many moves stand before a statement, some of their values are due before the last one; or as soon as they are there,
+// where they were not there before it, or are due there already.
+fn blame(alloc: Global, walk: &mut Walk, args: &[u32], care: &Care) -> Result<(), NoMemory> {
+    if walk.excess == 0 {
+        return Ok(());
+    }
+    let moved = copy_of(alloc, &walk.moved)?;
+    let index = walk.last;
+    for is_argument in [false, true] {
+        for value in &moved {
+            let is_open = is_one_of(*value, args) == is_argument
+                && listing(alive_before_last(&walk.items), *value).is_some()
+                && !care.is_due(index, *value);
+            if is_open && walk.excess > 0 {
+                let value = *value;
+                walk.due.push(Due { index, value })?;
+                walk.excess -= 1;
+            }
+        }
+    }
+    if walk.excess > 0 {
+        walk.early.extend_from_slice(&moved)?;
     }
     Ok(())
 }
 
-// Where values stand at a label.
-fn state_at_label(
-    alloc: Global,
-    kept: &[KeptState],
-    label: u32,
-    before: &Plan,
-) -> Result<Vec<Listed>, NoMemory> {
-    for other in kept {
-        if other.label == label {
-            return state_at(alloc, &other.state, &before.point);
+// The values that are due before the next statement go to their slots, if they have to be there at some point, or to another
+// register.
+fn pay(alloc: Global, walk: &mut Walk, plan: &Plan, care: &Care) -> Result<(), NoMemory> {
+    for due in &care.due {
+        if due.index == walk.index {
+            if let Some(listed) = listing(&walk.state, due.value) {
+                if is_one_of(due.value, &plan.slotted) {
+                    put_store(alloc, walk, listed)?;
+                } else if let Some(to) = kept_register(walk, &[], &plan.ahead, due.value) {
+                    put_away(alloc, walk, listed, to)?;
+                } else if is_soon_spoilt(listed.place) {
+                    let to = spare_register(walk, &[])?;
+                    put_away(alloc, walk, listed, to)?;
+                }
+            }
         }
-    }
-    state_at(alloc, &[], &before.point)
-}
-
-// Keeps where values stand at a jump or branch to a label to which no other leads.
-fn keep(alloc: Global, walk: &mut Walk, action: Action, lone: &[u32]) -> Result<(), NoMemory> {
-    match action {
-        Action::Jump(label) | Action::Branch(_, label) if is_one_of(label, lone) => {
-            let state = same_state(alloc, &walk.state)?;
-            walk.kept.push(KeptState { label, state })?;
-        }
-        _ => {}
     }
     Ok(())
 }
@@ -298,26 +395,45 @@ fn step(
     alloc: Global,
     walk: &mut Walk,
     statement: &Statement,
-    lone: &[u32],
     before: &Plan,
     behind: &Plan,
+    plans: &Plans,
+    care: &Care,
 ) -> Result<(), NoMemory> {
-    match statement.action {
-        Action::Label(label) => {
-            walk.state = state_at_label(alloc, &walk.kept, label, before)?;
-        }
-        Action::Compute(_) | Action::Branch(..) => fetch(alloc, walk, &statement.args, before)?,
-        Action::Call(_) | Action::TailCall(_) | Action::Return | Action::Routine(_) => {
-            arrange(alloc, walk, &statement.args)?;
-        }
-        Action::Hold | Action::Unhold => {
-            walk.state = state_uncopied(alloc, &walk.state, &statement.args)?;
-        }
-        Action::Jump(_) => {}
+    let action = statement.action;
+    walk.left = walk.left.saturating_add(statement.args.len());
+    if walk.is_reached {
+        pay(alloc, walk, before, care)?;
     }
-    keep(alloc, walk, statement.action, lone)?;
-    put_line(alloc, walk, statement, behind)?;
-    if !goes_on(statement.action) {
+    match action {
+        Action::Label(label) => {
+            if walk.is_reached {
+                go_to(alloc, walk, label, plans, care)?;
+                join(alloc, walk, label, plans, care)?;
+            }
+            walk.state = take_state(alloc, &mut walk.kept, label, &before.point)?;
+        }
+        Action::Jump(label) => {
+            go_to(alloc, walk, label, plans, care)?;
+            join(alloc, walk, label, plans, care)?;
+        }
+        Action::Branch(_, label) => {
+            go_to(alloc, walk, label, plans, care)?;
+            prepare(alloc, walk, statement, before, behind)?;
+            store_some(alloc, walk, &before.stored, behind)?;
+            join(alloc, walk, label, plans, care)?;
+        }
+        _ => {
+            prepare(alloc, walk, statement, before, behind)?;
+            store_some(alloc, walk, &before.stored, behind)?;
+        }
+    }
+    blame(alloc, walk, &statement.args, care)?;
+    put_line(alloc, walk, statement, behind, care)?;
+    walk.last = walk.index;
+    walk.index = walk.index.saturating_add(1);
+    walk.is_reached = goes_on(action);
+    if !walk.is_reached {
         walk.state = state_at(alloc, &[], &behind.point)?;
     }
     Ok(())
@@ -341,49 +457,98 @@ fn passed(alloc: Global, params: &[u32], plan: &Plan) -> Result<Vec<Listed>, NoM
     Ok(state)
 }
 
-// The start of a function: each parameter comes to where it is needed.
-fn start(alloc: Global, params: &[u32], plan: &Plan) -> Result<Walk, NoMemory> {
+// The start of a function: each parameter that goes early comes to where it is needed.
+fn start(alloc: Global, params: &[u32], plan: &Plan, care: &Care) -> Result<Walk, NoMemory> {
     let mut walk = Walk {
         items: Vec::new(alloc),
         state: passed(alloc, params, plan)?,
         kept: Vec::new(alloc),
+        is_reached: true,
+        left: params.len(),
+        moved: Vec::new(alloc),
+        index: 0,
+        last: 0,
+        excess: 0,
+        due: Vec::new(alloc),
+        early: Vec::new(alloc),
+        crowded: Vec::new(alloc),
     };
     for (index, value) in params.iter().enumerate() {
         if let (Some(register), Some(listed)) = (
             argument_register(index),
             listing(&walk.state, *value),
         ) {
-            settle(alloc, &mut walk, listed, register, plan)?;
+            settle(alloc, &mut walk, listed, register, plan, care)?;
         }
     }
     Ok(walk)
 }
 
-/// The function with its values in registers from one label to the next, where no call comes between; or `None` where that would be
-/// too much work. Whether it is right, only a check tells.
+// The walk through a function; or `None` where that would be too much work.
+fn walked(alloc: Global, function: &AsmFunction, care: &Care) -> Result<Option<Walk>, NoMemory> {
+    let Some(mut plans) = plans_of(alloc, &function.code, care)? else {
+        return Ok(None);
+    };
+    let Some(mut before) = plans.points.pop() else {
+        return Ok(None);
+    };
+    let mut walk = start(alloc, &function.params, &before, care)?;
+    for statement in &function.code {
+        let Some(behind) = plans.points.pop() else {
+            return Ok(None);
+        };
+        step(alloc, &mut walk, statement, &before, &behind, &plans, care)?;
+        before = behind;
+    }
+    Ok(Some(walk))
+}
+
+// Adds the values that are not there yet, and tells whether there are some.
+fn add_new(values: &mut Vec<u32>, more: &[u32]) -> Result<bool, NoMemory> {
+    let mut is_more = false;
+    for value in more {
+        if !is_one_of(*value, values) {
+            values.push(*value)?;
+            is_more = true;
+        }
+    }
+    Ok(is_more)
+}
+
+/// The function with its values in registers as long as they can be; or `None` where that would be too much work. Where it goes
+/// early, each value goes to its slot as soon as it is there, if it has to be there at some point. Whether it is right, only a check tells.
 pub fn local_function(
     alloc: Global,
     function: &AsmFunction,
+    is_early: bool,
 ) -> Result<Option<PlacedFunction>, NoMemory> {
-    let lone = lone_labels(alloc, &function.code)?;
-    let Some(mut plans) = plans(alloc, &function.code, &lone)? else {
-        return Ok(None);
+    let mut care = Care {
+        is_for_all: is_early,
+        due: Vec::new(alloc),
+        early: Vec::new(alloc),
+        slotted: Vec::new(alloc),
     };
-    let Some(mut before) = plans.pop() else {
-        return Ok(None);
-    };
-    let mut walk = start(alloc, &function.params, &before)?;
-    for statement in &function.code {
-        let Some(behind) = plans.pop() else {
+    for _ in 0..MOST_ROUNDS {
+        let Some(walk) = walked(alloc, function, &care)? else {
             return Ok(None);
         };
-        step(alloc, &mut walk, statement, &lone, &before, &behind)?;
-        before = behind;
+        let Walk {
+            items,
+            due,
+            early,
+            crowded,
+            ..
+        } = walk;
+        let is_early = add_new(&mut care.early, &early)?;
+        let is_crowded = add_new(&mut care.slotted, &crowded)?;
+        care.due.extend_from_slice(&due)?;
+        if due.is_empty() && !is_early && !is_crowded {
+            let params = copy_of(alloc, &function.params)?;
+            return Ok(Some(PlacedFunction {
+                params,
+                code: items,
+            }));
+        }
     }
-    let params = copy_of(alloc, &function.params)?;
-    let Walk { items, .. } = walk;
-    Ok(Some(PlacedFunction {
-        params,
-        code: items,
-    }))
+    Ok(None)
 }

@@ -1,36 +1,106 @@
 // What the code of a function needs at each of its points, for one who gives its values registers.
 
+use crate::keeping::may_spoil;
 use crate::liveness::{
-    LabelPoint, Point, alive_before, alive_behind, copy_of, held_before, is_one_of, with_point,
+    LabelPoint, Point, alive_at, alive_before, alive_behind, copy_of, held_before, is_one_of,
+    is_result, with_point,
 };
+use crate::state::argument_register;
 use kk_base::NoMemory;
-use rv_isa::{Action, Routine, Statement};
+use rv_isa::{Action, Register, Routine, Statement};
 use std::alloc::Global;
 
 /// The most work that code with registers is worth: its lines times the square of the most values that are alive at a point.
 const MOST_WORK: usize = 50_000_000;
 
+/// The most labels ahead of a point that are told.
+const MOST_LABELS: usize = 16;
+
+/// A register where a value would best be, and how much that is worth.
+#[derive(Clone, Copy, Debug)]
+pub struct Wish {
+    pub value: u32,
+    pub register: Register,
+    pub worth: u32,
+}
+
+/// The wishes at a label.
+#[derive(Debug, Drop)]
+struct LabelWishes {
+    label: u32,
+    wishes: Vec<Wish>,
+}
+
+/// A value that is to be where it is needed before the statement of this index, since too few moves may stand before a later one.
+#[derive(Clone, Copy, Debug)]
+pub struct Due {
+    pub index: usize,
+    pub value: u32,
+}
+
+/// The values that are treated with care, since there were too few moves or registers for them.
+#[derive(Debug, Drop)]
+pub struct Care {
+    /// Whether all values go early.
+    pub is_for_all: bool,
+    pub due: Vec<Due>,
+    /// The values that go to their slots, or out of the registers that are spoilt, as soon as they are there.
+    pub early: Vec<u32>,
+    /// The values that go to their slots as soon as they are there, whether they have to be there or not.
+    pub slotted: Vec<u32>,
+}
+
 /// What is needed at a point.
 #[derive(Debug, Drop)]
 pub struct Plan {
     pub point: Point,
-    /// The values that have to be in their slots.
+    /// The values that have to be in their slots on some way on from here.
     pub slotted: Vec<u32>,
+    /// The values that have to be in their slots on each way on from here.
+    pub stored: Vec<u32>,
     /// The values that are alive behind a later action that spoils some registers.
     pub crossing: Vec<u32>,
-    /// The arguments of the first action to come that takes them where it says.
-    pub wanted: Vec<u32>,
+    pub wishes: Vec<Wish>,
+    /// The next labels on the way on from here.
+    pub ahead: Vec<u32>,
 }
 
-/// A walk through the code from its end back: what is needed at each point so far, the last one first, and what is alive, has
-/// to be in a slot, and is behind spoilt registers at each label that it has passed.
+/// What is needed at the points of a function.
+#[derive(Debug, Drop)]
+pub struct Plans {
+    /// Before each statement and at the end, the first one last.
+    pub points: Vec<Plan>,
+    /// What is alive at each label.
+    pub alive: Vec<LabelPoint>,
+    pub lone: Vec<u32>,
+}
+
+/// A walk through the code from its end back: what is needed at each point so far, the last one first, and what is needed at each
+/// label that it has passed.
 #[derive(Debug, Drop)]
 struct Walk {
     passed: Vec<Plan>,
     at: Plan,
     alive: Vec<LabelPoint>,
     slotted: Vec<LabelPoint>,
+    stored: Vec<LabelPoint>,
     crossing: Vec<LabelPoint>,
+    wishes: Vec<LabelWishes>,
+    ahead: Vec<LabelPoint>,
+}
+
+impl Care {
+    /// Whether the value is due before the statement of this index.
+    pub fn is_due(&self, index: usize, value: u32) -> bool {
+        self.due
+            .iter()
+            .any(|due| due.index == index && due.value == value)
+    }
+
+    /// Whether the value goes to where it is needed as soon as it is there.
+    pub fn is_early(&self, value: u32) -> bool {
+        self.is_for_all || is_one_of(value, &self.early)
+    }
 }
 
 /// Whether the action goes on at the next statement.
@@ -49,8 +119,8 @@ fn spoils_some(action: Action) -> bool {
     )
 }
 
-// Whether it spoils registers that values may stay in.
-fn spoils_many(action: Action) -> bool {
+/// Whether it spoils registers that values may stay in.
+pub fn spoils_many(action: Action) -> bool {
     matches!(
         action,
         Action::Call(_)
@@ -66,8 +136,8 @@ fn named_label(action: Action) -> Option<u32> {
     }
 }
 
-/// The labels to which one jump or branch alone leads.
-pub fn lone_labels(alloc: Global, code: &[Statement]) -> Result<Vec<u32>, NoMemory> {
+// The labels to which one jump or branch alone leads.
+fn lone_labels(alloc: Global, code: &[Statement]) -> Result<Vec<u32>, NoMemory> {
     let mut once = Vec::new(alloc);
     let mut again = Vec::new(alloc);
     let mut lone = Vec::new(alloc);
@@ -90,18 +160,37 @@ pub fn lone_labels(alloc: Global, code: &[Statement]) -> Result<Vec<u32>, NoMemo
     Ok(lone)
 }
 
+// Those of the values that go early.
+fn early_of(alloc: Global, values: &[u32], care: &Care) -> Result<Vec<u32>, NoMemory> {
+    Ok(
+        values
+            .iter()
+            .copied()
+            .filter(|value| care.is_early(*value))
+            .collect(alloc)?,
+    )
+}
+
 // What comes to have to be in its slot before a statement.
-fn slotted_by(
+fn slotted_by(alloc: Global, statement: &Statement, behind: &[u32]) -> Result<Vec<u32>, NoMemory> {
+    match statement.action {
+        Action::Hold | Action::Unhold => copy_of(alloc, &statement.args),
+        action if spoils_many(action) => alive_before(alloc, &[], statement.into, behind),
+        _ => Ok(Vec::new(alloc)),
+    }
+}
+
+// The same, where values that go early are in their slots at labels to which more than one way leads.
+fn slotted_with_care(
     alloc: Global,
     statement: &Statement,
     behind: &[u32],
     lone: &[u32],
+    care: &Care,
 ) -> Result<Vec<u32>, NoMemory> {
     match statement.action {
-        Action::Label(label) if !is_one_of(label, lone) => copy_of(alloc, behind),
-        Action::Hold | Action::Unhold => copy_of(alloc, &statement.args),
-        action if spoils_many(action) => alive_before(alloc, &[], statement.into, behind),
-        _ => Ok(Vec::new(alloc)),
+        Action::Label(label) if !is_one_of(label, lone) => early_of(alloc, behind, care),
+        _ => slotted_by(alloc, statement, behind),
     }
 }
 
@@ -113,13 +202,129 @@ fn crossing_by(alloc: Global, statement: &Statement, behind: &[u32]) -> Result<V
     }
 }
 
-fn wanted_by(alloc: Global, statement: &Statement, behind: &[u32]) -> Result<Vec<u32>, NoMemory> {
-    match statement.action {
-        Action::Call(_) | Action::TailCall(_) | Action::Return | Action::Routine(_) => {
-            copy_of(alloc, &statement.args)
+// The values that both lists have.
+fn in_both(alloc: Global, values: &[u32], others: &[u32]) -> Result<Vec<u32>, NoMemory> {
+    Ok(
+        values
+            .iter()
+            .copied()
+            .filter(|value| is_one_of(*value, others))
+            .collect(alloc)?,
+    )
+}
+
+// What has to be stored behind an action on each way on.
+fn stored_behind(alloc: Global, walk: &Walk, action: Action) -> Result<Vec<u32>, NoMemory> {
+    match action {
+        Action::Branch(_, label) => in_both(alloc, &walk.at.stored, alive_at(&walk.stored, label)),
+        _ => alive_behind(alloc, action, &walk.at.stored, &walk.stored),
+    }
+}
+
+// What a wish for an argument of the action is worth: code that calls its own function again runs most often.
+fn worth_of(action: Action) -> u32 {
+    match action {
+        Action::TailCall(_) => 8,
+        Action::Call(_) => 3,
+        Action::Routine(_) => 2,
+        _ => 1,
+    }
+}
+
+// The wishes with one more. Of two for one value, the one of more worth stays.
+fn with_wish(alloc: Global, wishes: &[Wish], wish: Wish) -> Result<Vec<Wish>, NoMemory> {
+    let mut next = Vec::new(alloc);
+    let mut is_new = true;
+    for other in wishes {
+        if other.value == wish.value {
+            is_new = false;
+            next.push(if other.worth < wish.worth {
+                wish
+            } else {
+                *other
+            })?;
+        } else {
+            next.push(*other)?;
         }
-        Action::Label(_) | Action::Jump(_) => Ok(Vec::new(alloc)),
-        _ => copy_of(alloc, behind),
+    }
+    if is_new {
+        next.push(wish)?;
+    }
+    Ok(next)
+}
+
+fn wishes_at<'a>(points: &'a [LabelWishes], label: u32) -> &'a [Wish] {
+    for point in points {
+        if point.label == label {
+            return &point.wishes;
+        }
+    }
+    &[]
+}
+
+// The wishes behind an action.
+fn wishes_behind(alloc: Global, walk: &Walk, action: Action) -> Result<Vec<Wish>, NoMemory> {
+    let mut wishes = Vec::new(alloc);
+    match action {
+        Action::Jump(label) => {
+            wishes.extend_from_slice(wishes_at(&walk.wishes, label))?;
+        }
+        Action::Branch(_, label) => {
+            wishes.extend_from_slice(&walk.at.wishes)?;
+            for wish in wishes_at(&walk.wishes, label) {
+                wishes = with_wish(alloc, &wishes, *wish)?;
+            }
+        }
+        Action::TailCall(_) | Action::Return => {}
+        _ => wishes.extend_from_slice(&walk.at.wishes)?,
+    }
+    Ok(wishes)
+}
+
+// The wishes before a statement: those behind it, but for its result and for registers that it spoils, and those for its arguments.
+fn wishes_before(alloc: Global, walk: &Walk, statement: &Statement) -> Result<Vec<Wish>, NoMemory> {
+    let action = statement.action;
+    let mut wishes = Vec::new(alloc);
+    for wish in &wishes_behind(alloc, walk, action)? {
+        if !is_result(statement.into, wish.value)
+            && !may_spoil(Some(action), wish.register.number)
+        {
+            wishes.push(*wish)?;
+        }
+    }
+    if let Action::Call(_) | Action::TailCall(_) | Action::Return | Action::Routine(_) = action {
+        for (index, value) in statement.args.iter().enumerate() {
+            if let Some(register) = argument_register(index) {
+                let wish = Wish {
+                    value: *value,
+                    register,
+                    worth: worth_of(action),
+                };
+                wishes = with_wish(alloc, &wishes, wish)?;
+            }
+        }
+    }
+    Ok(wishes)
+}
+
+// The next labels on the way on from a statement.
+fn ahead_before(alloc: Global, walk: &Walk, action: Action) -> Result<Vec<u32>, NoMemory> {
+    match action {
+        Action::Label(label) => {
+            let mut ahead = Vec::new(alloc);
+            ahead.push(label)?;
+            for other in &walk.at.ahead {
+                if ahead.len() < MOST_LABELS {
+                    ahead.push(*other)?;
+                }
+            }
+            Ok(ahead)
+        }
+        Action::Branch(_, label) if walk.at.ahead.is_empty() => {
+            copy_of(alloc, alive_at(&walk.ahead, label))
+        }
+        Action::Branch(..) => copy_of(alloc, &walk.at.ahead),
+        _ => alive_behind(alloc, action, &walk.at.ahead, &walk.ahead),
     }
 }
 
@@ -128,6 +333,7 @@ fn plan_before(
     walk: &Walk,
     statement: &Statement,
     lone: &[u32],
+    care: &Care,
 ) -> Result<Plan, NoMemory> {
     let action = statement.action;
     let into = statement.into;
@@ -135,40 +341,67 @@ fn plan_before(
     let alive = alive_before(alloc, &statement.args, into, &behind)?;
     let held = held_before(alloc, action, &statement.args, &walk.at.point.held)?;
     let later = alive_behind(alloc, action, &walk.at.slotted, &walk.slotted)?;
-    let here = slotted_by(alloc, statement, &behind, lone)?;
+    let here = slotted_with_care(alloc, statement, &behind, lone, care)?;
     let slotted = alive_before(alloc, &here, into, &later)?;
+    let later = stored_behind(alloc, walk, action)?;
+    let here = slotted_by(alloc, statement, &behind)?;
+    let stored = alive_before(alloc, &here, into, &later)?;
     let later = alive_behind(alloc, action, &walk.at.crossing, &walk.crossing)?;
     let here = crossing_by(alloc, statement, &behind)?;
     let crossing = alive_before(alloc, &here, into, &later)?;
-    let wanted = wanted_by(alloc, statement, &walk.at.wanted)?;
+    let wishes = wishes_before(alloc, walk, statement)?;
     Ok(Plan {
         point: Point { alive, held },
         slotted,
+        stored,
         crossing,
-        wanted,
+        wishes,
+        ahead: ahead_before(alloc, walk, action)?,
     })
 }
 
-fn step(alloc: Global, walk: Walk, statement: &Statement, lone: &[u32]) -> Result<Walk, NoMemory> {
-    let before = plan_before(alloc, &walk, statement, lone)?;
+fn step(
+    alloc: Global,
+    walk: Walk,
+    statement: &Statement,
+    lone: &[u32],
+    care: &Care,
+) -> Result<Walk, NoMemory> {
+    let before = plan_before(alloc, &walk, statement, lone, care)?;
     let Walk {
         mut passed,
         at,
         alive,
         slotted,
+        stored,
         crossing,
+        mut wishes,
+        ahead,
     } = walk;
     let action = statement.action;
     let alive = with_point(alive, action, copy_of(alloc, &before.point.alive)?)?;
     let slotted = with_point(slotted, action, copy_of(alloc, &before.slotted)?)?;
+    let stored = with_point(stored, action, copy_of(alloc, &before.stored)?)?;
     let crossing = with_point(crossing, action, copy_of(alloc, &before.crossing)?)?;
+    let ahead = with_point(ahead, action, copy_of(alloc, &before.ahead)?)?;
+    if let Action::Label(label) = action {
+        let mut here = Vec::new(alloc);
+        here.extend_from_slice(&before.wishes)?;
+        wishes.push(LabelWishes {
+            label,
+            wishes: here,
+        })?;
+    }
     passed.push(at)?;
     Ok(Walk {
         passed,
         at: before,
         alive,
         slotted,
+        stored,
         crossing,
+        wishes,
+        ahead,
     })
 }
 
@@ -183,33 +416,44 @@ fn no_plan(alloc: Global) -> Plan {
             held: Vec::new(alloc),
         },
         slotted: Vec::new(alloc),
+        stored: Vec::new(alloc),
         crossing: Vec::new(alloc),
-        wanted: Vec::new(alloc),
+        wishes: Vec::new(alloc),
+        ahead: Vec::new(alloc),
     }
 }
 
-/// What is needed before each statement and at the end, the first one last; or `None` where it would be too much work.
-pub fn plans(
-    alloc: Global,
-    code: &[Statement],
-    lone: &[u32],
-) -> Result<Option<Vec<Plan>>, NoMemory> {
+/// What is needed at the points of code; or `None` where it would be too much work.
+pub fn plans_of(alloc: Global, code: &[Statement], care: &Care) -> Result<Option<Plans>, NoMemory> {
+    let lone = lone_labels(alloc, code)?;
     let mut walk = Walk {
         passed: Vec::new(alloc),
         at: no_plan(alloc),
         alive: Vec::new(alloc),
         slotted: Vec::new(alloc),
+        stored: Vec::new(alloc),
         crossing: Vec::new(alloc),
+        wishes: Vec::new(alloc),
+        ahead: Vec::new(alloc),
     };
     let mut left = code.len();
     while left > 0 {
         left -= 1;
-        walk = step(alloc, walk, &code[left], lone)?;
+        walk = step(alloc, walk, &code[left], &lone, care)?;
         if is_too_much(code.len(), walk.at.point.alive.len()) {
             return Ok(None);
         }
     }
-    let Walk { mut passed, at, .. } = walk;
+    let Walk {
+        mut passed,
+        at,
+        alive,
+        ..
+    } = walk;
     passed.push(at)?;
-    Ok(Some(passed))
+    Ok(Some(Plans {
+        points: passed,
+        alive,
+        lone,
+    }))
 }

@@ -3,7 +3,7 @@
 use crate::keeping::may_spoil;
 use crate::liveness::{Point, is_one_of};
 use crate::places::listing;
-use crate::plans::Plan;
+use crate::plans::Wish;
 use kk_base::NoMemory;
 use rv_isa::{Action, Listed, Operand, Place, Register};
 use std::alloc::Global;
@@ -24,7 +24,8 @@ pub fn stands_in(listed: Listed, register: Register) -> bool {
     }
 }
 
-fn is_copied_in(listed: Listed, register: Register) -> bool {
+/// Whether the register has a copy of the value.
+pub fn is_copied_in(listed: Listed, register: Register) -> bool {
     match listed.copy {
         Some(other) => other.number == register.number,
         None => false,
@@ -96,15 +97,11 @@ fn register_to_be_had(state: &[Listed], keep: &[u32]) -> Option<Register> {
     None
 }
 
-/// A register for a value: a free one if there is one, else one that has at most copies, and none of these values. Where there
-/// is none, it is any.
-pub fn any_register(state: &[Listed], keep: &[u32]) -> Register {
+/// A register for a value: a free one if there is one, else one that has at most copies, and none of these values.
+pub fn any_register(state: &[Listed], keep: &[u32]) -> Option<Register> {
     match free_register(state) {
-        Some(register) => register,
-        None => match register_to_be_had(state, keep) {
-            Some(register) => register,
-            None => Register::T0,
-        },
+        Some(register) => Some(register),
+        None => register_to_be_had(state, keep),
     }
 }
 
@@ -117,20 +114,29 @@ pub fn argument_register(index: usize) -> Option<Register> {
     }
 }
 
-/// A register for a value: the one where it is wanted, if that is to be had and is not spoilt before, else any.
-pub fn register_for(state: &[Listed], keep: &[u32], plan: &Plan, value: u32) -> Register {
-    if !is_one_of(value, &plan.crossing) {
-        for (index, wanted) in plan.wanted.iter().enumerate() {
-            if *wanted == value {
-                if let Some(register) = argument_register(index) {
-                    if is_to_be_had(state, keep, register) {
-                        return register;
-                    }
-                }
-            }
+/// The register that the value wishes for, if that is to be had.
+pub fn wished_register(
+    state: &[Listed],
+    keep: &[u32],
+    wishes: &[Wish],
+    value: u32,
+) -> Option<Register> {
+    for wish in wishes {
+        if wish.value == value && is_to_be_had(state, keep, wish.register) {
+            return Some(wish.register);
         }
     }
-    any_register(state, keep)
+    None
+}
+
+/// Whether another value wishes for the register where this one stands.
+pub fn is_wished_for(listed: Listed, wishes: &[Wish]) -> bool {
+    wishes.iter().any(|wish| wish.value != listed.value && stands_in(listed, wish.register))
+}
+
+/// Whether the value is in its slot.
+pub fn is_in_slot(listed: Listed) -> bool {
+    matches!(listed.place, Place::Slot(_))
 }
 
 fn listed_at(state: &[Listed], point: &Point, value: u32) -> Listed {

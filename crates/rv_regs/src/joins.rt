@@ -1,0 +1,252 @@
+// The ways to labels: each value that is alive at a label stands there where it stands on all ways to it.
+
+use crate::liveness::{Point, alive_at, is_one_of};
+use crate::moving::{KeptState, Walk, put_away, put_store, spare_register};
+use crate::places::listing;
+use crate::plans::{Care, Plans};
+use crate::state::{
+    is_copied_in, is_in_slot, is_to_be_had, register_of, same_state, stands_in, state_at,
+};
+use kk_base::NoMemory;
+use rv_isa::{Listed, Place, Register};
+use std::alloc::Global;
+
+/// A value that is to be moved, and the register that is to be its place.
+#[derive(Clone, Copy)]
+struct PlaceMove {
+    listed: Listed,
+    to: Register,
+}
+
+// The index of what is kept of a label; or the length, where nothing is.
+fn index_of(kept: &[KeptState], label: u32) -> usize {
+    for (index, other) in kept.iter().enumerate() {
+        if other.label == label {
+            return index;
+        }
+    }
+    kept.len()
+}
+
+// The register that is the value's place at the label, if a move has to bring the value there.
+fn register_to_reach(state: &[Listed], goal: Listed) -> Option<PlaceMove> {
+    match (goal.place, listing(state, goal.value)) {
+        (Place::Register(to), Some(listed))
+            if !stands_in(listed, to) && !is_copied_in(listed, to) => {
+            Some(PlaceMove { listed, to })
+        }
+        _ => None,
+    }
+}
+
+// The first value that can be moved to where it stands at the label.
+fn next_move(state: &[Listed], goals: &[Listed]) -> Option<PlaceMove> {
+    for goal in goals {
+        if let Some(found) = register_to_reach(state, *goal) {
+            if is_to_be_had(state, &[], found.to) {
+                return Some(found);
+            }
+        }
+    }
+    None
+}
+
+// The first value that stands where another one is to stand at the label.
+fn next_in_the_way(state: &[Listed], goals: &[Listed]) -> Option<Listed> {
+    for goal in goals {
+        if let Some(found) = register_to_reach(state, *goal) {
+            for listed in state {
+                if stands_in(*listed, found.to) {
+                    return Some(*listed);
+                }
+            }
+        }
+    }
+    None
+}
+
+// Each value that is in its slot at the label comes there, but for one whose copy at the label is its place here.
+fn store_for(
+    alloc: Global,
+    walk: &mut Walk,
+    goals: &[Listed],
+    care: &Care,
+) -> Result<(), NoMemory> {
+    for goal in goals {
+        if let Some(listed) = listing(&walk.state, goal.value) {
+            let is_wanted = match (goal.copy, listed.place) {
+                (Some(copy), Place::Register(register)) => {
+                    copy.number != register.number || care.is_early(goal.value)
+                }
+                _ => true,
+            };
+            if is_in_slot(*goal) && is_wanted {
+                put_store(alloc, walk, listed)?;
+            }
+        }
+    }
+    Ok(())
+}
+
+// Each value comes to where it stands at the label.
+fn reach(alloc: Global, walk: &mut Walk, goals: &[Listed], care: &Care) -> Result<(), NoMemory> {
+    store_for(alloc, walk, goals, care)?;
+    for _ in 0..64_u32 {
+        match next_move(&walk.state, goals) {
+            Some(next) => put_away(alloc, walk, next.listed, next.to)?,
+            None => {
+                if let Some(listed) = next_in_the_way(&walk.state, goals) {
+                    let to = spare_register(walk, &[])?;
+                    put_away(alloc, walk, listed, to)?;
+                }
+            }
+        }
+    }
+    Ok(())
+}
+
+// Where a value stands at a label, by where it stands on the ways so far and on one more.
+fn on_both_ways(goal: Listed, listed: Listed) -> Listed {
+    match (goal.place, listed.place) {
+        (Place::Slot(_), Place::Slot(_)) => {
+            let is_same = match (goal.copy, listed.copy) {
+                (Some(a), Some(b)) => a.number == b.number,
+                _ => false,
+            };
+            Listed {
+                copy: if is_same { goal.copy } else { None },
+                ..goal
+            }
+        }
+        (Place::Slot(_), Place::Register(_)) => Listed {
+            copy: None,
+            ..listed
+        },
+        (Place::Register(_), _) => Listed { copy: None, ..goal },
+    }
+}
+
+// Where values stand on both ways.
+fn joined(alloc: Global, goals: &[Listed], state: &[Listed]) -> Result<Vec<Listed>, NoMemory> {
+    let mut next = Vec::new(alloc);
+    for goal in goals {
+        match listing(state, goal.value) {
+            Some(listed) => next.push(on_both_ways(*goal, listed))?,
+            None => next.push(*goal)?,
+        }
+    }
+    Ok(next)
+}
+
+// Where the first way to a label finds the values that are alive there. Those that go early are in their slots there.
+fn found_first(
+    alloc: Global,
+    state: &[Listed],
+    label: u32,
+    plans: &Plans,
+    care: &Care,
+) -> Result<Vec<Listed>, NoMemory> {
+    let is_lone = is_one_of(label, &plans.lone);
+    let mut goals = Vec::new(alloc);
+    for value in alive_at(&plans.alive, label) {
+        if let Some(listed) = listing(state, *value) {
+            if !is_lone && care.is_early(*value) {
+                goals.push(Listed {
+                    copy: None,
+                    ..listed
+                })?;
+            } else {
+                goals.push(listed)?;
+            }
+        }
+    }
+    Ok(goals)
+}
+
+// Values that go early come to their slots before a label to which more than one way leads.
+fn store_early(
+    alloc: Global,
+    walk: &mut Walk,
+    label: u32,
+    plans: &Plans,
+    care: &Care,
+) -> Result<(), NoMemory> {
+    if !is_one_of(label, &plans.lone) {
+        for value in alive_at(&plans.alive, label) {
+            if care.is_early(*value) {
+                if let Some(listed) = listing(&walk.state, *value) {
+                    put_store(alloc, walk, listed)?;
+                }
+            }
+        }
+    }
+    Ok(())
+}
+
+/// The code goes to the label from here, or may: each value comes to where it stands there.
+pub fn go_to(
+    alloc: Global,
+    walk: &mut Walk,
+    label: u32,
+    plans: &Plans,
+    care: &Care,
+) -> Result<(), NoMemory> {
+    let at = index_of(&walk.kept, label);
+    if at < walk.kept.len() {
+        let goals = same_state(alloc, &walk.kept[at].state)?;
+        reach(alloc, walk, &goals, care)
+    } else {
+        store_early(alloc, walk, label, plans, care)
+    }
+}
+
+/// The register that the value has at the next label ahead that tells it, if that is to be had.
+pub fn kept_register(walk: &Walk, keep: &[u32], ahead: &[u32], value: u32) -> Option<Register> {
+    for label in ahead {
+        let at = index_of(&walk.kept, *label);
+        if at < walk.kept.len() {
+            if let Some(listed) = listing(&walk.kept[at].state, value) {
+                return match register_of(listed) {
+                    Some(register) if is_to_be_had(&walk.state, keep, register) => Some(register),
+                    _ => None,
+                };
+            }
+        }
+    }
+    None
+}
+
+/// Where values stand here, they stand at the label too.
+pub fn join(
+    alloc: Global,
+    walk: &mut Walk,
+    label: u32,
+    plans: &Plans,
+    care: &Care,
+) -> Result<(), NoMemory> {
+    let at = index_of(&walk.kept, label);
+    if at < walk.kept.len() {
+        let state = joined(alloc, &walk.kept[at].state, &walk.state)?;
+        walk.kept[at].state = state;
+    } else {
+        let state = found_first(alloc, &walk.state, label, plans, care)?;
+        walk.kept.push(KeptState { label, state })?;
+    }
+    Ok(())
+}
+
+/// Where values stand at a label, behind all ways to it. It is not kept any longer.
+pub fn take_state(
+    alloc: Global,
+    kept: &mut Vec<KeptState>,
+    label: u32,
+    point: &Point,
+) -> Result<Vec<Listed>, NoMemory> {
+    let at = index_of(kept, label);
+    if at < kept.len() {
+        let here = kept.swap_remove(at);
+        state_at(alloc, &here.state, point)
+    } else {
+        state_at(alloc, &[], point)
+    }
+}
