@@ -22,6 +22,7 @@ pub mod Order
 pub mod Reaching
 pub mod SoundSteps
 pub mod SoundRuns
+pub mod OwnedOpenings
 pub mod SoundUses
 pub mod Cost
 mod EdgeNumbers

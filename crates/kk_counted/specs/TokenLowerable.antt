@@ -1,5 +1,5 @@
--- What code with tokens owes to be lowered to assembler code, beside what its bare form owes (Lowerable): its slots are few, openings go
--- by counts, tokens are held around calls alone, and a construction leaves only fields that its cell has already.
+-- What code with tokens owes to be lowered to assembler code, beside what its bare form owes (Lowerable): its slots are few, tokens
+-- are held around calls alone, and a construction leaves only fields that its cell has already.
 use Rattle.std.specs.Prelude.{◌≡◌, ℕ, suc, ◌≤◌, false, List, [], ◌∷◌, max, Some, slice_get}
 use Rattle.kk_syntax.specs.Shapes.{is_among}
 use Rattle.kk_syntax.specs.declared.program.Form.TheVariants.{Call}
@@ -43,33 +43,6 @@ abbrev mutual
 abbrev pub most_slots : ℕ
 most_slots = most_nodes
 
--- ---- forms
-
--- openings go by the count of the cell, and forms on values name no other tokens
-abbrev mutual
-  pub HasPlainForms : Tokened → Type 0
-  HasPlainForms (Tokened.give x) = Unit {0}
-  HasPlainForms (Tokened.tail_call f arguments) = Unit {0}
-  HasPlainForms (Tokened.case x decisions arms) = HavePlainForms arms
-  HasPlainForms (Tokened.compute x form arguments others rest) = (others ≡ []) × HasPlainForms rest
-  HasPlainForms (Tokened.inside x block rest) = HasPlainForms block × HasPlainForms rest
-  HasPlainForms (Tokened.read x c fields rest) = HasPlainForms rest
-  HasPlainForms (Tokened.open_cell x c fields used y rest) = ⊥
-  HasPlainForms (Tokened.if_unique x c fields used y rest) = HasPlainForms rest
-  HasPlainForms (Tokened.dup x rest) = HasPlainForms rest
-  HasPlainForms (Tokened.drop x rest) = HasPlainForms rest
-  HasPlainForms (Tokened.fill x y c first arguments kept others rest) = HasPlainForms rest
-  HasPlainForms (Tokened.free y rest) = HasPlainForms rest
-  HasPlainForms (Tokened.null y rest) = HasPlainForms rest
-  HasPlainForms (Tokened.move to of rest) = HasPlainForms rest
-  HasPlainForms (Tokened.hold y rest) = HasPlainForms rest
-  HasPlainForms (Tokened.unhold y rest) = HasPlainForms rest
-  HasPlainForms (Tokened.if_token y there absent) = HasPlainForms there × HasPlainForms absent
-
-  pub HavePlainForms : TokenedArms → Type 0
-  HavePlainForms TokenedArms.no_arm = Unit {0}
-  HavePlainForms (TokenedArms.arm body rest) = HasPlainForms body × HavePlainForms rest
-
 -- ---- held tokens
 
 -- Code before which the tokens of these slots are held, the newest first: each is held up to its Unhold, and between the two there are
@@ -103,7 +76,6 @@ abbrev mutual
 
 pub record IsTokenLowerable (function : TokenedFunction) : Type 0 where
   pub slots : slots_in function.body ≤ most_slots
-  pub plain : HasPlainForms function.body
   pub straight : HoldsAtCalls [] function.body
   pub leaves : LeavesKnown [] function.body
 

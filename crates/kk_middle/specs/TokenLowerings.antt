@@ -24,9 +24,9 @@ tokened_of made given = tokened_program made.functions.items given.texts.items
 abbrev pub token_room : Ground → ℕ
 token_room given = 36 * (greatest_nodes (ground_program given) - 1)
 
--- Without its tokens it is its counted form. Its slots are few, its openings go by counts, its tokens are held at calls alone, and
--- constructions leave only fields that are known to be their arguments. It spends each token once on each path, is paired, is short
--- with its tokens, and there is room for them.
+-- Without its tokens it is its counted form. Its slots are few, its tokens are held at calls alone, and constructions leave only
+-- fields that are known to be their arguments. It spends each token once on each path, is paired, is short with its tokens, and
+-- there is room for them.
 pub record TokensCanBeLowered (counted : Counted) (made : Tokened) (given : Ground) : Type 0 where
   pub form : bare_program (tokened_of made given) ≡ program_of counted.functions.items given.texts.items
   pub lowerable : AreTokensLowerable (tokened_of made given).functions

@@ -9,9 +9,7 @@ ghost use Rattle.kk_counted.specs.declared.tokened.Tokened.{Tokened};
 ghost use Rattle.kk_middle.specs.Compiled.{IsCompiled, IsTokenedOf};
 ghost use Rattle.kk_middle.specs.TokenLowerings.{TokensCanBeLowered};
 
-use crate::lowering::{
-    compiled_programs_are_short, compiled_programs_open_by_count, compiled_programs_open_few_cells,
-};
+use crate::lowering::{compiled_programs_are_short, compiled_programs_open_few_cells};
 use kk_respec::{respecialised_code_can_be_lowered, respecialised_code_has_its_form};
 use kk_reuse::{
     paired_code_can_be_lowered, paired_code_costs_what_it_has_room_for, paired_code_is_short,
@@ -28,7 +26,6 @@ pub fn compiled_tokens_can_be_lowered()
 {
     compiled_programs_are_short();
     compiled_programs_open_few_cells();
-    compiled_programs_open_by_count();
     paired_code_spends_its_tokens();
     paired_code_costs_what_it_has_room_for();
     paired_code_can_be_lowered();

@@ -5,7 +5,7 @@ use Rattle.kk_syntax.specs.declared.program.Form.{Form}
 use Rattle.kk_syntax.specs.declared.program.Form.TheVariants.{Number, Unit as Nothing, ReadByte, PrintText, Unary, Binary, Print, Construct, Call}
 use Rattle.kk_syntax.specs.Shapes.{is_among}
 use Rattle.kk_counted.specs.KeptFields.{KnownFields, fields_in, forget_slot, forget_variable, forget_variables, known_opened, KeepsKnown, LeavesKnown, LeaveKnown}
-use Rattle.kk_counted.specs.TokenLowerable.{most_slots, HasPlainForms, HavePlainForms, HoldsAtCalls, HoldAtCalls, IsTokenLowerable, AreTokensLowerable}
+use Rattle.kk_counted.specs.TokenLowerable.{most_slots, HoldsAtCalls, HoldAtCalls, IsTokenLowerable, AreTokensLowerable}
 use Rattle.kk_counted.specs.TokenedCodes.{Tokened, TokenedArms, TokenedFunction, TokenedProgram}
 use Rattle.kk_respec.specs.Respecialised.{kept_from, respec, respec_arms, respecialised_program}
 use Rattle.kk_respec.proofs.Forms.{each_function}
@@ -93,35 +93,6 @@ mutual
   leave_known known TokenedArms.no_arm = tt
   leave_known known (TokenedArms.arm body rest) = (leaves_known known body, leave_known known rest)
 
--- ---- forms
-
-mutual
-  plain_same : (known : List KnownFields) (code : Tokened) → HasPlainForms code → HasPlainForms (respec known code)
-  plain_same known (Tokened.give x) plain = tt
-  plain_same known (Tokened.tail_call f arguments) plain = tt
-  plain_same known (Tokened.case x decisions arms) plain = plain_same_arms known arms plain
-  plain_same known (Tokened.compute x form arguments others rest) plain =
-      (plain.0, plain_same (forget_variable x known) rest plain.1)
-  plain_same known (Tokened.inside x block rest) plain = (plain_same known block plain.0, plain_same [] rest plain.1)
-  plain_same known (Tokened.read x c fields rest) plain = plain_same (forget_variables fields known) rest plain
-  plain_same known (Tokened.open_cell x c fields used y rest) plain = absurd plain
-  plain_same known (Tokened.if_unique x c fields used y rest) plain = plain_same (known_opened fields y known) rest plain
-  plain_same known (Tokened.dup x rest) plain = plain_same known rest plain
-  plain_same known (Tokened.drop x rest) plain = plain_same known rest plain
-  plain_same known (Tokened.fill x y c first arguments kept others rest) plain =
-      plain_same (forget_variable x (forget_slot y known)) rest plain
-  plain_same known (Tokened.free y rest) plain = plain_same (forget_slot y known) rest plain
-  plain_same known (Tokened.null y rest) plain = plain_same (forget_slot y known) rest plain
-  plain_same known (Tokened.move to of rest) plain = plain_same (forget_slot to (forget_slot of known)) rest plain
-  plain_same known (Tokened.hold y rest) plain = plain_same known rest plain
-  plain_same known (Tokened.unhold y rest) plain = plain_same known rest plain
-  plain_same known (Tokened.if_token y there absent) plain = (plain_same known there plain.0, plain_same known absent plain.1)
-
-  plain_same_arms : (known : List KnownFields) (arms : TokenedArms) → HavePlainForms arms → HavePlainForms (respec_arms known arms)
-  plain_same_arms known TokenedArms.no_arm plain = tt
-  plain_same_arms known (TokenedArms.arm body rest) plain =
-      (plain_same known body plain.0, plain_same_arms known rest plain.1)
-
 -- ---- held tokens
 
 -- the rest of a form that is no call is judged with no token held
@@ -188,7 +159,6 @@ program_lowerable program lowerable =
     each_function IsTokenLowerable program.functions
     (λ f function is. record {
       slots = subst (λ n. n ≤ most_slots) (sym (slots_same [] function.body)) (lowerable f function is).slots;
-      plain = plain_same [] function.body (lowerable f function is).plain;
       straight = straight_same [] function.body [] (lowerable f function is).straight;
       leaves = leaves_known [] function.body;
     })

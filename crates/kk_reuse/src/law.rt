@@ -7,7 +7,6 @@ ghost use Rattle.kk_counted.specs.CountedMachine.{counted_machine, NotStuck};
 ghost use Rattle.kk_counted.specs.CountedStates.{CountedSetting, CountedState, counted_first_state};
 ghost use Rattle.kk_counted.specs.Keeping.{counted_after};
 ghost use Rattle.kk_counted.specs.Lengths.{AreShort};
-ghost use Rattle.kk_counted.specs.Lowerable.{AllOpenByCount};
 ghost use Rattle.kk_counted.specs.TokenCosts.{token_cost, HasRoom, OpenAtMost, AreStatesKept};
 ghost use Rattle.kk_counted.specs.TokenLengths.{AreTokensShort};
 ghost use Rattle.kk_counted.specs.TokenLowerable.{most_slots, AreTokensLowerable};
@@ -59,11 +58,11 @@ pub fn paired_code_costs_what_it_has_room_for()
     tokens_cost_what_they_have_room_for();
 }
 
-/// Paired code can be lowered where the code has few openings on a path, each by the count of the cell: a function has few slots,
-/// tokens are held around calls alone, and no construction leaves a field. It is a law, and does nothing.
+/// Paired code can be lowered where the code has few openings on a path: a function has few slots, tokens are held around calls
+/// alone, and no construction leaves a field. It is a law, and does nothing.
 pub fn paired_code_can_be_lowered()
     ensures { (most : ℕ) (program : CountedProgram) → OpenAtMost most program → most ≤ most_slots
-        → AllOpenByCount program.functions → AreTokensLowerable (paired_program program).functions }
+        → AreTokensLowerable (paired_program program).functions }
 {}
 
 /// Paired code is short where the code is that it is made of, which has few openings on a path: in all, its tokens add no more than

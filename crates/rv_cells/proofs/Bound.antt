@@ -1,7 +1,7 @@
 -- Lists of variables that are bound: which are among others, below a number or apart from it, and have values.
 use Rattle.std.proofs.Common.{◌≡◌, ℕ, ◌<◌, inl, inr, Bool, true, false, List, [], ◌∷◌, map, Option, refl, ◌∙◌, ap, arith}
 use Rattle.std.specs.Prelude.{◌==◌}
-use Rattle.std.proofs.lemmas.Bool.{or_right}
+use Rattle.std.proofs.lemmas.Bool.{or_right, ne_eqb}
 use Rattle.kk_syntax.specs.Shapes.{is_among}
 use Rattle.kk_source.specs.State.{Environment}
 use Rattle.kk_core.specs.Sizes.{AreBound}
@@ -63,3 +63,10 @@ apart_above x (y ∷ ys) bound below all =
     let low = below_among x bound y below all.0 in
     let differ : (y == x) ≡ false = grind arith in
     rw differ (apart_above x ys bound below all.1)
+
+pub not_bound : (x : ℕ) (bound : List ℕ) → AreBelow x bound → is_among bound x ≡ false
+not_bound x [] below = refl
+not_bound x (y ∷ ys) below =
+    let low = below.0 in
+    let differ : (y == x) ≡ false = ne_eqb y x (λ e. omega (arith, e, low)) in
+    rw differ (not_bound x ys below.1)

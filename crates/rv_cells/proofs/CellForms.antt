@@ -58,7 +58,7 @@ use Rattle.rv_lower.proofs.Formed.{
 }
 use Rattle.rv_lower.proofs.Operations.{Leads, leads_then, leads_weaker, next_temporary, only_bound}
 use Rattle.rv_cells.specs.CellLines.{Loads, Stores, AllLoads, AllStores, StoresIf, SomeStores, is_kept, dup_lines, drop_lines, dups_lines, drops_lines}
-use Rattle.rv_cells.specs.CellLines.{ConstructLines, FillingLines, OpenLines}
+use Rattle.rv_cells.specs.CellLines.{ConstructLines, FillingLines}
 
 -- an operation that gives no value
 good_effect : (B : ℕ → Type 0) (operation : Operation) (args : List ℕ) (rest : List Line) → length args ≤ 2 → Each B args
@@ -345,32 +345,3 @@ bound_filter bound p (x ∷ xs) are = by (p x) (bound_filter bound p xs are.1)
         × (length (if t then x ∷ filter p xs else filter p xs) ≤ suc (length xs))
     by true more = ((are.0, more.0), omega (arith, more.1))
     by false more = (more.0, omega (arith, more.1))
-
--- an opening
-pub open_leads : (base : ℕ) (bound : List ℕ) (holds : ℕ → Bool) (x : ℕ) (fields used : List ℕ) (lines : List Line)
-    → HasRoom base bound
-    → is_bound bound x ≡ true → AreBelow base fields → OpenLines base holds x fields used lines
-    → Leads (Readable base base bound) (Readable base base (bound_list fields bound)) (2 * length fields + 2) lines
-open_leads base bound holds x fields used lines has is below own =
-    subst (Leads (Readable base base bound) (Readable base base (bound_list fields bound)) (2 * length fields + 2)) (sym own.2)
-    (leads_weaker (Readable base base bound) (Readable base base bound) (Readable base base (bound_list fields bound))
-    (Readable base base (bound_list fields bound)) (length fields + (length (filter (is_bound used) fields) + 2))
-    (2 * length fields + 2) (own.0 ++ (dups_lines holds (filter (is_bound used) fields) ++ drop_lines base holds x)) (λ v is. is)
-    (λ v is. is)
-    (omega (arith, few.1))
-    (leads_then (Readable base base bound) (Readable base base (bound_list fields bound))
-    (Readable base base (bound_list fields bound)) (length fields) (length (filter (is_bound used) fields) + 2) own.0
-    (dups_lines holds (filter (is_bound used) fields) ++ drop_lines base holds x)
-    (loads_lead base bound x 2 fields own.0 has is below own.1)
-    (leads_then (Readable base base (bound_list fields bound)) (Readable base base (bound_list fields bound))
-    (Readable base base (bound_list fields bound)) (length (filter (is_bound used) fields)) 2
-    (dups_lines holds (filter (is_bound used) fields)) (drop_lines base holds x)
-    (dups_lead base (bound_list fields bound) holds (filter (is_bound used) fields) room few.0)
-    (drop_leads base (bound_list fields bound) holds x room (kept_list bound fields x is)))))
-  where
-    few : AreBound (bound_list fields bound) (filter (is_bound used) fields) ×
-        (length (filter (is_bound used) fields) ≤ length fields)
-    few = bound_filter (bound_list fields bound) (is_bound used) fields (bound_fields bound fields)
-
-    room : HasRoom base (bound_list fields bound)
-    room = room_list base bound fields has below

@@ -1,5 +1,5 @@
 -- The lines of a step before those of the code that follows it: together they are well formed, and have only their own labels.
-use Rattle.std.proofs.Common.{◌≡◌, ℕ, ◌+◌, ◌*◌, ◌<◌, Bool, true, List, [], ◌∷◌, ◌++◌, length, sym, subst, append_assoc}
+use Rattle.std.proofs.Common.{◌≡◌, ℕ, ◌+◌, ◌<◌, Bool, true, List, [], ◌∷◌, ◌++◌, length, sym, subst, append_assoc}
 use Rattle.kk_counted.specs.Lowerable.{AreBelow, bound_list}
 use Rattle.kk_core.specs.Sizes.{AreBound}
 use Rattle.kk_syntax.specs.Shapes.{is_among as is_bound}
@@ -9,8 +9,8 @@ use Rattle.rv_lower.proofs.Formed.{AllBound, Readable, Good, HasRoom}
 use Rattle.rv_lower.proofs.AbsentLabels.{has_no_append}
 use Rattle.rv_lower.proofs.Operations.{Leads}
 use Rattle.rv_lower.proofs.Codes.{Fits}
-use Rattle.rv_cells.specs.CellLines.{dup_lines, drop_lines, ConstructLines, ReadLines, OpenLines}
-use Rattle.rv_cells.proofs.CellForms.{loads_lead, dup_leads, drop_leads, construct_leads, open_leads}
+use Rattle.rv_cells.specs.CellLines.{dup_lines, drop_lines, ConstructLines, ReadLines}
+use Rattle.rv_cells.proofs.CellForms.{loads_lead, dup_leads, drop_leads, construct_leads}
 
 -- variables that are bound are so for the lines of forms
 pub all_bound : (bound xs : List ℕ) → AreBound bound xs → AllBound bound xs
@@ -48,17 +48,10 @@ module _ (base : ℕ) (bound outer : List ℕ) (has : HasRoom base bound) (goal 
       fits_step base bound (x ∷ bound) outer goal low high (5 + length arguments) own more
       (construct_leads base bound x header arguments own has less are is) fits
 
-  -- a reading, and an opening
+  -- a reading
   pub fits_read : (x : ℕ) (fields : List ℕ) (own : List Line) → is_bound bound x ≡ true → AreBelow base fields
       → ReadLines x fields own → Fits base (bound_list fields bound) outer goal low high more
       → Fits base bound outer goal low high (own ++ more)
   fits_read x fields own is below lines fits =
       fits_step base bound (bound_list fields bound) outer goal low high (length fields) own more
       (loads_lead base bound x 2 fields own has is below lines) fits
-
-  pub fits_open : (holds : ℕ → Bool) (x : ℕ) (fields used : List ℕ) (own : List Line) → is_bound bound x ≡ true
-      → AreBelow base fields → OpenLines base holds x fields used own → Fits base (bound_list fields bound) outer goal low high more
-      → Fits base bound outer goal low high (own ++ more)
-  fits_open holds x fields used own is below lines fits =
-      fits_step base bound (bound_list fields bound) outer goal low high (2 * length fields + 2) own more
-      (open_leads base bound holds x fields used own has is below lines) fits

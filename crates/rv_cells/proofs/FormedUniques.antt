@@ -5,7 +5,7 @@ use Rattle.std.proofs.Common.{[], ◌∷◌, ◌++◌, length, None, IsSome, ref
 use Rattle.std.specs.Prelude.{filter}
 use Rattle.std.proofs.lemmas.Bool.{false≢true, or_cases, or_right}
 use Rattle.kk_syntax.specs.Shapes.{is_among as is_bound}
-use Rattle.rv_isa.specs.declared.asm.Action.TheVariants.{Compute, Label, Jump, Branch}
+use Rattle.rv_isa.specs.declared.asm.Action.TheVariants.{Label, Jump, Branch}
 use Rattle.rv_isa.specs.declared.asm.Condition.TheVariants.{NotEqual}
 use Rattle.rv_isa.specs.declared.asm.Operation.TheVariants as Op
 use Rattle.rv_isa.specs.declared.asm.ImmediateOperation.TheVariants.{Addi}
@@ -19,8 +19,8 @@ use Rattle.rv_lower.proofs.Formed.{good_hands, readable_small, readable_more, no
 use Rattle.rv_lower.proofs.AbsentLabels.{HasNo, has_no_append, found_past, found_here, alive_at_past, alive_at_here, other_label}
 use Rattle.rv_lower.proofs.Operations.{Leads, leads_then, leads_weaker, next_temporary, only_bound}
 use Rattle.rv_lower.proofs.Codes.{Ahead, Fits, good_alone, good_label, goal_up}
-use Rattle.rv_cells.specs.CellLines.{Loads, Stores, AllLoads, dups_lines, drops_lines, UniqueLines, TokenUniqueLines}
-use Rattle.rv_cells.proofs.CellForms.{effect, one_store, loads_lead, dups_lead, drops_lead}
+use Rattle.rv_cells.specs.CellLines.{Loads, Stores, AllLoads, dups_lines, drops_lines, TokenUniqueLines}
+use Rattle.rv_cells.proofs.CellForms.{one_store, loads_lead, dups_lead, drops_lead}
 use Rattle.rv_cells.proofs.CellForms.{room_list, kept_list, bound_fields, bound_filter}
 use Rattle.rv_cells.proofs.FormedOrders.{listed_behind}
 
@@ -222,17 +222,7 @@ module _ (base : ℕ) (bound : List ℕ) (has : HasRoom base bound) (holds : ℕ
           (test_good tail ahead test loads_test);
     }
 
-  -- an opening by the count, before the code that follows: its labels are the two from `low` on
-  pub fits_unique : (outer : List ℕ) (goal : Goal) (low high : ℕ) (own more : List Line)
-      → UniqueLines base holds low (low + 1) x fields used own
-      → Fits base taken outer goal (low + 2) high more → Fits base bound outer goal low high (own ++ more)
-  fits_unique outer goal low high own more unique fits =
-      subst (λ (lines : List Line). Fits base bound outer goal low high (lines ++ more)) (sym unique.10)
-      (counted_fits taken outer goal low high more fits unique.1 unique.6 (acts (Compute Op.Free) (x ∷ []))
-      (effect base taken base Op.Free (x ∷ []) room_taken (omega arith) (omega arith) (inl x_taken, tt)) _ _
-      (lowered_leads unique.1 unique.6 unique.2 unique.4 unique.3 unique.7 unique.9) unique.0 unique.5)
-
--- The same where the cell is a value's token: the value is written on both ways.
+-- An opening, before the code that follows: its labels are the two from `low` on. The value of the slot is written on both ways.
 pub fits_token_unique : (base : ℕ) (bound outer : List ℕ) → HasRoom base bound → (holds : ℕ → Bool) (x : ℕ)
     → is_bound bound x ≡ true → (fields used : List ℕ) → AreBelow base fields → (token : ℕ) → token < base
     → (goal : Goal) (low high : ℕ) (own more : List Line) → TokenUniqueLines base holds low (low + 1) x fields used token own

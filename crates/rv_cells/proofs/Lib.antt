@@ -50,6 +50,7 @@ pub mod FormedCases
 pub mod TokenFormedSlots
 pub mod TokenFormedHeld
 pub mod TokenFormedFills
+pub mod AskedForms
 pub mod TokenFormedCodes
 pub mod TokenFormedFunctions
 pub mod FormLengths
@@ -71,8 +72,10 @@ pub mod TokenRequests
 pub mod TokenUniques
 pub mod TokenFills
 pub mod TokenFillingCells
+pub mod TokenAsking
 pub mod TokenFilling
 pub mod TokenConstructing
+pub mod TokenAsked
 pub mod TokenSlots
 pub mod TokenCelled
 pub mod TokenInside

@@ -213,7 +213,6 @@ module _ (program : Lowering) where
           marked = p.marked;
           numbered = p.numbered;
           has = p.has.1.0;
-          plain = p.plain.0;
           short = omega arith;
         })
         (falls_one_runs (target program) ways (copied_in address) fs s.world Equal p.low temporary address
@@ -247,7 +246,6 @@ module _ (program : Lowering) where
           marked = subst (HasMark program.marks at.shape.holds at.shape.result s.bound at.does.given) alike p.marked;
           numbered = subst (AreNumbered at.shape.variables s.bound) alike p.numbered;
           has = p.has.1.1;
-          plain = p.plain.1;
           short = omega arith;
         })
         (runs_then (target program) (m + 3) (m + 0) 1 1 (turn_of branching f fs s.world) (turn_of (mark ∷ there) f fs s.world)

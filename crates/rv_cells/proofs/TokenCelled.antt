@@ -9,7 +9,6 @@ use Rattle.kk_counted.specs.Heaps.{Heap, dup_value, drop_value}
 use Rattle.kk_counted.specs.Lowerable.{AreNumbered}
 use Rattle.kk_counted.specs.References.{cells_of}
 use Rattle.kk_counted.specs.Marks.{HasMark}
-use Rattle.kk_counted.specs.TokenLowerable.{HasPlainForms}
 use Rattle.kk_counted.specs.TokenKeeping.{Lists, IsJudged, ListsAfter, AreKeptBy}
 use Rattle.kk_counted.specs.TokenMachine.{token_code_step, at_code, to_heap}
 use Rattle.kk_counted.specs.TokenRuns.{AllLead}
@@ -54,7 +53,6 @@ module _ (program : Lowering) where
         → ((x : ℕ) → is_among to.bound x ≡ true → x < at.shape.variables)
         → HasMark program.marks at.shape.holds at.shape.result later at.does.given (bare rest)
         → AreNumbered at.shape.variables later (bare rest) → HasSlots at.shape.slots rest
-        → HasPlainForms rest
         → IsJudged program.pool.cells at.lists.left at.lists.unspent at.lists.held at.lists.older rest inner frames to.heap tokens
         → IsSilent program tells
         → most ≤ (upper program).weight (token_at program code s.environment inner frames s.heap tokens input)
@@ -64,7 +62,7 @@ module _ (program : Lowering) where
         → Follows_step program idle (token_at program code s.environment inner frames s.heap tokens input)
         (turn_of left s.frame fs s.world)
     goes_did idle fit rest own more to later most tells did address_is long recounted parts low lines part_is within older below marked_is
-        numbered has plain judged silent cheap is less short =
+        numbered has judged silent cheap is less short =
         let v = at.shape.variables in
         let same : (p : ℕ) → to.address p ≡ s.address p = λ p. ap (λ (g : ℕ → ℕ). g p) (sym address_is) in
         let carries : Carries program.layout s.address (length s.heap) to.address (length to.heap)
@@ -83,7 +81,6 @@ module _ (program : Lowering) where
           marked = marked_is;
           numbered = numbered;
           has = has;
-          plain = plain;
           judged = judged;
           cells = cells_stay at.cells to.address to.owners to.heap (λ f y p is. same p)
               (λ f y p is. ap (λ (g : ℕ → ℕ). token_words program.layout g to.heap p) (sym address_is)
@@ -118,7 +115,7 @@ module _ (program : Lowering) where
       (record s { heap = next.0; owners = done.0; world = with_cells s.world done.1 }) s.bound (most_moves + 5) goes done.2 refl
       (dup_length (value_of s.environment x) s.heap next.0 next.1) (dup_cells (value_of s.environment x) s.heap next.0 next.1)
       p.lines.2 p.low p.lines.1 (record { way = 0 ∷ []; is_part = inl refl; code_is = refl }) (within_itself s.bound)
-      (within_itself s.bound) at.has.below p.marked.1 p.numbered p.has p.plain
+      (within_itself s.bound) at.has.below p.marked.1 p.numbered p.has
       (subst (λ (l : Lists). IsJudged program.pool.cells l.left l.unspent l.held l.older rest inner frames next.0 tokens) kept.1.0
       kept.1.1)
       (silent_goes program) (omega arith) (ap (λ action. seen_action program action input) step) (omega (arith, idle_is))
@@ -143,7 +140,7 @@ module _ (program : Lowering) where
       goes done.3 refl
       (drop_length (value_of s.environment x) s.heap next.0 next.1) (drop_cells (value_of s.environment x) s.heap next.0 next.1)
       p.lines.2 p.low p.lines.1 (record { way = 0 ∷ []; is_part = inl refl; code_is = refl }) (within_itself s.bound)
-      (within_itself s.bound) at.has.below p.marked.1 p.numbered p.has p.plain
+      (within_itself s.bound) at.has.below p.marked.1 p.numbered p.has
       (subst (λ (l : Lists). IsJudged program.pool.cells l.left l.unspent l.held l.older rest inner frames next.0 tokens) kept.1.0
       kept.1.1)
       (silent_goes program) (omega arith) (ap (λ action. seen_action program action input) step) (omega (arith, idle_is))

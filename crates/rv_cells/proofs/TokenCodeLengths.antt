@@ -1,14 +1,17 @@
 -- The assembler code of code with tokens is short: it is no longer than that code tells.
-use Rattle.std.proofs.Common.{◌≡◌, ℕ, suc, ◌+◌, ◌*◌, ◌≤◌, Bool, List, [], ◌∷◌, ◌++◌, length, map, Some, refl, sym, ap, subst, arith}
+use Rattle.std.proofs.Common.{◌≡◌, ℕ, suc, ◌+◌, ◌*◌, ◌≤◌, inl, inr, Bool, List, [], ◌∷◌, ◌++◌, length, map, Some, refl, sym, ap}
+use Rattle.std.proofs.Common.{subst, arith}
 use Rattle.std.specs.Prelude.{slice_get}
 use Rattle.kk_counted.specs.BareForms.{bare, bare_arms, bare_function, bare_program}
 use Rattle.kk_counted.specs.Lengths.{form_length}
-use Rattle.kk_counted.specs.Lowerable.{HasArities, HaveArities, IsLowerable, AreLowerable}
-use Rattle.kk_counted.specs.Marks.{CellMarks, field_marks, result_mark, HaveMarks, HasMark, HaveMark}
+use Rattle.kk_counted.specs.Lowerable.{HasArity, HasArities, HaveArities, IsLowerable, AreLowerable}
+use Rattle.kk_counted.specs.Marks.{CellMarks, field_marks, result_mark, HaveMarks, IsFormMarked, HasMark, HaveMark}
 use Rattle.kk_counted.specs.Spending.{numbers_from}
+use Rattle.kk_syntax.specs.declared.program.Form.{Form}
 use Rattle.kk_syntax.specs.Shapes.{without}
-use Rattle.kk_counted.specs.TokenLengths.{tokened_length, tokened_arms_length, tokened_functions_length, all_tokened_computes}
-use Rattle.kk_counted.specs.TokenLowerable.{HasPlainForms, HavePlainForms, AreTokensLowerable}
+use Rattle.kk_counted.specs.TokenLengths.{other_length, tokened_length, tokened_arms_length, tokened_functions_length}
+use Rattle.kk_counted.specs.TokenLengths.{all_tokened_computes}
+use Rattle.kk_counted.specs.TokenLowerable.{AreTokensLowerable}
 use Rattle.kk_counted.specs.TokenSpending.{SpendsTokens, SpendAllTokens, AreTokensSpent}
 use Rattle.kk_counted.specs.TokenedCodes.{Tokened, TokenedArms, TokenedFunction, TokenedProgram}
 use Rattle.kk_counted.specs.declared.shape.Shape.{Shape}
@@ -30,7 +33,7 @@ use Rattle.rv_cells.specs.TokenedLowered.{IsTokenedForm}
 use Rattle.rv_cells.proofs.FormLengths.{lines_append, loads_length, dup_length, drop_length, token_unique_length, fill_length}
 use Rattle.rv_cells.proofs.FormLengths.{goal_length, tail_length, marks_many, form_short}
 use Rattle.rv_cells.proofs.TestLengths.{nodes_short}
-use Rattle.rv_cells.proofs.TokenFormedCodes.{ask_plain}
+use Rattle.rv_cells.proofs.AskedForms.{ask_either}
 use Rattle.rv_cells.proofs.TokenFormedFunctions.{bare_at}
 
 -- each slot has its value
@@ -50,74 +53,101 @@ module _ (setting : Setting) (variables : ℕ) (table : CellMarks) (narrow : (c 
   abbrev IsShort : Tokened → List Line → Type 0
   IsShort code lines = code_length lines ≤ tokened_length code
 
+  -- the lines of a form on values, also where it asks for a cell while other tokens are held
+  ask_short : (low x : ℕ) (form : Form) (arguments others : List ℕ) (own : List Line) (middle : ℕ) → HasArity form arguments
+      → IsFormMarked table setting.holds form arguments (setting.holds x)
+      → AskLines setting variables low x form arguments others own middle
+      → code_length own ≤ form_length + other_length * length others
+  ask_short low x form arguments others own middle arity marked is =
+      elim (ask_either setting variables low x form arguments others own middle is) [
+        | inl plain ↦ (
+            let short = form_short setting table narrow x form arguments (setting.holds x) own arity marked plain.0 in
+            omega (arith, short)
+            )
+        | inr asks ↦ (
+            let marks = (subst (λ (f : Form). IsFormMarked table setting.holds f arguments (setting.holds x)) asks.form_is
+            marked).0 in
+            let whole = ap code_length asks.own_is in
+            let values = values_many variables others in
+            let few = few_fields asks.made_by arguments marks in
+            let fill = fill_length setting.base x x (values_of_slots variables others) low (header_of setting.layout asks.made_by)
+            arguments [] asks.fill asks.fills few in
+            omega (arith, whole, values, fill)
+            )
+      ]
+
   mutual
     code_short : (code : Tokened) (bound : List ℕ) (given : Bool) (goal : Goal) (low high : ℕ) (lines : List Line)
         (left unspent held : List ℕ) → HasMark table setting.holds result bound given (bare code) → HasArities (bare code)
-        → HasPlainForms code → SpendsTokens left unspent held code → CodeLines setting variables goal low code lines high
+        → SpendsTokens left unspent held code → CodeLines setting variables goal low code lines high
         → IsShort code lines
-    code_short (Tokened.give x) bound given goal low high lines left unspent held marked arities plain spends is =
+    code_short (Tokened.give x) bound given goal low high lines left unspent held marked arities spends is =
         let whole = ap code_length is.0 in
         let own = goal_length goal x in omega (arith, whole, own)
-    code_short (Tokened.tail_call f arguments) bound given goal low high lines left unspent held marked arities plain spends is =
+    code_short (Tokened.tail_call f arguments) bound given goal low high lines left unspent held marked arities spends is =
         let whole = ap code_length is.0 in
         let own = tail_length setting.base f arguments (omega (arith, arities)) in omega (arith, whole, own)
-    code_short (Tokened.case x decisions arms) bound given goal low high lines left unspent held marked arities plain spends is =
+    code_short (Tokened.case x decisions arms) bound given goal low high lines left unspent held marked arities spends is =
         let whole = ap code_length is.6 in
         let apart = lines_append is.0 is.1 in
         let choice = nodes_short setting.layout setting.base is.2 low x 0 decisions is.0 is.4 in
-        let bodies = arms_short arms bound given goal low (is.2 + length decisions) high is.1 left unspent marked.1 arities plain
+        let bodies = arms_short arms bound given goal low (is.2 + length decisions) high is.1 left unspent marked.1 arities
         spends.1 is.5 in
         omega (arith, whole, apart, choice, bodies)
-    code_short (Tokened.compute x form arguments others rest) bound given goal low high lines left unspent held marked arities plain
+    code_short (Tokened.compute x form arguments others rest) bound given goal low high lines left unspent held marked arities
         spends is =
         let whole = ap code_length is.5 in
         let apart = lines_append is.0 is.1 in
-        let asks = ask_plain setting variables low x form arguments is.0 is.2
-        (subst (λ (named : List ℕ). AskLines setting variables low x form arguments named is.0 is.2) plain.0 is.3) in
-        let own = form_short setting table narrow x form arguments (setting.holds x) is.0 arities.0 marked.1.0 asks.0 in
-        let more = code_short rest (x ∷ bound) given goal is.2 high is.1 left unspent held marked.1.1 arities.1 plain.1 spends.1 is.4 in
+        let own = ask_short low x form arguments others is.0 is.2 arities.0 marked.1.0 is.3 in
+        let more = code_short rest (x ∷ bound) given goal is.2 high is.1 left unspent held marked.1.1 arities.1 spends.1 is.4 in
         omega (arith, whole, apart, own, more)
-    code_short (Tokened.inside x block rest) bound given goal low high lines left unspent held marked arities plain spends is =
+    code_short (Tokened.inside x block rest) bound given goal low high lines left unspent held marked arities spends is =
         let whole = ap code_length is.5 in
         let apart = lines_append is.0 (acts (Label low) [] ∷ is.1) in
         let part = code_short block bound (setting.holds x) (joins x low) (low + 1) is.2 is.0 spends.0 unspent [] marked.0 arities.0
-        plain.0 spends.1.1.0 is.3 in
-        let more = code_short rest (x ∷ bound) given goal is.2 high is.1 left spends.0 [] marked.1 arities.1 plain.1 spends.1.1.1
+        spends.1.1.0 is.3 in
+        let more = code_short rest (x ∷ bound) given goal is.2 high is.1 left spends.0 [] marked.1 arities.1 spends.1.1.1
         is.4 in
         omega (arith, whole, apart, part, more)
-    code_short (Tokened.read x c fields rest) bound given goal low high lines left unspent held marked arities plain spends is =
+    code_short (Tokened.read x c fields rest) bound given goal low high lines left unspent held marked arities spends is =
         let whole = ap code_length is.4 in
         let apart = lines_append is.0 is.1 in
         let own = loads_length x 2 fields is.0 is.2 in
         let few = few_fields c fields marked.0.1.1 in
-        let more = code_short rest (fields ++ bound) given goal low high is.1 left unspent [] marked.1 arities plain spends.1 is.3 in
+        let more = code_short rest (fields ++ bound) given goal low high is.1 left unspent [] marked.1 arities spends.1 is.3 in
         omega (arith, whole, apart, own, few, more)
-    code_short (Tokened.open_cell x c fields used y rest) bound given goal low high lines left unspent held marked arities plain
-        spends is =
-        absurd plain
-    code_short (Tokened.if_unique x c fields used y rest) bound given goal low high lines left unspent held marked arities plain
+    code_short (Tokened.open_cell x c fields used y rest) bound given goal low high lines left unspent held marked arities
         spends is =
         let whole = ap code_length is.4 in
         let apart = lines_append is.0 is.1 in
         let own = token_unique_length setting.holds setting.base low (low + 1) x fields used (variables + y) is.0 is.2
         (few_fields c fields marked.0.1.1) in
-        let more = code_short rest (fields ++ bound) given goal (low + 2) high is.1 left (y ∷ unspent) [] marked.1 arities plain
+        let more = code_short rest (fields ++ bound) given goal (low + 2) high is.1 left (y ∷ unspent) [] marked.1 arities
         spends.1.1 is.3 in
         omega (arith, whole, apart, own, more)
-    code_short (Tokened.dup x rest) bound given goal low high lines left unspent held marked arities plain spends is =
+    code_short (Tokened.if_unique x c fields used y rest) bound given goal low high lines left unspent held marked arities
+        spends is =
+        let whole = ap code_length is.4 in
+        let apart = lines_append is.0 is.1 in
+        let own = token_unique_length setting.holds setting.base low (low + 1) x fields used (variables + y) is.0 is.2
+        (few_fields c fields marked.0.1.1) in
+        let more = code_short rest (fields ++ bound) given goal (low + 2) high is.1 left (y ∷ unspent) [] marked.1 arities
+        spends.1.1 is.3 in
+        omega (arith, whole, apart, own, more)
+    code_short (Tokened.dup x rest) bound given goal low high lines left unspent held marked arities spends is =
         let whole = ap code_length is.2 in
         let apart = lines_append (dup_lines setting.holds x) is.0 in
         let own = dup_length setting.holds x in
-        let more = code_short rest bound given goal low high is.0 left unspent [] marked.1 arities plain spends.1 is.1 in
+        let more = code_short rest bound given goal low high is.0 left unspent [] marked.1 arities spends.1 is.1 in
         omega (arith, whole, apart, own, more)
-    code_short (Tokened.drop x rest) bound given goal low high lines left unspent held marked arities plain spends is =
+    code_short (Tokened.drop x rest) bound given goal low high lines left unspent held marked arities spends is =
         let whole = ap code_length is.2 in
         let apart = lines_append (drop_lines setting.base setting.holds x) is.0 in
         let own = drop_length setting.holds setting.base x in
-        let more = code_short rest bound given goal low high is.0 left unspent [] marked.1 arities plain spends.1 is.1 in
+        let more = code_short rest bound given goal low high is.0 left unspent [] marked.1 arities spends.1 is.1 in
         omega (arith, whole, apart, own, more)
     code_short (Tokened.fill x y c first arguments kept others rest) bound given goal low high lines left unspent held marked arities
-        plain spends is =
+        spends is =
         let whole = ap code_length is.4 in
         let apart = lines_append is.0 is.1 in
         let many = marks_many setting.holds (first ∷ arguments) (field_marks table c) marked.1.0.0 in
@@ -126,59 +156,59 @@ module _ (setting : Setting) (variables : ℕ) (table : CellMarks) (narrow : (c 
         let own = fill_length setting.base x (variables + y) (values_of_slots variables others) low (header_of setting.layout c)
         (first ∷ arguments) kept is.0 is.2 (omega (arith, many, few)) in
         let more = code_short rest (x ∷ bound) given goal (low + 1) high is.1 left (without (y ∷ []) unspent) [] marked.1.1 arities.1
-        plain spends.1.1.1.1 is.3 in
+        spends.1.1.1.1 is.3 in
         omega (arith, whole, apart, values, own, more)
-    code_short (Tokened.free y rest) bound given goal low high lines left unspent held marked arities plain spends is =
+    code_short (Tokened.free y rest) bound given goal low high lines left unspent held marked arities spends is =
         let whole = ap code_length is.2 in
-        let more = code_short rest bound given goal low high is.0 left (without (y ∷ []) unspent) [] marked arities plain spends.1.1
+        let more = code_short rest bound given goal low high is.0 left (without (y ∷ []) unspent) [] marked arities spends.1.1
         is.1 in
         omega (arith, whole, more)
-    code_short (Tokened.null y rest) bound given goal low high lines left unspent held marked arities plain spends is =
+    code_short (Tokened.null y rest) bound given goal low high lines left unspent held marked arities spends is =
         let whole = ap code_length is.2 in
-        let more = code_short rest bound given goal low high is.0 left (y ∷ unspent) [] marked arities plain spends.1.1 is.1 in
+        let more = code_short rest bound given goal low high is.0 left (y ∷ unspent) [] marked arities spends.1.1 is.1 in
         omega (arith, whole, more)
-    code_short (Tokened.move to of rest) bound given goal low high lines left unspent held marked arities plain spends is =
+    code_short (Tokened.move to of rest) bound given goal low high lines left unspent held marked arities spends is =
         let whole = ap code_length is.2 in
-        let more = code_short rest bound given goal low high is.0 left (to ∷ without (of ∷ []) unspent) [] marked arities plain
+        let more = code_short rest bound given goal low high is.0 left (to ∷ without (of ∷ []) unspent) [] marked arities
         spends.1.1.1 is.1 in
         omega (arith, whole, more)
-    code_short (Tokened.hold y rest) bound given goal low high lines left unspent held marked arities plain spends is =
+    code_short (Tokened.hold y rest) bound given goal low high lines left unspent held marked arities spends is =
         let whole = ap code_length is.2 in
-        let more = code_short rest bound given goal low high is.0 left unspent (y ∷ held) marked arities plain spends.1.1 is.1 in
+        let more = code_short rest bound given goal low high is.0 left unspent (y ∷ held) marked arities spends.1.1 is.1 in
         omega (arith, whole, more)
-    code_short (Tokened.unhold y rest) bound given goal low high lines left unspent held marked arities plain spends is =
+    code_short (Tokened.unhold y rest) bound given goal low high lines left unspent held marked arities spends is =
         let whole = ap code_length is.2 in
-        let more = code_short rest bound given goal low high is.0 left unspent spends.0 marked arities plain spends.1.1.1 is.1 in
+        let more = code_short rest bound given goal low high is.0 left unspent spends.0 marked arities spends.1.1.1 is.1 in
         omega (arith, whole, more)
-    code_short (Tokened.if_token y there absent) bound given goal low high lines left unspent held marked arities plain spends is =
+    code_short (Tokened.if_token y there absent) bound given goal low high lines left unspent held marked arities spends is =
         let whole = ap code_length is.5 in
         let ways = lines_append is.0 (acts (Label low) [] ∷ is.1) in
-        let yes = code_short there bound given goal (low + 1) is.2 is.0 left unspent held marked arities plain.0 spends.1.1.0 is.3 in
+        let yes = code_short there bound given goal (low + 1) is.2 is.0 left unspent held marked arities spends.1.1.0 is.3 in
         let no = code_short absent bound given goal is.2 high is.1 left unspent held
         (subst (HasMark table setting.holds result bound given) (sym spends.1.0) marked) (subst HasArities (sym spends.1.0) arities)
-        plain.1 spends.1.1.1 is.4 in
+        spends.1.1.1 is.4 in
         omega (arith, whole, ways, yes, no)
 
     arms_short : (arms : TokenedArms) (bound : List ℕ) (given : Bool) (goal : Goal) (label low high : ℕ) (lines : List Line)
         (left unspent : List ℕ) → HaveMark table setting.holds result bound given (bare_arms arms) → HaveArities (bare_arms arms)
-        → HavePlainForms arms → SpendAllTokens left unspent arms → ArmsLines setting variables goal label low arms lines high
+        → SpendAllTokens left unspent arms → ArmsLines setting variables goal label low arms lines high
         → code_length lines ≤ tokened_arms_length arms
-    arms_short TokenedArms.no_arm bound given goal label low high lines left unspent marked arities plain spends is =
+    arms_short TokenedArms.no_arm bound given goal label low high lines left unspent marked arities spends is =
         let whole = ap code_length is.0 in omega (arith, whole)
-    arms_short (TokenedArms.arm body rest) bound given goal label low high lines left unspent marked arities plain spends is =
+    arms_short (TokenedArms.arm body rest) bound given goal label low high lines left unspent marked arities spends is =
         let whole = ap code_length is.5 in
         let apart = lines_append is.0 is.1 in
-        let one = code_short body bound given goal low is.2 is.0 left unspent [] marked.0 arities.0 plain.0 spends.0 is.3 in
-        let more = arms_short rest bound given goal (label + 1) is.2 high is.1 left unspent marked.1 arities.1 plain.1 spends.1 is.4 in
+        let one = code_short body bound given goal low is.2 is.0 left unspent [] marked.0 arities.0 spends.0 is.3 in
+        let more = arms_short rest bound given goal (label + 1) is.2 high is.1 left unspent marked.1 arities.1 spends.1 is.4 in
         omega (arith, whole, apart, one, more)
 
 -- ---- functions
 
 function_short : (layout : Layout) (texts : Texts) (table : CellMarks) → ((c : ℕ) → length (field_marks table c) ≤ 6)
     → (f : ℕ) (function : TokenedFunction) (lines : Lines) → IsLowerable table f (bare_function function)
-    → HasPlainForms function.body → SpendsTokens [] [] [] function.body → IsFunctionOf layout texts table f function lines
+    → SpendsTokens [] [] [] function.body → IsFunctionOf layout texts table f function lines
     → length lines.params + code_length lines.code ≤ form_length + tokened_length function.body
-function_short layout texts table narrow f function lines may plain spends is =
+function_short layout texts table narrow f function lines may spends is =
     let base : ℕ = is.lowered.variables + is.lowered.slots in
     let setting : Setting = record { layout = layout; holds = is.lowered.holds; base = base; texts = texts } in
     let params = ap (λ (xs : List ℕ). length xs) is.lowered.params in
@@ -186,7 +216,7 @@ function_short layout texts table narrow f function lines may plain spends is =
     let few = may.few_parameters in
     let body = code_short setting is.lowered.variables table narrow (result_mark table f) function.body
     (numbers_from 0 function.parameters) (result_mark table f) returns 0 is.lowered.labels lines.code [] [] [] is.marked.body_marked
-    may.arities plain spends is.lowered.code in
+    may.arities spends is.lowered.code in
     omega (arith, params, many, few, body)
 
 -- functions of which each by its number is short
@@ -221,6 +251,6 @@ tokened_programs_short shape code texts each lowerable tokens spends form narrow
     short f function is =
         let one = form.lowered f function is in
         let own = function_short (layout_in shape) (texts_of code.texts texts) (table_of shape) narrow.few f function one.0
-        (lowerable f (bare_function function) (bare_at code.functions f function is)) (tokens f function is).plain
+        (lowerable f (bare_function function) (bare_at code.functions f function is))
         (spends f function is) one.2 in
         (one.0, (one.1, own))

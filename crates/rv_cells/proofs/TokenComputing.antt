@@ -203,7 +203,6 @@ module _ (program : Lowering) where
                 marked = p.marked.1.1;
                 numbered = p.numbered.1.1;
                 has = p.has.1;
-                plain = p.plain.1;
                 short = omega arith;
               };
               continues = continues_more program at.shape s.frame.whole inner at.does.goal at.does.given s.bound (x ∷ s.bound)
@@ -422,11 +421,11 @@ module _ (program : Lowering) where
       refl at.input_is refl at.bytes
   at_plain x (Call f) arguments others rest plain idle inner frames tokens input s fs left idle_is at fit = absurd plain
 
-  -- ---- any form, where constructions with fields and no other tokens are done
+  -- ---- any form, where constructions with fields are done
 
-  pub at_compute : ((x c a : ℕ) (more : List ℕ) (rest : Tokened)
-      → CodeSteps program (Tokened.compute x (Construct c) (a ∷ more) [] rest)) → (x : ℕ) (form : Form) (arguments others : List ℕ)
-      (rest : Tokened) → CodeSteps program (Tokened.compute x form arguments others rest)
+  pub at_compute : ((x c a : ℕ) (more others : List ℕ) (rest : Tokened)
+      → CodeSteps program (Tokened.compute x (Construct c) (a ∷ more) others rest)) → (x : ℕ) (form : Form)
+      (arguments others : List ℕ) (rest : Tokened) → CodeSteps program (Tokened.compute x form arguments others rest)
   at_compute makes x (Number n) arguments others rest = at_plain x (Number n) arguments others rest tt
   at_compute makes x Nothing arguments others rest = at_plain x Nothing arguments others rest tt
   at_compute makes x ReadByte arguments others rest = at_plain x ReadByte arguments others rest tt
@@ -435,10 +434,5 @@ module _ (program : Lowering) where
   at_compute makes x (Binary operator) arguments others rest = at_plain x (Binary operator) arguments others rest tt
   at_compute makes x (Print how) arguments others rest = at_plain x (Print how) arguments others rest tt
   at_compute makes x (Construct c) [] others rest = at_plain x (Construct c) [] others rest tt
-  at_compute makes x (Construct c) (a ∷ more) [] rest = makes x c a more rest
-  at_compute makes x (Construct c) (a ∷ more) (other ∷ others) rest =
-      λ idle inner frames tokens input s fs left idle_is at fit. absurd (none_named at.does.placed.plain.0)
-    where
-      none_named : other ∷ others ≡ [] → ⊥
-      none_named e = cc
+  at_compute makes x (Construct c) (a ∷ more) others rest = makes x c a more others rest
   at_compute makes x (Call f) arguments others rest = at_call program x f arguments others rest

@@ -247,7 +247,6 @@ module _ (program : Lowering) (x c a : ℕ) (more : List ℕ) (rest : Tokened) (
         marked = p.marked.1.1;
         numbered = p.numbered.1.1;
         has = p.has.1;
-        plain = p.plain.1;
         judged = judged;
         cells = cells_are;
         slots_are = slots_moved {later = later one} {others = frame.cells} slots_are (λ z r is. stays one r (old n z r is))

@@ -19,7 +19,6 @@ use Rattle.kk_counted.specs.Heaps.{cell_at}
 use Rattle.kk_counted.specs.Lowerable.{AreNumbered, AreArmsNumbered}
 use Rattle.kk_counted.specs.Marks.{CellMarks, HasMark, HaveMark}
 use Rattle.kk_counted.specs.TokenKeeping.{Lists, IsJudged, ListsAfter, AreKeptBy}
-use Rattle.kk_counted.specs.TokenLowerable.{HasPlainForms, HavePlainForms}
 use Rattle.kk_counted.specs.TokenMachine.{tokened_arm_at, token_case_step, token_code_step}
 use Rattle.kk_counted.specs.TokenRuns.{AllLead}
 use Rattle.kk_counted.specs.TokenStates.{TokenJoin, TokenFrame, TokenConfiguration, bare_configuration}
@@ -226,12 +225,6 @@ arm_slots slots TokenedArms.no_arm row body is have = cc
 arm_slots slots (TokenedArms.arm one more) zero body is have =
     let same : one ≡ body = cc is in subst (HasSlots slots) same have.0
 arm_slots slots (TokenedArms.arm one more) (suc row) body is have = arm_slots slots more row body is have.1
-
-arm_plain : (arms : TokenedArms) (row : ℕ) (body : Tokened) → tokened_arm_at arms row ≡ Some body → HavePlainForms arms
-    → HasPlainForms body
-arm_plain TokenedArms.no_arm row body is have = cc
-arm_plain (TokenedArms.arm one more) zero body is have = let same : one ≡ body = cc is in subst HasPlainForms same have.0
-arm_plain (TokenedArms.arm one more) (suc row) body is have = arm_plain more row body is have.1
 
 case_there : (o : Option Tokened) (environment : Environment) (inner : List TokenJoin) (from : TokenConfiguration)
     (input : List ℕ) → NotStuck (bare_configuration (performed (token_case_step o environment inner from) input).1.machine).control
@@ -514,7 +507,6 @@ module _ (program : Lowering) (x : ℕ) (decisions : List NodeTree) (arms : Toke
         marked = arm_marked program.marks at.shape.holds at.shape.result at.does.given s.bound arms row body choose.2 p.marked.1;
         numbered = arm_numbered at.shape.variables s.bound arms row body choose.2 p.numbered;
         has = arm_slots at.shape.slots arms row body choose.2 p.has;
-        plain = arm_plain arms row body choose.2 p.plain;
         short = omega (arith, short, few);
       })
       (subst (λ (l : Lists). IsJudged program.pool.cells l.left l.unspent l.held l.older body inner frames s.heap tokens)

@@ -158,15 +158,6 @@ module _ {layout : Layout} {address : ℕ → ℕ} {holds : ℕ → Bool} {base 
   older_of [] all = tt
   older_of (x ∷ xs) all = (has.older x all.0, older_of xs all.1)
 
-  -- with more room for variables and slots
-  pub has_above : (more : ℕ) → base ≤ more → HasValues layout address holds more next bound environment values
-  has_above more high = record {
-    below = λ z is. (let low = has.below z is in omega (arith, low, high));
-    words = has.words;
-    fits = has.fits;
-    older = has.older;
-  }
-
 module _ (program : Lowering) where
   -- ---- a function that is entered
 
@@ -261,7 +252,6 @@ module _ (program : Lowering) where
               marked = of.marked.body_marked;
               numbered = of.numbered;
               has = of.has;
-              plain = program.plain f function function_is;
               short = program.short f function function_is;
             };
             continues = refl;
@@ -355,7 +345,6 @@ module _ (program : Lowering) where
                   marked = p.marked.1.1;
                   numbered = p.numbered.1.1;
                   has = p.has.1;
-                  plain = p.plain.1;
                   short = omega arith;
                 };
                 continues = continues_more program at.shape s.frame.whole inner at.does.goal at.does.given s.bound (x ∷ s.bound)

@@ -49,7 +49,11 @@ grown_words layout address heap made at p older low =
     ∙ words_older layout (length heap) at address (fields_held heap p)
     (all_within_more p (length heap) (fields_held heap p) (omega (arith, low)) (older p))
 
--- the fields of a cell that a value names are held at its name
+-- the cell that a value names, and its fields, which are held at its name
+pub cell_is : (c count : ℕ) (heap : Heap) (v : Value) (named : Named) → cell_named c count heap v ≡ Some named
+    → NamedCell heap v count named
+cell_is c count heap v named is = subst (OnNamed (NamedCell heap v count)) is (named_cell c count heap v)
+
 pub named_fields : (c count : ℕ) (heap : Heap) (v : Value) (named : Named) → cell_named c count heap v ≡ Some named
     → fields_held heap named.at ≡ named.fields
-named_fields c count heap v named is = (subst (OnNamed (NamedCell heap v count)) is (named_cell c count heap v)).fields
+named_fields c count heap v named is = (cell_is c count heap v named is).fields

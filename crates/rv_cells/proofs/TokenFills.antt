@@ -205,7 +205,6 @@ module _ (program : Lowering) (x y c first : ℕ) (arguments kept_at others : Li
         marked = p.marked.1.1;
         numbered = p.numbered.1.1;
         has = p.has.1.1;
-        plain = p.plain;
         judged = subst (λ (l : Lists). IsJudged program.pool.cells l.left l.unspent l.held l.older rest inner frames to.heap after)
             kept.1.0 kept.1.1;
         cells = cell_goes at.cells program.aligned n y q later (with_owner address (cell_of size) s.owners) to.heap after

@@ -15,8 +15,8 @@ use Rattle.kk_counted.specs.CountBounds.{EachHasAnArm, AllHaveAnArm}
 use Rattle.kk_counted.specs.Lowerable.{AreBelow, bound_list, AreNumbered, AreArmsNumbered, HasArity, HasArities, HaveArities}
 use Rattle.kk_counted.specs.Marks.{CellMarks, HasMark, HaveMark}
 use Rattle.kk_counted.specs.Spending.{AreApart}
-use Rattle.kk_counted.specs.TokenLowerable.{HasPlainForms, HavePlainForms, HoldsAtCalls, HoldAtCalls}
-use Rattle.kk_counted.specs.TokenSpending.{SpendsTokens, SpendAllTokens}
+use Rattle.kk_counted.specs.TokenLowerable.{HoldsAtCalls, HoldAtCalls}
+use Rattle.kk_counted.specs.TokenSpending.{AtForm, SpendsTokens, SpendAllTokens}
 use Rattle.kk_counted.specs.TokenedCodes.{Tokened, TokenedArms}
 use Rattle.kk_counted.proofs.TokenForms.{among_without}
 use Rattle.rv_isa.specs.declared.asm.Action.TheVariants.{Compute, Unhold}
@@ -32,8 +32,9 @@ use Rattle.rv_lower.proofs.Operations.{Leads, next_temporary}
 use Rattle.rv_lower.proofs.Codes.{Fits, fits_weaker, fits_give, fits_tail_call, fits_inside, fits_split}
 use Rattle.rv_cells.specs.Layout.{Layout, header_of}
 use Rattle.rv_cells.specs.CountedLines.{Setting, ComputeLines}
-use Rattle.rv_cells.specs.TokenedLines.{values_of_slots, HasSlots, HaveSlots, AskLines, CodeLines, ArmsLines}
-use Rattle.rv_cells.proofs.CellForms.{effect, kept_list}
+use Rattle.rv_cells.specs.TokenedLines.{values_of_slots, HasSlots, HaveSlots, CodeLines, ArmsLines}
+use Rattle.rv_cells.proofs.AskedForms.{Asks, ask_either}
+use Rattle.rv_cells.proofs.CellForms.{effect, kept_list, bound_later}
 use Rattle.rv_cells.proofs.FormedCases.{some_arm, ArmsFit, arms_none, arms_more, fits_case}
 use Rattle.rv_cells.proofs.FormedForms.{fits_form}
 use Rattle.rv_cells.proofs.FormedOrders.{behind, listed_within, front_within, room_front}
@@ -84,20 +85,6 @@ tails : (y : ℕ) (xs ys : List ℕ) → (y ∷ xs) ≡ (y ∷ ys) → xs ≡ ys
 tails y xs ys same = ap behind_first same
 
 -- ---- forms on values
-
--- a form that names no other tokens is lowered as one without tokens
-pub ask_plain : (setting : Setting) (variables low x : ℕ) (form : Form) (arguments : List ℕ) (own : List Line) (middle : ℕ)
-    → AskLines setting variables low x form arguments [] own middle → ComputeLines setting x form arguments own × (low ≡ middle)
-ask_plain setting variables low x (Number value) arguments own middle is = is
-ask_plain setting variables low x Nothing arguments own middle is = is
-ask_plain setting variables low x ReadByte arguments own middle is = is
-ask_plain setting variables low x (PrintText how text) arguments own middle is = is
-ask_plain setting variables low x (Unary operator) arguments own middle is = is
-ask_plain setting variables low x (Binary operator) arguments own middle is = is
-ask_plain setting variables low x (Print how) arguments own middle is = is
-ask_plain setting variables low x (Construct c) [] own middle is = is
-ask_plain setting variables low x (Construct c) (a ∷ more) own middle is = is
-ask_plain setting variables low x (Call f) arguments own middle is = is
 
 -- what is held before a form on values is so behind it
 held_behind : (held : List ℕ) (x : ℕ) (form : Form) (arguments others : List ℕ) (rest : Tokened)
@@ -248,17 +235,51 @@ module _ (layout : Layout) (holds : ℕ → Bool) (texts : Texts) (marks : CellM
         (omega (arith, less)) arity (all_bound (reads unspent bound) arguments among)
         (each_low variables bound arguments has are) fits)
 
+    -- a construction that asks for its cell while other tokens are held
+    asked_fits : (form : Form) (arguments others : List ℕ) (own : List Line) (middle : ℕ)
+        → Asks setting variables low x form arguments others own middle → AtForm form arguments others unspent held
+        → AreBelow slots others → AreBound bound arguments
+        → HeldFits held (x ∷ reads unspent bound) outer goal middle high more
+        → HeldFits held (reads unspent bound) outer goal low high (own ++ more)
+    asked_fits form arguments others own middle asks at few are fits =
+        let at_made : AtForm (Construct asks.made_by) (asks.first ∷ asks.later) others unspent held
+        = subst (λ (xs : List ℕ). AtForm (Construct asks.made_by) xs others unspent held) asks.arguments_are
+        (subst (λ (f : Form). AtForm f arguments others unspent held) asks.form_is at) in
+        let base = variables + slots in
+        let under : x < variables + slots = omega (arith, less) in
+        let inside = x ∷ reads unspent bound in
+        let itself = or_left (x == x) (is_among (reads unspent bound) x) (eq-eqb x x refl) in
+        let behind : FitsCode inside outer goal (low + 1) high more
+        = subst (λ (from : ℕ). FitsCode inside outer goal from high more) (sym asks.middle_is)
+        (fits_held base inside outer goal middle high more
+        (subst (λ (h : List ℕ). HeldFits h inside outer goal middle high more) at_made.0 fits)) in
+        none_held held (reads unspent bound) outer goal low high (own ++ more) at_made.0
+        (subst (λ (lines : List Line). FitsCode (reads unspent bound) outer goal low high (lines ++ more)) (sym asks.own_is)
+        (fits_step base (reads unspent bound) inside outer goal low high 1 (sets 0 x ∷ []) (asks.fill ++ more)
+        (writes (reads unspent bound) (Op.Li 0) [] x (has_room unspent bound has) refl (omega arith) tt under)
+        (fits_fill base inside outer (room_more base (reads unspent bound) x (has_room unspent bound has) under) x under x itself
+        (values_of_slots variables others)
+        (bound_later base (reads unspent bound) x (values_of_slots variables others)
+        (values_there variables slots unspent bound others few (λ z there. sym (at_made.1.1 z) ∙ there)))
+        (values_apart variables others at_made.1.0) (values_differ variables x others less) (header_of layout asks.made_by)
+        arguments
+        (bound_later base (reads unspent bound) x arguments
+        (bound_within bound (reads unspent bound) arguments (variable_there variables slots unspent bound) are)) goal low high []
+        asks.fill more asks.fills
+        (fits_weaker base inside (x ∷ inside) outer goal (low + 1) high more
+        (λ v there. or_right (x == v) (is_among inside v) there) behind))))
+
   -- ---- codes
 
   mutual
     pub code_fits : (code : Tokened) (bound outer unspent left held : List ℕ) (given : Bool) (goal : Goal) (low high : ℕ)
         (lines : List Line) → HasRoom variables bound → IsWithin outer bound → HasMark marks holds result bound given (bare code)
         → AreNumbered variables bound (bare code) → HasArms (bare code) → EachHasAnArm (bare code) → HasArities (bare code)
-        → HasSlots slots code → HasPlainForms code → HoldsAtCalls held code → SpendsTokens left unspent held code
+        → HasSlots slots code → HoldsAtCalls held code → SpendsTokens left unspent held code
         → AreBelow slots held → AreApart held → CodeLines setting variables goal low code lines high
         → HeldFits held (reads unspent bound) (reads left outer) goal low high lines
     code_fits (Tokened.give x) bound outer unspent left held given goal low high lines has within marked numbered arms some arities
-        few plain at spends below apart is =
+        few at spends below apart is =
         none_held held (reads unspent bound) (reads left outer) goal low high lines at
         (subst (FitsCode (reads unspent bound) (reads left outer) goal low high) (sym is.0)
         (subst (λ (high : ℕ). FitsCode (reads unspent bound) (reads left outer) goal low high (goal_lines goal x)) is.1
@@ -268,7 +289,7 @@ module _ (layout : Layout) (holds : ℕ → Bool) (texts : Texts) (marks : CellM
         (λ v there. variable_there variables slots unspent bound v (within v there))
         (λ y less there. slot_there variables slots unspent bound y less (spends.1 y ∙ there))))))
     code_fits (Tokened.tail_call f arguments) bound outer unspent left held given goal low high lines has within marked numbered
-        arms some arities few plain at spends below apart is =
+        arms some arities few at spends below apart is =
         none_held held (reads unspent bound) (reads left outer) goal low high lines at
         (subst (FitsCode (reads unspent bound) (reads left outer) goal low high) (sym is.0)
         (subst (λ (high : ℕ). FitsCode (reads unspent bound) (reads left outer) goal low high
@@ -277,44 +298,49 @@ module _ (layout : Layout) (holds : ℕ → Bool) (texts : Texts) (marks : CellM
         low arities (all_bound (reads unspent bound) arguments
         (bound_within bound (reads unspent bound) arguments (variable_there variables slots unspent bound) marked.0)))))
     code_fits (Tokened.case x decisions arms) bound outer unspent left held given goal low high lines has within marked numbered
-        orderly some arities few plain at spends below apart is =
+        orderly some arities few at spends below apart is =
         none_held held (reads unspent bound) (reads left outer) goal low high lines at.0
         (subst (FitsCode (reads unspent bound) (reads left outer) goal low high) (sym is.6)
         (fits_case (variables + slots) (reads unspent bound) (reads left outer) (has_room unspent bound has) layout x
         (variable_there variables slots unspent bound x marked.0) goal low (arm_count (bare_arms arms)) is.2 high decisions
         orderly.0 (some_arm (bare_arms arms) some.0) is.3 is.0 is.1 is.4
         (arms_fit arms bound outer unspent left given goal low (is.2 + length decisions) high is.1 has within marked.1 numbered
-        orderly.1 some.1 arities few plain at.1 spends.1 (let nodes = is.3 in omega (arith, nodes)) is.5)))
+        orderly.1 some.1 arities few at.1 spends.1 (let nodes = is.3 in omega (arith, nodes)) is.5)))
     code_fits (Tokened.compute x form arguments others rest) bound outer unspent left held given goal low high lines has within
-        marked numbered arms some arities few plain at spends below apart is =
-        let own = ask_plain setting variables low x form arguments is.0 is.2
-        (subst (λ (named : List ℕ). AskLines setting variables low x form arguments named is.0 is.2) plain.0 is.3) in
+        marked numbered arms some arities few at spends below apart is =
+        let later = held_weaker (variables + slots) (values_of_slots variables held) (reads unspent (x ∷ bound))
+        (x ∷ reads unspent bound) (reads left outer) goal is.2 high is.1 (bound_behind_value x unspent bound)
+        (code_fits rest (x ∷ bound) outer unspent left held given goal is.2 high is.1 (room_more variables bound x has numbered.0)
+        (λ v there. or_right (x == v) (is_among bound v) (within v there)) marked.1.1 numbered.1.1 arms some arities.1 few.1
+        (held_behind held x form arguments others rest at) spends.1 below apart is.4) in
         subst (λ (lines : List Line). HeldFits held (reads unspent bound) (reads left outer) goal low high lines) (sym is.5)
-        (compute_fits held unspent bound (reads left outer) has x numbered.0 goal low high is.1 form arguments others rest is.0 at
-        below marked.0 arities.0 own.0
-        (held_weaker (variables + slots) (values_of_slots variables held) (reads unspent (x ∷ bound)) (x ∷ reads unspent bound)
-        (reads left outer) goal low high is.1 (bound_behind_value x unspent bound)
-        (code_fits rest (x ∷ bound) outer unspent left held given goal low high is.1 (room_more variables bound x has numbered.0)
-        (λ v there. or_right (x == v) (is_among bound v) (within v there)) marked.1.1 numbered.1.1 arms some arities.1 few.1 plain.1
-        (held_behind held x form arguments others rest at) spends.1 below apart
-        (subst (λ (from : ℕ). CodeLines setting variables goal from rest is.1 high) (sym own.1) is.4))))
+        (elim (ask_either setting variables low x form arguments others is.0 is.2 is.3) [
+          | inl own ↦
+              compute_fits held unspent bound (reads left outer) has x numbered.0 goal low high is.1 form arguments others rest is.0
+              at below marked.0 arities.0 own.0
+              (subst (λ (from : ℕ). HeldFits held (x ∷ reads unspent bound) (reads left outer) goal from high is.1)
+              (sym own.1) later)
+          | inr asks ↦
+              asked_fits held unspent bound (reads left outer) has x numbered.0 goal low high is.1 form arguments others is.0 is.2
+              asks spends.0 few.0 marked.0 later
+        ])
     code_fits (Tokened.inside x block rest) bound outer unspent left held given goal low high lines has within marked numbered arms
-        some arities few plain at spends below apart is =
+        some arities few at spends below apart is =
         none_held held (reads unspent bound) (reads left outer) goal low high lines at.0
         (subst (FitsCode (reads unspent bound) (reads left outer) goal low high) (sym is.5)
         (fits_inside (variables + slots) (reads unspent bound) (reads spends.0 bound) (reads left outer) x
         (let less = numbered.0 in omega (arith, less)) goal low is.2 high is.0 is.1
         (fits_held (variables + slots) (reads unspent bound) (reads spends.0 bound) (joins x low) (low + 1) is.2 is.0
         (code_fits block bound bound unspent spends.0 [] (holds x) (joins x low) (low + 1) is.2 is.0 has (λ v there. there) marked.0
-        numbered.1.0 arms.0 some.0 arities.0 few.0 plain.0 at.1.0 spends.1.1.0 tt tt is.3))
+        numbered.1.0 arms.0 some.0 arities.0 few.0 at.1.0 spends.1.1.0 tt tt is.3))
         (fits_weaker (variables + slots) (reads spends.0 (x ∷ bound)) (x ∷ reads spends.0 bound) (reads left outer) goal is.2 high
         is.1 (bound_behind_value x spends.0 bound)
         (fits_held (variables + slots) (reads spends.0 (x ∷ bound)) (reads left outer) goal is.2 high is.1
         (code_fits rest (x ∷ bound) outer spends.0 left [] given goal is.2 high is.1 (room_more variables bound x has numbered.0)
         (λ v there. or_right (x == v) (is_among bound v) (within v there)) marked.1 numbered.1.1 arms.1 some.1 arities.1 few.1
-        plain.1 at.1.1 spends.1.1.1 tt tt is.4)))))
+        at.1.1 spends.1.1.1 tt tt is.4)))))
     code_fits (Tokened.read x c fields rest) bound outer unspent left held given goal low high lines has within marked numbered arms
-        some arities few plain at spends below apart is =
+        some arities few at spends below apart is =
         none_held held (reads unspent bound) (reads left outer) goal low high lines at.0
         (subst (FitsCode (reads unspent bound) (reads left outer) goal low high) (sym is.4)
         (fits_read (variables + slots) (reads unspent bound) (reads left outer) (has_room unspent bound has) goal low high is.1
@@ -325,11 +351,9 @@ module _ (layout : Layout) (holds : ℕ → Bool) (texts : Texts) (marks : CellM
         (fits_held (variables + slots) (reads unspent (fields ++ bound)) (reads left outer) goal low high is.1
         (code_fits rest (fields ++ bound) outer unspent left [] given goal low high is.1
         (room_front variables bound fields has numbered.0.0) (behind fields bound outer within) marked.1 numbered.1 arms some
-        arities few plain at.1 spends.1 tt tt is.3)))))
+        arities few at.1 spends.1 tt tt is.3)))))
     code_fits (Tokened.open_cell x c fields used y rest) bound outer unspent left held given goal low high lines has within marked
-        numbered arms some arities few plain at spends below apart is = absurd plain
-    code_fits (Tokened.if_unique x c fields used y rest) bound outer unspent left held given goal low high lines has within marked
-        numbered arms some arities few plain at spends below apart is =
+        numbered arms some arities few at spends below apart is =
         none_held held (reads unspent bound) (reads left outer) goal low high lines at.0
         (subst (FitsCode (reads unspent bound) (reads left outer) goal low high) (sym is.4)
         (fits_token_unique (variables + slots) (reads unspent bound) (reads left outer) (has_room unspent bound has) holds x
@@ -344,27 +368,44 @@ module _ (layout : Layout) (holds : ℕ → Bool) (texts : Texts) (marks : CellM
         (fits_held (variables + slots) (reads (y ∷ unspent) (fields ++ bound)) (reads left outer) goal (low + 2) high is.1
         (code_fits rest (fields ++ bound) outer (y ∷ unspent) left [] given goal (low + 2) high is.1
         (room_front variables bound fields has numbered.0.0) (behind fields bound outer within) marked.1 numbered.1 arms some
-        arities few.1 plain at.1 spends.1.1 tt tt is.3)))))
+        arities few.1 at.1 spends.1.1 tt tt is.3)))))
+    code_fits (Tokened.if_unique x c fields used y rest) bound outer unspent left held given goal low high lines has within marked
+        numbered arms some arities few at spends below apart is =
+        none_held held (reads unspent bound) (reads left outer) goal low high lines at.0
+        (subst (FitsCode (reads unspent bound) (reads left outer) goal low high) (sym is.4)
+        (fits_token_unique (variables + slots) (reads unspent bound) (reads left outer) (has_room unspent bound has) holds x
+        (variable_there variables slots unspent bound x marked.0.0) fields used (below_more variables slots fields numbered.0.0)
+        (variables + y) (let less = few.0 in omega (arith, less)) goal low high is.0 is.1 is.2
+        (fits_weaker (variables + slots) (reads (y ∷ unspent) (fields ++ bound))
+        ((variables + y) ∷ bound_list fields (reads unspent bound)) (reads left outer) goal (low + 2) high is.1
+        (slot_more y unspent (fields ++ bound) (bound_list fields (reads unspent bound))
+        (λ v there. bound_behind_fields fields unspent bound v (variable_there variables slots unspent (fields ++ bound) v there))
+        (λ z less there. kept_list (reads unspent bound) fields (variables + z)
+        (slot_there variables slots unspent bound z less there)))
+        (fits_held (variables + slots) (reads (y ∷ unspent) (fields ++ bound)) (reads left outer) goal (low + 2) high is.1
+        (code_fits rest (fields ++ bound) outer (y ∷ unspent) left [] given goal (low + 2) high is.1
+        (room_front variables bound fields has numbered.0.0) (behind fields bound outer within) marked.1 numbered.1 arms some
+        arities few.1 at.1 spends.1.1 tt tt is.3)))))
     code_fits (Tokened.dup x rest) bound outer unspent left held given goal low high lines has within marked numbered arms some
-        arities few plain at spends below apart is =
+        arities few at spends below apart is =
         none_held held (reads unspent bound) (reads left outer) goal low high lines at.0
         (subst (FitsCode (reads unspent bound) (reads left outer) goal low high) (sym is.2)
         (fits_dup (variables + slots) (reads unspent bound) (reads left outer) (has_room unspent bound has) goal low high is.0 holds
         x (variable_there variables slots unspent bound x marked.0)
         (fits_held (variables + slots) (reads unspent bound) (reads left outer) goal low high is.0
         (code_fits rest bound outer unspent left [] given goal low high is.0 has within marked.1 numbered arms some arities few
-        plain at.1 spends.1 tt tt is.1))))
+        at.1 spends.1 tt tt is.1))))
     code_fits (Tokened.drop x rest) bound outer unspent left held given goal low high lines has within marked numbered arms some
-        arities few plain at spends below apart is =
+        arities few at spends below apart is =
         none_held held (reads unspent bound) (reads left outer) goal low high lines at.0
         (subst (FitsCode (reads unspent bound) (reads left outer) goal low high) (sym is.2)
         (fits_drop (variables + slots) (reads unspent bound) (reads left outer) (has_room unspent bound has) goal low high is.0
         holds x (variable_there variables slots unspent bound x marked.0)
         (fits_held (variables + slots) (reads unspent bound) (reads left outer) goal low high is.0
         (code_fits rest bound outer unspent left [] given goal low high is.0 has within marked.1 numbered arms some arities few
-        plain at.1 spends.1 tt tt is.1))))
+        at.1 spends.1 tt tt is.1))))
     code_fits (Tokened.fill x y c first arguments kept others rest) bound outer unspent left held given goal low high lines has
-        within marked numbered arms some arities few plain at spends below apart is =
+        within marked numbered arms some arities few at spends below apart is =
         none_held held (reads unspent bound) (reads left outer) goal low high lines at.0
         (subst (FitsCode (reads unspent bound) (reads left outer) goal low high) (sym is.4)
         (fits_fill (variables + slots) (reads unspent bound) (reads left outer) (has_room unspent bound has) x
@@ -382,9 +423,9 @@ module _ (layout : Layout) (holds : ℕ → Bool) (texts : Texts) (marks : CellM
         (fits_held (variables + slots) (reads (without (y ∷ []) unspent) (x ∷ bound)) (reads left outer) goal (low + 1) high is.1
         (code_fits rest (x ∷ bound) outer (without (y ∷ []) unspent) left [] given goal (low + 1) high is.1
         (room_more variables bound x has numbered.0) (λ v there. or_right (x == v) (is_among bound v) (within v there)) marked.1.1
-        numbered.1.1 arms some arities.1 few.1.1 plain at.1 spends.1.1.1.1 tt tt is.3)))))
+        numbered.1.1 arms some arities.1 few.1.1 at.1 spends.1.1.1.1 tt tt is.3)))))
     code_fits (Tokened.free y rest) bound outer unspent left held given goal low high lines has within marked numbered arms some
-        arities few plain at spends below apart is =
+        arities few at spends below apart is =
         none_held held (reads unspent bound) (reads left outer) goal low high lines at.0
         (subst (FitsCode (reads unspent bound) (reads left outer) goal low high) (sym is.2)
         (fits_step (variables + slots) (reads unspent bound) (reads unspent bound) (reads left outer) goal low high 1
@@ -396,9 +437,9 @@ module _ (layout : Layout) (holds : ℕ → Bool) (texts : Texts) (marks : CellM
         high is.0 (slot_spent y unspent bound)
         (fits_held (variables + slots) (reads (without (y ∷ []) unspent) bound) (reads left outer) goal low high is.0
         (code_fits rest bound outer (without (y ∷ []) unspent) left [] given goal low high is.0 has within marked numbered arms some
-        arities few.1 plain at.1 spends.1.1 tt tt is.1)))))
+        arities few.1 at.1 spends.1.1 tt tt is.1)))))
     code_fits (Tokened.null y rest) bound outer unspent left held given goal low high lines has within marked numbered arms some
-        arities few plain at spends below apart is =
+        arities few at spends below apart is =
         none_held held (reads unspent bound) (reads left outer) goal low high lines at.0
         (subst (FitsCode (reads unspent bound) (reads left outer) goal low high) (sym is.2)
         (fits_step (variables + slots) (reads unspent bound) ((variables + y) ∷ reads unspent bound) (reads left outer) goal low
@@ -409,9 +450,9 @@ module _ (layout : Layout) (holds : ℕ → Bool) (texts : Texts) (marks : CellM
         low high is.0 (slot_written y unspent bound)
         (fits_held (variables + slots) (reads (y ∷ unspent) bound) (reads left outer) goal low high is.0
         (code_fits rest bound outer (y ∷ unspent) left [] given goal low high is.0 has within marked numbered arms some arities
-        few.1 plain at.1 spends.1.1 tt tt is.1)))))
+        few.1 at.1 spends.1.1 tt tt is.1)))))
     code_fits (Tokened.move to of rest) bound outer unspent left held given goal low high lines has within marked numbered arms some
-        arities few plain at spends below apart is =
+        arities few at spends below apart is =
         none_held held (reads unspent bound) (reads left outer) goal low high lines at.0
         (subst (FitsCode (reads unspent bound) (reads left outer) goal low high) (sym is.2)
         (fits_step (variables + slots) (reads unspent bound) ((variables + to) ∷ reads unspent bound) (reads left outer) goal low
@@ -424,17 +465,17 @@ module _ (layout : Layout) (holds : ℕ → Bool) (texts : Texts) (marks : CellM
         (λ z less there. slot_there variables slots unspent bound z less (left_there of z unspent there)))
         (fits_held (variables + slots) (reads (to ∷ without (of ∷ []) unspent) bound) (reads left outer) goal low high is.0
         (code_fits rest bound outer (to ∷ without (of ∷ []) unspent) left [] given goal low high is.0 has within marked numbered
-        arms some arities few.1.1 plain at.1 spends.1.1.1 tt tt is.1)))))
+        arms some arities few.1.1 at.1 spends.1.1.1 tt tt is.1)))))
     code_fits (Tokened.hold y rest) bound outer unspent left held given goal low high lines has within marked numbered arms some
-        arities few plain at spends below apart is =
+        arities few at spends below apart is =
         subst (λ (lines : List Line). HeldFits held (reads unspent bound) (reads left outer) goal low high lines) (sym is.2)
         (fits_hold (variables + slots) (values_of_slots variables held) (reads unspent bound) (reads left outer)
         (has_room unspent bound has) goal low high is.0 (variables + y)
         (slot_there variables slots unspent bound y few.0 spends.0) (value_other variables y held at.0)
         (code_fits rest bound outer unspent left (y ∷ held) given goal low high is.0 has within marked numbered arms some arities
-        few.1 plain at.1 spends.1.1 (few.0, below) (at.0, apart) is.1))
+        few.1 at.1 spends.1.1 (few.0, below) (at.0, apart) is.1))
     code_fits (Tokened.unhold y rest) bound outer unspent left held given goal low high lines has within marked numbered arms some
-        arities few plain at spends below apart is =
+        arities few at spends below apart is =
         let apart_older = subst AreApart at.1.0 apart in
         let below_older = subst (AreBelow slots) at.1.0 below in
         subst (λ (lines : List Line). HeldFits held (reads unspent bound) (reads left outer) goal low high lines) (sym is.2)
@@ -444,11 +485,11 @@ module _ (layout : Layout) (holds : ℕ → Bool) (texts : Texts) (marks : CellM
         (has_room unspent bound has) goal low high is.0 (variables + y)
         (slot_there variables slots unspent bound y few.0 spends.1.1.0) (value_other variables y at.0 apart_older.0)
         (code_fits rest bound outer unspent left at.0 given goal low high is.0 has within marked numbered arms some arities few.1
-        plain at.1.1
+        at.1.1
         (subst (λ (h : List ℕ). SpendsTokens left unspent h rest) (tails y spends.0 at.0 (sym spends.1.0 ∙ at.1.0)) spends.1.1.1)
         below_older.1 apart_older.1 is.1)))
     code_fits (Tokened.if_token y there absent) bound outer unspent left held given goal low high lines has within marked numbered
-        arms some arities few plain at spends below apart is =
+        arms some arities few at spends below apart is =
         none_held held (reads unspent bound) (reads left outer) goal low high lines at.0
         (subst (FitsCode (reads unspent bound) (reads left outer) goal low high) (sym is.5)
         (fits_split (variables + slots) (reads unspent bound) (reads left outer) (has_room unspent bound has) Equal
@@ -459,36 +500,36 @@ module _ (layout : Layout) (holds : ℕ → Bool) (texts : Texts) (marks : CellM
         goal low is.2 high is.0 is.1
         (fits_held (variables + slots) (reads unspent bound) (reads left outer) goal (low + 1) is.2 is.0
         (code_fits there bound outer unspent left [] given goal (low + 1) is.2 is.0 has within marked numbered arms some arities
-        few.1.0 plain.0 at.1.0 (subst (λ (h : List ℕ). SpendsTokens left unspent h there) at.0 spends.1.1.0) tt tt is.3))
+        few.1.0 at.1.0 (subst (λ (h : List ℕ). SpendsTokens left unspent h there) at.0 spends.1.1.0) tt tt is.3))
         (fits_held (variables + slots) (reads unspent bound) (reads left outer) goal is.2 high is.1
         (code_fits absent bound outer unspent left [] given goal is.2 high is.1 has within
         (subst (HasMark marks holds result bound given) (sym spends.1.0) marked)
         (subst (AreNumbered variables bound) (sym spends.1.0) numbered) (subst HasArms (sym spends.1.0) arms)
-        (subst EachHasAnArm (sym spends.1.0) some) (subst HasArities (sym spends.1.0) arities) few.1.1 plain.1 at.1.1
+        (subst EachHasAnArm (sym spends.1.0) some) (subst HasArities (sym spends.1.0) arities) few.1.1 at.1.1
         (subst (λ (h : List ℕ). SpendsTokens left unspent h absent) at.0 spends.1.1.1) tt tt is.4))))
 
     arms_fit : (arms : TokenedArms) (bound outer unspent left : List ℕ) (given : Bool) (goal : Goal) (label low high : ℕ)
         (lines : List Line) → HasRoom variables bound → IsWithin outer bound
         → HaveMark marks holds result bound given (bare_arms arms) → AreArmsNumbered variables bound (bare_arms arms)
         → HaveArms (bare_arms arms) → AllHaveAnArm (bare_arms arms) → HaveArities (bare_arms arms) → HaveSlots slots arms
-        → HavePlainForms arms → HoldAtCalls arms → SpendAllTokens left unspent arms → label + arm_count (bare_arms arms) ≤ low
+        → HoldAtCalls arms → SpendAllTokens left unspent arms → label + arm_count (bare_arms arms) ≤ low
         → ArmsLines setting variables goal label low arms lines high
         → ArmsFit (variables + slots) (reads unspent bound) (reads left outer) goal label (arm_count (bare_arms arms)) low
         high lines
     arms_fit TokenedArms.no_arm bound outer unspent left given goal label low high lines has within marked numbered arms some
-        arities few plain at spends under is =
+        arities few at spends under is =
         subst (ArmsFit (variables + slots) (reads unspent bound) (reads left outer) goal label 0 low high) (sym is.0)
         (subst (λ (high : ℕ). ArmsFit (variables + slots) (reads unspent bound) (reads left outer) goal label 0 low high []) is.1
         (arms_none (variables + slots) (reads unspent bound) (reads left outer) goal label low))
     arms_fit (TokenedArms.arm body rest) bound outer unspent left given goal label low high lines has within marked numbered arms
-        some arities few plain at spends under is =
+        some arities few at spends under is =
         let one = fits_held (variables + slots) (reads unspent bound) (reads left outer) goal low is.2 is.0
         (code_fits body bound outer unspent left [] given goal low is.2 is.0 has within marked.0 numbered.0 arms.0 some.0 arities.0
-        few.0 plain.0 at.0 spends.0 tt tt is.3) in
+        few.0 at.0 spends.0 tt tt is.3) in
         let up = one.up in
         subst (ArmsFit (variables + slots) (reads unspent bound) (reads left outer) goal label (suc (arm_count (bare_arms rest)))
         low high) (sym is.5)
         (arms_more (variables + slots) (reads unspent bound) (reads left outer) goal label (arm_count (bare_arms rest)) low is.2
         high is.0 is.1 one
         (arms_fit rest bound outer unspent left given goal (label + 1) is.2 high is.1 has within marked.1 numbered.1 arms.1 some.1
-        arities.1 few.1 plain.1 at.1 spends.1 (omega (arith, under, up)) is.4) under)
+        arities.1 few.1 at.1 spends.1 (omega (arith, under, up)) is.4) under)

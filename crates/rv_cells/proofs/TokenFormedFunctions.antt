@@ -67,7 +67,7 @@ module _ (layout : Layout) (texts : Texts) (table : CellMarks) (f : ℕ) (functi
   fits = fits_held base reads reads returns 0 is.lowered.labels lines.code
       (code_fits layout is.lowered.holds texts table (result_mark table f) variables is.lowered.slots room function.body parameters
       parameters [] [] [] (result_mark table f) returns 0 is.lowered.labels lines.code has (λ v there. there) is.marked.body_marked
-      is.numbered may.arms may.some_arm may.arities is.has tokens.plain tokens.straight spends tt tt is.lowered.code)
+      is.numbered may.arms may.some_arm may.arities is.has tokens.straight spends tt tt is.lowered.code)
 
   good : Good (Readable base base reads) lines.code
   good = subst (Good (Readable base base reads)) (append-nil lines.code)
@@ -135,7 +135,6 @@ tokened_program_formed shape code texts each lowerable tokens spends form narrow
       truth_is = truth_is;
       each = form.lowered;
       spends = spends;
-      plain = λ f function is. (tokens f function is).plain;
       leaves = λ f function is. (tokens f function is).leaves;
       formed = all_formed code.functions each form.as_many (λ f function is.
           let one = form.lowered f function is in (

@@ -316,36 +316,6 @@ asks_held {a} {b} {d} facts variables x c form arguments others is some some_too
 
 -- ---- codes
 
-pub code_steps : {facts : Facts} {variables : ℕ} {goal : Goal} {moves : List TokenedMove} {last : Tokened} {a b c : Lowering}
-    → WroteTokenedSteps facts variables moves a b → WroteTokened facts variables goal last b c
-    → WroteTokened facts variables goal (plug_tokened moves last) a c
-code_steps {facts} {variables} {goal} {moves} {last} {a} {b} {c} steps end = record {
-  lines = steps.lines ++ end.lines;
-  grows = subst (λ (n : ℕ). Grows n (steps.lines ++ end.lines) a c) (sym (steps.counted last)) (grows_then steps.grows end.grows);
-  are = λ later. code_same facts variables goal (plug_tokened moves last) (steps.lines ++ end.lines) c.next_label refl
-      (later_texts end.grows later) refl
-      (steps.are (end.grows.more ++ later) goal last end.lines c.next_label
-      (code_same facts variables goal last end.lines c.next_label steps.grows.base (sym (later_texts end.grows later)) refl
-      (end.are later)));
-}
-
-pub code_gives : {facts : Facts} {variables : ℕ} {goal : Goal} {x : ℕ} {a b : Lowering} → Wrote (goal_lines goal x) a b
-    → WroteTokened facts variables goal (Tokened.give x) a b
-code_gives {facts} {variables} {goal} {x} {a} {b} wrote = record {
-  lines = goal_lines goal x;
-  grows = grows_of wrote;
-  are = λ later. (refl, sym wrote.label);
-}
-
-pub code_tail_calls : {facts : Facts} {variables : ℕ} {goal : Goal} {f : ℕ} {arguments : List ℕ} {a b : Lowering}
-    → Wrote (tail_lines a.base f arguments) a b
-    → WroteTokened facts variables goal (Tokened.tail_call f arguments) a b
-code_tail_calls {facts} {variables} {goal} {f} {arguments} {a} {b} wrote = record {
-  lines = tail_lines a.base f arguments;
-  grows = grows_of wrote;
-  are = λ later. (refl, sym wrote.label);
-}
-
 -- Two ways: a label is taken first, a test goes there, and it stands between the code of both.
 module _ {facts : Facts} {variables : ℕ} {goal : Goal} {label : ℕ} {positive negative : Tokened} {a b c d e f : Lowering}
     {test : List Line} (took : TookLabel label a b) (tested : Wrote test b c)
@@ -393,10 +363,6 @@ code_if_tokens {facts} {variables} {goal} {y} {label} {there} {absent} {a} {b} {
     }
 
 -- ---- arms
-
-pub arms_none : (facts : Facts) (variables : ℕ) (goal : Goal) (label : ℕ) (a : Lowering)
-    → WroteTokenedArms facts variables goal label [] a a
-arms_none facts variables goal label a = record { lines = []; grows = grows_none a; are = λ later. (refl, refl) }
 
 more_arms : (setting : Setting) (variables : ℕ) (goal : Goal) (label low middle high : ℕ) (each : List Tokened) (body : Tokened)
     (lines first : List Line)

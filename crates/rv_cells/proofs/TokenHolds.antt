@@ -123,7 +123,6 @@ module _ (program : Lowering) (y : ℕ) (rest : Tokened) where
             marked = p.marked;
             numbered = p.numbered;
             has = p.has.1;
-            plain = p.plain;
             judged = subst (λ (l : Lists). IsJudged program.pool.cells l.left l.unspent l.held l.older rest inner frames s.heap tokens)
                 kept.1.0 kept.1.1;
             cells = at.cells;
@@ -197,7 +196,6 @@ module _ (program : Lowering) (y : ℕ) (rest : Tokened) where
             marked = p.marked;
             numbered = p.numbered;
             has = p.has.1;
-            plain = p.plain;
             judged = subst (λ (l : Lists). IsJudged program.pool.cells l.left l.unspent l.held l.older rest inner frames s.heap after)
                 kept.1.0 kept.1.1;
             cells = cell_turns at.cells program.aligned n y q (kept_aside hand.0) links cell mark
@@ -271,7 +269,6 @@ module _ (program : Lowering) (y : ℕ) (rest : Tokened) where
             marked = p.marked;
             numbered = p.numbered;
             has = p.has.1;
-            plain = p.plain;
             judged = kept.1.1;
             cells = at.cells;
             slots_are = subst (λ (o : List (List ℕ)). HaveSlotValues s.address (tokens.slots (length o)) v at.shape.slots s.frame.cells)
@@ -356,7 +353,6 @@ module _ (program : Lowering) (y : ℕ) (rest : Tokened) where
             marked = p.marked;
             numbered = p.numbered;
             has = p.has.1;
-            plain = p.plain;
             judged = kept.1.1;
             cells = cell_turns at.cells program.aligned n y q owner links cell mark
                 (subst (λ b. IsTokenCell b ws owner) (sym (not_linked tokens.slots older_held at.lists.older y fresh))

@@ -10,7 +10,6 @@ use Rattle.kk_counted.specs.Heaps.{Heap}
 use Rattle.kk_counted.specs.Lowerable.{AreNumbered}
 use Rattle.kk_counted.specs.Marks.{HasMark}
 use Rattle.kk_counted.specs.TokenKeeping.{Lists, IsJudged, ListsAfter, AreKeptBy}
-use Rattle.kk_counted.specs.TokenLowerable.{HasPlainForms}
 use Rattle.kk_counted.specs.TokenMachine.{token_code_step}
 use Rattle.kk_counted.specs.TokenRuns.{is_quiet, AllLead}
 use Rattle.kk_counted.specs.TokenStates.{TokenJoin, TokenFrame, TokenControl, TokenConfiguration, TokenState}
@@ -170,7 +169,6 @@ module _ (program : Lowering) where
       pub marked : HasMark program.marks at.shape.holds at.shape.result later at.does.given (bare rest)
       pub numbered : AreNumbered at.shape.variables later (bare rest)
       pub has : HasSlots at.shape.slots rest
-      pub plain : HasPlainForms rest
       pub judged : IsJudged program.pool.cells next.left next.unspent next.held next.older rest inner frames to.heap after
       pub cells : HaveTokenCells program.pool program.layout to.address to.owners to.heap after
       pub slots_are : HaveSlotValues to.address (after.slots (length next.older)) at.shape.variables at.shape.slots to.frame.cells
@@ -214,7 +212,6 @@ module _ (program : Lowering) where
           marked = on.marked;
           numbered = on.numbered;
           has = on.has;
-          plain = on.plain;
           short = short;
         } in
         let cheap_run = lands.within in

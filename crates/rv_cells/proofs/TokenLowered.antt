@@ -120,9 +120,6 @@ tokened_then shape literals functions each f function lines old new f_is are one
       ),
     )
 
-pub tokened_none : (shape : Shape) (literals : List (List ℕ)) → LoweredTokenedFunctions shape literals [] [] []
-tokened_none shape literals = record { as_many = refl; few = omega arith; are = λ later f function is. absurd (cc) }
-
 pub tokened_more : (functions items : List TokenedFun) (i : ℕ) (function : TokenedFun) → items ≡ functions → i < length items
     → get_or items i function ≡ function
     → map tokened_function (take i functions) ++ tokened_function function ∷ [] ≡ map tokened_function (take (i + 1) functions)

@@ -110,7 +110,6 @@ module _ (layout : Layout) (marks : CellMarks) (code : TokenedProgram) (constant
     lowered = lowered_once layout marks (record { literals = code.texts; constants = constants }) code.functions functions
         lowered.each;
     formed = lines_formed functions lowered.formed;
-    plain = lowered.plain;
     short = forms_within code.functions;
   }
 

@@ -126,7 +126,6 @@ module _ (program : Lowering) (to of : ℕ) (rest : Tokened) where
           marked = p.marked;
           numbered = p.numbered;
           has = p.has.1.1;
-          plain = p.plain;
           judged = subst (λ (l : Lists). IsJudged program.pool.cells l.left l.unspent l.held l.older rest inner frames s.heap after)
               kept.1.0 kept.1.1;
           cells = cells;

@@ -1,13 +1,11 @@
 -- The assembler's machine does each step of the machine with tokens, from the start of a run to its end.
-use Rattle.std.proofs.Common.{◌≡◌, ℕ, ◌+◌, ◌<◌, true, List, [], ◌∷◌, Some, None, All, refl, sym, ◌∙◌, ap, subst, arith}
+use Rattle.std.proofs.Common.{◌≡◌, ℕ, ◌+◌, ◌<◌, true, List, [], Some, None, All, refl, sym, ◌∙◌, ap, subst, arith}
 use Rattle.std.specs.Prelude.{slice_get, slice_index_or}
 use Rattle.std.proofs.lemmas.List.{append-nil}
 use Rattle.std.proofs.Math.Path.{path_j, subst_refl}
 use Rattle.std.proofs.lemmas.Option.{get_or_from_slice_get}
 use Rattle.kk_base.specs.Simulations.{Reaches, Simulates}
 use Rattle.kk_base.proofs.Simulations.{simulates_until_ended}
-use Rattle.kk_syntax.specs.declared.program.Form.{Form}
-use Rattle.kk_syntax.specs.declared.program.Form.TheVariants.{Number, Unit as Nothing, ReadByte, PrintText, Unary, Binary, Print, Construct, Call}
 use Rattle.kk_syntax.specs.Shapes.{is_among}
 use Rattle.kk_source.specs.State.{Environment}
 use Rattle.kk_source.specs.Ends.{exit_of}
@@ -38,52 +36,31 @@ use Rattle.rv_cells.proofs.TokenLineCosts.{forms}
 use Rattle.rv_cells.proofs.TokenStanding.{Lowering, texts, setting, upper, lower, pace, root_in, Passing, At, IsAt, StandsFor, IsFitFrom, Related, Follows_step, HaveTokenCells}
 use Rattle.rv_cells.proofs.TokenLanding.{machine_at, token_at, CodeSteps}
 use Rattle.rv_cells.proofs.TokenGiving.{at_give}
-use Rattle.rv_cells.proofs.TokenEntering.{at_call, at_tail}
+use Rattle.rv_cells.proofs.TokenEntering.{at_tail}
 use Rattle.rv_cells.proofs.TokenInside.{at_inside, at_read}
-use Rattle.rv_cells.proofs.TokenUniques.{at_unique}
+use Rattle.rv_cells.proofs.TokenUniques.{at_open, at_unique}
 use Rattle.rv_cells.proofs.TokenCelled.{at_dup, at_drop}
 use Rattle.rv_cells.proofs.TokenSlots.{at_null, at_free}
 use Rattle.rv_cells.proofs.TokenMoves.{at_move}
 use Rattle.rv_cells.proofs.TokenHolds.{at_hold, at_unhold}
 use Rattle.rv_cells.proofs.TokenBlocks.{at_if_token}
 use Rattle.rv_cells.proofs.TokenDeciding.{at_case}
-use Rattle.rv_cells.proofs.TokenComputing.{at_plain}
-use Rattle.rv_cells.proofs.TokenConstructing.{at_construct}
+use Rattle.rv_cells.proofs.TokenComputing.{at_compute}
+use Rattle.rv_cells.proofs.TokenAsked.{at_made}
 use Rattle.rv_cells.proofs.TokenFilling.{at_fill}
 
 module _ (program : Lowering) where
   -- ---- one step
 
-  -- the step of a form on values, which names no tokens
-  at_compute : (x : ℕ) (form : Form) (arguments : List ℕ) (rest : Tokened)
-      → CodeSteps program (Tokened.compute x form arguments [] rest)
-  at_compute x (Number n) arguments rest = at_plain program x (Number n) arguments [] rest tt
-  at_compute x Nothing arguments rest = at_plain program x Nothing arguments [] rest tt
-  at_compute x ReadByte arguments rest = at_plain program x ReadByte arguments [] rest tt
-  at_compute x (PrintText how text) arguments rest = at_plain program x (PrintText how text) arguments [] rest tt
-  at_compute x (Unary operator) arguments rest = at_plain program x (Unary operator) arguments [] rest tt
-  at_compute x (Binary operator) arguments rest = at_plain program x (Binary operator) arguments [] rest tt
-  at_compute x (Print how) arguments rest = at_plain program x (Print how) arguments [] rest tt
-  at_compute x (Construct c) [] rest = at_plain program x (Construct c) [] [] rest tt
-  at_compute x (Construct c) (a ∷ more) rest = at_construct program x c a more rest
-  at_compute x (Call f) arguments rest = at_call program x f arguments [] rest
-
-  -- a list with a number is not empty
-  some_others : (other : ℕ) (others : List ℕ) → other ∷ others ≡ [] → ⊥
-  some_others other others is = absurd (cc)
-
-  -- The step of each code. It opens no cell without a test of its count, and no form on values names other tokens.
+  -- the step of each code
   at_code : (code : Tokened) → CodeSteps program code
   at_code (Tokened.give x) = at_give program x
   at_code (Tokened.tail_call f arguments) = at_tail program f arguments
   at_code (Tokened.case x decisions arms) = at_case program x decisions arms
-  at_code (Tokened.compute x form arguments [] rest) = at_compute x form arguments rest
-  at_code (Tokened.compute x form arguments (other ∷ others) rest) =
-      λ idle inner frames tokens input s fs left idle_is at fit. absurd (some_others other others at.does.placed.plain.0)
+  at_code (Tokened.compute x form arguments others rest) = at_compute program (at_made program) x form arguments others rest
   at_code (Tokened.inside x block rest) = at_inside program x block rest
   at_code (Tokened.read x c fields rest) = at_read program x c fields rest
-  at_code (Tokened.open_cell x c fields used y rest) =
-      λ idle inner frames tokens input s fs left idle_is at fit. absurd at.does.placed.plain
+  at_code (Tokened.open_cell x c fields used y rest) = at_open program x c fields used y rest
   at_code (Tokened.if_unique x c fields used y rest) = at_unique program x c fields used y rest
   at_code (Tokened.dup x rest) = at_dup program x rest
   at_code (Tokened.drop x rest) = at_drop program x rest
@@ -260,7 +237,6 @@ module _ (program : Lowering) (main : TokenedFunction) (main_is : slice_get prog
             marked = of.marked.body_marked;
             numbered = of.numbered;
             has = of.has;
-            plain = program.plain program.code.main main main_is;
             short = program.short program.code.main main main_is;
           };
           continues = refl;

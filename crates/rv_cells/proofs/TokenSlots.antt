@@ -60,7 +60,6 @@ module _ (program : Lowering) (y : ℕ) (rest : Tokened) where
         marked = p.marked;
         numbered = p.numbered;
         has = p.has.1;
-        plain = p.plain;
         judged = subst (λ (l : Lists). IsJudged program.pool.cells l.left l.unspent l.held l.older rest inner frames s.heap after)
             kept.1.0 kept.1.1;
         cells = record { are = at.cells.are; apart = at.cells.apart; number = at.cells.number };
@@ -115,7 +114,6 @@ module _ (program : Lowering) (y : ℕ) (rest : Tokened) where
             marked = p.marked;
             numbered = p.numbered;
             has = p.has.1;
-            plain = p.plain;
             judged = subst (λ (l : Lists). IsJudged program.pool.cells l.left l.unspent l.held l.older rest inner frames s.heap after)
                 kept.1.0 kept.1.1;
             cells = record { are = at.cells.are; apart = at.cells.apart; number = at.cells.number };
@@ -172,7 +170,6 @@ module _ (program : Lowering) (y : ℕ) (rest : Tokened) where
             marked = p.marked;
             numbered = p.numbered;
             has = p.has.1;
-            plain = p.plain;
             judged = subst (λ (l : Lists). IsJudged program.pool.cells l.left l.unspent l.held l.older rest inner frames s.heap after)
                 kept.1.0 kept.1.1;
             cells = cell_goes at.cells program.aligned n y q s.address (with_owner (s.address q) nobody s.owners) s.heap after

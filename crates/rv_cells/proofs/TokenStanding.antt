@@ -14,7 +14,6 @@ use Rattle.kk_counted.specs.Lowerable.{AreNumbered}
 use Rattle.kk_counted.specs.Marks.{CellMarks, field_marks, HasMark}
 use Rattle.kk_counted.specs.TokenCosts.{token_cost}
 use Rattle.kk_counted.specs.TokenKeeping.{Lists, IsJudged}
-use Rattle.kk_counted.specs.TokenLowerable.{HasPlainForms}
 use Rattle.kk_counted.specs.TokenMachine.{token_machine}
 use Rattle.kk_counted.specs.TokenSpending.{AreTokensSpent}
 use Rattle.kk_counted.specs.TokenStates.{TokenSetting, TokenJoin, TokenFrame, TokenControl, TokenConfiguration, TokenState, bare_configuration}
@@ -66,7 +65,6 @@ pub record Lowering : Type 0 where
   pub spends : AreTokensSpent code
   pub lowered : AreFunctionsOf layout (record { literals = code.texts; constants = constants }) marks code.functions functions
   pub formed : (f : ℕ) (lines : Lines) → slice_get functions f ≡ Some lines → AreLinesFormed lines.code
-  pub plain : (f : ℕ) (function : TokenedFunction) → slice_get code.functions f ≡ Some function → HasPlainForms function.body
   pub short : (f : ℕ) (function : TokenedFunction) → slice_get code.functions f ≡ Some function → forms function.body ≤ most
 
 -- ---- tokens
@@ -201,7 +199,6 @@ module _ (program : Lowering) where
       pub marked : HasMark program.marks shape.holds shape.result bound given (bare code)
       pub numbered : AreNumbered shape.variables bound (bare code)
       pub has : HasSlots shape.slots code
-      pub plain : HasPlainForms code
       pub short : forms code ≤ program.most
 
     -- a block inside, whose value a variable takes, and behind its label the code goes on

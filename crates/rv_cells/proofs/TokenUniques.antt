@@ -1,4 +1,4 @@
--- The lines of an opening by the count of its cell, whose slot takes the cell, do the step of the machine with tokens.
+-- The lines of an opening, whose slot may take the cell, do the step of the machine with tokens: they go by the count of the cell.
 use Rattle.std.proofs.Common.{◌≡◌, ◌≢◌, ℕ, zero, suc, ◌+◌, ◌*◌, ◌<◌, ◌≤◌, ◌==◌, ◌⊎◌, inl, inr, Bool, true, false, List, [], ◌∷◌, ◌++◌, length, filter, map, Option, Some, None, refl, sym, ◌∙◌, ap, subst, arith, eqb-true, ne_eqb, append_assoc}
 use Rattle.std.specs.Prelude.{◌&&◌, if◌then◌else◌}
 use Rattle.std.proofs.lemmas.List.{length-map}
@@ -6,16 +6,18 @@ use Rattle.std.proofs.lemmas.Bool.{or_right, or_left}
 use Rattle.kk_syntax.specs.Shapes.{is_among}
 use Rattle.kk_source.specs.State.{Value, integer, unit, constant, place, Environment}
 use Rattle.kk_source.specs.Live.{value_of}
-use Rattle.kk_source.specs.Actions.{goes, performed}
+use Rattle.kk_source.specs.Actions.{Action, goes, performed}
 use Rattle.kk_core.specs.CoreMachine.{bind_fields}
-use Rattle.kk_counted.specs.CountedMachine.{Named, cell_named, used_values, other_values, unique_heap, NotStuck}
+use Rattle.kk_counted.specs.CountedCosts.{opening_cost}
+use Rattle.kk_counted.specs.CountedMachine.{Named, cell_named, used_values, other_values, opened_heap, unique_heap, NotStuck}
 use Rattle.kk_counted.specs.Heaps.{Heap, count_at, set_count, fields_held, more, dup_value, dup_all}
-use Rattle.kk_counted.specs.Lowerable.{AreBelow, bound_list}
-use Rattle.kk_counted.specs.Marks.{field_marks, HaveMarks}
-use Rattle.kk_counted.specs.References.{cells_of}
+use Rattle.kk_counted.specs.Lowerable.{AreBelow, AreNumbered, bound_list}
+use Rattle.kk_counted.specs.Marks.{field_marks, HaveMarks, HasMark}
+use Rattle.kk_counted.specs.References.{refs, IsSound, cells_of}
+use Rattle.kk_counted.specs.Spending.{AreApart}
 use Rattle.kk_counted.specs.TokenKeeping.{Lists, IsJudged, ListsAfter, AreKeptBy}
 use Rattle.kk_counted.specs.TokenMachine.{token_code_step, token_open_step, to_opened, at_code}
-use Rattle.kk_counted.specs.TokenRuns.{AllLead}
+use Rattle.kk_counted.specs.TokenRuns.{is_quiet, AllLead}
 use Rattle.kk_counted.specs.TokenStates.{TokenJoin, TokenFrame, TokenConfiguration, bare_join, bare_configuration}
 use Rattle.kk_counted.specs.BareForms.{bare}
 use Rattle.kk_counted.specs.TokenedCodes.{Tokened}
@@ -23,14 +25,18 @@ use Rattle.kk_counted.specs.Tokens.{Slot, spent, null, token, is_unspent, Mark, 
 use Rattle.kk_counted.proofs.Chaining.{EqualBelow, equal_one, frames_many, not_linked}
 use Rattle.kk_counted.proofs.Counting.{counted_within, count_set, count_other}
 use Rattle.kk_counted.proofs.Easing.{EasedTo, eased_unique}
+use Rattle.kk_counted.proofs.OwnedOpenings.{opens_by_count}
 use Rattle.kk_counted.proofs.Pooling.{slot_here, slot_there}
+use Rattle.kk_counted.proofs.Variables.{fields_part}
 use Rattle.rv_isa.specs.declared.asm.Action.TheVariants.{Label}
 use Rattle.rv_isa.specs.AsmCode.{Line}
 use Rattle.rv_isa.specs.Frames.{Frame}
 use Rattle.cell_heap.specs.Blocks.{Cells}
 use Rattle.rv_lower.specs.Lines.{acts}
+use Rattle.rv_cells.specs.CellLines.{TokenUniqueLines}
 use Rattle.rv_cells.specs.Layout.{words_in}
 use Rattle.rv_cells.specs.Follows.{AreFrom, Owner, cell_of, in_hand, is_aside}
+use Rattle.rv_cells.specs.TokenedLines.{CodeLines, HasSlots}
 use Rattle.rv_cells.proofs.Held.{some-is}
 use Rattle.rv_cells.proofs.Bound.{AreWithin, marks_are}
 use Rattle.rv_cells.proofs.Rooms.{named_cell}
@@ -43,11 +49,13 @@ use Rattle.rv_cells.proofs.Spots.{Spot, Here}
 use Rattle.rv_cells.proofs.Values.{among_by}
 use Rattle.rv_cells.proofs.TokenOpenings.{HasCell, IsNull, TokenIs, Leads, token_cost, for_shared, shared_lines, head_lines, whole_lines, opens_to_token}
 use Rattle.rv_cells.proofs.TokenCells.{token_aside, cells_stay, cell_comes}
-use Rattle.rv_cells.proofs.TokenFields.{recounted_words, eased_cells, named_fields}
+use Rattle.rv_cells.proofs.TokenFields.{recounted_words, eased_cells, cell_is, named_fields}
 use Rattle.rv_cells.proofs.TokenFrames.{none_behind, all_wait_at}
 use Rattle.rv_cells.proofs.TokenLineCosts.{forms}
-use Rattle.rv_cells.proofs.TokenStanding.{SlotIs, IsTokenCell, token_words, HaveSlotValues, HaveTokenCells, finds, held_values, Lowering, setting, known_of, AllWait, At, IsFitFrom, Follows_step}
-use Rattle.rv_cells.proofs.TokenLanding.{lands_leads, token_at, machine_at, CodeSteps, seen_action, silent_goes, goes_on, kept_after}
+use Rattle.rv_cells.proofs.TokenStanding.{SlotIs, IsTokenCell, token_words, HaveSlotValues, HaveTokenCells, finds, held_values}
+use Rattle.rv_cells.proofs.TokenStanding.{Lowering, setting, upper, lines_setting, known_of, AllWait, At, IsFitFrom, Follows_step}
+use Rattle.rv_cells.proofs.TokenLanding.{lands_leads, token_at, machine_at, CodeSteps, seen_action, silent_goes, GoesTo, goes_on}
+use Rattle.rv_cells.proofs.TokenLanding.{kept_after}
 
 -- a slot is given another token, of which a frame has the value, and the values of the other unspent slots are the same
 pub slots_set : {address : ℕ → ℕ} {slots others : ℕ → Slot} {variables count : ℕ} {values after : ℕ → Option ℕ}
@@ -115,17 +123,39 @@ shared_counted n at used others heap next counts is =
     let now = count_set at (suc n) (suc n) heap counts in
     dups_counted at used (set_count at (suc n) heap) next (omega (arith, now)) is
 
-named_there : (o : Option Named) (heap : Named → Option Heap) (fields : List ℕ) (y : ℕ) (rest : Tokened) (environment : Environment)
-    (inner : List TokenJoin) (from : TokenConfiguration) (input : List ℕ)
-    → NotStuck (bare_configuration (performed (token_open_step o heap fields y rest environment inner from) input).1.machine).control
-    → (named : Named) × (o ≡ Some named)
-named_there None heap fields y rest environment inner from input going = absurd going
-named_there (Some named) heap fields y rest environment inner from input going = (named, refl)
+-- an opening that does not get stuck: its cell, and the heap behind it
+record Opened (o : Option Named) (heap : Named → Option Heap) (fields : List ℕ) (y : ℕ) (rest : Tokened) (environment : Environment)
+    (inner : List TokenJoin) (from : TokenConfiguration) : Type 0 where
+  pub named : Named
+  pub named_is : o ≡ Some named
+  pub next : Heap
+  pub next_is : heap named ≡ Some next
+  pub step : token_open_step o heap fields y rest environment inner from
+      ≡ goes (record (at_code rest (bind_fields fields named.fields environment) inner from) {
+        heap = next;
+        tokens = opened_tokens (count_at next named.at) (length from.frames) y named.at from.tokens;
+      })
 
-opened_there : (o : Option Heap) (at y : ℕ) (from to : TokenConfiguration)
-    → NotStuck (bare_configuration (to_opened o at y from to)).control → (next : Heap) × (o ≡ Some next)
-opened_there None at y from to going = absurd going
-opened_there (Some next) at y from to going = (next, refl)
+opening_there : (o : Option Named) (heap : Named → Option Heap) (fields : List ℕ) (y : ℕ) (rest : Tokened)
+    (environment : Environment) (inner : List TokenJoin) (from : TokenConfiguration) (input : List ℕ)
+    → NotStuck (bare_configuration
+    (performed (token_open_step o heap fields y rest environment inner from) input).1.machine).control
+    → Opened o heap fields y rest environment inner from
+opening_there None heap fields y rest environment inner from input going = absurd going
+opening_there (Some named) heap fields y rest environment inner from input going = by (heap named) refl
+  where
+    by : (o : Option Heap) → heap named ≡ o → Opened (Some named) heap fields y rest environment inner from
+    by None is =
+        absurd (subst (λ (o : Option Heap). NotStuck (bare_configuration (to_opened o named.at y from
+        (at_code rest (bind_fields fields named.fields environment) inner from))).control) is going)
+    by (Some next) is = record {
+      named = named;
+      named_is = refl;
+      next = next;
+      next_is = is;
+      step = ap (λ (o : Option Heap). goes (to_opened o named.at y from
+          (at_code rest (bind_fields fields named.fields environment) inner from))) is;
+    }
 
 -- ---- fields
 
@@ -202,122 +232,172 @@ same_bools true c there back = sym (there refl)
 same_bools false true there back = back refl
 same_bools false false there back = refl
 
-module _ (program : Lowering) (x c : ℕ) (fields used : List ℕ) (y : ℕ) (rest : Tokened) (idle : ℕ) (inner : List TokenJoin)
+module _ (program : Lowering) (code : Tokened) (x c : ℕ) (fields used : List ℕ) (y : ℕ) (rest : Tokened) (inner : List TokenJoin)
     (frames : List TokenFrame) (tokens : Tokens) (input : List ℕ) (s : Spot) (fs : List (Frame Line)) (left : List Line)
-    (idle_is : idle ≡ suc (forms rest))
-    (at : At program (Tokened.if_unique x c fields used y rest) inner frames tokens input s fs left)
-    (fit : IsFitFrom program (token_at program (Tokened.if_unique x c fields used y rest) s.environment inner frames s.heap tokens input)) where
+    (at : At program code inner frames tokens input s fs left) where
+  -- What is known of a code that opens a cell, whose slot may take it: its lines, the code behind it, and what the machine with
+  -- tokens does.
+  pub record IsOpening : Type 0 where
+    pub forms_are : forms code ≡ suc (forms rest)
+    pub quiet : is_quiet code ≡ false
+    pub own : List Line
+    pub more : List Line
+    pub uniques : TokenUniqueLines (at.shape.variables + at.shape.slots) at.shape.holds at.does.placed.low
+        (at.does.placed.low + 1) x fields used (at.shape.variables + y) own
+    pub lines : CodeLines (lines_setting program at.shape) at.shape.variables at.does.goal (at.does.placed.low + 2) rest more
+        at.does.placed.high
+    pub parts : at.does.placed.own ≡ own ++ more
+    pub part_is : GoesTo program code inner frames tokens input s fs left at rest own more (at.does.placed.low + 2) lines
+    pub bound : is_among s.bound x ≡ true
+    pub apart : is_among fields x ≡ false
+    pub kinds : HaveMarks at.shape.holds fields (field_marks program.marks c)
+    pub below : AreBelow at.shape.variables fields
+    pub fields_apart : AreApart fields
+    pub marked : HasMark program.marks at.shape.holds at.shape.result (fields ++ s.bound) at.does.given (bare rest)
+    pub numbered : AreNumbered at.shape.variables (fields ++ s.bound) (bare rest)
+    pub slot : y < at.shape.slots
+    pub has : HasSlots at.shape.slots rest
+    pub none_held : at.lists.held ≡ []
+    pub lists_after : (next : Lists) → ListsAfter code inner at.lists next
+        → next ≡ record at.lists { unspent = y ∷ at.lists.unspent }
+    pub weighs : (upper program).weight (token_at program code s.environment inner frames s.heap tokens input)
+        ≡ opening_cost fields used + 0
+    pub named : Named
+    pub named_is : cell_named c (length fields) s.heap (value_of s.environment x) ≡ Some named
+    pub next : Heap
+    pub next_is : unique_heap (count_at s.heap named.at) named.at (used_values used fields named.fields)
+        (other_values used fields named.fields) s.heap ≡ Some next
+    pub step : token_code_step (setting program) code s.environment inner
+        (machine_at program code s.environment inner frames s.heap tokens)
+        ≡ goes (machine_at program rest (bind_fields fields named.fields s.environment) inner frames next
+        (opened_tokens (count_at next named.at) (length frames) y named.at tokens))
+
+module _ (program : Lowering) (code : Tokened) (x c : ℕ) (fields used : List ℕ) (y : ℕ) (rest : Tokened) (idle : ℕ)
+    (inner : List TokenJoin) (frames : List TokenFrame) (tokens : Tokens) (input : List ℕ) (s : Spot) (fs : List (Frame Line))
+    (left : List Line) (idle_is : idle ≡ forms code) (at : At program code inner frames tokens input s fs left)
+    (fit : IsFitFrom program (token_at program code s.environment inner frames s.heap tokens input))
+    (a : IsOpening program code x c fields used y rest inner frames tokens input s fs left at) where
   abbrev n : ℕ
   n = length at.lists.older
 
   abbrev v : ℕ
   v = at.shape.variables
 
-  abbrev opened_to : Named → Heap → Frame Line → (ℕ → Owner) → Cells → Spot
-  opened_to named next frame owners cells = opened_spot (known_of program at.shape) s fields named.fields next frame owners cells
+  abbrev at_name : ℕ
+  at_name = s.address a.named.at
+
+  abbrev opened_to : Frame Line → (ℕ → Owner) → Cells → Spot
+  opened_to frame owners cells = opened_spot (known_of program at.shape) s fields a.named.fields a.next frame owners cells
 
   abbrev Steps_on : Type 0
-  Steps_on =
-      Follows_step program idle
-      (token_at program (Tokened.if_unique x c fields used y rest) s.environment inner frames s.heap tokens input)
+  Steps_on = Follows_step program idle (token_at program code s.environment inner frames s.heap tokens input)
       (turn_of left s.frame fs s.world)
 
-  abbrev from : TokenConfiguration
-  from = machine_at program (Tokened.if_unique x c fields used y rest) s.environment inner frames s.heap tokens
+  abbrev Leads_to : Frame Line → (ℕ → Owner) → Cells → Type 0
+  Leads_to frame owners cells =
+      Leads (known_of program at.shape) (token_cost (known_of program at.shape) fields used) a.own (a.more ++ at.does.placed.after)
+      fs fs s (opened_to frame owners cells) ((v + y) ∷ [])
+
+  long : length a.next ≡ length s.heap
+  long = eased_length (unique_heap (count_at s.heap a.named.at) a.named.at (used_values used fields a.named.fields)
+      (other_values used fields a.named.fields) s.heap) a.next a.next_is
+      (eased_unique (count_at s.heap a.named.at) a.named.at (used_values used fields a.named.fields)
+      (other_values used fields a.named.fields) s.heap refl)
+    where
+      eased_length : (o : Option Heap) (next : Heap) → o ≡ Some next → EasedTo s.heap o → length next ≡ length s.heap
+      eased_length None next is eased = cc
+      eased_length (Some one) next is eased = ap length (sym (some-is is)) ∙ eased.many
+
+  recounted : cells_of a.next ≡ cells_of s.heap
+  recounted = eased_cells (unique_heap (count_at s.heap a.named.at) a.named.at (used_values used fields a.named.fields)
+      (other_values used fields a.named.fields) s.heap) s.heap a.next a.next_is
+      (eased_unique (count_at s.heap a.named.at) a.named.at (used_values used fields a.named.fields)
+      (other_values used fields a.named.fields) s.heap refl)
 
   -- the slot has its token, and the code goes on
-  finish : (named : Named) (next : Heap) (frame : Frame Line) (owners : ℕ → Owner) (cells : Cells)
-      → Leads (known_of program at.shape) (token_cost (known_of program at.shape) fields used) at.does.placed.lines.0
-      (at.does.placed.lines.1 ++ at.does.placed.after) fs fs s (opened_to named next frame owners cells) ((v + y) ∷ [])
-      → (after : Tokens) (slot : Slot)
-      → token_code_step (setting program) (Tokened.if_unique x c fields used y rest) s.environment inner from
-      ≡ goes (machine_at program rest (bind_fields fields named.fields s.environment) inner frames next after)
-      → length next ≡ length s.heap → slots_with n y slot tokens.slots ≡ after.slots → SlotIs s.address slot (frame.cells (v + y))
-      → HaveTokenCells program.pool program.layout s.address owners next after → Steps_on
-  finish named next frame owners cells leads after slot step long slots_is value token_cells =
+  finish : (frame : Frame Line) (owners : ℕ → Owner) (cells : Cells) → Leads_to frame owners cells → (after : Tokens) (slot : Slot)
+      → token_code_step (setting program) code s.environment inner
+      (machine_at program code s.environment inner frames s.heap tokens)
+      ≡ goes (machine_at program rest (bind_fields fields a.named.fields s.environment) inner frames a.next after)
+      → slots_with n y slot tokens.slots ≡ after.slots → SlotIs s.address slot (frame.cells (v + y))
+      → HaveTokenCells program.pool program.layout s.address owners a.next after → Steps_on
+  finish frame owners cells leads after slot step slots_is value token_cells =
       let p = at.does.placed in
-      let code = Tokened.if_unique x c fields used y rest in
-      let to = opened_to named next frame owners cells in
+      let to = opened_to frame owners cells in
       let kept = subst (AllLead (AreKeptBy program.pool.cells (ListsAfter code inner at.lists))) step
-      (kept_after program code inner frames tokens input s fs left at (fit 0).keeps refl) in
+      (kept_after program code inner frames tokens input s fs left at (fit 0).keeps a.quiet) in
       let few = p.short in
+      let forms_are = a.forms_are in
+      let weighs = a.weighs in
       let one = row_times fields (most_moves + 2) in
       let two = row_times (filter (is_among used) fields) (most_moves + 5) in
       let three = row_times (others_of used fields) (2 * most_moves + 16) in
-      let nothing = at.judged.spends.0 in
-      let list_below = below_list v fields s.bound p.numbered.0.0 at.has.below in
-      goes_on program code inner frames tokens input s fs left at idle fit rest p.lines.0 p.lines.1 to fs after (fields ++ s.bound)
+      let list_below = below_list v fields s.bound a.below at.has.below in
+      goes_on program code inner frames tokens input s fs left at idle fit rest a.own a.more to fs after (fields ++ s.bound)
       (record at.lists { unspent = y ∷ at.lists.unspent }) (token_cost (known_of program at.shape) fields used) goes
       (lands_leads leads)
       (record {
-        parts = p.lines.4;
+        parts = a.parts;
         low = p.low + 2;
-        lines = p.lines.3;
-        part_is = record { way = 0 ∷ []; is_part = inl refl; code_is = refl };
+        lines = a.lines;
+        part_is = a.part_is;
         within = within_fields fields s.bound;
         older = within_front fields s.bound;
         below = λ z is. list_below z (within_fields fields s.bound z is);
-        marked = p.marked.1;
-        numbered = p.numbered.1;
-        has = p.has.1;
-        plain = p.plain;
-        judged = subst (λ (l : Lists). IsJudged program.pool.cells l.left l.unspent l.held l.older rest inner frames next after)
-            kept.1.0 kept.1.1;
+        marked = a.marked;
+        numbered = a.numbered;
+        has = a.has;
+        judged = subst (λ (l : Lists). IsJudged program.pool.cells l.left l.unspent l.held l.older rest inner frames a.next after)
+            (a.lists_after kept.0 kept.1.0) kept.1.1;
         cells = token_cells;
-        slots_are = slots_set at.has.tokens y slot p.has.0
+        slots_are = slots_set at.has.tokens y slot a.slot
             (ap (λ (sl : ℕ → ℕ → Slot). sl n y) (sym slots_is) ∙ slot_here n y slot tokens.slots) value
             (λ z differ. ap (λ (sl : ℕ → ℕ → Slot). sl n z) (sym slots_is) ∙ slot_there n y n z slot tokens.slots (another n y z differ))
             (λ z differ low. leads.spared (v + z) (omega (arith, low)) (alone_value v y z differ)
             (none_behind (bound_list fields s.bound) v z list_below));
-        held_is = leads.held ∙ at.has.held_is ∙ ap (held_values (tokens.slots n) v) nothing
-            ∙ sym (ap (held_values (after.slots n) v) nothing);
+        held_is = leads.held ∙ at.has.held_is ∙ ap (held_values (tokens.slots n) v) a.none_held
+            ∙ sym (ap (held_values (after.slots n) v) a.none_held);
         waits = subst (λ m. AllWait program s.address m after.slots at.lists.older frames fs at.shape.result) (sym long)
             (all_wait_at program s.address (length s.heap) tokens.slots after.slots at.lists.older frames fs at.shape.result
             (subst (EqualBelow n tokens.slots) slots_is (equal_one n n y slot tokens.slots (omega arith))) at.waits);
       })
-      (silent_goes program) (omega arith)
-      (ap (λ action. seen_action program action input) step) (omega (arith, idle_is)) (omega arith)
+      (silent_goes program) (omega (arith, one, two, three, weighs))
+      (ap (λ action. seen_action program action input) step) (omega (arith, idle_is, forms_are)) (omega (arith, few, forms_are))
 
   -- a cell of one reference: it is the slot's token
-  gains : (named : Named) (next : Heap) (frame : Frame Line) (owners : ℕ → Owner) (cells : Cells)
-      → Leads (known_of program at.shape) (token_cost (known_of program at.shape) fields used) at.does.placed.lines.0
-      (at.does.placed.lines.1 ++ at.does.placed.after) fs fs s (opened_to named next frame owners cells) ((v + y) ∷ [])
-      → token_code_step (setting program) (Tokened.if_unique x c fields used y rest) s.environment inner from
-      ≡ goes (machine_at program rest (bind_fields fields named.fields s.environment) inner frames next
-      (opened_tokens (count_at next named.at) (length frames) y named.at tokens))
-      → length next ≡ length s.heap → cells_of next ≡ cells_of s.heap → fields_held s.heap named.at ≡ named.fields
-      → count_at s.heap named.at ≡ 1
-      → HasCell s (opened_to named next frame owners cells) (v + y) (s.address named.at)
-      (words_in program.layout s.address named.fields) → Steps_on
-  gains named next frame owners cells leads step long recounted fields_are once has = by (count_at next named.at) refl
+  gains : (frame : Frame Line) (owners : ℕ → Owner) (cells : Cells) → Leads_to frame owners cells → count_at s.heap a.named.at ≡ 1
+      → HasCell s (opened_to frame owners cells) (v + y) at_name (words_in program.layout s.address a.named.fields) → Steps_on
+  gains frame owners cells leads once has = by (count_at a.next a.named.at) refl
     where
-      owns : s.owners (s.address named.at) ≡ cell_of named.at
-      owns = at.follows.named named.at (omega (arith, once))
+      owns : s.owners at_name ≡ cell_of a.named.at
+      owns = at.follows.named a.named.at (omega (arith, once))
 
-      plain_mark : (mark : Mark) → tokens.marks named.at ≡ mark → tokens.marks named.at ≡ plain
+      fields_are : fields_held s.heap a.named.at ≡ a.named.fields
+      fields_are = named_fields c (length fields) s.heap (value_of s.environment x) a.named a.named_is
+
+      plain_mark : (mark : Mark) → tokens.marks a.named.at ≡ mark → tokens.marks a.named.at ≡ plain
       plain_mark plain is = is
-      plain_mark (token_of f z) is = (let none = at.judged.are.pooled.uncounted f z named.at is in absurd (omega (arith, none, once)))
-
-      unspent_not : is_among at.lists.held y ≡ false
-      unspent_not = ap (λ (ys : List ℕ). is_among ys y) at.judged.spends.0
+      plain_mark (token_of f z) is =
+          (let none = at.judged.are.pooled.uncounted f z a.named.at is in absurd (omega (arith, none, once)))
 
       free_slot : is_linked n y tokens.chain ≡ false
-      free_slot = ap (is_linked n y) at.judged.are.chain ∙ not_linked tokens.slots at.lists.held at.lists.older y unspent_not
+      free_slot = ap (is_linked n y) at.judged.are.chain
+          ∙ not_linked tokens.slots at.lists.held at.lists.older y (ap (λ (ys : List ℕ). is_among ys y) a.none_held)
 
-      by : (count : ℕ) → count_at next named.at ≡ count → Steps_on
+      by : (count : ℕ) → count_at a.next a.named.at ≡ count → Steps_on
       by zero counts =
           let many = frames_many tokens.slots at.lists.older frames at.judged.waiting in
-          finish named next frame owners cells leads (gained n y named.at tokens) (token named.at)
-          (step ∙ ap (λ k. goes (machine_at program rest (bind_fields fields named.fields s.environment) inner frames next
-          (opened_tokens k (length frames) y named.at tokens))) counts
-          ∙ ap (λ f. goes (machine_at program rest (bind_fields fields named.fields s.environment) inner frames next
-          (gained f y named.at tokens))) many)
-          long refl has.value
-          (cell_comes at.cells program.aligned n y named.at owners next (gained n y named.at tokens)
-          (named_cell program.aligned at.follows named.at (omega (arith, once))).cell
-          (counted_within s.heap named.at 0 once) (plain_mark (tokens.marks named.at) refl) refl refl long
-          (λ q. recounted_words program.layout s.address s.heap next q recounted)
-          (subst (λ b. IsTokenCell b (token_words program.layout s.address s.heap named.at) (owners (s.address named.at)))
+          finish frame owners cells leads (gained n y a.named.at tokens) (token a.named.at)
+          (a.step ∙ ap (λ k. goes (machine_at program rest (bind_fields fields a.named.fields s.environment) inner frames a.next
+          (opened_tokens k (length frames) y a.named.at tokens))) counts
+          ∙ ap (λ f. goes (machine_at program rest (bind_fields fields a.named.fields s.environment) inner frames a.next
+          (gained f y a.named.at tokens))) many)
+          refl has.value
+          (cell_comes at.cells program.aligned n y a.named.at owners a.next (gained n y a.named.at tokens)
+          (named_cell program.aligned at.follows a.named.at (omega (arith, once))).cell
+          (counted_within s.heap a.named.at 0 once) (plain_mark (tokens.marks a.named.at) refl) refl refl long
+          (λ q. recounted_words program.layout s.address s.heap a.next q recounted)
+          (subst (λ b. IsTokenCell b (token_words program.layout s.address s.heap a.named.at) (owners at_name))
           (sym free_slot) (
             has.words,
             has.hand,
@@ -329,102 +409,72 @@ module _ (program : Lowering) (x c : ℕ) (fields used : List ℕ) (y : ℕ) (re
           (λ z differ. same_bools (is_aside (owners z)) (is_aside (s.owners z))
           (λ is. sym (ap is_aside (has.was z differ is)) ∙ is) (λ is. ap is_aside (has.aside z differ is) ∙ is)))
       by (suc k) counts =
-          let both : in_hand has.words ≡ cell_of named.at = sym has.hand
-          ∙ leads.here.follows.named named.at (omega (arith, counts)) in cc
+          let both : in_hand has.words ≡ cell_of a.named.at = sym has.hand
+          ∙ leads.here.follows.named a.named.at (omega (arith, counts)) in cc
 
   -- a cell of several references: the slot is null
-  blanks : (named : Named) (next : Heap) (frame : Frame Line) (owners : ℕ → Owner) (cells : Cells)
-      → Leads (known_of program at.shape) (token_cost (known_of program at.shape) fields used) at.does.placed.lines.0
-      (at.does.placed.lines.1 ++ at.does.placed.after) fs fs s (opened_to named next frame owners cells) ((v + y) ∷ [])
-      → token_code_step (setting program) (Tokened.if_unique x c fields used y rest) s.environment inner from
-      ≡ goes (machine_at program rest (bind_fields fields named.fields s.environment) inner frames next
-      (opened_tokens (count_at next named.at) (length frames) y named.at tokens))
-      → length next ≡ length s.heap → cells_of next ≡ cells_of s.heap → 1 ≤ count_at next named.at
-      → IsNull s (opened_to named next frame owners cells) (v + y) → Steps_on
-  blanks named next frame owners cells leads step long recounted some has = by (count_at next named.at) refl
+  blanks : (frame : Frame Line) (owners : ℕ → Owner) (cells : Cells) → Leads_to frame owners cells → 1 ≤ count_at a.next a.named.at
+      → IsNull s (opened_to frame owners cells) (v + y) → Steps_on
+  blanks frame owners cells leads some has = by (count_at a.next a.named.at) refl
     where
-      by : (count : ℕ) → count_at next named.at ≡ count → Steps_on
+      by : (count : ℕ) → count_at a.next a.named.at ≡ count → Steps_on
       by zero counts = absurd (omega (arith, some, counts))
       by (suc k) counts =
           let many = frames_many tokens.slots at.lists.older frames at.judged.waiting in
-          let stay = cells_stay at.cells s.address owners next (λ f z q is. refl)
-          (λ f z q is. recounted_words program.layout s.address s.heap next q recounted)
+          let stay = cells_stay at.cells s.address owners a.next (λ f z q is. refl)
+          (λ f z q is. recounted_words program.layout s.address s.heap a.next q recounted)
           (λ z linked ws is. subst (IsTokenCell linked ws) (sym (has.aside z (token_aside linked ws (s.owners z) is))) is)
           (λ z. same_bools (is_aside (owners z)) (is_aside (s.owners z))
           (λ is. sym (ap is_aside (has.was z is)) ∙ is) (λ is. ap is_aside (has.aside z is) ∙ is))
           (ap (marked tokens.marks) long) in
-          finish named next frame owners cells leads (blanked n y null tokens) null
-          (step ∙ ap (λ j. goes (machine_at program rest (bind_fields fields named.fields s.environment) inner frames next
-          (opened_tokens j (length frames) y named.at tokens))) counts
-          ∙ ap (λ f. goes (machine_at program rest (bind_fields fields named.fields s.environment) inner frames next
+          finish frame owners cells leads (blanked n y null tokens) null
+          (a.step ∙ ap (λ j. goes (machine_at program rest (bind_fields fields a.named.fields s.environment) inner frames a.next
+          (opened_tokens j (length frames) y a.named.at tokens))) counts
+          ∙ ap (λ f. goes (machine_at program rest (bind_fields fields a.named.fields s.environment) inner frames a.next
           (blanked f y null tokens))) many)
-          long refl has.value (record { are = stay.are; apart = stay.apart; number = stay.number })
+          refl has.value (record { are = stay.are; apart = stay.apart; number = stay.number })
 
-  pub steps_unique : Steps_on
-  steps_unique =
+  pub steps_opening : Steps_on
+  steps_opening =
       let p = at.does.placed in
-      let code = Tokened.if_unique x c fields used y rest in
       let known = known_of program at.shape in
       let counts = (fit 0).bare.counts (bare code) s.environment (map bare_join inner) refl in
-      let opens = λ (m : Named). unique_heap (count_at s.heap m.at) m.at (used_values used fields m.fields)
-      (other_values used fields m.fields) s.heap in
-      let named = named_there (cell_named c (length fields) s.heap (value_of s.environment x)) opens fields y rest s.environment inner
-      from input (fit 1).bare.going in
-      let to = at_code rest (bind_fields fields named.0.fields s.environment) inner from in
-      let going = subst (λ o. NotStuck (bare_configuration (performed (token_open_step o opens fields y rest s.environment inner from)
-      input).1.machine).control) named.1 (fit 1).bare.going in
-      let next = opened_there (opens named.0) named.0.at y from to going in
-      let step = ap (λ o. token_open_step o opens fields y rest s.environment inner from) named.1
-      ∙ ap (λ o. goes (to_opened o named.0.at y from to)) next.1 in
       let here : Here known s = record { follows = at.follows; values = at.has.values } in
-      let reads : IsReading known s x c fields named.0 = record {
-        bound = p.marked.0.0;
-        is = named.1;
-        below = below_more v (at.shape.variables + at.shape.slots) fields (omega arith) p.numbered.0.0;
-        apart = p.numbered.0.1.0;
-        kinds = marks_are at.shape.holds fields (field_marks program.marks c) p.marked.0.1.1 ∙ sym (program.fields_are c);
+      let reads : IsReading known s x c fields a.named = record {
+        bound = a.bound;
+        is = a.named_is;
+        below = below_more v (at.shape.variables + at.shape.slots) fields (omega arith) a.below;
+        apart = a.apart;
+        kinds = marks_are at.shape.holds fields (field_marks program.marks c) a.kinds ∙ sym (program.fields_are c);
         older = (fit 0).bare.sound.older;
       } in
       let few_used = filter_length (is_among used) fields in
-      let most = few_fields at.shape.holds c fields p.marked.0.1.1 in
-      let after = p.lines.1 ++ p.after in
-      let low = p.has.0 in
+      let most = few_fields at.shape.holds c fields a.kinds in
+      let after = a.more ++ p.after in
+      let low = a.slot in
       let token_low : v + y < at.shape.variables + at.shape.slots = omega arith in
-      let spare = none_behind (bound_list fields s.bound) v y (below_list v fields s.bound p.numbered.0.0 at.has.below) in
-      let first = head_lines known after fs s x c fields used p.low (p.low + 1) (v + y) p.lines.0 named.0 next.0 here reads
-      p.numbered.0.1.1 token_low spare p.lines.2 in
-      let shared = for_shared known after fs s x c fields used p.low (p.low + 1) (v + y) p.lines.0 named.0 next.0 here reads
-      p.numbered.0.1.1 token_low spare p.lines.2 in
-      let shared_rest = shared_lines known after fs s x c fields used p.low (p.low + 1) (v + y) p.lines.0 named.0 next.0 here reads
-      p.numbered.0.1.1 token_low spare p.lines.2 in
+      let spare = none_behind (bound_list fields s.bound) v y (below_list v fields s.bound a.below at.has.below) in
+      let first = head_lines known after fs s x c fields used p.low (p.low + 1) (v + y) a.own a.named a.next here reads
+      a.fields_apart token_low spare a.uniques in
+      let shared = for_shared known after fs s x c fields used p.low (p.low + 1) (v + y) a.own a.named a.next here reads
+      a.fields_apart token_low spare a.uniques in
+      let shared_rest = shared_lines known after fs s x c fields used p.low (p.low + 1) (v + y) a.own a.named a.next here reads
+      a.fields_apart token_low spare a.uniques in
       let behind = acts (Label (p.low + 1)) [] ∷ after in
       let is : left ≡ first ++ (shared ++ behind)
-      = p.left_is ∙ ap (λ own. own ++ p.after) p.lines.4 ∙ append_assoc p.lines.0 p.lines.1 p.after
-      ∙ whole_lines known after fs s x c fields used p.low (p.low + 1) (v + y) p.lines.0 named.0 next.0 here reads
-      p.numbered.0.1.1 token_low spare p.lines.2 in
+      = p.left_is ∙ ap (λ own. own ++ p.after) a.parts ∙ append_assoc a.own a.more p.after
+      ∙ whole_lines known after fs s x c fields used p.low (p.low + 1) (v + y) a.own a.named a.next here reads
+      a.fields_apart token_low spare a.uniques in
       let shared_at : s.frame.whole ≡ (p.before ++ first) ++ (shared ++ behind)
       = p.place ∙ ap (λ ls. p.before ++ ls) is ∙ sym (append_assoc p.before first (shared ++ behind)) in
       let behind_at : s.frame.whole ≡ ((p.before ++ first) ++ shared) ++ behind
       = shared_at ∙ sym (append_assoc (p.before ++ first) shared behind) in
-      let opened = opens_to_token known after fs s x c fields used p.low (p.low + 1) (v + y) p.lines.0 named.0 next.0 here reads
-      p.numbered.0.1.1 token_low spare p.lines.2 next.1 (λ name. let small = counts name in omega arith)
+      let opened = opens_to_token known after fs s x c fields used p.low (p.low + 1) (v + y) a.own a.named a.next here reads
+      a.fields_apart token_low spare a.uniques a.next_is (λ name. let small = counts name in omega arith)
       (finds p.low s.frame.whole (p.before ++ first) (shared_rest ++ behind) at.has.formed shared_at)
       (finds (p.low + 1) s.frame.whole ((p.before ++ first) ++ shared) after at.has.formed behind_at) in
-      let used_are = used_values used fields named.0.fields in
-      let others_are = other_values used fields named.0.fields in
-      let long : length next.0 ≡ length s.heap = eased_length (unique_heap (count_at s.heap named.0.at) named.0.at used_are others_are
-      s.heap) next.0 next.1 (eased_unique (count_at s.heap named.0.at) named.0.at used_are others_are s.heap refl) in
-      let recounted = eased_cells (unique_heap (count_at s.heap named.0.at) named.0.at used_are others_are s.heap) s.heap next.0
-      next.1 (eased_unique (count_at s.heap named.0.at) named.0.at used_are others_are s.heap refl) in
-      let fields_are : fields_held s.heap named.0.at ≡ named.0.fields = named_fields c (length fields) s.heap
-      (value_of s.environment x) named.0 named.1 in
-      by named.0 next.0 opened.0 opened.1 opened.2 opened.3 step long recounted fields_are (count_at s.heap named.0.at) refl next.1
-      opened.4
+      by opened.0 opened.1 opened.2 opened.3 (count_at s.heap a.named.at) refl a.next_is opened.4
     where
-      eased_length : (o : Option Heap) (next : Heap) → o ≡ Some next → EasedTo s.heap o → length next ≡ length s.heap
-      eased_length None next is eased = cc
-      eased_length (Some one) next is eased = ap length (sym (some-is is)) ∙ eased.many
-
       few_fields : (holds : ℕ → Bool) (k : ℕ) (xs : List ℕ) → HaveMarks holds xs (field_marks program.marks k) → length xs ≤ 6
       few_fields holds k xs have =
           let same : length xs ≡ length (program.layout.fields k)
@@ -433,27 +483,100 @@ module _ (program : Lowering) (x c : ℕ) (fields used : List ℕ) (y : ℕ) (re
           let few = program.narrow.few k in
           omega arith
 
-      by : (named : Named) (next : Heap) (frame : Frame Line) (owners : ℕ → Owner) (cells : Cells)
-          → Leads (known_of program at.shape) (token_cost (known_of program at.shape) fields used) at.does.placed.lines.0
-          (at.does.placed.lines.1 ++ at.does.placed.after) fs fs s (opened_to named next frame owners cells) ((v + y) ∷ [])
-          → token_code_step (setting program) (Tokened.if_unique x c fields used y rest) s.environment inner from
-          ≡ goes (machine_at program rest (bind_fields fields named.fields s.environment) inner frames next
-          (opened_tokens (count_at next named.at) (length frames) y named.at tokens))
-          → length next ≡ length s.heap → cells_of next ≡ cells_of s.heap → fields_held s.heap named.at ≡ named.fields
-          → (count : ℕ) → count_at s.heap named.at ≡ count
-          → unique_heap count named.at (used_values used fields named.fields) (other_values used fields named.fields) s.heap
-          ≡ Some next
-          → TokenIs count s (opened_to named next frame owners cells) (v + y) (s.address named.at)
-          (words_in program.layout s.address named.fields) → Steps_on
-      by named next frame owners cells leads step long recounted fields_are zero counts given is = absurd is
-      by named next frame owners cells leads step long recounted fields_are (suc zero) counts given is =
-          gains named next frame owners cells leads step long recounted fields_are counts is
-      by named next frame owners cells leads step long recounted fields_are (suc (suc m)) counts given is =
-          blanks named next frame owners cells leads step long recounted
-          (shared_counted m named.at (used_values used fields named.fields) (other_values used fields named.fields) s.heap next counts
-          given) is
+      by : (frame : Frame Line) (owners : ℕ → Owner) (cells : Cells) → Leads_to frame owners cells
+          → (count : ℕ) → count_at s.heap a.named.at ≡ count
+          → unique_heap count a.named.at (used_values used fields a.named.fields) (other_values used fields a.named.fields) s.heap
+          ≡ Some a.next
+          → TokenIs count s (opened_to frame owners cells) (v + y) at_name (words_in program.layout s.address a.named.fields)
+          → Steps_on
+      by frame owners cells leads zero counts given is = absurd is
+      by frame owners cells leads (suc zero) counts given is = gains frame owners cells leads counts is
+      by frame owners cells leads (suc (suc m)) counts given is =
+          blanks frame owners cells leads
+          (shared_counted m a.named.at (used_values used fields a.named.fields) (other_values used fields a.named.fields) s.heap
+          a.next counts given) is
 
 pub at_unique : (program : Lowering) (x c : ℕ) (fields used : List ℕ) (y : ℕ) (rest : Tokened)
     → CodeSteps program (Tokened.if_unique x c fields used y rest)
 at_unique program x c fields used y rest idle inner frames tokens input s fs left idle_is at fit =
-    steps_unique program x c fields used y rest idle inner frames tokens input s fs left idle_is at fit
+    let p = at.does.placed in
+    let code = Tokened.if_unique x c fields used y rest in
+    let from = machine_at program code s.environment inner frames s.heap tokens in
+    let opens = λ (m : Named). unique_heap (count_at s.heap m.at) m.at (used_values used fields m.fields)
+    (other_values used fields m.fields) s.heap in
+    let there = opening_there (cell_named c (length fields) s.heap (value_of s.environment x)) opens fields y rest s.environment
+    inner from input (fit 1).bare.going in
+    steps_opening program code x c fields used y rest idle inner frames tokens input s fs left idle_is at fit
+    (record {
+      forms_are = refl;
+      quiet = refl;
+      own = p.lines.0;
+      more = p.lines.1;
+      uniques = p.lines.2;
+      lines = p.lines.3;
+      parts = p.lines.4;
+      part_is = record { way = 0 ∷ []; is_part = inl refl; code_is = refl };
+      bound = p.marked.0.0;
+      apart = p.numbered.0.1.0;
+      kinds = p.marked.0.1.1;
+      below = p.numbered.0.0;
+      fields_apart = p.numbered.0.1.1;
+      marked = p.marked.1;
+      numbered = p.numbered.1;
+      slot = p.has.0;
+      has = p.has.1;
+      none_held = at.judged.spends.0;
+      lists_after = λ next is. is;
+      weighs = refl;
+      named = there.named;
+      named_is = there.named_is;
+      next = there.next;
+      next_is = there.next_is;
+      step = there.step;
+    })
+
+-- An opening that does not go by the count gives up the reference to the cell when the fields in use have one more. The heap is
+-- sound before and behind it: so its heap is that of an opening by the count.
+pub at_open : (program : Lowering) (x c : ℕ) (fields used : List ℕ) (y : ℕ) (rest : Tokened)
+    → CodeSteps program (Tokened.open_cell x c fields used y rest)
+at_open program x c fields used y rest idle inner frames tokens input s fs left idle_is at fit =
+    let p = at.does.placed in
+    let code = Tokened.open_cell x c fields used y rest in
+    let from = machine_at program code s.environment inner frames s.heap tokens in
+    let opens = λ (m : Named). opened_heap m.at (used_values used fields m.fields) s.heap in
+    let there = opening_there (cell_named c (length fields) s.heap (value_of s.environment x)) opens fields y rest s.environment
+    inner from input (fit 1).bare.going in
+    let cell = cell_is c (length fields) s.heap (value_of s.environment x) there.named there.named_is in
+    let sound = subst (λ (action : Action TokenConfiguration). (owned : List Value)
+    × IsSound owned (performed action input).1.machine.heap) there.step ((fit 1).bare.owned, (fit 1).bare.sound) in
+    steps_opening program code x c fields used y rest idle inner frames tokens input s fs left idle_is at fit
+    (record {
+      forms_are = refl;
+      quiet = refl;
+      own = p.lines.0;
+      more = p.lines.1;
+      uniques = p.lines.2;
+      lines = p.lines.3;
+      parts = p.lines.4;
+      part_is = record { way = 0 ∷ []; is_part = inl refl; code_is = refl };
+      bound = p.marked.0.0;
+      apart = p.numbered.0.1.0;
+      kinds = p.marked.0.1.1;
+      below = p.numbered.0.0;
+      fields_apart = p.numbered.0.1.1;
+      marked = p.marked.1;
+      numbered = p.numbered.1;
+      slot = p.has.0;
+      has = p.has.1;
+      none_held = at.judged.spends.0;
+      lists_after = λ next is. is;
+      weighs = refl;
+      named = there.named;
+      named_is = there.named_is;
+      next = there.next;
+      next_is = opens_by_count there.named.at (used_values used fields there.named.fields)
+          (other_values used fields there.named.fields) (fit 0).bare.owned sound.0 s.heap there.next (fit 0).bare.sound sound.1
+          there.next_is
+          (λ q. ap (λ vs. refs vs q) cell.fields ∙ fields_part used fields there.named.fields q cell.many);
+      step = there.step;
+    })

@@ -106,15 +106,9 @@ FillLines base x token others filled header arguments kept lines =
 abbrev pub ReadLines : ℕ → List ℕ → List Line → Type 0
 ReadLines x fields lines = AllLoads x 2 fields lines
 
--- an opening: the fields are loaded, those in use get a reference more, and the variable's is given up
-abbrev pub OpenLines : ℕ → (ℕ → Bool) → ℕ → List ℕ → List ℕ → List Line → Type 0
-OpenLines base holds x fields used lines =
-    (loads : List Line) × AllLoads x 2 fields loads
-    × (lines ≡ loads ++ (dups_lines holds (filter (is_among used) fields) ++ drop_lines base holds x))
-
--- An opening by the count of the cell. Behind the test of the count the fields are loaded on each way. Where the count is 1 the
--- fields that are not in use are dropped, and the line `ends` is for the cell. Else, from label `shared` on, the lines `begins` are
--- first, the count is lowered, and the fields in use get a reference more.
+-- An opening. Behind the test of the count the fields are loaded on each way. Where the count is 1 the fields that are not in use
+-- are dropped, and the line `ends` is for the cell. Else, from label `shared` on, the lines `begins` are first, the count is
+-- lowered, and the fields in use get a reference more.
 abbrev pub CountLines : ℕ → (ℕ → Bool) → ℕ → ℕ → ℕ → List ℕ → List ℕ → Line → List Line → List Line → Type 0
 CountLines base holds shared behind x fields used ends begins lines =
     (test : Line) × (loads : List Line) × (count : Line) × (less : Immediate) × (store : Line)
@@ -125,12 +119,7 @@ CountLines base holds shared behind x fields used ends begins lines =
     ∷ dups_lines holds (filter (is_among used) fields)))))
     ++ (acts (Label behind) [] ∷ []))))
 
--- the cell is freed
-abbrev pub UniqueLines : ℕ → (ℕ → Bool) → ℕ → ℕ → ℕ → List ℕ → List ℕ → List Line → Type 0
-UniqueLines base holds shared behind x fields used lines =
-    CountLines base holds shared behind x fields used (acts (Compute Op.Free) (x ∷ [])) [] lines
-
--- The cell is not freed: it is the token of a value, which has its address. The value is 0 where the cell has other references.
+-- The cell is the token of a value, which has its address. The value is 0 where the cell has other references.
 abbrev pub TokenUniqueLines : ℕ → (ℕ → Bool) → ℕ → ℕ → ℕ → List ℕ → List ℕ → ℕ → List Line → Type 0
 TokenUniqueLines base holds shared behind x fields used token lines =
     CountLines base holds shared behind x fields used (copies_to x token) (sets 0 token ∷ []) lines

@@ -14,7 +14,6 @@ use Rattle.kk_counted.specs.Heaps.{busy}
 use Rattle.kk_counted.specs.Keeping.{counted_after}
 use Rattle.kk_counted.specs.KeptFields.{LeavesKnown}
 use Rattle.kk_counted.specs.Marks.{CellMarks, field_marks}
-use Rattle.kk_counted.specs.TokenLowerable.{HasPlainForms}
 use Rattle.kk_counted.specs.TokenSpending.{AreTokensSpent}
 use Rattle.kk_counted.specs.TokenedCodes.{TokenedFunction, TokenedProgram}
 use Rattle.rv_isa.specs.Processor.{Ending, exited}
@@ -43,7 +42,6 @@ pub record IsTokenedLowered (layout : Layout) (marks : CellMarks) (code : Tokene
   pub truth_is : layout.tag 1 ≡ 1
   pub each : AreFunctionsOf layout (record { literals = code.texts; constants = constants }) marks code.functions functions
   pub spends : AreTokensSpent code
-  pub plain : (f : ℕ) (function : TokenedFunction) → slice_get code.functions f ≡ Some function → HasPlainForms function.body
   pub leaves : (f : ℕ) (function : TokenedFunction) → slice_get code.functions f ≡ Some function → LeavesKnown [] function.body
   pub formed : AreWellFormed functions
   pub main : TokenedFunction

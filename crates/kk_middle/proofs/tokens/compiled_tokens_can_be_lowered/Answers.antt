@@ -24,14 +24,13 @@ returns c typed given counted made checked are compiled of =
     let same : tokened_of made given ≡ respecialised_program paired = of.program given.texts.items in
     let opens : OpenAtMost (greatest - 1) program
     = c.compiled_programs_open_few_cells.ensures typed given counted compiled greatest (omega arith) in
-    let by_count = c.compiled_programs_open_by_count.ensures typed given counted compiled in
     let short = c.compiled_programs_are_short.ensures typed given counted checked are compiled in
     record {
       form = ap bare_program same ∙ c.respecialised_code_has_its_form.ensures.form paired
           ∙ c.paired_code_spends_its_tokens.ensures.form program;
       lowerable = subst (λ (code : TokenedProgram). AreTokensLowerable code.functions) (sym same)
           (c.respecialised_code_can_be_lowered.ensures.lowerable paired
-          (c.paired_code_can_be_lowered.ensures (greatest - 1) program opens (few_opened given) by_count));
+          (c.paired_code_can_be_lowered.ensures (greatest - 1) program opens (few_opened given)));
       spends = subst AreTokensSpent (sym same)
           (c.respecialised_code_has_its_form.ensures.spends paired (c.paired_code_spends_its_tokens.ensures.spends program));
       paired = subst AllPaired (sym same)
