@@ -5,6 +5,8 @@
 #[cfg(test)]
 mod cover;
 #[cfg(test)]
+mod expressions;
+#[cfg(test)]
 mod generator;
 #[cfg(test)]
 mod lexer;

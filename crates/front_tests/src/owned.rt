@@ -1,7 +1,8 @@
+use crate::expressions::{apply, block, boxed, branch, pop};
 use kk_base::{Name, NoMemory};
 use kk_borrow::owned;
 use kk_syntax::{
-    BinaryOperator, Binder, Expr, Form, Fun, Ownership, Pat, PrintForm, Program, Row, Statement, Ty,
+    BinaryOperator, Binder, Expr, Form, Fun, Ownership, Pat, PrintForm, Program, Row, Ty,
 };
 use std::alloc::Global;
 use std::test::Fail;
@@ -143,20 +144,6 @@ static CASES: [Case; 5] = [
     },
 ];
 
-/// Takes the newest expression, or a variable if there is none.
-fn pop(exprs: &mut Vec<Expr>) -> Expr {
-    exprs.pop().unwrap_or(Expr::Variable(0))
-}
-
-fn block(alloc: Global, binder: Binder, exprs: &mut Vec<Expr>) -> Result<Expr, NoMemory> {
-    let value = Box::new(alloc, pop(exprs))?;
-    let statement = Statement {
-        binder,
-        value: pop(exprs),
-    };
-    Ok(Expr::Block(vec![in alloc; statement]?, value))
-}
-
 fn match_list(
     alloc: Global,
     first: u32,
@@ -172,15 +159,7 @@ fn match_list(
         pattern: Pat::Constructor(NIL, Vec::new(alloc)),
         body: pop(exprs),
     };
-    let scrutinee = Box::new(alloc, pop(exprs))?;
-    Ok(Expr::Match(scrutinee, vec![in alloc; empty, longer]?))
-}
-
-fn branch(alloc: Global, exprs: &mut Vec<Expr>) -> Result<Expr, NoMemory> {
-    let negative = Box::new(alloc, pop(exprs))?;
-    let positive = Box::new(alloc, pop(exprs))?;
-    let condition = Box::new(alloc, pop(exprs))?;
-    Ok(Expr::If(condition, positive, negative))
+    Ok(Expr::Match(boxed(alloc, exprs)?, vec![in alloc; empty, longer]?))
 }
 
 /// The expression of some parts.
@@ -190,10 +169,7 @@ fn expression(alloc: Global, parts: &[Part]) -> Result<Expr, NoMemory> {
         let expr = match *part {
             Part::Number => Expr::Apply(Form::Number(1), Vec::new(alloc)),
             Part::Variable(of) => Expr::Variable(of),
-            Part::Apply(form, count) => {
-                let at = exprs.len().saturating_sub(count);
-                Expr::Apply(form, exprs.split_off(at)?)
-            }
+            Part::Apply(form, count) => apply(form, count, &mut exprs)?,
             Part::If => branch(alloc, &mut exprs)?,
             Part::Match(first, rest) => match_list(alloc, first, rest, &mut exprs)?,
             Part::Val(variable) => block(alloc, Binder::Variable(variable), &mut exprs)?,

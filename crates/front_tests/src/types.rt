@@ -1,7 +1,8 @@
+use crate::expressions::{apply, block, boxed, branch, pop};
 use kk_base::Name;
 use kk_syntax::{
-    BinaryOperator, Binder, Constructor, Expr, Form, Fun, Pat, PrintForm, Program, Row, Statement,
-    Ty, TypeDecl, UnaryOperator,
+    BinaryOperator, Binder, Constructor, Expr, Form, Fun, Pat, PrintForm, Program, Row, Ty,
+    TypeDecl, UnaryOperator,
 };
 use kk_types::check;
 use std::alloc::{AllocError, Global};
@@ -28,21 +29,17 @@ fn of_word(alloc: Global, word: &str, exprs: &mut Vec<Expr>) -> Result<Expr, Fai
         "()" => Ok(leaf(alloc, Form::Unit)),
         "read-byte" => Ok(leaf(alloc, Form::ReadByte)),
         "unpair" => unpair(alloc, exprs),
-        "if" => {
-            let negative = pop(alloc, exprs)?;
-            let positive = pop(alloc, exprs)?;
-            Ok(Expr::If(pop(alloc, exprs)?, positive, negative))
-        }
-        "then" => block(alloc, Binder::Nothing, exprs),
-        "~" => apply(Form::Unary(UnaryOperator::Negate), 1, exprs),
-        "!" => apply(Form::Unary(UnaryOperator::Not), 1, exprs),
-        "+" => apply(Form::Binary(BinaryOperator::Add), 2, exprs),
-        "<" => apply(Form::Binary(BinaryOperator::Less), 2, exprs),
-        "println" => apply(Form::Print(PrintForm::PrintLine), 1, exprs),
-        "True" => apply(Form::Construct(Program::TRUE), 0, exprs),
-        "Pair" => apply(Form::Construct(2), 2, exprs),
-        "Nil" => apply(Form::Construct(3), 0, exprs),
-        "Cons" => apply(Form::Construct(4), 2, exprs),
+        "if" => Ok(branch(alloc, exprs)?),
+        "then" => Ok(block(alloc, Binder::Nothing, exprs)?),
+        "~" => Ok(apply(Form::Unary(UnaryOperator::Negate), 1, exprs)?),
+        "!" => Ok(apply(Form::Unary(UnaryOperator::Not), 1, exprs)?),
+        "+" => Ok(apply(Form::Binary(BinaryOperator::Add), 2, exprs)?),
+        "<" => Ok(apply(Form::Binary(BinaryOperator::Less), 2, exprs)?),
+        "println" => Ok(apply(Form::Print(PrintForm::PrintLine), 1, exprs)?),
+        "True" => Ok(apply(Form::Construct(Program::TRUE), 0, exprs)?),
+        "Pair" => Ok(apply(Form::Construct(2), 2, exprs)?),
+        "Nil" => Ok(apply(Form::Construct(3), 0, exprs)?),
+        "Cons" => Ok(apply(Form::Construct(4), 2, exprs)?),
         _ => of_numbered(alloc, word, exprs),
     }
 }
@@ -52,37 +49,21 @@ fn of_numbered(alloc: Global, word: &str, exprs: &mut Vec<Expr>) -> Result<Expr,
         return Ok(Expr::Variable(variable.parse()?));
     }
     if let Some(variable) = word.strip_prefix("val") {
-        return block(alloc, Binder::Variable(variable.parse()?), exprs);
+        return Ok(block(alloc, Binder::Variable(variable.parse()?), exprs)?);
     }
     if let Some(call) = word.strip_prefix("call") {
         if let Some((function, count)) = call.split_once("/") {
-            return apply(Form::Call(function.parse()?), count.parse()?, exprs);
+            let form = Form::Call(function.parse()?);
+            return Ok(apply(form, count.parse()?, exprs)?);
         }
     }
     Ok(leaf(alloc, Form::Number(word.parse()?)))
 }
 
-/// The newest expression; `()` where there is none.
-fn pop(alloc: Global, exprs: &mut Vec<Expr>) -> Result<Box<Expr>, Fail> {
-    Ok(Box::new(alloc, exprs.pop().unwrap_or(leaf(alloc, Form::Unit)))?)
-}
-
-fn apply(form: Form, count: usize, exprs: &mut Vec<Expr>) -> Result<Expr, Fail> {
-    let at = exprs.len().saturating_sub(count);
-    Ok(Expr::Apply(form, exprs.split_off(at)?))
-}
-
-fn block(alloc: Global, binder: Binder, exprs: &mut Vec<Expr>) -> Result<Expr, Fail> {
-    let last = pop(alloc, exprs)?;
-    let value = exprs.pop().unwrap_or(leaf(alloc, Form::Unit));
-    let statements = vec![in alloc; Statement { binder, value }]?;
-    Ok(Expr::Block(statements, last))
-}
-
 /// `SCRUTINEE match { Pair(x8, 7) => BODY, _ => OTHER }`: the scrutinee, the body, and the other one.
 fn unpair(alloc: Global, exprs: &mut Vec<Expr>) -> Result<Expr, Fail> {
-    let other = exprs.pop().unwrap_or(leaf(alloc, Form::Unit));
-    let body = exprs.pop().unwrap_or(leaf(alloc, Form::Unit));
+    let other = pop(exprs);
+    let body = pop(exprs);
     let parts = vec![in alloc; Pat::Variable(8), Pat::Number(7)]?;
     let first = Row {
         pattern: Pat::Constructor(2, parts),
@@ -92,7 +73,7 @@ fn unpair(alloc: Global, exprs: &mut Vec<Expr>) -> Result<Expr, Fail> {
         pattern: Pat::Wildcard,
         body: other,
     };
-    Ok(Expr::Match(pop(alloc, exprs)?, vec![in alloc; first, second]?))
+    Ok(Expr::Match(boxed(alloc, exprs)?, vec![in alloc; first, second]?))
 }
 
 /// The type of words: `i i P` is a pair of numbers.

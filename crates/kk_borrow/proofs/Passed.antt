@@ -10,14 +10,15 @@ use Rattle.kk_syntax.specs.declared.program.Form.TheVariants.{Call}
 use Rattle.kk_syntax.specs.Patterns.{Pattern}
 use Rattle.kk_syntax.specs.Programs.{ProgramTree}
 use Rattle.kk_syntax.specs.Shapes.{bound, is_among}
-use Rattle.kk_syntax.specs.Trees.{Tree, variable, apply, branch, match, sequence, Trees, no_tree, tree, Rows, no_row, row}
+use Rattle.kk_syntax.specs.Trees.{Tree, variable, apply, Trees, no_tree, tree}
 use Rattle.kk_syntax.specs.declared.positions.Position.{Position}
 use Rattle.kk_borrow.specs.declared.scope.Binding.{Binding}
 use Rattle.kk_syntax.specs.OwnedPositions.{PositionSet, arity_of, lent_below, is_lent_variable, lent_in_row, handed_to, handed_by}
-use Rattle.kk_syntax.specs.OwnedSearch.{handed_in, handed_in_rows}
-use Rattle.kk_borrow.specs.Rules.{Has, Keeps}
-use Rattle.kk_borrow.specs.Demands.{position, origins_of, origins_in, hung, all_hung, parameters, passed, passed_by, tail_rules, tail_rules_in}
+use Rattle.kk_syntax.specs.OwnedSearch.{to_handed, handed_in}
+use Rattle.kk_borrow.specs.Rules.{RuleTree, Has, Keeps}
+use Rattle.kk_borrow.specs.Demands.{position, origins_of, origins_in, hung, all_hung, parameters, passed, passed_by, passed_at, to_tail_rules, tail_rules}
 use Rattle.kk_syntax.proofs.Lists.{all_left, all_right}
+use Rattle.kk_syntax.proofs.Walks.{tails_agree}
 
 -- whether one of some parameters is lent
 abbrev pub some_lent : (ℕ → Bool) → List ℕ → Bool
@@ -157,22 +158,15 @@ passed_by_same : (program : ProgramTree) (set : PositionSet) (f : ℕ) (scope : 
 passed_by_same program set f scope lent tells (Call function) ts = passed_same program set f scope lent tells function 0 ts
 passed_by_same program set f scope lent tells form ts = none (Keeps program set) (Asks program set)
 
-mutual
-  pub tail_same : (program : ProgramTree) (set : PositionSet) (f : ℕ) (scope : List Binding) (lent : List ℕ) → Tells (set f) scope lent → (t : Tree) → All (Keeps program set) (tail_rules f scope t) ↔ All (Asks program set) (handed_in lent t)
-  tail_same program set f scope lent tells (variable of) = none (Keeps program set) (Asks program set)
-  tail_same program set f scope lent tells (apply form arguments) = passed_by_same program set f scope lent tells form arguments
-  tail_same program set f scope lent tells (branch condition positive negative) =
-      join (Keeps program set) (Asks program set) (tail_rules f scope positive) (tail_rules f scope negative) (handed_in lent positive) (handed_in lent negative)
-      (tail_same program set f scope lent tells positive)
-      (tail_same program set f scope lent tells negative)
-  tail_same program set f scope lent tells (match scrutinee rows) =
-      tail_in_same program set f scope lent tells (is_lent_variable lent scrutinee) (origins_in scope scrutinee) (is_lent_tells (set f) scope lent tells scrutinee) rows
-  tail_same program set f scope lent tells (sequence binder first rest) = tail_same program set f scope lent tells rest
+passed_at_same : (program : ProgramTree) (set : PositionSet) (f : ℕ) (scope : List Binding) (lent : List ℕ) → Tells (set f) scope lent → (t : Tree)
+    → All (Keeps program set) (passed_at f scope t) ↔ All (Asks program set) (handed_by lent t)
+passed_at_same program set f scope lent tells (apply form ts) = passed_by_same program set f scope lent tells form ts
+passed_at_same program set f scope lent tells _ = none (Keeps program set) (Asks program set)
 
-  tail_in_same : (program : ProgramTree) (set : PositionSet) (f : ℕ) (scope : List Binding) (lent : List ℕ) → Tells (set f) scope lent → (opened : Bool) (os : List ℕ) → opened ≡ some_lent (set f) os → (rs : Rows)
-      → All (Keeps program set) (tail_rules_in f scope os rs) ↔ All (Asks program set) (handed_in_rows lent opened rs)
-  tail_in_same program set f scope lent tells opened os is no_row = none (Keeps program set) (Asks program set)
-  tail_in_same program set f scope lent tells opened os is (row pattern body rest) =
-      join (Keeps program set) (Asks program set) (tail_rules f (scope ++ all_hung (bound pattern) os) body) (tail_rules_in f scope os rest) (handed_in (lent_in_row lent opened pattern) body) (handed_in_rows lent opened rest)
-      (tail_same program set f (scope ++ all_hung (bound pattern) os) (lent_in_row lent opened pattern) (row_tells (set f) scope lent tells opened os is pattern) body)
-      (tail_in_same program set f scope lent tells opened os is rest)
+pub tail_same : (program : ProgramTree) (set : PositionSet) (f : ℕ) (scope : List Binding) (lent : List ℕ) → Tells (set f) scope lent → (t : Tree) → All (Keeps program set) (tail_rules f scope t) ↔ All (Asks program set) (handed_in lent t)
+tail_same program set f scope lent tells t =
+    tails_agree (to_tail_rules f) to_handed (λ (rules : List RuleTree) (ps : List Position). All (Keeps program set) rules ↔ All (Asks program set) ps)
+    (none (Keeps program set) (Asks program set)) (join (Keeps program set) (Asks program set)) (Tells (set f)) (passed_at_same program set f)
+    (λ bindings ns os opened. opened ≡ some_lent (set f) os) (is_lent_tells (set f))
+    (λ bindings ns told os opened is p. row_tells (set f) bindings ns told opened os is p)
+    scope lent tells t

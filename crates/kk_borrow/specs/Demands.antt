@@ -5,6 +5,7 @@ use Rattle.kk_syntax.specs.declared.program.Form.{Form}
 use Rattle.kk_syntax.specs.declared.program.Form.TheVariants.{Construct, Call}
 use Rattle.kk_syntax.specs.Programs.{FunctionTree}
 use Rattle.kk_syntax.specs.Shapes.{bound}
+use Rattle.kk_syntax.specs.OwnedSearch.{TailWalk, tail_walked, tail_walked_rows}
 use Rattle.kk_syntax.specs.Trees.{Tree, variable, apply, branch, match, sequence, Trees, no_tree, tree, Rows, no_row, row}
 use Rattle.kk_syntax.specs.declared.positions.Position.{Position}
 use Rattle.kk_borrow.specs.declared.owned_place.Place.{Place}
@@ -80,19 +81,20 @@ abbrev pub passed_by : ℕ → List Binding → Form → Trees → List RuleTree
 passed_by f scope (Call function) arguments = passed f scope function 0 arguments
 passed_by f scope form arguments = []
 
--- o5: the rules for the tail calls of an expression in a scope
-abbrev mutual
-  pub tail_rules : ℕ → List Binding → Tree → List RuleTree
-  tail_rules f scope (variable of) = []
-  tail_rules f scope (apply form arguments) = passed_by f scope form arguments
-  tail_rules f scope (branch condition positive negative) = tail_rules f scope positive ++ tail_rules f scope negative
-  tail_rules f scope (match scrutinee rows) = tail_rules_in f scope (origins_in scope scrutinee) rows
-  tail_rules f scope (sequence binder first rest) = tail_rules f scope rest
+abbrev pub passed_at : ℕ → List Binding → Tree → List RuleTree
+passed_at f scope (apply form arguments) = passed_by f scope form arguments
+passed_at f scope other = []
 
-  -- the rows of a match whose scrutinee hangs on these parameters
-  pub tail_rules_in : ℕ → List Binding → List ℕ → Rows → List RuleTree
-  tail_rules_in f scope origins no_row = []
-  tail_rules_in f scope origins (row pattern body rest) = tail_rules f (scope ++ all_hung (bound pattern) origins) body ++ tail_rules_in f scope origins rest
+-- o5: the rules for the tail calls of an expression in a scope
+abbrev pub to_tail_rules : ℕ → TailWalk (List Binding) (List ℕ) RuleTree
+to_tail_rules f = record { at = passed_at f; told = origins_in; enter = λ scope origins pattern. scope ++ all_hung (bound pattern) origins }
+
+abbrev pub tail_rules : ℕ → List Binding → Tree → List RuleTree
+tail_rules f = tail_walked (to_tail_rules f)
+
+-- the rows of a match whose scrutinee hangs on these parameters
+abbrev pub tail_rules_in : ℕ → List Binding → List ℕ → Rows → List RuleTree
+tail_rules_in f = tail_walked_rows (to_tail_rules f)
 
 -- the rules of a function by its number, and of functions from a number on
 abbrev pub rules_in : ℕ → FunctionTree → List RuleTree

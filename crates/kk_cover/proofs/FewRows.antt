@@ -7,8 +7,9 @@ use Rattle.kk_syntax.specs.declared.program.Row.{Row}
 use Rattle.kk_syntax.specs.Outlines.{Outline, no_outline, outline, pattern_outline}
 use Rattle.kk_syntax.specs.Patterns.{Pattern, anything, variable as pattern_variable, exactly, constructor}
 use Rattle.kk_syntax.specs.Programs.{ProgramTree}
-use Rattle.kk_syntax.specs.Shapes.{nodes_of, nodes_of_all, nodes_of_rows, nodes_of_pattern, gathered_all, gathered_rows}
-use Rattle.kk_syntax.specs.Trees.{Tree, variable, apply, branch, match, sequence, Trees, no_tree, tree, Rows, no_row, row}
+use Rattle.kk_syntax.proofs.Walks.{nodes_bound}
+use Rattle.kk_syntax.specs.Shapes.{nodes_of, nodes_of_rows, nodes_of_pattern}
+use Rattle.kk_syntax.specs.Trees.{Tree, Rows, no_row, row}
 use Rattle.kk_cover.specs.declared.problem.Asked.{Asked}
 use Rattle.kk_cover.specs.declared.problem.Asked.TheVariants as OfAsked
 use Rattle.kk_cover.specs.Covered.{row_outlines}
@@ -60,13 +61,6 @@ picked_few program q ps picked few = (each_back IsFew picked.before (q ∷ picke
 abbrev pub Within : ℕ → List Outline → Type 0
 Within n rows = length rows ≤ n
 
-widened : (m n : ℕ) (all : List (List Outline)) → m ≤ n → Each (Within m) all → Each (Within n) all
-widened m n [] le each = tt
-widened m n (rows ∷ all) le each = (omega (arith, le, each.0), widened m n all le each.1)
-
-two : (k m n : ℕ) (xs ys : List (List Outline)) → k ≤ n → m ≤ n → Each (Within k) xs → Each (Within m) ys → Each (Within n) (xs ++ ys)
-two k m n xs ys one other first rest = each-append (Within n) xs ys (widened k n xs one first) (widened m n ys other rest)
-
 some_nodes : (p : Pattern) → 1 ≤ nodes_of_pattern p
 some_nodes anything = omega arith
 some_nodes (pattern_variable x) = omega arith
@@ -77,26 +71,5 @@ rows_nodes : (rows : Rows) → length (asked_by rows) ≤ nodes_of_rows rows
 rows_nodes no_row = omega arith
 rows_nodes (row pattern body rest) = omega (arith, some_nodes pattern, rows_nodes rest)
 
-mutual
-  pub match_nodes : (e : Tree) → Each (Within (nodes_of e)) (matches e)
-  match_nodes (variable x) = tt
-  match_nodes (apply form es) = widened (nodes_of_all es) _ (gathered_all of_matches es) (omega arith) (all_nodes es)
-  match_nodes (branch e positive negative) =
-      two (nodes_of e) (nodes_of positive + nodes_of negative) _ (matches e) (matches positive ++ matches negative) (omega arith) (omega arith) (match_nodes e)
-      (two (nodes_of positive) (nodes_of negative) _ (matches positive) (matches negative) (omega arith) (omega arith) (match_nodes positive) (match_nodes negative))
-  match_nodes (match e rows) = (
-    omega (arith, rows_nodes rows),
-    two (nodes_of e) (nodes_of_rows rows) _ (matches e) (gathered_rows of_matches rows) (omega arith) (omega arith) (match_nodes e) (body_nodes rows),
-  )
-  match_nodes (sequence binder first rest) =
-      two (nodes_of first) (nodes_of rest) _ (matches first) (matches rest) (omega arith) (omega arith) (match_nodes first) (match_nodes rest)
-
-  all_nodes : (es : Trees) → Each (Within (nodes_of_all es)) (gathered_all of_matches es)
-  all_nodes no_tree = tt
-  all_nodes (tree first rest) =
-      two (nodes_of first) (nodes_of_all rest) _ (matches first) (gathered_all of_matches rest) (omega arith) (omega arith) (match_nodes first) (all_nodes rest)
-
-  body_nodes : (rows : Rows) → Each (Within (nodes_of_rows rows)) (gathered_rows of_matches rows)
-  body_nodes no_row = tt
-  body_nodes (row pattern body rest) =
-      two (nodes_of body) (nodes_of_rows rest) _ (matches body) (gathered_rows of_matches rest) (omega arith) (omega arith) (match_nodes body) (body_nodes rest)
+pub match_nodes : (e : Tree) → Each (Within (nodes_of e)) (matches e)
+match_nodes e = nodes_bound of_matches Within (λ m n le rows few. omega (arith, le, few)) (λ form. tt) (λ p. tt) (λ rows. (rows_nodes rows, tt)) e

@@ -1,16 +1,16 @@
 -- In a typing of a function, the rows of each match are of the type that is taken for its scrutinee.
-use Rattle.std.proofs.Common.{◌≡◌, List, [], ◌∷◌, ◌++◌, map, refl, sym, subst, arith}
+use Rattle.std.proofs.Common.{◌≡◌, List, [], ◌∷◌, ◌++◌, refl, sym, subst, arith}
 use Rattle.std.proofs.lemmas.List.Elements.{Contains-append_left, Contains-append_right}
 use Rattle.std.specs.List.{Contains}
 use Rattle.kk_syntax.specs.Programs.{FunctionTree, ProgramTree}
-use Rattle.kk_syntax.specs.Shapes.{gathered_all, gathered_rows}
-use Rattle.kk_syntax.specs.Trees.{Tree, variable, apply, branch, match, sequence, Trees, no_tree, tree, Rows, no_row, row}
-use Rattle.kk_syntax.specs.Types.{TypeTree, put, type_at}
-use Rattle.kk_syntax.specs.Typing.{Scope, Choice, holding, chosen_at, IsTypedBy, AreTypedBy, AreRowsTypedBy, IsTyping}
+use Rattle.kk_syntax.specs.Trees.{Tree}
+use Rattle.kk_syntax.specs.Types.{TypeTree}
+use Rattle.kk_syntax.specs.Typing.{Scope, Choice, holding, IsTypedBy, IsTyping}
 use Rattle.kk_syntax.specs.Covered.{Each}
 use Rattle.kk_syntax.specs.Outlines.{Outline}
 use Rattle.kk_syntax.specs.Matches.{of_matches, matches}
 use Rattle.kk_syntax.proofs.PatternTypes.{rows_of_type}
+use Rattle.kk_syntax.proofs.Walks.{typing_agrees}
 use Rattle.kk_cover.specs.TypedRows.{AreOfChosenType}
 use Rattle.kk_cover.proofs.Keeping.{each-append}
 
@@ -32,42 +32,20 @@ module _ (program : ProgramTree) where
     in_turn : (xs ys : List (List Outline)) → AreOfTypes xs → AreOfTypes ys → AreOfTypes (xs ++ ys)
     in_turn xs ys first rest = each-append (AreOfChosenType program whole) xs ys first rest
 
-    mutual
-      tree_rows : (scope : Scope) (e : Tree) (t : TypeTree) (choices : List Choice) → Within choices → IsTypedBy program scope e t choices → AreOfTypes (matches e)
-      tree_rows scope (variable x) t choices within typed = tt
-      tree_rows scope (apply form es) t choices within uses =
-          trees_rows scope es (map (put (type_at uses.at)) uses.of.parameters) uses.rest (within_rest choices (chosen_at form uses.at) uses.rest uses.choices_are within) uses.arguments
-      tree_rows scope (branch e positive negative) t choices within (one, other, is, condition, (two, three, rest_is, first, second)) =
-          let rest = within_rest choices one other is within in
-          in_turn (matches e) (matches positive ++ matches negative) (tree_rows scope e _ one (within_first choices one other is within) condition)
-          (in_turn (matches positive) (matches negative) (tree_rows scope positive t two (within_first other two three rest_is rest) first) (tree_rows scope negative t three (within_rest other two three rest_is rest) second))
-      tree_rows scope (match e rows) t choices within holds =
-          let parts = holds.inside in
-          let rest = within_rest choices (holding holds.of ∷ []) holds.rest holds.choices_are within in (
-            record {
-              at = holds.of;
-              chosen = within_first choices (holding holds.of ∷ []) holds.rest holds.choices_are within holds.of (0, omega arith, refl);
-              typed = rows_of_type program scope rows holds.of t parts.1 parts.4;
-            },
-            in_turn (matches e) (gathered_rows of_matches rows) (tree_rows scope e holds.of parts.0 (within_first holds.rest parts.0 parts.1 parts.2 rest) parts.3) (rows_rows scope rows holds.of t parts.1 (within_rest holds.rest parts.0 parts.1 parts.2 rest) parts.4),
-          )
-      tree_rows scope (sequence binder first last) t choices within holds =
-          let parts = holds.inside in
-          let rest = within_rest choices (holding holds.of ∷ []) holds.rest holds.choices_are within in
-          in_turn (matches first) (matches last) (tree_rows scope first holds.of parts.0 (within_first holds.rest parts.0 parts.1 parts.2 rest) parts.3) (tree_rows _ last t parts.1 (within_rest holds.rest parts.0 parts.1 parts.2 rest) parts.4)
+    -- where these choices are among those of the whole, the rows of these matches are of types that are chosen there
+    abbrev AreTyped : List Choice → List (List Outline) → Type 0
+    AreTyped choices all = Within choices → AreOfTypes all
 
-      trees_rows : (scope : Scope) (es : Trees) (ts : List TypeTree) (choices : List Choice) → Within choices → AreTypedBy program scope es ts choices → AreOfTypes (gathered_all of_matches es)
-      trees_rows scope no_tree ts choices within typed = tt
-      trees_rows scope (tree first rest) [] choices within typed = absurd typed
-      trees_rows scope (tree first rest) (t ∷ ts) choices within (one, other, is, first_typed, rest_typed) =
-          in_turn (matches first) (gathered_all of_matches rest) (tree_rows scope first t one (within_first choices one other is within) first_typed) (trees_rows scope rest ts other (within_rest choices one other is within) rest_typed)
-
-      rows_rows : (scope : Scope) (rows : Rows) (u t : TypeTree) (choices : List Choice) → Within choices → AreRowsTypedBy program scope rows u t choices → AreOfTypes (gathered_rows of_matches rows)
-      rows_rows scope no_row u t choices within typed = tt
-      rows_rows scope (row pattern body rest) u t choices within (one, other, is, binds, rest_typed) =
-          let parts = binds.inside in
-          let bodies = within_rest one (map holding binds.at) binds.rest binds.choices_are (within_first choices one other is within) in
-          in_turn (matches body) (gathered_rows of_matches rest) (tree_rows _ body t parts.1 (within_rest binds.rest parts.0 parts.1 parts.2 bodies) parts.4) (rows_rows scope rest u t other (within_rest choices one other is within) rest_typed)
+    tree_rows : (scope : Scope) (e : Tree) (t : TypeTree) (choices : List Choice) → IsTypedBy program scope e t choices → AreTyped choices (matches e)
+    tree_rows =
+        typing_agrees program of_matches AreTyped (λ within. tt)
+        (λ xs ys us vs first rest within. in_turn us vs (first (within_first (xs ++ ys) xs ys refl within)) (rest (within_rest (xs ++ ys) xs ys refl within)))
+        (λ t xs us agree within. agree (within_rest (holding t ∷ xs) (holding t ∷ []) xs refl within))
+        (λ form of at is each within. tt) (λ scope p t choices typed within. tt)
+        (λ scope rows u t choices typed within. (
+          record { at = u; chosen = within u (0, omega arith, refl); typed = rows_of_type program scope rows u t choices typed },
+          tt,
+        ))
 
   pub function_rows : (function : FunctionTree) (choices : List Choice) → IsTyping program function choices → Each (AreOfChosenType program choices) (matches function.body)
-  function_rows function choices typing = tree_rows choices _ function.body _ choices (λ t at. at) typing
+  function_rows function choices typing = tree_rows choices _ function.body _ choices typing (λ t at. at)

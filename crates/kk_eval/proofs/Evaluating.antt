@@ -11,7 +11,7 @@ use Rattle.kk_base.proofs.Traces.{TakesFrom-split}
 use Rattle.kk_syntax.specs.declared.program.Form.{Form}
 use Rattle.kk_syntax.specs.declared.program.Form.TheVariants.{Number, Unit as Nothing, ReadByte, PrintText, Unary, Binary, Print, Construct, Call}
 use Rattle.kk_syntax.specs.Programs.{FunctionTree}
-use Rattle.kk_syntax.specs.Trees.{Tree, variable, apply, branch, match, sequence, no_tree, tree}
+use Rattle.kk_syntax.specs.Trees.{Tree, variable, apply, no_tree, tree}
 use Rattle.kk_source.specs.Actions.{Action, goes, puts, takes, builds, calls, performed, print_step}
 use Rattle.kk_source.specs.Matching.{Chosen, first_match}
 use Rattle.kk_source.specs.Notes.{Note, seen, events_of}
@@ -70,10 +70,7 @@ choice_goes_on setting (Some chosen) older from = tt
 expression_goes_on : (setting : Setting) (e : Tree) (environment : Environment) (c : Configuration) → GoesOn (expression_step setting e environment c)
 expression_goes_on setting (variable x) environment c = tt
 expression_goes_on setting (apply form no_tree) environment c = form_goes_on setting form [] c.frames c
-expression_goes_on setting (apply form (tree first rest)) environment c = tt
-expression_goes_on setting (branch condition positive negative) environment c = tt
-expression_goes_on setting (match scrutinee of) environment c = tt
-expression_goes_on setting (sequence binder first rest) environment c = tt
+expression_goes_on setting _ environment c = tt
 
 value_goes_on : (setting : Setting) (v : Value) (frames : List Frame) (c : Configuration) → GoesOn (value_step setting v frames c)
 value_goes_on setting v [] c = tt

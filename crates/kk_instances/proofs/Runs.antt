@@ -16,7 +16,7 @@ use Rattle.kk_syntax.specs.declared.positions.Ownership.{Ownership}
 use Rattle.kk_syntax.specs.declared.positions.Ownership.TheVariants.{Owned}
 use Rattle.kk_syntax.specs.GroundTyping.{table_of, IsGroundTyped}
 use Rattle.kk_syntax.specs.PositionsOf.{PositionTable, lends}
-use Rattle.kk_syntax.specs.Trees.{Tree, variable, apply, branch, match, sequence, no_tree, tree}
+use Rattle.kk_syntax.specs.Trees.{Tree, variable, apply, no_tree, tree}
 use Rattle.kk_syntax.specs.Programs.{FunctionTree, ProgramTree}
 use Rattle.kk_syntax.specs.Types.{TypeTree}
 use Rattle.kk_source.specs.State.{Setting, Value, integer, unit, constant, place, Cell, Store, Environment, Frame, arguments, branches, rows, statement, call, End, heap_full, stack_full, Control, expression, value, stopped, end_at, Configuration}
@@ -389,10 +389,7 @@ module _ (program made : ProgramTree) (texts : program.texts ≡ made.texts) (ty
       (expression_step made_setting e env c)
   expression_follows (variable x) env c fits = ap (λ v. goes (at_value v (machine_image new c))) (image_of_variable new env x)
   expression_follows (apply form no_tree) env c fits = form_follows form [] c.frames c fits
-  expression_follows (apply form (tree e rest)) env c fits = refl
-  expression_follows (branch condition positive negative) env c fits = refl
-  expression_follows (match scrutinee of) env c fits = refl
-  expression_follows (sequence binder e rest) env c fits = refl
+  expression_follows _ env c fits = refl
 
   choice_follows : (chosen : Option Chosen) (older : List Frame) (from : Configuration)
       → Follows (choice_step setting (option_map (choice_image made.constructors new apart from.store) chosen)

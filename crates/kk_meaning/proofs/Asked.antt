@@ -5,7 +5,7 @@ use Rattle.std.specs.Fmt.{signed_decimal}
 use Rattle.std.specs.List.{flat_map}
 use Rattle.kk_syntax.specs.declared.program.Form.{Form}
 use Rattle.kk_syntax.specs.declared.program.Form.TheVariants.{Number, Unit as Nothing, ReadByte, PrintText, Unary, Binary, Print, Construct, Call}
-use Rattle.kk_syntax.specs.Trees.{Tree, variable, apply, branch, match, sequence, no_tree, tree}
+use Rattle.kk_syntax.specs.Trees.{Tree, variable, apply, no_tree, tree}
 use Rattle.kk_syntax.specs.Programs.{FunctionTree, text_at}
 use Rattle.kk_source.specs.State.{Setting, Value, Environment, Frame, arguments, branches, rows, statement, call, ended, heap_full, stack_full, end_at, Control, expression, value, stopped, Configuration}
 use Rattle.kk_source.specs.Notes.{events_of as seen_of}
@@ -129,10 +129,7 @@ module _ (setting : Setting) where
   expression_takes : (e : Tree) (environment : Environment) (c : Configuration) → Taken c.frames c (expression_step setting e environment c)
   expression_takes (variable x) environment c takes_one = absurd takes_one
   expression_takes (apply form no_tree) environment c takes_one = form_takes form [] c.frames c takes_one
-  expression_takes (apply form (tree first rest)) environment c takes_one = absurd takes_one
-  expression_takes (branch condition p q) environment c takes_one = absurd takes_one
-  expression_takes (match scrutinee of) environment c takes_one = absurd takes_one
-  expression_takes (sequence binder first rest) environment c takes_one = absurd takes_one
+  expression_takes _ environment c takes_one = absurd takes_one
 
   choice_takes : (chosen : Option Chosen) (older others : List Frame) (c : Configuration) → Taken others c (choice_step setting chosen older c)
   choice_takes None older others c takes_one = absurd takes_one

@@ -4,16 +4,17 @@ use Rattle.std.proofs.Common.{◌≡◌, ℕ, ℤ, ◌<◌, List, [], ◌∷◌,
 use Rattle.std.specs.Prelude.{slice_get, flat_map}
 use Rattle.std.proofs.lemmas.Option.{slice_get_within}
 use Rattle.kk_syntax.specs.Covered.{Each}
-use Rattle.kk_syntax.specs.Shapes.{Gathers, gathered, gathered_all, gathered_rows}
+use Rattle.kk_syntax.specs.Shapes.{Gathers, gathered}
 use Rattle.kk_syntax.proofs.Elements.{each_both}
 use Rattle.kk_syntax.proofs.PatternTypes.{is_declared}
+use Rattle.kk_syntax.proofs.Walks.{typing_agrees}
 use Rattle.kk_syntax.specs.declared.program.Form.{Form}
 use Rattle.kk_syntax.specs.declared.program.Form.TheVariants.{Call, Construct}
 use Rattle.kk_syntax.specs.Patterns.{Pattern, anything, variable as pattern_variable, exactly, constructor, Patterns, no_part, part}
 use Rattle.kk_syntax.specs.Programs.{FunctionTree, ProgramTree}
-use Rattle.kk_syntax.specs.Trees.{Tree, variable, apply, branch, match, sequence, Trees, no_tree, tree, Rows, no_row, row}
+use Rattle.kk_syntax.specs.Trees.{Tree, Rows}
 use Rattle.kk_syntax.specs.Types.{TypeTree, put, type_at}
-use Rattle.kk_syntax.specs.Typing.{Scope, Scheme, Choice, constructing, calling, holding, form_scheme, function_scheme, constructor_scheme, chosen_at, IsPatternTyped, ArePatternsTyped, IsTypedBy, AreTypedBy, AreRowsTypedBy, IsTyping}
+use Rattle.kk_syntax.specs.Typing.{Scope, Scheme, Choice, constructing, calling, holding, form_scheme, function_scheme, constructor_scheme, chosen_at, IsPatternTyped, ArePatternsTyped, IsTypedBy, IsTyping}
 use Rattle.kk_mono.specs.Instances.{InstanceTree, GroundConstructorTree, called_at, constructed_at, called_by, gathers_calls, calls, built_by, gathers_constructors, constructors_in, tested_all}
 
 -- a function of the program, at as many types as it has type variables
@@ -36,10 +37,6 @@ IsChosen program (calling f at) = IsCall program f at
 IsChosen program (holding of) = Unit {0}
 
 module _ (program : ProgramTree) where
-  held : (ts : List TypeTree) (choices : List Choice) → Each (IsChosen program) choices → Each (IsChosen program) (map holding ts ++ choices)
-  held [] choices each = each
-  held (t ∷ ts) choices each = (tt, held ts choices each)
-
   along : (xs ys : List Choice) → xs ≡ ys → Each (IsChosen program) ys → Each (IsChosen program) xs
   along xs ys same each = subst (Each (IsChosen program)) (sym same) each
 
@@ -53,13 +50,13 @@ module _ (program : ProgramTree) where
       slice_get_within program.constructors c known.made known.there
 
   -- what a form chooses
-  chosen : (form : Form) (of : Scheme) (at : List TypeTree) (rest : List Choice) → form_scheme program form ≡ Some of → length at ≡ of.variables
-      → Each (IsChosen program) rest → Each (IsChosen program) (chosen_at form at ++ rest)
-  chosen (Call f) of at rest is long each =
+  chosen : (form : Form) (of : Scheme) (at : List TypeTree) → form_scheme program form ≡ Some of → length at ≡ of.variables
+      → Each (IsChosen program) (chosen_at form at)
+  chosen (Call f) of at is long =
       let some = some_function (slice_get program.functions f) of is in
-      (record { function = some.0; is = some.1; long = long ∙ sym some.2 }, each)
-  chosen (Construct c) of at rest is long each = (made_below c of is, each)
-  chosen _ of at rest is long each = each
+      (record { function = some.0; is = some.1; long = long ∙ sym some.2 }, tt)
+  chosen (Construct c) of at is long = (made_below c of is, tt)
+  chosen _ of at is long = tt
 
   mutual
     pattern_chosen : (scope : Scope) (p : Pattern) (t : TypeTree) (choices : List Choice) → IsPatternTyped program scope p t choices → Each (IsChosen program) choices
@@ -77,43 +74,12 @@ module _ (program : ProgramTree) where
     patterns_chosen scope (part first rest) (t ∷ ts) choices (one, other, is, first_typed, rest_typed) =
         along choices (one ++ other) is (each_both (IsChosen program) one other (pattern_chosen scope first t one first_typed) (patterns_chosen scope rest ts other rest_typed))
 
-  mutual
-    tree_chosen : (scope : Scope) (e : Tree) (t : TypeTree) (choices : List Choice) → IsTypedBy program scope e t choices → Each (IsChosen program) choices
-    tree_chosen scope (variable x) t choices typed = along choices [] typed.1 tt
-    tree_chosen scope (apply form es) t choices uses =
-        along choices (chosen_at form uses.at ++ uses.rest) uses.choices_are
-        (chosen form uses.of uses.at uses.rest uses.is uses.each (trees_chosen scope es (map (put (type_at uses.at)) uses.of.parameters) uses.rest uses.arguments))
-    tree_chosen scope (branch e positive negative) t choices (one, other, is, condition, (two, three, rest_is, first, second)) =
-        along choices (one ++ other) is (each_both (IsChosen program) one other (tree_chosen scope e _ one condition)
-        (along other (two ++ three) rest_is (each_both (IsChosen program) two three (tree_chosen scope positive t two first) (tree_chosen scope negative t three second))))
-    tree_chosen scope (match e rows) t choices holds =
-        let parts = holds.inside in
-        along choices (holding holds.of ∷ holds.rest) holds.choices_are
-        (tt, along holds.rest (parts.0 ++ parts.1) parts.2 (each_both (IsChosen program) parts.0 parts.1 (tree_chosen scope e holds.of parts.0 parts.3) (rows_chosen scope rows holds.of t parts.1 parts.4)))
-    tree_chosen scope (sequence binder first rest) t choices holds =
-        let parts = holds.inside in
-        along choices (holding holds.of ∷ holds.rest) holds.choices_are
-        (tt, along holds.rest (parts.0 ++ parts.1) parts.2 (each_both (IsChosen program) parts.0 parts.1 (tree_chosen scope first holds.of parts.0 parts.3) (tree_chosen _ rest t parts.1 parts.4)))
-
-    trees_chosen : (scope : Scope) (es : Trees) (ts : List TypeTree) (choices : List Choice) → AreTypedBy program scope es ts choices → Each (IsChosen program) choices
-    trees_chosen scope no_tree [] choices none = along choices [] none tt
-    trees_chosen scope no_tree (t ∷ ts) choices typed = absurd typed
-    trees_chosen scope (tree first rest) [] choices typed = absurd typed
-    trees_chosen scope (tree first rest) (t ∷ ts) choices (one, other, is, first_typed, rest_typed) =
-        along choices (one ++ other) is (each_both (IsChosen program) one other (tree_chosen scope first t one first_typed) (trees_chosen scope rest ts other rest_typed))
-
-    rows_chosen : (scope : Scope) (rows : Rows) (u t : TypeTree) (choices : List Choice) → AreRowsTypedBy program scope rows u t choices → Each (IsChosen program) choices
-    rows_chosen scope no_row u t choices none = along choices [] none tt
-    rows_chosen scope (row pattern body rest) u t choices (one, other, is, binds, rest_typed) =
-        let parts = binds.inside in
-        along choices (one ++ other) is (each_both (IsChosen program) one other
-        (along one (map holding binds.at ++ binds.rest) binds.choices_are (held binds.at binds.rest
-        (along binds.rest (parts.0 ++ parts.1) parts.2 (each_both (IsChosen program) parts.0 parts.1 (pattern_chosen _ pattern u parts.0 parts.3) (tree_chosen _ body t parts.1 parts.4)))))
-        (rows_chosen scope rest u t other rest_typed))
-
   -- each choice of a typing is one of the program's
   pub typing_chosen : (function : FunctionTree) (choices : List Choice) → IsTyping program function choices → Each (IsChosen program) choices
-  typing_chosen function choices typing = tree_chosen _ function.body _ choices typing
+  typing_chosen function choices typing =
+      typing_agrees program gathers_calls (λ choices names. Each (IsChosen program) choices) tt
+      (λ xs ys us vs first rest. each_both (IsChosen program) xs ys first rest) (λ t xs us each. (tt, each)) chosen pattern_chosen
+      (λ scope rows u t choices typed. (tt, tt)) _ function.body _ choices typing
 
 -- ---- the names that choices have
 
@@ -146,10 +112,6 @@ module _ (pick : Choice → List ℕ) (none_held : (t : TypeTree) → pick (hold
   one_held : (t : TypeTree) (choices : List Choice) → flat_map pick (holding t ∷ choices) ≡ flat_map pick choices
   one_held t choices = ap (λ ns. ns ++ flat_map pick choices) (none_held t)
 
-  all_held : (ts : List TypeTree) (choices : List Choice) → flat_map pick (map holding ts ++ choices) ≡ flat_map pick choices
-  all_held [] choices = refl
-  all_held (t ∷ ts) choices = one_held t (map holding ts ++ choices) ∙ all_held ts choices
-
   mutual
     pattern_picked : (scope : Scope) (p : Pattern) (t : TypeTree) (choices : List Choice) → IsPatternTyped program scope p t choices → flat_map pick choices ≡ from.at_pattern p
     pattern_picked scope anything t choices none = none_picked choices none ∙ sym wildcards
@@ -169,50 +131,10 @@ module _ (pick : Choice → List ℕ) (none_held : (t : TypeTree) → pick (hold
         ∙ (picked_both one other (from.at_pattern first) (patterns rest) (pattern_picked scope first t one first_typed) (patterns_picked scope rest ts other rest_typed)
         ∙ sym (both_parts first rest))
 
-  mutual
-    tree_picked : (scope : Scope) (e : Tree) (t : TypeTree) (choices : List Choice) → IsTypedBy program scope e t choices → flat_map pick choices ≡ gathered from e
-    tree_picked scope (variable x) t choices typed = none_picked choices typed.1
-    tree_picked scope (apply form es) t choices uses =
-        ap (flat_map pick) uses.choices_are
-        ∙ picked_both (chosen_at form uses.at) uses.rest (from.at_form form) (gathered_all from es) (forms form uses.at)
-        (trees_picked scope es (map (put (type_at uses.at)) uses.of.parameters) uses.rest uses.arguments)
-    tree_picked scope (branch e positive negative) t choices (one, other, is, condition, (two, three, rest_is, first, second)) =
-        ap (flat_map pick) is
-        ∙ picked_both one other (gathered from e) (gathered from positive ++ gathered from negative) (tree_picked scope e _ one condition)
-        (ap (flat_map pick) rest_is ∙ picked_both two three (gathered from positive) (gathered from negative) (tree_picked scope positive t two first) (tree_picked scope negative t three second))
-    tree_picked scope (match e rows) t choices holds =
-        let parts = holds.inside in
-        ap (flat_map pick) holds.choices_are
-        ∙ (one_held holds.of holds.rest
-        ∙ (ap (flat_map pick) parts.2
-        ∙ (picked_both parts.0 parts.1 (gathered from e) (gathered_rows from rows) (tree_picked scope e holds.of parts.0 parts.3) (rows_picked scope rows holds.of t parts.1 parts.4)
-        ∙ sym (ap (λ ns. ns ++ (gathered from e ++ gathered_rows from rows)) (no_rows rows)))))
-    tree_picked scope (sequence binder first rest) t choices holds =
-        let parts = holds.inside in
-        ap (flat_map pick) holds.choices_are
-        ∙ (one_held holds.of holds.rest
-        ∙ (ap (flat_map pick) parts.2
-        ∙ picked_both parts.0 parts.1 (gathered from first) (gathered from rest) (tree_picked scope first holds.of parts.0 parts.3) (tree_picked _ rest t parts.1 parts.4)))
-
-    trees_picked : (scope : Scope) (es : Trees) (ts : List TypeTree) (choices : List Choice) → AreTypedBy program scope es ts choices → flat_map pick choices ≡ gathered_all from es
-    trees_picked scope no_tree [] choices none = none_picked choices none
-    trees_picked scope no_tree (t ∷ ts) choices typed = absurd typed
-    trees_picked scope (tree first rest) [] choices typed = absurd typed
-    trees_picked scope (tree first rest) (t ∷ ts) choices (one, other, is, first_typed, rest_typed) =
-        ap (flat_map pick) is
-        ∙ picked_both one other (gathered from first) (gathered_all from rest) (tree_picked scope first t one first_typed) (trees_picked scope rest ts other rest_typed)
-
-    rows_picked : (scope : Scope) (rows : Rows) (u t : TypeTree) (choices : List Choice) → AreRowsTypedBy program scope rows u t choices → flat_map pick choices ≡ gathered_rows from rows
-    rows_picked scope no_row u t choices none = none_picked choices none
-    rows_picked scope (row pattern body rest) u t choices (one, other, is, binds, rest_typed) =
-        let parts = binds.inside in
-        ap (flat_map pick) is
-        ∙ picked_both one other (from.at_pattern pattern ++ gathered from body) (gathered_rows from rest)
-        (ap (flat_map pick) binds.choices_are
-        ∙ (all_held binds.at binds.rest
-        ∙ (ap (flat_map pick) parts.2
-        ∙ picked_both parts.0 parts.1 (from.at_pattern pattern) (gathered from body) (pattern_picked _ pattern u parts.0 parts.3) (tree_picked _ body t parts.1 parts.4))))
-        (rows_picked scope rest u t other rest_typed)
+  tree_picked : (scope : Scope) (e : Tree) (t : TypeTree) (choices : List Choice) → IsTypedBy program scope e t choices → flat_map pick choices ≡ gathered from e
+  tree_picked scope e t choices typed =
+      typing_agrees program from (λ choices names. flat_map pick choices ≡ names) refl picked_both (λ t xs us picked. one_held t xs ∙ picked)
+      (λ form of at is each. forms form at) pattern_picked (λ scope rows u t choices typed. one_held u [] ∙ sym (no_rows rows)) scope e t choices typed
 
 -- what a form chooses
 form_function : (form : Form) (at : List TypeTree) → flat_map function_chosen (chosen_at form at) ≡ called_by form

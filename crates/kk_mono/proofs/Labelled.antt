@@ -3,16 +3,16 @@
 use Rattle.std.proofs.Common.{◌≡◌, ℕ, ◌+◌, ◌<◌, List, [], ◌∷◌, ◌++◌, length, map, get_or, take, drop, Vec, Box, Global, refl, sym, ap, ◌∙◌, append_assoc}
 use Rattle.std.proofs.lemmas.List.{append-nil, length-append, drop-drop, take-map, map_push, map_more}
 use Rattle.kk_syntax.specs.declared.program.Expr.{Expr}
-use Rattle.kk_syntax.specs.declared.program.Expr.TheVariants.{Apply, If, Match, Block}
+use Rattle.kk_syntax.specs.declared.program.Expr.TheVariants.{Apply, Match, Block}
 use Rattle.kk_syntax.specs.declared.program.Form.{Form}
 use Rattle.kk_syntax.specs.declared.program.Pat.{Pat}
 use Rattle.kk_syntax.specs.declared.program.Pat.TheVariants as OfPat
 use Rattle.kk_syntax.specs.declared.program.Row.{Row}
 use Rattle.kk_syntax.specs.declared.program.Statement.{Statement}
 use Rattle.kk_syntax.specs.Patterns.{Pattern, constructor, part, patterns_of, pattern_tree}
-use Rattle.kk_syntax.specs.Trees.{Tree, apply, branch, match, sequence, tree, row, RowTree, StatementTree, trees_of, rows_of, block_of, expr_tree, row_tree, statement_tree}
+use Rattle.kk_syntax.specs.Trees.{Tree, apply, match, sequence, tree, row, RowTree, StatementTree, trees_of, rows_of, block_of, expr_tree, row_tree, statement_tree}
 use Rattle.kk_syntax.proofs.PatternViews.{constructor_tree}
-use Rattle.kk_syntax.proofs.Views.{apply_tree, match_tree, block_tree, apply_is, branch_is, match_is, block_is, row_tree_is, statement_tree_is}
+use Rattle.kk_syntax.proofs.Views.{apply_tree, match_tree, block_tree, apply_is, match_is, block_is, row_tree_is, statement_tree_is}
 use Rattle.kk_mono.specs.Labels.{Names, both, no_names, names_of_form, names_of_pattern, names_of_patterns, names, names_of_all, names_of_rows, behind, labelled_form, only_constructor, labelled_pattern, labelled_patterns, labelled, labelled_all, labelled_rows, names_of_each, labelled_each, row_names, labelled_row, statement_names, labelled_statement}
 
 -- ---- names, one behind the other
@@ -162,18 +162,17 @@ module _ (labels : Names) (expr : Expr) where
             ∙ ap (behind labels) (ap (both (names_of_form form)) (sym (all_named (map expr_tree es))) ∙ ap names (sym whole)))),
       )
 
-  pub branch_labelled : (condition positive negative : Box Expr Global) (first second third : Expr) (then else last : Names)
-      → expr ≡ If condition positive negative → first ≡ condition.value → second ≡ positive.value → third ≡ negative.value
+  -- of three parts, one behind the other
+  pub three_labelled : (first second third : Expr) (then else last : Names)
+      → names (expr_tree expr) ≡ both (names (expr_tree first)) (both (names (expr_tree second)) (names (expr_tree third)))
       → then ≡ behind labels (names (expr_tree first)) → else ≡ behind then (names (expr_tree second)) → last ≡ behind else (names (expr_tree third))
       → last ≡ behind labels (names (expr_tree expr))
-  branch_labelled condition positive negative first second third then else last is first_is second_is third_is then_is else_is last_is =
-      let whole : expr_tree expr ≡ branch (expr_tree first) (expr_tree second) (expr_tree third) =
-      branch_is expr first second third condition positive negative is first_is second_is third_is in
+  three_labelled first second third then else last whole then_is else_is last_is =
       last_is
       ∙ (ap (λ ls. behind ls (names (expr_tree third))) (else_is ∙ ap (λ ls. behind ls (names (expr_tree second))) then_is)
       ∙ (behind_both (behind labels (names (expr_tree first))) (names (expr_tree second)) (names (expr_tree third))
       ∙ (behind_both labels (names (expr_tree first)) (both (names (expr_tree second)) (names (expr_tree third)))
-      ∙ ap (λ t. behind labels (names t)) (sym whole))))
+      ∙ ap (behind labels) (sym whole))))
 
   pub match_labelled : (e : Expr) (scrutinee copied : Box Expr Global) (rows copies : Vec Row Global) (rs : List Row) (then last : Names)
       → expr ≡ Match scrutinee rows → e ≡ scrutinee.value → rs ≡ rows.items → expr_tree copied.value ≡ labelled labels (expr_tree e)

@@ -13,8 +13,8 @@ use Rattle.kk_syntax.specs.declared.typed.Typed.{Typed}
 use Rattle.kk_syntax.specs.GroundLimits.{nodes_of_instance, AreWithinLimits}
 use Rattle.kk_syntax.specs.Patterns.{Pattern, anything, variable as pattern_variable, exactly, constructor, Patterns, no_part, part}
 use Rattle.kk_syntax.specs.Programs.{ConstructorTree, FunctionTree, constructor_tree, function_tree, program_tree, no_constructor, no_function, body_of}
-use Rattle.kk_syntax.specs.Shapes.{greatest_of as nodes_at_most, nodes_of_pattern, nodes_of_patterns, nodes_of, nodes_of_all, nodes_of_rows}
-use Rattle.kk_syntax.specs.Trees.{Tree, variable, apply, branch, match, sequence, Trees, no_tree, tree, Rows, no_row, row}
+use Rattle.kk_syntax.specs.Shapes.{greatest_of as nodes_at_most, nodes_of_pattern, nodes_of_patterns, nodes_of}
+use Rattle.kk_syntax.specs.Trees.{Tree}
 use Rattle.kk_syntax.specs.Types.{TypeTree, put, type_at}
 use Rattle.kk_mono.specs.declared.search.Found.{Found}
 use Rattle.kk_mono.specs.declared.search.Looked.{Looked}
@@ -23,13 +23,14 @@ use Rattle.kk_mono.specs.Counts.{too_many_nodes}
 use Rattle.kk_mono.specs.Declarations.{DeclarationsAs}
 use Rattle.kk_mono.specs.Instances.{main_instance}
 use Rattle.kk_mono.specs.KeyTrees.{KeyTree, keys_in}
-use Rattle.kk_mono.specs.Labels.{Names, both, names_of_form, names_of_pattern, names, behind, only_constructor, labelled_pattern, labelled_patterns, labelled, labelled_all, labelled_rows}
+use Rattle.kk_mono.specs.Labels.{Names, names_of_pattern, behind, only_constructor, labelled_pattern, labelled_patterns, labels_names, labelled}
 use Rattle.kk_mono.specs.Searching.{function_in, known_in, HasSearched}
 use Rattle.kk_mono.specs.Siblings.{type_of, members_from}
 use Rattle.kk_mono.specs.Tables.{AreNumbers}
 use Rattle.kk_mono.specs.Told.{told, PassesNone}
 use Rattle.kk_mono.specs.Views.{types_in}
 use Rattle.kk_mono.proofs.Answered.{each_few}
+use Rattle.kk_mono.proofs.Copied.{nodes_replaced}
 use Rattle.kk_mono.proofs.Quantities.{KeepsLimits, each_constructor_keeps, few_parameters}
 use Rattle.kk_mono.proofs.Told.{none_large}
 
@@ -47,36 +48,8 @@ mutual
   patterns_labelled labels (part first rest) =
       omega (arith, pattern_labelled labels first, patterns_labelled (behind labels (names_of_pattern first)) rest)
 
-mutual
-  nodes_labelled : (labels : Names) (t : Tree) → nodes_of (labelled labels t) ≡ nodes_of t
-  nodes_labelled labels (variable of) = refl
-  nodes_labelled labels (apply form arguments) = omega (arith, all_labelled (behind labels (names_of_form form)) arguments)
-  nodes_labelled labels (branch condition positive negative) =
-      omega (
-        arith,
-        nodes_labelled labels condition,
-        nodes_labelled (behind labels (names condition)) positive,
-        nodes_labelled (behind (behind labels (names condition)) (names positive)) negative,
-      )
-  nodes_labelled labels (match scrutinee rows) =
-      omega (arith, nodes_labelled labels scrutinee, rows_labelled (behind labels (names scrutinee)) rows)
-  nodes_labelled labels (sequence binder first rest) =
-      omega (arith, nodes_labelled labels first, nodes_labelled (behind labels (names first)) rest)
-
-  all_labelled : (labels : Names) (ts : Trees) → nodes_of_all (labelled_all labels ts) ≡ nodes_of_all ts
-  all_labelled labels no_tree = refl
-  all_labelled labels (tree first rest) =
-      omega (arith, nodes_labelled labels first, all_labelled (behind labels (names first)) rest)
-
-  rows_labelled : (labels : Names) (rs : Rows) → nodes_of_rows (labelled_rows labels rs) ≡ nodes_of_rows rs
-  rows_labelled labels no_row = refl
-  rows_labelled labels (row pattern body rest) =
-      omega (
-        arith,
-        pattern_labelled labels pattern,
-        nodes_labelled (behind labels (names_of_pattern pattern)) body,
-        rows_labelled (behind labels (both (names_of_pattern pattern) (names body))) rest,
-      )
+nodes_labelled : (labels : Names) (t : Tree) → nodes_of (labelled labels t) ≡ nodes_of t
+nodes_labelled labels t = nodes_replaced labels_names pattern_labelled labels t
 
 -- ---- places of constructors
 

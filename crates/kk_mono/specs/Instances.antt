@@ -181,21 +181,56 @@ abbrev mutual
   renamed_patterns new no_part = no_part
   renamed_patterns new (part first rest) = part (renamed_pattern new first) (renamed_patterns new rest)
 
+-- What stands in place of the forms and patterns of an expression, by what is known where they stand; and what is known
+-- behind a form, a pattern, an expression and a row.
+pub record Replaces (Known : Type 0) : Type 0 where
+  pub form : Known → Form → Form
+  pub pattern : Known → Pattern → Pattern
+  pub behind_form : Known → Form → Known
+  pub behind_pattern : Known → Pattern → Known
+  pub behind : Known → Tree → Known
+  pub behind_row : Known → Pattern → Tree → Known
+
+-- an expression with other forms and patterns, in the order of the text
 abbrev mutual
-  pub renamed : Renaming → Tree → Tree
-  renamed new (variable of) = variable of
-  renamed new (apply form arguments) = apply (renamed_form new form) (renamed_all new arguments)
-  renamed new (branch condition positive negative) = branch (renamed new condition) (renamed new positive) (renamed new negative)
-  renamed new (match scrutinee rows) = match (renamed new scrutinee) (renamed_rows new rows)
-  renamed new (sequence binder first rest) = sequence binder (renamed new first) (renamed new rest)
+  pub replaced : {Known : Type 0} → Replaces Known → Known → Tree → Tree
+  replaced with known (variable of) = variable of
+  replaced with known (apply form arguments) = apply (with.form known form) (replaced_all with (with.behind_form known form) arguments)
+  replaced with known (branch condition positive negative) =
+      branch (replaced with known condition) (replaced with (with.behind known condition) positive)
+      (replaced with (with.behind (with.behind known condition) positive) negative)
+  replaced with known (match scrutinee rows) = match (replaced with known scrutinee) (replaced_rows with (with.behind known scrutinee) rows)
+  replaced with known (sequence binder first rest) = sequence binder (replaced with known first) (replaced with (with.behind known first) rest)
 
-  pub renamed_all : Renaming → Trees → Trees
-  renamed_all new no_tree = no_tree
-  renamed_all new (tree first rest) = tree (renamed new first) (renamed_all new rest)
+  pub replaced_all : {Known : Type 0} → Replaces Known → Known → Trees → Trees
+  replaced_all with known no_tree = no_tree
+  replaced_all with known (tree first rest) = tree (replaced with known first) (replaced_all with (with.behind known first) rest)
 
-  pub renamed_rows : Renaming → Rows → Rows
-  renamed_rows new no_row = no_row
-  renamed_rows new (row pattern body rest) = row (renamed_pattern new pattern) (renamed new body) (renamed_rows new rest)
+  pub replaced_rows : {Known : Type 0} → Replaces Known → Known → Rows → Rows
+  replaced_rows with known no_row = no_row
+  replaced_rows with known (row pattern body rest) =
+      row (with.pattern known pattern) (replaced with (with.behind_pattern known pattern) body)
+      (replaced_rows with (with.behind_row known pattern body) rest)
+
+-- an expression that names functions and constructors by other numbers, the same ones everywhere
+abbrev pub renames : Replaces Renaming
+renames = record {
+  form = renamed_form;
+  pattern = renamed_pattern;
+  behind_form = λ new form. new;
+  behind_pattern = λ new pattern. new;
+  behind = λ new e. new;
+  behind_row = λ new pattern body. new;
+}
+
+abbrev pub renamed : Renaming → Tree → Tree
+renamed = replaced renames
+
+abbrev pub renamed_all : Renaming → Trees → Trees
+renamed_all = replaced_all renames
+
+abbrev pub renamed_rows : Renaming → Rows → Rows
+renamed_rows = replaced_rows renames
 
 -- the function of which an instance is one, by the instance's number
 abbrev pub function_of : List InstanceTree → ℕ → ℕ

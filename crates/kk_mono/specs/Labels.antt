@@ -4,9 +4,9 @@ use Rattle.std.specs.Prelude.{ℕ, List, [], ◌∷◌, ◌++◌, length, drop, 
 use Rattle.kk_syntax.specs.declared.program.Form.{Form}
 use Rattle.kk_syntax.specs.declared.program.Form.TheVariants.{Construct, Call}
 use Rattle.kk_syntax.specs.Patterns.{Pattern, anything, variable as pattern_variable, exactly, constructor, Patterns, no_part, part}
-use Rattle.kk_syntax.specs.Trees.{Tree, variable, apply, branch, match, sequence, Trees, no_tree, tree, Rows, no_row, row, RowTree, StatementTree}
+use Rattle.kk_syntax.specs.Trees.{Tree, Trees, Rows, RowTree, StatementTree}
 use Rattle.kk_mono.specs.declared.labels.Labels.{Labels}
-use Rattle.kk_mono.specs.Instances.{called_by, calls, calls_of_all, calls_of_rows, built_by, tested, tested_all, constructors_in, constructors_in_all, constructors_in_rows}
+use Rattle.kk_mono.specs.Instances.{Replaces, replaced, replaced_all, replaced_rows, called_by, calls, calls_of_all, calls_of_rows, built_by, tested, tested_all, constructors_in, constructors_in_all, constructors_in_rows}
 
 -- functions and constructors that are named, each in the order of the text
 pub record Names : Type 0 where
@@ -69,25 +69,25 @@ abbrev mutual
   labelled_patterns labels (part first rest) =
       part (labelled_pattern labels first) (labelled_patterns (behind labels (names_of_pattern first)) rest)
 
-abbrev mutual
-  pub labelled : Names → Tree → Tree
-  labelled labels (variable of) = variable of
-  labelled labels (apply form arguments) = apply (labelled_form labels form) (labelled_all (behind labels (names_of_form form)) arguments)
-  labelled labels (branch condition positive negative) =
-      branch (labelled labels condition) (labelled (behind labels (names condition)) positive)
-      (labelled (behind (behind labels (names condition)) (names positive)) negative)
-  labelled labels (match scrutinee rows) = match (labelled labels scrutinee) (labelled_rows (behind labels (names scrutinee)) rows)
-  labelled labels (sequence binder first rest) = sequence binder (labelled labels first) (labelled (behind labels (names first)) rest)
+-- an expression with labels for what it names
+abbrev pub labels_names : Replaces Names
+labels_names = record {
+  form = labelled_form;
+  pattern = labelled_pattern;
+  behind_form = λ labels form. behind labels (names_of_form form);
+  behind_pattern = λ labels pattern. behind labels (names_of_pattern pattern);
+  behind = λ labels e. behind labels (names e);
+  behind_row = λ labels pattern body. behind labels (both (names_of_pattern pattern) (names body));
+}
 
-  pub labelled_all : Names → Trees → Trees
-  labelled_all labels no_tree = no_tree
-  labelled_all labels (tree first rest) = tree (labelled labels first) (labelled_all (behind labels (names first)) rest)
+abbrev pub labelled : Names → Tree → Tree
+labelled = replaced labels_names
 
-  pub labelled_rows : Names → Rows → Rows
-  labelled_rows labels no_row = no_row
-  labelled_rows labels (row pattern body rest) =
-      row (labelled_pattern labels pattern) (labelled (behind labels (names_of_pattern pattern)) body)
-      (labelled_rows (behind labels (both (names_of_pattern pattern) (names body))) rest)
+abbrev pub labelled_all : Names → Trees → Trees
+labelled_all = replaced_all labels_names
+
+abbrev pub labelled_rows : Names → Rows → Rows
+labelled_rows = replaced_rows labels_names
 
 -- what several things name, one behind the other
 abbrev pub names_of_each : {X : Type 0} → (X → Names) → List X → Names

@@ -4,7 +4,7 @@ use Rattle.std.proofs.Common.{◌≡◌, ◌≤◌, ℕ, zero, suc, ◌+◌, Boo
 use Rattle.std.specs.Prelude.{slice_get}
 use Rattle.kk_base.specs.Machines.{step_unless, state, ending_after}
 use Rattle.kk_syntax.specs.declared.program.Form.{Form}
-use Rattle.kk_syntax.specs.Trees.{Tree, variable, apply, branch, match, sequence, no_tree, tree}
+use Rattle.kk_syntax.specs.Trees.{Tree, variable, apply, no_tree, tree}
 use Rattle.kk_syntax.specs.Programs.{FunctionTree}
 use Rattle.kk_source.specs.State.{Setting, Value, place, unit, Environment, Frame, arguments, branches, rows, statement, call, End, ended, heap_full, stack_full, Control, expression, value, stopped, Configuration, end_at}
 use Rattle.kk_source.specs.Live.{held_by_all, live, counted, is_live}
@@ -102,10 +102,7 @@ module _ (setting : Setting) (k : ℕ) (cells : suc k ≤ setting.cells) (depth 
       → LeadsTo (IsRoomy (suc k)) (expression_step setting e environment c)
   expressions (variable x) environment c roomy = moved c _ roomy refl roomy.frames tt
   expressions (apply form no_tree) environment c roomy = forms form [] c.frames c roomy roomy.frames
-  expressions (apply form (tree first rest)) environment c roomy = moved c _ roomy refl roomy.frames tt
-  expressions (branch condition positive negative) environment c roomy = moved c _ roomy refl roomy.frames tt
-  expressions (match scrutinee of) environment c roomy = moved c _ roomy refl roomy.frames tt
-  expressions (sequence binder first rest) environment c roomy = moved c _ roomy refl roomy.frames tt
+  expressions _ environment c roomy = moved c _ roomy refl roomy.frames tt
 
   choices : (chosen : Option Chosen) (older : List Frame) (c : Configuration) → IsRoomy k c → call_frames older ≤ suc k
       → LeadsTo (IsRoomy (suc k)) (choice_step setting chosen older c)

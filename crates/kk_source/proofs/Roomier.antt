@@ -6,7 +6,7 @@ use Rattle.kk_base.specs.Trace.{IsPrefix}
 use Rattle.kk_base.specs.Machines.{step_unless, trace, state, ending_after}
 use Rattle.kk_base.proofs.Machines.{trace_ended, state_ended}
 use Rattle.kk_syntax.specs.declared.program.Form.{Form}
-use Rattle.kk_syntax.specs.Trees.{Tree, variable, apply, branch, match, sequence, no_tree, tree}
+use Rattle.kk_syntax.specs.Trees.{Tree, variable, apply, no_tree, tree}
 use Rattle.kk_syntax.specs.Programs.{FunctionTree}
 use Rattle.kk_syntax.specs.PositionsOf.{is_lent}
 use Rattle.kk_source.specs.State.{Setting, Value, Environment, Frame, arguments, branches, rows, statement, call, End, heap_full, stack_full, Control, expression, value, stopped, Configuration}
@@ -66,10 +66,7 @@ module _ (setting : Setting) (cells depth : ℕ) (more_cells : setting.cells ≤
   expression_follows : (e : Tree) (env : Environment) (c : Configuration) → Follows (expression_step setting e env c) (expression_step large e env c)
   expression_follows (variable x) env c = same _
   expression_follows (apply form no_tree) env c = form_follows form [] c.frames c
-  expression_follows (apply form (tree first rest)) env c = same _
-  expression_follows (branch condition p q) env c = same _
-  expression_follows (match scrutinee of) env c = same _
-  expression_follows (sequence binder first rest) env c = same _
+  expression_follows _ env c = same _
 
   value_follows : (v : Value) (fs : List Frame) (c : Configuration) → Follows (value_step setting v fs c) (value_step large v fs c)
   value_follows v (arguments form values (tree next left) env ∷ older) c = same _

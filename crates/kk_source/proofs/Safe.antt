@@ -114,10 +114,7 @@ module _ (program : ProgramTree) (truths : HasTruths program.constructors) where
   expression_fits (apply form no_tree) env store t typed =
       let none = none_of (table_of program) store typed.scope typed.inside.0 typed.inside.1 in
       form_fits store form typed.inside.0 t [] typed.inside.2 none
-  expression_fits (apply form (tree first rest)) env store t typed = tt
-  expression_fits (branch condition positive negative) env store t typed = tt
-  expression_fits (match scrutinee of) env store t typed = tt
-  expression_fits (sequence binder first rest) env store t typed = tt
+  expression_fits _ env store t typed = tt
 
   value_fits : (store : Store) (v : Value) (fs : List Frame) (t : TypeTree) → IsOf program.constructors store t v
       → FramesWait (table_of program) store fs t → ValueFits program store v fs

@@ -16,3 +16,4 @@ pub mod SameTypes
 pub mod TailCalls
 pub mod TypeViews
 pub mod Views
+pub mod Walks

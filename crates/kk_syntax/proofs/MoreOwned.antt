@@ -4,11 +4,12 @@ use Rattle.std.proofs.lemmas.Bool.{both_ways, or_left, or_right, or_cases}
 use Rattle.std.proofs.lemmas.List.Elements.{All-nil, All-append}
 use Rattle.std.proofs.lemmas.List.Folds.{list_any-append}
 use Rattle.kk_syntax.proofs.Lists.{all_left, all_right}
+use Rattle.kk_syntax.proofs.Walks.{tails_agree}
 use Rattle.kk_syntax.specs.declared.positions.Position.{Position}
 use Rattle.kk_syntax.specs.declared.program.Form.{Form}
 use Rattle.kk_syntax.specs.declared.program.Form.TheVariants.{Construct, Call}
 use Rattle.kk_syntax.specs.OwnedPositions.{PositionSet, takes, is_val, reuses, uses, uses_any, uses_rows, lent_below, is_lent_variable, lent_in_row, handed_to, handed_by, Within}
-use Rattle.kk_syntax.specs.OwnedSearch.{handed_in, handed_in_rows}
+use Rattle.kk_syntax.specs.OwnedSearch.{to_handed, handed_in}
 use Rattle.kk_syntax.specs.Patterns.{Pattern}
 use Rattle.kk_syntax.specs.Shapes.{bound, is_among}
 use Rattle.kk_syntax.specs.Trees.{Tree, variable, apply, branch, match, sequence, Trees, no_tree, tree, Rows, no_row, row}
@@ -108,26 +109,16 @@ handed_by_less : (P : Position → Type 0) (small large : List ℕ) → Fewer sm
 handed_by_less P small large fewer (Call function) ts all = handed_to_less P small large fewer function 0 ts all
 handed_by_less P small large fewer form ts all = All-nil P
 
-mutual
-  pub handed_less : (P : Position → Type 0) (small large : List ℕ) → Fewer small large → (t : Tree) → All P (handed_in small t) → All P (handed_in large t)
-  handed_less P small large fewer (variable of) all = All-nil P
-  handed_less P small large fewer (apply form arguments) all = handed_by_less P small large fewer form arguments all
-  handed_less P small large fewer (branch condition positive negative) all =
-      All-append P (handed_in large positive) (handed_in large negative)
-      (handed_less P small large fewer positive (all_left P (handed_in small positive) (handed_in small negative) all))
-      (handed_less P small large fewer negative (all_right P (handed_in small positive) (handed_in small negative) all))
-  handed_less P small large fewer (match scrutinee rows) all =
-      handed_rows_less P small large fewer (is_lent_variable small scrutinee) (is_lent_variable large scrutinee) (lent_variable_more small large fewer scrutinee) rows all
-  handed_less P small large fewer (sequence binder first rest) all = handed_less P small large fewer rest all
+handed_at_less : (P : Position → Type 0) (small large : List ℕ) → Fewer small large → (t : Tree) → All P (handed_by small t) → All P (handed_by large t)
+handed_at_less P small large fewer (apply form ts) all = handed_by_less P small large fewer form ts all
+handed_at_less P small large fewer _ all = all
 
-  handed_rows_less : (P : Position → Type 0) (small large : List ℕ) → Fewer small large → (a b : Bool) → (IsTrue a → IsTrue b) → (rs : Rows) → All P (handed_in_rows small a rs) → All P (handed_in_rows large b rs)
-  handed_rows_less P small large fewer a b grows no_row all = All-nil P
-  handed_rows_less P small large fewer a b grows (row pattern body rest) all =
-      let few = handed_in (lent_in_row small a pattern) body in
-      let many = handed_in (lent_in_row large b pattern) body in
-      All-append P many (handed_in_rows large b rest)
-      (handed_less P (lent_in_row small a pattern) (lent_in_row large b pattern) (row_more small large fewer a b grows pattern) body (all_left P few (handed_in_rows small a rest) all))
-      (handed_rows_less P small large fewer a b grows rest (all_right P few (handed_in_rows small a rest) all))
+pub handed_less : (P : Position → Type 0) (small large : List ℕ) → Fewer small large → (t : Tree) → All P (handed_in small t) → All P (handed_in large t)
+handed_less P small large fewer t all =
+    tails_agree to_handed to_handed (λ (ps qs : List Position). All P ps → All P qs) (λ none. none)
+    (λ xs ys us vs left right whole. All-append P us vs (left (all_left P xs ys whole)) (right (all_right P xs ys whole)))
+    Fewer (handed_at_less P) (λ ns ms a b. IsTrue a → IsTrue b) lent_variable_more (λ ns ms more a b grows p. row_more ns ms more a b grows p)
+    small large fewer t all
 
 -- the parameters that are lent where more are owned
 pub below_less : (owned other : ℕ → Bool) → ((x : ℕ) → IsTrue (owned x) → IsTrue (other x)) → (count : ℕ) → Fewer (lent_below other count) (lent_below owned count)

@@ -4,6 +4,7 @@ use Rattle.std.specs.Prelude.{◌≡◌, ◌<◌, ℕ, Bool, true, false, ◌||�
 use Rattle.kk_syntax.specs.declared.positions.Ownership.TheVariants.{Owned, Lent}
 use Rattle.kk_syntax.specs.declared.positions.Position.{Position}
 use Rattle.kk_syntax.specs.OwnedPositions.{PositionSet, is_val, builds, uses, OwnsUsed, is_lent_variable, lent_in_row, handed_by, OwnsHanded, Closed, Within, owned_in}
+use Rattle.kk_syntax.specs.Patterns.{Pattern}
 use Rattle.kk_syntax.specs.PositionsOf.{PositionTable, is_lent}
 use Rattle.kk_syntax.specs.Programs.{FunctionTree, ProgramTree}
 use Rattle.kk_syntax.specs.Trees.{Tree, variable, apply, branch, match, sequence, Rows, no_row, row, StatementTree}
@@ -25,19 +26,37 @@ abbrev pub uses_statements : PositionSet → ℕ → List StatementTree → Bool
 uses_statements set x [] = false
 uses_statements set x (s ∷ ss) = uses set (is_val s.binder) x s.value || uses_statements set x ss
 
--- What tail calls are given, found by a walk over the body: proved to be the positions of `handed`.
-abbrev mutual
-  pub handed_in : List ℕ → Tree → List Position
-  handed_in lent (variable of) = []
-  handed_in lent (apply form arguments) = handed_by lent (apply form arguments)
-  handed_in lent (branch condition positive negative) = handed_in lent positive ++ handed_in lent negative
-  handed_in lent (match scrutinee rows) = handed_in_rows lent (is_lent_variable lent scrutinee) rows
-  handed_in lent (sequence binder first rest) = handed_in lent rest
+-- What is found at the parts of a body that are in tail position and are no `if`, match or block themselves, in the order of
+-- the text, by what is known there. On the way, the scrutinee of a match tells something, with which each of its rows is
+-- entered.
+pub record TailWalk (Known Told A : Type 0) : Type 0 where
+  pub at : Known → Tree → List A
+  pub told : Known → Tree → Told
+  pub enter : Known → Told → Pattern → Known
 
-  -- the flag tells whether the match is on a lent variable
-  pub handed_in_rows : List ℕ → Bool → Rows → List Position
-  handed_in_rows lent opened no_row = []
-  handed_in_rows lent opened (row pattern body rest) = handed_in (lent_in_row lent opened pattern) body ++ handed_in_rows lent opened rest
+abbrev mutual
+  pub tail_walked : {Known Told A : Type 0} → TailWalk Known Told A → Known → Tree → List A
+  tail_walked walk known (variable of) = walk.at known (variable of)
+  tail_walked walk known (apply form arguments) = walk.at known (apply form arguments)
+  tail_walked walk known (branch condition positive negative) = tail_walked walk known positive ++ tail_walked walk known negative
+  tail_walked walk known (match scrutinee rows) = tail_walked_rows walk known (walk.told known scrutinee) rows
+  tail_walked walk known (sequence binder first rest) = tail_walked walk known rest
+
+  pub tail_walked_rows : {Known Told A : Type 0} → TailWalk Known Told A → Known → Told → Rows → List A
+  tail_walked_rows walk known told no_row = []
+  tail_walked_rows walk known told (row pattern body rest) =
+      tail_walked walk (walk.enter known told pattern) body ++ tail_walked_rows walk known told rest
+
+-- What tail calls are given, found by a walk over the body: proved to be the positions of `handed`.
+abbrev pub to_handed : TailWalk (List ℕ) Bool Position
+to_handed = record { at = handed_by; told = is_lent_variable; enter = lent_in_row }
+
+abbrev pub handed_in : List ℕ → Tree → List Position
+handed_in = tail_walked to_handed
+
+-- the flag tells whether the match is on a lent variable
+abbrev pub handed_in_rows : List ℕ → Bool → Rows → List Position
+handed_in_rows = tail_walked_rows to_handed
 
 -- a position is lent
 abbrev pub IsLent : PositionTable → Position → Type 0

@@ -4,7 +4,7 @@ use Rattle.std.specs.Prelude.{Result, Ok}
 use Rattle.kk_base.specs.declared.error.NoMemory.{NoMemory}
 use Rattle.kk_syntax.specs.declared.program.Form.{Form}
 use Rattle.kk_syntax.specs.Programs.{ProgramTree}
-use Rattle.kk_syntax.specs.Trees.{Tree, apply, branch, match, Trees, Rows}
+use Rattle.kk_syntax.specs.Trees.{Tree, apply, match, Trees, Rows}
 use Rattle.kk_syntax.specs.Types.{TypeTree}
 use Rattle.kk_syntax.specs.Typing.{Choice, bool, form_scheme, chosen_at, InTurn, Holds, IsTypedBy, AreTypedBy, AreRowsTypedBy}
 use Rattle.kk_unify.specs.Graphs.{Assignment}
@@ -64,8 +64,9 @@ module _ (program : ProgramTree) (a : Walk) (want : ℕ) (bound : AreBoundBelow 
     abbrev conditional : Assignment → TypeTree → List Choice → Type 0
     conditional r t choices = InTurn (IsTypedBy program (scope_at r a.scope.items) condition t) (branches r) choices
 
+    -- the whole: the condition's type is known
     abbrev whole : Claim
-    whole = expression_at program a.scope.items (branch condition positive negative) want
+    whole r choices = conditional r bool choices
 
     branches_of : (size : ℕ) → AreBoundBelow size a.scope.items → want < size → IsOf size branches
     branches_of size inside less =

@@ -1,6 +1,8 @@
+use Rattle.std.proofs.Common.{ap}
 use Rattle.kk_syntax.specs.Trees.{expr_tree, row_tree, statement_tree}
+use Rattle.kk_syntax.proofs.Views.{branch_is}
 use Rattle.kk_mono.specs.Labels.{left_in, names, labelled, row_names, labelled_row, statement_names, labelled_statement}
-use Rattle.kk_mono.proofs.Labelled.{each_more, apply_labelled, branch_labelled, match_labelled, block_copied, row_copied, statement_copied}
+use Rattle.kk_mono.proofs.Labelled.{each_more, apply_labelled, three_labelled, match_labelled, block_copied, row_copied, statement_copied}
 use Rattle.kk_mono.proofs.body.+labelled.Goals as goal
 
 pub labelled-returns-in_ok-arguments-in-Apply-clause-tree : goal.labelled-returns-in_ok-arguments-in-Apply-clause-tree
@@ -15,8 +17,10 @@ labelled-returns-in_ok-arguments-in-Apply-clause-rest t c =
 
 pub labelled-returns-in_ok-negative-in-If-clause-rest : goal.labelled-returns-in_ok-negative-in-If-clause-rest
 labelled-returns-in_ok-negative-in-If-clause-rest t c =
-    branch_labelled (left_in c.args.labels.now) c.args.expr.now c.in-If.condition c.in-If.positive c.in-If.negative c.deref-in-If.result.now c.deref-in-If-2.result.now c.deref-in-If-3.result.now
-    (left_in c.labelled_part.new.labels) (left_in c.labelled_part-in-If.new.labels) (left_in c.labelled_part-in-If-2.new.labels) c.in-If.is c.deref-in-If.ensures c.deref-in-If-2.ensures c.deref-in-If-3.ensures
+    three_labelled (left_in c.args.labels.now) c.args.expr.now c.deref-in-If.result.now c.deref-in-If-2.result.now c.deref-in-If-3.result.now
+    (left_in c.labelled_part.new.labels) (left_in c.labelled_part-in-If.new.labels) (left_in c.labelled_part-in-If-2.new.labels)
+    (ap names (branch_is c.args.expr.now c.deref-in-If.result.now c.deref-in-If-2.result.now c.deref-in-If-3.result.now c.in-If.condition c.in-If.positive c.in-If.negative
+    c.in-If.is c.deref-in-If.ensures c.deref-in-If-2.ensures c.deref-in-If-3.ensures))
     c.in_ok-condition-in-If.ensures.rest c.in_ok-positive-in-If.ensures.rest c.in_ok-negative-in-If.ensures.rest
 
 pub labelled-returns-in_ok-rows-in-Match-clause-tree : goal.labelled-returns-in_ok-rows-in-Match-clause-tree
