@@ -1,3 +1,5 @@
+pub mod ChangedSteps
+pub mod ChangedFunctions
 pub mod Spends
 pub mod Steps
 pub mod Runs

@@ -7,7 +7,7 @@ use Rattle.kk_counted.specs.CountedCodes.{Counted, give, tail_call, case, comput
 use Rattle.kk_counted.specs.Lowerable.{first_of, given_by, given_by_arms, BlocksGive, BlocksOfArmsGive, HasArities, HaveArities, AreNumbered, AreArmsNumbered, IsLowerable, AreLowerable}
 use Rattle.kk_counted.specs.Marks.{CellMarks, result_mark, HasMark, HaveMark, IsMarked}
 use Rattle.kk_dropspec.specs.Specialised.{special, special_arms, special_function, special_program}
-use Rattle.kk_dropspec.proofs.Spends.{found_before}
+use Rattle.kk_dropspec.proofs.ChangedFunctions.{found_before}
 
 -- ---- marks
 
@@ -185,7 +185,7 @@ mutual
 
 pub special_spends : (program : CountedProgram) (n : ℕ) → AllSpendAtMost program n → AllSpendAtMost (special_program program) n
 special_spends program n each f function there =
-    let before = found_before program.functions f function there in
+    let before = found_before special program.functions f function there in
     subst (λ (one : CountedFunction). SpendsAtMost one.body n) before.1.1 (spends before.0.body n (each f before.0 before.1.0))
 
 -- ---- functions
@@ -210,5 +210,5 @@ special_is table f function lowerable =
 pub specials_are : (table : CellMarks) (functions : List CountedFunction) → AreLowerable table functions
     → AreLowerable table (map special_function functions)
 specials_are table functions each f function there =
-    let before = found_before functions f function there in
+    let before = found_before special functions f function there in
     subst (IsLowerable table f) before.1.1 (special_is table f before.0 (each f before.0 before.1.0))

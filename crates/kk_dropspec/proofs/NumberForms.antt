@@ -104,10 +104,3 @@ pub one_longer : {A : Type 0} (before after : List A) (one : A) (n : ℕ) → af
     → length after ≡ n + 1
 one_longer before after one n is long =
     let all = ap length is in let both = length-append before (one ∷ []) in omega (arith, all, both, long)
-
-pub function_made : (fun item : CountedFun) → fun.parameters ≡ item.parameters → block_code fun.body ≡ special (block_code item.body)
-    → function_of fun ≡ special_function (function_of item)
-function_made fun item many body = ap (of (block_code fun.body)) many ∙ ap (λ code. of code item.parameters) body
-  where
-    of : Counted → ℕ → CountedFunction
-    of code n = record { parameters = n; body = code }

@@ -5,6 +5,7 @@ use Rattle.kk_counted.specs.CountedCodes.{Counted, give, tail_call, case, comput
 use Rattle.kk_counted.specs.Lowerable.{OpensByCount, OpenByCount, AllOpenByCount}
 use Rattle.kk_counted.specs.TokenCosts.{openings, openings_of, OpenAtMost}
 use Rattle.kk_dropspec.specs.Specialised.{special, special_arms, special_function, special_program}
+use Rattle.kk_dropspec.proofs.ChangedFunctions.{found_before}
 
 mutual
   same_openings : (code : Counted) → openings (special code) ≡ openings code
@@ -25,16 +26,10 @@ mutual
       let one = same_openings body in let two = same_arms_openings rest in omega (arith, one, two)
 
 pub special_opens : (most : ℕ) (program : CountedProgram) → OpenAtMost most program → OpenAtMost most (special_program program)
-special_opens most program few f function is = by program.functions few f is
-  where
-    by : (functions : List CountedFunction)
-        → ((f : ℕ) (function : CountedFunction) → slice_get functions f ≡ Some function → openings function.body ≤ most)
-        → (f : ℕ) → slice_get (map special_function functions) f ≡ Some function → openings function.body ≤ most
-    by [] few f is = cc is
-    by (first ∷ functions) few zero is =
-        let same : special_function first ≡ function = cc is in
-        subst (λ (g : CountedFunction). openings g.body ≤ most) same (omega (arith, same_openings first.body, few zero first refl))
-    by (first ∷ functions) few (suc f) is = by functions (λ g other there. few (suc g) other there) f is
+special_opens most program few f function is =
+    let before = found_before special program.functions f function is in
+    subst (λ (one : CountedFunction). openings one.body ≤ most) before.1.1
+    (let same = same_openings before.0.body in let less = few f before.0 before.1.0 in omega (arith, same, less))
 
 mutual
   by_count : (code : Counted) → OpensByCount (special code)
@@ -54,8 +49,6 @@ mutual
   arms_by_count (arm body rest) = (by_count body, arms_by_count rest)
 
 pub all_by_count : (functions : List CountedFunction) → AllOpenByCount (map special_function functions)
-all_by_count [] f function is = cc is
-all_by_count (first ∷ functions) zero function is =
-    let same : special_function first ≡ function = cc is in
-    subst (λ (g : CountedFunction). OpensByCount g.body) same (by_count first.body)
-all_by_count (first ∷ functions) (suc f) function is = all_by_count functions f function is
+all_by_count functions f function is =
+    let before = found_before special functions f function is in
+    subst (λ (one : CountedFunction). OpensByCount one.body) before.1.1 (by_count before.0.body)

@@ -16,7 +16,8 @@ use Rattle.kk_counted.specs.Keeping.{IsKept, FitsAlways}
 use Rattle.kk_counted.proofs.SoundRuns.{keeps_sound}
 use Rattle.kk_dropspec.specs.Specialised.{special, special_function, special_setting, special_control, special_configuration}
 use Rattle.kk_dropspec.specs.SameRuns.{AreSameAfter}
-use Rattle.kk_dropspec.proofs.Steps.{special_action, steps_same}
+use Rattle.kk_dropspec.proofs.ChangedSteps.{changed_action}
+use Rattle.kk_dropspec.proofs.Steps.{steps_same}
 
 abbrev special_state : CountedState → CountedState
 special_state s = record { machine = special_configuration s.machine; input = s.input }
@@ -26,7 +27,7 @@ abbrev special_pair : List Note × CountedState → List Note × CountedState
 special_pair told = (told.0, special_state told.1)
 
 performed_same : (action : Action CountedConfiguration) (input : List ℕ)
-    → performed (special_action action) input ≡ special_pair (performed action input)
+    → performed (changed_action special action) input ≡ special_pair (performed action input)
 performed_same (goes to) input = refl
 performed_same (puts piece to) input = refl
 performed_same (takes to) [] = refl

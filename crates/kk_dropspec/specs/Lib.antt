@@ -1,3 +1,4 @@
+pub mod Changed
 pub mod Specialised
 pub mod SpecialForms
 pub mod SameRuns

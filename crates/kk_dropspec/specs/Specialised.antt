@@ -1,7 +1,7 @@
 -- Drop specialisation: each opening of a cell goes by the cell's count.
-use Rattle.std.specs.Prelude.{map}
 use Rattle.kk_counted.specs.CountedCodes.{Counted, give, tail_call, case, compute, inside, read, open_cell, if_unique, dup, drop, CountedArms, no_arm, arm, CountedFunction, CountedProgram}
-use Rattle.kk_counted.specs.CountedStates.{CountedSetting, CountedJoin, CountedFrame, CountedControl, running, stopped, stuck, CountedConfiguration}
+use Rattle.kk_counted.specs.CountedStates.{CountedSetting, CountedJoin, CountedFrame, CountedControl, CountedConfiguration}
+use Rattle.kk_dropspec.specs.Changed.{changed_function, changed_program, changed_setting, changed_join, changed_frame, changed_control, changed_configuration}
 
 abbrev mutual
   pub special : Counted → Counted
@@ -21,34 +21,24 @@ abbrev mutual
   special_arms (arm body rest) = arm (special body) (special_arms rest)
 
 abbrev pub special_function : CountedFunction → CountedFunction
-special_function function = record { parameters = function.parameters; body = special function.body }
+special_function = changed_function special
 
 abbrev pub special_program : CountedProgram → CountedProgram
-special_program program =
-    record { functions = map special_function program.functions; texts = program.texts; main = program.main }
+special_program = changed_program special
 
 abbrev pub special_setting : CountedSetting → CountedSetting
-special_setting setting = record { program = special_program setting.program; cells = setting.cells; depth = setting.depth }
+special_setting = changed_setting special
 
 -- ---- a state with specialised code
 
 abbrev pub special_join : CountedJoin → CountedJoin
-special_join join = record { variable = join.variable; rest = special join.rest }
+special_join = changed_join special
 
 abbrev pub special_frame : CountedFrame → CountedFrame
-special_frame frame =
-    record {
-      variable = frame.variable;
-      rest = special frame.rest;
-      joins = map special_join frame.joins;
-      environment = frame.environment;
-    }
+special_frame = changed_frame special
 
 abbrev pub special_control : CountedControl → CountedControl
-special_control (running code environment joins) = running (special code) environment (map special_join joins)
-special_control (stopped by) = stopped by
-special_control stuck = stuck
+special_control = changed_control special
 
 abbrev pub special_configuration : CountedConfiguration → CountedConfiguration
-special_configuration c =
-    record { control = special_control c.control; frames = map special_frame c.frames; heap = c.heap }
+special_configuration = changed_configuration special

@@ -7,7 +7,6 @@ mod Opens
 mod Pairless
 pub mod Searching
 pub mod Forms
-pub mod Functions
 pub mod Strips
 pub mod Seen
 pub mod Steps

@@ -7,8 +7,8 @@ use Rattle.kk_counted.specs.CountedCodes.{Counted, give, tail_call, case, comput
 use Rattle.kk_counted.specs.Lowerable.{first_of, given_by, given_by_arms, BlocksGive, BlocksOfArmsGive, HasArities, HaveArities, AreNumbered, AreArmsNumbered, IsLowerable, AreLowerable}
 use Rattle.kk_counted.specs.Marks.{CellMarks, result_mark, HasMark, HaveMark, IsMarked}
 use Rattle.kk_counted.proofs.GainBounds.{more_spent}
+use Rattle.kk_dropspec.proofs.ChangedFunctions.{found_before}
 use Rattle.kk_fuse.specs.Fused.{without_drop, fuse, fuse_arms, fused_function, fused_program}
-use Rattle.kk_fuse.proofs.Spends.{found_before}
 use Rattle.kk_fuse.proofs.Without.{by_without, by_fused}
 
 -- ---- marks
@@ -288,7 +288,7 @@ mutual
 -- a fused program spends as little
 pub fused_spends : (program : CountedProgram) (n : ℕ) → AllSpendAtMost program n → AllSpendAtMost (fused_program program) n
 fused_spends program n each f function there =
-    let before = found_before program.functions f function there in
+    let before = found_before fuse program.functions f function there in
     subst (λ (one : CountedFunction). SpendsAtMost one.body n) before.1.1 (spends before.0.body n (each f before.0 before.1.0))
 
 -- ---- functions
@@ -315,5 +315,5 @@ fused_is table f function lowerable =
 pub fused_are : (table : CellMarks) (functions : List CountedFunction) → AreLowerable table functions
     → AreLowerable table (map fused_function functions)
 fused_are table functions each f function there =
-    let before = found_before functions f function there in
+    let before = found_before fuse functions f function there in
     subst (IsLowerable table f) before.1.1 (fused_is table f before.0 (each f before.0 before.1.0))

@@ -3,8 +3,8 @@ use Rattle.std.proofs.Common.{◌≡◌, ℕ, ◌≤◌, suc, List, map, Some, r
 use Rattle.kk_counted.specs.CountedCodes.{Counted, give, tail_call, case, compute, inside, read, open_cell, if_unique, dup, drop, CountedArms, no_arm, arm, CountedFunction, CountedProgram}
 use Rattle.kk_counted.specs.Lowerable.{OpensByCount, OpenByCount, AllOpenByCount}
 use Rattle.kk_counted.specs.TokenCosts.{openings, openings_of, OpenAtMost}
+use Rattle.kk_dropspec.proofs.ChangedFunctions.{found_before}
 use Rattle.kk_fuse.specs.Fused.{without_drop, fuse, fuse_arms, fused_function, fused_program}
-use Rattle.kk_fuse.proofs.Spends.{found_before}
 use Rattle.kk_fuse.proofs.Without.{by_without, by_fused}
 
 -- the code without a drop has as many openings
@@ -39,7 +39,7 @@ mutual
 -- a fused program has no more openings
 pub fused_opens : (most : ℕ) (program : CountedProgram) → OpenAtMost most program → OpenAtMost most (fused_program program)
 fused_opens most program few f function is =
-    let before = found_before program.functions f function is in
+    let before = found_before fuse program.functions f function is in
     subst (λ (one : CountedFunction). openings one.body ≤ most) before.1.1
     (let same = same_openings before.0.body in let less = few f before.0 before.1.0 in omega (arith, same, less))
 
@@ -72,5 +72,5 @@ mutual
 -- fused functions open by count
 pub all_by_count : (functions : List CountedFunction) → AllOpenByCount functions → AllOpenByCount (map fused_function functions)
 all_by_count functions by f function is =
-    let before = found_before functions f function is in
+    let before = found_before fuse functions f function is in
     subst (λ (one : CountedFunction). OpensByCount one.body) before.1.1 (by_count before.0.body (by f before.0 before.1.0))

@@ -4,9 +4,9 @@ use Rattle.std.specs.Prelude.{option_map, if◌then◌else◌, slice_get}
 use Rattle.kk_syntax.specs.declared.program.Form.{Form}
 use Rattle.kk_syntax.specs.Shapes.{is_among}
 use Rattle.kk_counted.specs.CountedCodes.{Counted, give, tail_call, case, compute, inside, read, open_cell, if_unique, dup, drop, CountedArms, no_arm, arm, CountedFunction, CountedProgram}
+use Rattle.kk_dropspec.proofs.ChangedFunctions.{found_before}
 use Rattle.kk_fuse.specs.Fused.{is_plain, without_drop, fused_dup, fuse, fuse_arms, fused_program}
 use Rattle.kk_fuse.specs.NoPairs.{HasNoPair, HaveNoPair}
-use Rattle.kk_fuse.proofs.Spends.{found_before}
 use Rattle.kk_fuse.proofs.Without.{by_without}
 
 -- what is mapped and is not there was not there
@@ -117,5 +117,5 @@ mutual
 pub program_pairless : (program : CountedProgram) (f : ℕ) (function : CountedFunction)
     → slice_get (fused_program program).functions f ≡ Some function → HasNoPair function.body
 program_pairless program f function is =
-    let before = found_before program.functions f function is in
+    let before = found_before fuse program.functions f function is in
     subst (λ (one : CountedFunction). HasNoPair one.body) before.1.1 (pairless before.0.body)

@@ -13,10 +13,11 @@ use Rattle.kk_counted.specs.CountedMachine.{counted_code_step, counted_step_at, 
 use Rattle.kk_counted.specs.References.{refs, cells_of, counted}
 use Rattle.kk_counted.specs.Keeping.{values_of}
 use Rattle.kk_counted.proofs.SoundRuns.{sound_heap_is}
+use Rattle.kk_dropspec.proofs.ChangedSteps.{changed_action}
 use Rattle.kk_fuse.specs.Fused.{without_drop, fuse}
 use Rattle.kk_fuse.specs.FusedRuns.{steps_in, fused_join, IsAtForm, IsBetween}
 use Rattle.kk_fuse.proofs.Strips.{strip}
-use Rattle.kk_fuse.proofs.Steps.{fused_control, fused_configuration, fused_action, dup_stays, Stays}
+use Rattle.kk_fuse.proofs.Steps.{fused_control, fused_configuration, dup_stays, Stays}
 use Rattle.kk_fuse.proofs.Pending.{AreAlike, IsPending, Follows}
 use Rattle.kk_fuse.proofs.Few.{FewControl}
 
@@ -171,7 +172,8 @@ few_left most stuck few = tt
 
 module _ (positions : PositionTable) (setting : CountedSetting) where
   -- a step, and the same step with fused code
-  pub alike_fused : (action : Action CountedConfiguration) → AreAlike (Follows positions setting) action (fused_action action)
+  pub alike_fused : (action : Action CountedConfiguration)
+      → AreAlike (Follows positions setting) action (changed_action fuse action)
   alike_fused (goes to) = (fused_configuration to, (refl, inl refl))
   alike_fused (puts piece to) = (fused_configuration to, (refl, inl refl))
   alike_fused (takes to) = (λ byte. fused_configuration (to byte), (refl, λ byte. inl refl))

@@ -12,6 +12,7 @@ use Rattle.kk_counted.specs.Spending.{AreEven, AllAmong, AreFresh, HasAsMany, Fi
 use Rattle.kk_counted.proofs.Evenness.{total_append, even_among, even_back, even_same, minus_even, among_front, among_behind}
 use Rattle.kk_counted.proofs.Order.{spends_even}
 use Rattle.kk_counted.proofs.Variables.{among_cases}
+use Rattle.kk_dropspec.proofs.ChangedFunctions.{HaveAsMany, fits}
 use Rattle.kk_fuse.specs.Fused.{is_plain, without_drop, fused_dup, fuse, fuse_arms, fused_function, fused_program}
 use Rattle.kk_fuse.proofs.Without.{by_without, by_fused}
 
@@ -245,42 +246,8 @@ module _ (positions : PositionTable) (functions : List CountedFunction) (lent : 
 
 -- ---- functions
 
-module _ (functions : List CountedFunction) where
-  -- the same, by what stands there
-  found : (f : ℕ) (other : CountedFunction) (here : Option CountedFunction) → slice_get functions f ≡ here
-      → option_map fused_function here ≡ Some other
-      → (function : CountedFunction) × ((slice_get functions f ≡ Some function) × (fused_function function ≡ other))
-  found f other None here is = absurd (cc)
-  found f other (Some function) here is = let same : fused_function function ≡ other = cc in (function, (here, same))
-
-  -- a fused function is made of one
-  pub found_before : (f : ℕ) (other : CountedFunction) → slice_get (map fused_function functions) f ≡ Some other
-      → (function : CountedFunction) × ((slice_get functions f ≡ Some function) × (fused_function function ≡ other))
-  found_before f other is = found f other (slice_get functions f) refl (sym (slice_get-map fused_function functions f) ∙ is)
-
-  -- a fused function is called with as many arguments
-  as_many : (positions : PositionTable) (f : ℕ) (arguments : List ℕ) → HasAsMany positions functions f arguments
-      → HasAsMany positions (map fused_function functions) f arguments
-  as_many positions f arguments many other is =
-      let before = found_before f other is in sym (ap (λ (function : CountedFunction). function.parameters) before.1.1) ∙ many
-      before.0 before.1.0
-
 -- by functions that may be called with as many arguments as others
-module _ (positions : PositionTable) (functions others : List CountedFunction)
-    (many : (f : ℕ) (arguments : List ℕ) → HasAsMany positions functions f arguments → HasAsMany positions others f arguments) where
-  -- forms fit still
-  fits : (form : Form) (arguments : List ℕ) → FitsForm positions functions form arguments
-      → FitsForm positions others form arguments
-  fits (Call f) arguments fit = many f arguments fit
-  fits (Number n) arguments fit = tt
-  fits Nothing arguments fit = tt
-  fits ReadByte arguments fit = tt
-  fits (PrintText form text) arguments fit = tt
-  fits (Unary operator) arguments fit = tt
-  fits (Binary operator) arguments fit = tt
-  fits (Print form) arguments fit = tt
-  fits (Construct c) arguments fit = tt
-
+module _ (positions : PositionTable) (functions others : List CountedFunction) (many : HaveAsMany positions functions others) where
   -- a dup spends what it spends where it cancels with the next drop too
   dup_spends : (x : ℕ) (code : Counted) (lent readable : List ℕ) (left : Option (List ℕ)) (owned now : List ℕ)
       → AreEven owned now → is_among (lent ++ (readable ++ now)) x ≡ true
@@ -307,7 +274,7 @@ module _ (positions : PositionTable) (functions others : List CountedFunction)
         (
           s.1.1.0,
           (
-            fits form arguments s.1.1.1.0,
+            fits positions functions others many form arguments s.1.1.1.0,
             (s.1.1.1.1.0, (s.1.1.1.1.1.0, spends rest lent [] left (x ∷ s.0) s.1.1.1.1.1.1)),
           ),
         ),
@@ -349,22 +316,3 @@ module _ (positions : PositionTable) (functions others : List CountedFunction)
   pub spends_parameters : (f : ℕ) (function : CountedFunction) → SpendsParameters positions functions f function
       → SpendsParameters positions others f (fused_function function)
   spends_parameters f function s = (s.0, (s.1.0, spends function.body s.0 [] None _ s.1.1))
-
--- a fused program spends what it owns
-pub is_spent : (positions : PositionTable) (program : CountedProgram) → IsSpent positions program
-    → IsSpent positions (fused_program program)
-is_spent positions program spent =
-    record {
-      each = λ f other is.
-          let before = found_before program.functions f other is in
-          subst (SpendsParameters positions (map fused_function program.functions) f) before.1.1
-          (spends_parameters positions program.functions (map fused_function program.functions)
-          (as_many program.functions positions) f before.0 (spent.each f before.0 before.1.0));
-      main = (
-        fused_function spent.main.0,
-        (
-          slice_get-map fused_function program.functions program.main ∙ ap (option_map fused_function) spent.main.1.0,
-          spent.main.1.1,
-        ),
-      );
-    }

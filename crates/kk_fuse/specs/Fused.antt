@@ -1,11 +1,12 @@
 -- Fusion: a dup and the next drop of its variable cancel, if between them stand only dups and drops of other variables, readings,
 -- and forms on values that make no cell and call no function, and none names the variable.
-use Rattle.std.specs.Prelude.{◌==◌, ℕ, Bool, true, false, ◌||◌, List, ◌∷◌, map, Option, Some, None, option_map, if◌then◌else◌}
+use Rattle.std.specs.Prelude.{◌==◌, ℕ, Bool, true, false, ◌||◌, List, ◌∷◌, Option, Some, None, option_map, if◌then◌else◌}
 use Rattle.kk_syntax.specs.declared.program.Form.{Form}
 use Rattle.kk_syntax.specs.declared.program.Form.TheVariants.{Construct, Call}
 use Rattle.kk_syntax.specs.Shapes.{is_among}
 use Rattle.kk_counted.specs.CountedCodes.{Counted, give, tail_call, case, compute, inside, read, open_cell, if_unique, dup, drop, CountedArms, no_arm, arm, CountedFunction, CountedProgram}
 use Rattle.kk_counted.specs.CountedStates.{CountedSetting}
+use Rattle.kk_dropspec.specs.Changed.{changed_function, changed_program, changed_setting}
 
 -- a form on variables that makes no cell and calls no function
 abbrev pub is_plain : Form → List ℕ → Bool
@@ -52,11 +53,10 @@ abbrev mutual
   fuse_arms (arm body rest) = arm (fuse body) (fuse_arms rest)
 
 abbrev pub fused_function : CountedFunction → CountedFunction
-fused_function function = record { parameters = function.parameters; body = fuse function.body }
+fused_function = changed_function fuse
 
 abbrev pub fused_program : CountedProgram → CountedProgram
-fused_program program =
-    record { functions = map fused_function program.functions; texts = program.texts; main = program.main }
+fused_program = changed_program fuse
 
 abbrev pub fused_setting : CountedSetting → CountedSetting
-fused_setting setting = record { program = fused_program setting.program; cells = setting.cells; depth = setting.depth }
+fused_setting = changed_setting fuse

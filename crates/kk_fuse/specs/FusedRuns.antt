@@ -9,6 +9,7 @@ use Rattle.kk_counted.specs.CountedStates.{CountedSetting, CountedJoin, CountedF
 use Rattle.kk_counted.specs.Heaps.{Heap}
 use Rattle.kk_counted.specs.Keeping.{counted_after, FitsAlways, HasShapeAlways}
 use Rattle.kk_counted.specs.References.{cells_of}
+use Rattle.kk_dropspec.specs.Changed.{changed_join, changed_frame}
 use Rattle.kk_fuse.specs.Fused.{is_plain, fuse, fused_setting}
 
 -- ---- the length of code
@@ -39,16 +40,10 @@ HasFewSteps most program =
 -- ---- a state of fused code
 
 abbrev pub fused_join : CountedJoin → CountedJoin
-fused_join join = record { variable = join.variable; rest = fuse join.rest }
+fused_join = changed_join fuse
 
 abbrev pub fused_frame : CountedFrame → CountedFrame
-fused_frame frame =
-    record {
-      variable = frame.variable;
-      rest = fuse frame.rest;
-      joins = map fused_join frame.joins;
-      environment = frame.environment;
-    }
+fused_frame = changed_frame fuse
 
 -- The fused code is at the same form. Of what is left behind a form on values, a reading, a dup or a drop nothing is said: drops
 -- whose dups have been cancelled are not there. At each other form it is the code, fused.

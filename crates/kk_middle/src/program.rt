@@ -28,7 +28,9 @@ use std::alloc::Global;
 /// a cell go by the cell's count. `kk_fuse` cancels each dup with the next drop of its variable, where only dups, drops and readings
 /// of other variables and plain forms stand between them. `kk_reuse` lets a construction with fields take the newest token that its
 /// function has left, if there is one: so it uses that cell again, where the cell had no other reference. `kk_respec` lets it leave
-/// each field whose argument is still the variable that the opening bound.
+/// each field whose argument is the variable that the opening of that cell bound to the field, where the opening's variables differ
+/// and none of them is bound anew in between. The end of a block inside ends this: behind it all fields are written in the cells of
+/// tokens from before it.
 ///
 /// The recursion is as deep as the deepest expression.
 pub fn compile(alloc: Global, accepted: &Accepted) -> Result<Tokened, NoMemory>

@@ -8,6 +8,7 @@ use Rattle.kk_counted.specs.CountedCodes.{CountedFunction, case, compute, inside
 use Rattle.kk_counted.specs.KeptFields.{KnownFields, forget_slot, forget_variable, forget_variables, known_opened}
 use Rattle.kk_counted.specs.TokenSpending.{SpendsTokens, SpendAllTokens, AreTokensSpent}
 use Rattle.kk_counted.specs.TokenedCodes.{Tokened, TokenedArms, TokenedFunction, TokenedProgram}
+use Rattle.kk_reuse.proofs.Each.{each_made}
 use Rattle.kk_respec.specs.Respecialised.{respec, respec_arms, respecialised_function, respecialised_program}
 
 -- ---- the bare form
@@ -63,11 +64,7 @@ program_bare program =
 pub each_function : (P : TokenedFunction → Type 0) (functions : List TokenedFunction)
     → ((f : ℕ) (function : TokenedFunction) → slice_get functions f ≡ Some function → P (respecialised_function function))
     → (f : ℕ) (function : TokenedFunction) → slice_get (map respecialised_function functions) f ≡ Some function → P function
-each_function P [] each f function is = absurd (cc)
-each_function P (first ∷ functions) each zero function is =
-    let same : respecialised_function first ≡ function = cc in subst P same (each zero first refl)
-each_function P (first ∷ functions) each (suc f) function is =
-    each_function P functions (λ g other there. each (suc g) other there) f function is
+each_function = each_made respecialised_function
 
 -- ---- tokens are spent
 

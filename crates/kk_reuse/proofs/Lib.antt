@@ -1,3 +1,4 @@
+pub mod Each
 pub mod Bare
 mod Examples
 pub mod Spends

@@ -10,6 +10,7 @@ use Rattle.kk_counted.specs.TokenLowerable.{IsTokenLowerable, AreTokensLowerable
 use Rattle.kk_counted.specs.TokenedCodes.{Tokened, TokenedArms}
 use Rattle.kk_reuse.specs.Following.{may_make, kept, taken}
 use Rattle.kk_reuse.specs.Pairing.{slots_below, frees, holds, unholds, nulls, moves_up, filled_up, settled, left_by, paired_form, paired, paired_arms, paired_function, paired_program}
+use Rattle.kk_reuse.proofs.Each.{each_made}
 use Rattle.kk_reuse.proofs.Leaving.{paired_none}
 use Rattle.kk_reuse.proofs.Rooms.{kept_few, taken_few, leaves_few}
 use Rattle.kk_reuse.proofs.Spends.{slots_are, next_free}
@@ -167,20 +168,12 @@ mutual
 
 pub program_low : (most : ℕ) (program : CountedProgram) → OpenAtMost most program → most ≤ most_slots
     → AreTokensLowerable (paired_program program).functions
-program_low most program few fits f function is = by program.functions few f is
-  where
-    by : (functions : List CountedFunction)
-        → ((f : ℕ) (function : CountedFunction) → slice_get functions f ≡ Some function → openings function.body ≤ most)
-        → (f : ℕ) → slice_get (map paired_function functions) f ≡ Some function
-        → IsTokenLowerable function
-    by [] few f is = cc is
-    by (first ∷ functions) few zero is =
-        let same : paired_function first ≡ function = cc is in
-        let low = paired_low first.body false 0 (omega arith) 0
-        (omega (arith, few zero first refl, fits)) in
-        subst IsTokenLowerable same (record {
-          slots = low.slots;
-          straight = low.straight;
-          leaves = paired_none first.body false 0 0 [];
-        })
-    by (first ∷ functions) few (suc f) is = by functions (λ g other there. few (suc g) other there) f is
+program_low most program few fits =
+    each_made paired_function IsTokenLowerable program.functions
+    (λ f function is.
+    let low = paired_low function.body false 0 (omega arith) 0 (omega (arith, few f function is, fits)) in
+    record {
+      slots = low.slots;
+      straight = low.straight;
+      leaves = paired_none function.body false 0 0 [];
+    })

@@ -10,6 +10,7 @@ use Rattle.kk_reuse.specs.Following.{makes_cell, may_make, kept, taken, leaves, 
 use Rattle.kk_reuse.specs.Pairing.{slots_below, frees, holds, unholds, nulls, moves_up, filled_up, settled, left_by, paired_form, paired, paired_arms, paired_function, paired_program}
 use Rattle.kk_reuse.specs.Paired.{IsTimely, Without, Renamed, IsPaired, ArePaired, AllPaired}
 use Rattle.kk_reuse.proofs.Bare.{bare_frees, bare_unholds, bare_settled, bare_paired}
+use Rattle.kk_reuse.proofs.Each.{each_made}
 use Rattle.kk_reuse.proofs.Spends.{function_leaves_none}
 
 -- tokens are there only where a cell may be made
@@ -250,13 +251,6 @@ mutual
   )
 
 pub program_pairs : (program : CountedProgram) → AllPaired (paired_program program)
-program_pairs program f function is = by program.functions f is
-  where
-    by : (functions : List CountedFunction) (f : ℕ) → slice_get (map paired_function functions) f ≡ Some function
-        → IsPaired false [] [] function.body
-    by [] f is = cc is
-    by (first ∷ functions) zero is =
-        let same : paired_function first ≡ function = cc is in
-        subst (λ (g : TokenedFunction). IsPaired false [] [] g.body) same
-        (paired_pairs first.body false 0 0 (inl refl) (function_leaves_none first.body))
-    by (first ∷ functions) (suc f) is = by functions f is
+program_pairs program =
+    each_made paired_function (λ function. IsPaired false [] [] function.body) program.functions
+    (λ f function is. paired_pairs function.body false 0 0 (inl refl) (function_leaves_none function.body))

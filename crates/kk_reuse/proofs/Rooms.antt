@@ -9,6 +9,7 @@ use Rattle.kk_counted.specs.TokenCosts.{tokens_ahead, room_needed, arms_need_roo
 use Rattle.kk_counted.specs.TokenedCodes.{Tokened, TokenedFunction}
 use Rattle.kk_reuse.specs.Following.{makes_cell, may_make, kept, taken, leaves, arms_leave}
 use Rattle.kk_reuse.specs.Pairing.{slots_below, frees, holds, unholds, nulls, moves_up, filled_up, settled, left_by, paired_form, paired, paired_arms, paired_function, paired_program}
+use Rattle.kk_reuse.proofs.Each.{each_made}
 
 -- ---- forms that only tokens have, in front of a code
 
@@ -268,14 +269,6 @@ module _ (most : ℕ) where
         )
 
   pub program_has_room : (program : CountedProgram) → OpenAtMost most program → HasRoom (36 * most) (paired_program program)
-  program_has_room program few f function is = by program.functions few f is
-    where
-      by : (functions : List CountedFunction)
-          → ((f : ℕ) (function : CountedFunction) → slice_get functions f ≡ Some function → openings function.body ≤ most)
-          → (f : ℕ) → slice_get (map paired_function functions) f ≡ Some function → room_needed function.body ≤ 36 * most
-      by [] few f is = cc is
-      by (first ∷ functions) few zero is =
-          let same : paired_function first ≡ function = cc is in
-          subst (λ (g : TokenedFunction). room_needed g.body ≤ 36 * most) same
-          (paired_needed first.body false 0 (omega arith) 0 (omega (arith, few zero first refl)))
-      by (first ∷ functions) few (suc f) is = by functions (λ g other there. few (suc g) other there) f is
+  program_has_room program few =
+      each_made paired_function (λ function. room_needed function.body ≤ 36 * most) program.functions
+      (λ f function is. paired_needed function.body false 0 (omega arith) 0 (omega (arith, few f function is)))

@@ -13,6 +13,7 @@ use Rattle.kk_counted.proofs.Evenness.{among_front}
 use Rattle.kk_counted.proofs.TokenForms.{among_without}
 use Rattle.kk_reuse.specs.Following.{may_make, kept, taken, leaves, arms_leave}
 use Rattle.kk_reuse.specs.Pairing.{slots_below, frees, holds, unholds, nulls, moves_up, filled_up, settled, left_by, paired_form, paired, paired_arms, paired_function, paired_program}
+use Rattle.kk_reuse.proofs.Each.{each_made}
 
 -- slots are those below a number
 abbrev pub AreBelow : List ℕ → ℕ → Type 0
@@ -350,13 +351,8 @@ pub function_leaves_none : (code : Counted) → leaves false 0 code ≤ 0
 function_leaves_none code = none_left code 0 (λ none. refl)
 
 pub program_spends : (program : CountedProgram) → AreTokensSpent (paired_program program)
-program_spends program f function is = by program.functions f is
-  where
-    by : (functions : List CountedFunction) (f : ℕ) → slice_get (map paired_function functions) f ≡ Some function
-        → SpendsTokens [] [] [] function.body
-    by [] f is = cc is
-    by (first ∷ functions) zero is =
-        let same : paired_function first ≡ function = cc is in
-        subst (λ (g : TokenedFunction). SpendsTokens [] [] [] g.body) same
-        (paired_spends first.body false 0 0 [] [] (λ z. sym (none_below z)) (λ z. sym (none_below z)) (function_leaves_none first.body))
-    by (first ∷ functions) (suc f) is = by functions f is
+program_spends program =
+    each_made paired_function (λ function. SpendsTokens [] [] [] function.body) program.functions
+    (λ f function is.
+    paired_spends function.body false 0 0 [] [] (λ z. sym (none_below z)) (λ z. sym (none_below z))
+    (function_leaves_none function.body))

@@ -9,6 +9,8 @@ mod commands;
 #[cfg(test)]
 mod devices;
 #[cfg(test)]
+mod fusion;
+#[cfg(test)]
 mod layers;
 #[cfg(test)]
 mod same_cells;

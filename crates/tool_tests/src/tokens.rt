@@ -28,17 +28,17 @@ fn fills(block: &TokenedBlock) -> bool {
     false
 }
 
-/// Whether a block opens a cell by its count, and drops nothing.
-fn opens_and_drops_nothing(block: &TokenedBlock) -> bool {
-    let mut opens = false;
+/// Whether a block opens one cell, by its count, makes a cell in its place, and drops nothing.
+fn opens_a_cell_and_fills_it(block: &TokenedBlock) -> bool {
+    let mut openings: usize = 0;
     for step in &block.steps {
         match step {
-            TokenedStep::Drop { .. } => return false,
-            TokenedStep::IfUnique { .. } => opens = true,
+            TokenedStep::Open { .. } | TokenedStep::Drop { .. } => return false,
+            TokenedStep::IfUnique { .. } => openings = openings.saturating_add(1),
             _ => {}
         }
     }
-    opens
+    openings == 1 && fills(block)
 }
 
 /// Whether the first construction of a block in a token's cell leaves its second field alone.
@@ -55,21 +55,21 @@ fn leaves_the_second_field(block: &TokenedBlock) -> bool {
 #[derive(Drop)]
 struct Arms {
     fill: bool,
-    open_and_drop_nothing: bool,
+    open_a_cell_and_fill_it: bool,
     leave_the_second_field: bool,
 }
 
 fn arms_of(program: &Tokened) -> Arms {
     let mut arms = Arms {
         fill: false,
-        open_and_drop_nothing: false,
+        open_a_cell_and_fill_it: false,
         leave_the_second_field: false,
     };
     for function in &program.functions {
         if let TokenedLast::Case(_, _, bodies) = &function.body.last {
             for body in bodies {
                 arms.fill |= fills(body);
-                arms.open_and_drop_nothing |= opens_and_drops_nothing(body);
+                arms.open_a_cell_and_fill_it |= opens_a_cell_and_fills_it(body);
                 arms.leave_the_second_field |= leaves_the_second_field(body);
             }
         }
@@ -110,11 +110,11 @@ fun j(b: box): box { val c = b; val t = match c { Box(v) -> v }; Box(t) }
 fun main() { match j(Box(1)) { Box(r) -> println(r) } }
 ";
 
-/// The row of `inc` opens its cell by the count, and drops nothing besides.
+/// The row of `inc`, the only one that makes a cell, opens its cell once, by the count, and drops nothing besides.
 #[test]
 fn a_row_opens_its_cell_once(rt: HostRuntime) -> Result<(), NoMemory> {
     let increment = compiled(rt.alloc(), INCREMENT)?;
-    assert!(rt; matches!(&increment, Some(program) if arms_of(program).open_and_drop_nothing));
+    assert!(rt; matches!(&increment, Some(program) if arms_of(program).open_a_cell_and_fill_it));
     Ok(())
 }
 

@@ -5,13 +5,15 @@ use Rattle.kk_counted.specs.Programs.{function_of}
 use Rattle.kk_counted.specs.Shaping.{positions_in}
 use Rattle.kk_counted.specs.declared.form.Block.{Block}
 use Rattle.kk_dropspec.specs.Specialised.{special, special_function}
-use Rattle.kk_dropspec.proofs.NumberForms.{functions_pushed, function_made, made_more, one_longer}
-use Rattle.kk_dropspec.proofs.Spends.{next_is_function}
+use Rattle.kk_dropspec.proofs.NumberForms.{functions_pushed, made_more, one_longer}
+use Rattle.kk_dropspec.proofs.ChangedFunctions.{function_made, next_is_function}
+use Rattle.kk_dropspec.proofs.Spends.{spends_parameters, special_has_arms}
 use Rattle.kk_dropspec.proofs.special.run.Goals as goal
 
 pub add-requires : goal.add-requires
 add-requires c =
-    next_is_function (positions_in c.args.counted.shape.instances.items) _ c.args.counted.functions.items
+    next_is_function special spends_parameters special_has_arms (positions_in c.args.counted.shape.instances.items) _
+    c.args.counted.functions.items
     c.deref-function-items.result.now c.function-item.result c.new.result c.loop-function.function-index _ c.args.counted.spent
     (ap (λ shape. positions_in shape.instances.items) (c.loop-function.invariant.1.1.0 ∙ c.new-made.ensures.shape ∙ ap (λ parts. parts.0) c.parts-shape.ensures))
     (c.deref-function-items.ensures.value ∙ ap (λ parts. parts.1.items) c.parts-shape.ensures) c.loop-function-test.true c.function-item.is c.loop-function.invariant.1.0
@@ -23,7 +25,7 @@ loop-function-preserved c = (
   made_more function_of function_of special_function c.loop-function.made.functions.items c.add.new.self.functions.items c.new.result
       c.deref-function-items.result.now c.loop-function.function-index c.function-item.result c.loop-function-test.true c.function-item.is
       c.in_ok-add.ensures.ok
-      (function_made c.new.result c.function-item.result (ap (λ fun. fun.parameters) c.new.ensures ∙ c.parameters.ensures)
+      (function_made special c.new.result c.function-item.result (ap (λ fun. fun.parameters) c.new.ensures ∙ c.parameters.ensures)
       (ap (λ fun. block_code fun.body) c.new.ensures ∙ c.in_ok-body.ensures.same ∙ ap (λ body. special (block_code body)) c.body.ensures))
       c.loop-function.invariant.0,
   (

@@ -5,14 +5,16 @@ use Rattle.kk_counted.specs.Programs.{function_of}
 use Rattle.kk_counted.specs.Shaping.{positions_in}
 use Rattle.kk_counted.specs.declared.form.Block.{Block}
 use Rattle.kk_fuse.specs.Fused.{fuse, fused_function}
+use Rattle.kk_dropspec.proofs.ChangedFunctions.{function_made, next_is_function}
 use Rattle.kk_dropspec.proofs.NumberForms.{functions_pushed, made_more, one_longer}
-use Rattle.kk_fuse.proofs.Forms.{function_made}
-use Rattle.kk_fuse.proofs.Functions.{next_is_function}
+use Rattle.kk_fuse.proofs.Lowered.{has_arms}
+use Rattle.kk_fuse.proofs.Spends.{spends_parameters}
 use Rattle.kk_fuse.proofs.fuse.run.Goals as goal
 
 pub add-requires : goal.add-requires
 add-requires c =
-    next_is_function (positions_in c.args.counted.shape.instances.items) _ c.args.counted.functions.items
+    next_is_function fuse spends_parameters has_arms (positions_in c.args.counted.shape.instances.items) _
+    c.args.counted.functions.items
     c.deref-function-items.result.now c.function-item.result c.new.result c.loop-function.function-index _ c.args.counted.spent
     (ap (λ shape. positions_in shape.instances.items) (c.loop-function.invariant.1.1.0 ∙ c.new-made.ensures.shape
     ∙ ap (λ parts. parts.0) c.parts-shape.ensures))
@@ -26,7 +28,7 @@ loop-function-preserved c = (
   made_more function_of function_of fused_function c.loop-function.made.functions.items c.add.new.self.functions.items c.new.result
       c.deref-function-items.result.now c.loop-function.function-index c.function-item.result
       c.loop-function-test.true c.function-item.is c.in_ok-add.ensures.ok
-      (function_made c.new.result c.function-item.result (ap (λ fun. fun.parameters) c.new.ensures ∙ c.parameters.ensures)
+      (function_made fuse c.new.result c.function-item.result (ap (λ fun. fun.parameters) c.new.ensures ∙ c.parameters.ensures)
       (ap (λ fun. block_code fun.body) c.new.ensures ∙ c.in_ok-body.ensures.same
       ∙ ap (λ body. fuse (block_code body)) c.body.ensures))
       c.loop-function.invariant.0,
