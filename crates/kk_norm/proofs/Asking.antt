@@ -80,10 +80,7 @@ module _ (constructors : List ConstructorTree) where
         code_asks _ names n e c is.4
         (joined_asks k _ _ (
           truths_ask constructors,
-          (
-            code_asks (within k) names _ positive is.0 is.2 (within_asks k),
-            (code_asks (within k) names _ negative is.1 is.3 (within_asks k), tt),
-          ),
+          (code_asks (within k) names _ positive is.0 is.2 (within_asks k), (code_asks (within k) names _ negative is.1 is.3 (within_asks k), tt)),
         ) then)
     code_asks k names n (match e rows) c is then =
         code_asks _ names n e c is.4

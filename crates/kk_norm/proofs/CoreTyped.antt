@@ -356,8 +356,7 @@ patterns_are constructors k names a n (row pattern body rest) arms are =
 
 mutual
   -- with the names of a scope's variables, the code fits where what comes after it does
-  pub code_fits : (table : Table) → HasTruths table.constructors
-      → (tail : Bool) (k : Then) (names : Names) (n : ℕ) (e : Tree) (c : Code) (scope : Scope)
+  pub code_fits : (table : Table) → HasTruths table.constructors → (tail : Bool) (k : Then) (names : Names) (n : ℕ) (e : Tree) (c : Code) (scope : Scope)
       (facts : Facts) (low high : ℕ) (s t : TypeTree)
       → IsCode table.constructors k names n e c → HasType table scope e s → AreNamed names scope facts n → low ≤ n
       → Goes table tail facts n k (atom names n e) (n + size e) s high t
@@ -421,16 +420,14 @@ mutual
       let bound_names : Names = named (variable_of binder) a names in
       code_fits table truths tail (next coded.0) names n first c scope facts low high has.0 t coded.2 has.1 are le
       (λ later low_later grows has_a less room.
-      code_fits table truths tail k bound_names from rest coded.0 (with_binder binder has.0 scope) later low_later high s t coded.1
-      has.2
+      code_fits table truths tail k bound_names from rest coded.0 (with_binder binder has.0 scope) later low_later high s t coded.1 has.2
       (named_bound binder a has.0 names scope later from
       (named_later names scope facts later n from are grows (omega arith)) has_a less)
       room
       (goes_later table tail facts later n from (atom bound_names from rest) (n + (size first + size rest))
       (from + size rest) high k s t goes grows (omega arith) (omega arith)))
 
-  codes_fit : (table : Table) → HasTruths table.constructors
-      → (tail : Bool) (names : Names) (n : ℕ) (es : Trees) (last c : Code) (scope : Scope) (facts : Facts)
+  codes_fit : (table : Table) → HasTruths table.constructors → (tail : Bool) (names : Names) (n : ℕ) (es : Trees) (last c : Code) (scope : Scope) (facts : Facts)
       (low high : ℕ) (ts : List TypeTree) (t : TypeTree)
       → AreCodes table.constructors names n es last c → HaveTypes table scope es ts → AreNamed names scope facts n → low ≤ n
       → ((later : Facts) (low_later : ℕ) → Grows n facts later → Typed.HaveTypes later (atoms names n es) ts
@@ -454,8 +451,7 @@ mutual
       (omega arith)))
 
   -- the arms of a match whose numbers end below `to`
-  arms_fit : (table : Table) → HasTruths table.constructors
-      → (tail : Bool) (k : Then) (names : Names) (a n : ℕ) (of : Rows) (arms : Arms) (scope : Scope)
+  arms_fit : (table : Table) → HasTruths table.constructors → (tail : Bool) (k : Then) (names : Names) (a n : ℕ) (of : Rows) (arms : Arms) (scope : Scope)
       (facts : Facts) (low to high : ℕ) (u s t : TypeTree) (m x : ℕ)
       → AreArms table.constructors (within k) names a n of arms → AreRowsTyped table scope of u s → AreNamed names scope facts n
       → Has facts a u → a < n → low ≤ n
@@ -463,8 +459,8 @@ mutual
       → FitArms table tail facts a u low arms high t
   arms_fit table truths tail k names a n no_row arms scope facts low to high u s t m x coded typed are has less le goes room =
       subst (λ (all : Arms). FitArms table tail facts a u low all high t) (sym coded) (record { typed = tt; ordered = omega arith })
-  arms_fit table truths tail k names a n (row pattern body rest) arms scope facts low to high u s t m x coded typed are has less le
-      goes room =
+  arms_fit table truths tail k names a n (row pattern body rest) arms scope facts low to high u s t m x coded typed are has less le goes
+      room =
       let from : ℕ = n + pattern_size pattern in
       let end : ℕ = from + size body in
       let names_here : Names = pattern_names a n pattern names in

@@ -13,8 +13,7 @@ use Rattle.kk_norm.specs.Normalized.{final, size, IsCoreOf, AreCoresOf, IsCoreFo
 use Rattle.kk_norm.proofs.CoreTyped.{Fits, code_fits}
 use Rattle.kk_norm.proofs.Facts.{parameters_known, parameters_named}
 
-function_typed : (table : Table) → HasTruths table.constructors
-    → (function : FunctionTree) (core : FunctionCode) → IsCoreOf table.constructors function core
+function_typed : (table : Table) → HasTruths table.constructors → (function : FunctionTree) (core : FunctionCode) → IsCoreOf table.constructors function core
     → IsFunctionTyped table function → IsCodeTyped table core (signature_of function)
 function_typed table truths function core is typed =
     let n : ℕ = length function.parameters in

@@ -131,8 +131,7 @@ module _ (constructors : List ConstructorTree) (most : ℕ) (Q : Code → Type 0
         let second : Q coded.1
         = code_holds (within k) names (n + size e + size positive) negative coded.1 coded.3 (omega (arith, few)) (within_holds k) in
         code_holds (next (joined k m own)) names n e c coded.4 (omega (arith, few))
-        (joined_holds k m own (holds.truths (atom names n e) coded.0 coded.1
-        (omega (arith, few, tree_some e, tree_some positive, tree_some negative)) first second) later)
+        (joined_holds k m own (holds.truths (atom names n e) coded.0 coded.1 (omega (arith, few, tree_some e, tree_some positive, tree_some negative)) first second) later)
     code_holds k names n (match e of) c coded few later =
         let m : ℕ = n + size e + size_rows of in
         let a : ℕ = atom names n e in
@@ -214,8 +213,7 @@ each_case : (program : ProgramTree) (code : ProgramCode) (P : List NodeTree → 
     → EachCaseOfAll P code
 each_case program code P form truths each =
     cores_hold program.constructors (greatest_nodes program) (EachCase P) (EachCaseOfArms P)
-    (cases_hold program.constructors (greatest_nodes program) P truths each) program.functions code.functions form.functions
-    (omega arith)
+    (cases_hold program.constructors (greatest_nodes program) P truths each) program.functions code.functions form.functions (omega arith)
 
 -- each case of a core form has an arm for each row of its decisions
 pub are_whole : (program : ProgramTree) (code : ProgramCode) → IsCoreForm program code → CasesAreWhole code

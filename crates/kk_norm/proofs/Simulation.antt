@@ -18,7 +18,7 @@ use Rattle.kk_source.specs.FormEffects.{truth, byte_value, FormEffect, gives, pr
 use Rattle.kk_source.specs.SourceAfter.{State}
 use Rattle.kk_source.specs.Step.{bind_parameters, call_frames, lent_places, at_end, at_value, at_new_place, in_body, construct_step, form_step, call_step, push_step}
 use Rattle.kk_source.specs.Matching.{and_then}
-use Rattle.kk_core.specs.Codes.{Code, tail_call, Arms, no_arm, arm, FunctionCode, ProgramCode}
+use Rattle.kk_core.specs.Codes.{Code, give, tail_call, Arms, no_arm, arm, FunctionCode, ProgramCode}
 use Rattle.kk_core.specs.Decisions.{chosen}
 use Rattle.kk_core.specs.Truths.{true_pattern, false_pattern, truth_decisions, truth_case}
 use Rattle.kk_core.specs.CoreStates.{CoreSetting, Join, CallFrame, CoreConfiguration, CoreState}
@@ -287,8 +287,8 @@ module _ (setting : Setting) (code : ProgramCode) (given : Bounds) (cost : ℕ) 
   truth_goes x test first second core joins frames store input is =
       let arms : Arms = arm true_pattern first (arm false_pattern second no_arm) in
       let from = (core_at (truth_case x first second) core joins frames store input).machine in
-      ap (λ (v : Value). performed (Core.case_step (and_then (chosen (slice_get store) v truth_decisions) (Core.arm_at arms)) core
-      joins from) input) is
+      ap (λ (v : Value). performed (Core.case_step (and_then (chosen (slice_get store) v truth_decisions) (Core.arm_at arms)) core joins
+      from) input) is
       ∙ (ap (λ (row : Option ℕ). performed (Core.case_step (and_then row (Core.arm_at arms)) core joins from) input)
       (truth_chosen (slice_get store) test) ∙ by_test test)
     where

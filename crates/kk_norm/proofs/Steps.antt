@@ -157,22 +157,14 @@ module _ (setting : Setting) (code : ProgramCode) (given : Bounds) (cost : ℕ) 
       → Fresh k joins (n + size positive + size negative + 1) top → Waits given fs (goal_of k (n + size positive + size negative) joins) core low top frames
       → Steps w idle (source_at (value v) (branches positive negative environment ∷ fs) store input) (core_at (joined k (n + size positive + size negative) (truth_case x first second)) core joins frames store input)
   branch_step k positive negative first second names environment n low top core joins x v frames fs store input w room idle has of first_is second_is le stands positive_opens negative_opens small fresh waits =
-      subst (λ (v : Value). Steps w idle (source_at (value v) (branches positive negative environment ∷ fs) store input) after_it)
-      (sym of.1) (by_test of.0 (has ∙ of.1))
+      subst (λ (v : Value). Steps w idle (source_at (value v) (branches positive negative environment ∷ fs) store input) after_it) (sym of.1) (by_test of.0 (has ∙ of.1))
     where
       after_it : CoreState
       after_it = core_at (joined k (n + size positive + size negative) (truth_case x first second)) core joins frames store input
 
-      by_test : (test : Bool) → value_of core x ≡ truth test
-          → Steps w idle (source_at (value (truth test)) (branches positive negative environment ∷ fs) store input) after_it
-      by_test true is =
-          Forms.branch_goes setting code given cost weight light good texts true k positive negative first second names environment n
-          low top core joins x frames fs store input w room idle is first_is second_is le stands positive_opens negative_opens small
-          fresh waits
-      by_test false is =
-          Forms.branch_goes setting code given cost weight light good texts false k positive negative first second names environment n
-          low top core joins x frames fs store input w room idle is first_is second_is le stands positive_opens negative_opens small
-          fresh waits
+      by_test : (test : Bool) → value_of core x ≡ truth test → Steps w idle (source_at (value (truth test)) (branches positive negative environment ∷ fs) store input) after_it
+      by_test true is = Forms.branch_goes setting code given cost weight light good texts true k positive negative first second names environment n low top core joins x frames fs store input w room idle is first_is second_is le stands positive_opens negative_opens small fresh waits
+      by_test false is = Forms.branch_goes setting code given cost weight light good texts false k positive negative first second names environment n low top core joins x frames fs store input w room idle is first_is second_is le stands positive_opens negative_opens small fresh waits
 
   -- where a match has its scrutinee, a row matches, and there is weight for it; and where an `if` has its condition, it is a truth
   abbrev pub IsReadyFor : List Frame → Store → Value → ℕ → Type 0
@@ -286,8 +278,7 @@ module _ (setting : Setting) (code : ProgramCode) (given : Bounds) (cost : ℕ) 
   module _ (Sane : State → Type 0) (heavy : State → ℕ)
       (stays_sane : (s : State) → Sane s → Sane (step setting s).1)
       (row_there : (of : Rows) (environment : Environment) (fs : List Frame) (v : Value) (store : Store) (input : List ℕ) → given.matches ≡ true → Sane (source_at (value v) (rows of environment ∷ fs) store input) → RowFound given.constructors of store v)
-      (truth_there : (positive negative : Tree) (environment : Environment) (fs : List Frame) (v : Value) (store : Store)
-          (input : List ℕ) → Sane (source_at (value v) (branches positive negative environment ∷ fs) store input) → IsTruth v)
+      (truth_there : (positive negative : Tree) (environment : Environment) (fs : List Frame) (v : Value) (store : Store) (input : List ℕ) → Sane (source_at (value v) (branches positive negative environment ∷ fs) store input) → IsTruth v)
       (enough : (s : State) → openings_at s.machine.control s.machine.frames s.machine.store ≤ given.cells → 2 * cost + openings_at s.machine.control s.machine.frames s.machine.store * opening ≤ heavy s) where
     abbrev pub upper : Machine State Note End
     upper = weighed_store_machine heavy setting
@@ -300,8 +291,7 @@ module _ (setting : Setting) (code : ProgramCode) (given : Bounds) (cost : ℕ) 
         (λ some. row_there of environment fs v store input some sane, λ few. enough (source_at (value v) (rows of environment ∷ fs) store input) few)
     ready_frames [] v store input sane = tt
     ready_frames (arguments form vs es environment ∷ fs) v store input sane = tt
-    ready_frames (branches positive negative environment ∷ fs) v store input sane =
-        truth_there positive negative environment fs v store input sane
+    ready_frames (branches positive negative environment ∷ fs) v store input sane = truth_there positive negative environment fs v store input sane
     ready_frames (statement awaits e environment ∷ fs) v store input sane = tt
     ready_frames (call lent ∷ fs) v store input sane = tt
 

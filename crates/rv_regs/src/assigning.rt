@@ -80,9 +80,9 @@ fn copied(alloc: Global, texts: &[Text]) -> Result<Vec<Text>, NoMemory>
 }
 
 /// Gives the values of a program places. Each value has a slot of its own. In a function whose lines times the square of the most
-/// values that are alive at a point are at most 50,000,000, it stays in registers from one label to the next, where no call comes
-/// between. In any other one it stands in a register only while a statement reads or writes it. A token that is held stays in its
-/// slot. The program has no memory of its own.
+/// values that are alive at a point are at most 50,000,000, it stays in registers from one call to the next, where the check takes
+/// that. In any other one it stands in a register only while a statement reads or writes it. A token that is held stays in its slot.
+/// The program has no memory of its own.
 pub fn assign(alloc: Global, asm: &Asm) -> Result<Placed, NoMemory>
     requires formed { AreWellFormed (asm_functions asm.now) }
     ensures valid { IfOk result (IsValid asm.now) }

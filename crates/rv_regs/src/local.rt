@@ -18,7 +18,7 @@ use rv_isa::{
 use std::alloc::Global;
 
 /// How often a function is written anew with more care.
-const MOST_ROUNDS: u32 = 16;
+const MOST_ROUNDS: u32 = 8;
 
 // Whether the place is a register that routines spoil, which print and read nothing.
 fn is_soon_spoilt(place: Place) -> bool {

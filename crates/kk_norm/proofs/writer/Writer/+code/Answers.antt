@@ -9,6 +9,7 @@ use Rattle.kk_syntax.specs.GroundPrograms.{ground_program}
 use Rattle.kk_syntax.specs.Trees.{StatementTree, Trees, Rows, expr_tree, row_tree, rows_of, statement_tree, trees_of}
 use Rattle.kk_core.specs.Codes.{Code, runs, plug, step_piece, block_code, last_code, ArmCode, arm_code}
 use Rattle.kk_core.specs.declared.form.Arm.{Arm}
+use Rattle.kk_core.specs.declared.form.Block.{Block}
 use Rattle.kk_core.specs.declared.form.Step.{Step}
 use Rattle.kk_norm.specs.declared.writer.Writer.{Writer}
 use Rattle.kk_norm.specs.Written.{WritesStep}
@@ -117,10 +118,8 @@ block-returns t c =
 pub choice-returns : goal.choice-returns
 choice-returns t c =
     IfOk-weaker c.case_by_truth.result _ _
-    (λ last is. choice_done c.args.tail (expr_tree c.args.condition.now) (expr_tree c.args.positive.now)
-    (expr_tree c.args.negative.now) c.args.self.now c.value.new.self c.block.new.self c.block-2.new.self c.in_ok-on.on
-    (block_code c.in_ok-positive.positive) (block_code c.in_ok-negative.negative) (last_code last) c.in_ok-on.ensures
-    c.in_ok-positive.ensures c.in_ok-negative.ensures is)
+    (λ last is. choice_done c.args.tail (expr_tree c.args.condition.now) (expr_tree c.args.positive.now) (expr_tree c.args.negative.now) c.args.self.now c.value.new.self c.block.new.self c.block-2.new.self
+    c.in_ok-on.on (block_code c.in_ok-positive.positive) (block_code c.in_ok-negative.negative) (last_code last) c.in_ok-on.ensures c.in_ok-positive.ensures c.in_ok-negative.ensures is)
     c.case_by_truth.ensures
 
 pub end-returns-in-Variable : goal.end-returns-in-Variable
