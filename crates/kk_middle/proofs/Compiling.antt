@@ -6,7 +6,7 @@ use Rattle.kk_syntax.specs.PositionsOf.{PositionTable}
 use Rattle.kk_syntax.specs.Programs.{ConstructorTree, FunctionTree, ProgramTree}
 use Rattle.kk_core.specs.Cases.{EachCase, EachCaseOfArms, IsWhole, CasesAreWhole}
 use Rattle.kk_core.specs.CellTypes.{has_cells, TellsCells}
-use Rattle.kk_core.specs.Codes.{Code, give, tail_call, branch, case, compute, use_of, unpack, inside, Arms, no_arm, arm, FunctionCode, ProgramCode}
+use Rattle.kk_core.specs.Codes.{Code, give, tail_call, case, compute, use_of, unpack, inside, Arms, no_arm, arm, FunctionCode, ProgramCode}
 use Rattle.kk_core.specs.declared.form.Core.{Core}
 use Rattle.kk_core.specs.declared.form.CoreFunction.{CoreFunction}
 use Rattle.kk_norm.specs.Normalized.{AreCoresOf, IsCoreForm}
@@ -58,7 +58,6 @@ mutual
   code_has : (code : Code) → EachCase IsWhole code → HasRows code
   code_has (give x) each = tt
   code_has (tail_call f arguments) each = tt
-  code_has (branch x positive negative) each = (code_has positive each.0, code_has negative each.1)
   code_has (case x decisions arms) each = (each.0, arms_have arms each.1)
   code_has (compute x form arguments rest) each = code_has rest each
   code_has (use_of x rest) each = code_has rest each

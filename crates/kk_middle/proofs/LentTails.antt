@@ -16,7 +16,7 @@ use Rattle.kk_syntax.specs.Programs.{ConstructorTree, ProgramTree}
 use Rattle.kk_syntax.specs.Shapes.{bound, bound_all, bound_by, is_among, variable_of, Opening, tails_inside, tails_of_rows}
 use Rattle.kk_syntax.specs.Trees.{Tree, variable, apply, branch, match, sequence, Trees, no_tree, tree, Rows, no_row, row}
 use Rattle.kk_core.specs.Codes.{Code, give, tail_call, case, compute, use_of, unpack, inside, Arms, no_arm, arm}
-use Rattle.kk_core.specs.Codes as Core
+use Rattle.kk_core.specs.Truths.{truth_case}
 use Rattle.kk_norm.specs.Names.{Names, name_of, named}
 use Rattle.kk_norm.specs.Normalized.{size, size_all, pattern_size, part_count, atom, atoms, final, finish, numbers, opened, opened_all, pattern_names, parts_names, IsCode, AreArms}
 use Rattle.kk_counted.specs.Spending.{AllAmong, at_positions}
@@ -362,7 +362,7 @@ module _ (program : ProgramTree) (positions : PositionTable)
           (subst (λ (xs : List ℕ). Part xs lent) ahead.are low))
           (all_front (IsOwnedAt program positions) (handed_by (lent_inside own around) (apply form es)) [] owned))
       tail_lends (branch e positive negative) around names n code before lent is named low keeps owned =
-          let block : Code = Core.branch (atom names n e) is.0 is.1 in
+          let block : Code = truth_case (atom names n e) is.0 is.1 in
           let passed : Passes positions code block = passes positions constructors e names n block code is.4 in
           let ahead : Lent before code block = passed.lent before in
           let all : Part (lent_in (lent_in ahead.next is.0) is.1) lent = subst (λ (xs : List ℕ). Part xs lent) ahead.are low in
@@ -374,9 +374,12 @@ module _ (program : ProgramTree) (positions : PositionTable)
                 (λ x there. ahead.more (name_of names x) (named x there))
                 (part_then (lent_in ahead.next is.0) (lent_in (lent_in ahead.next is.0) is.1) lent (grows is.1 (lent_in ahead.next is.0)) all)
                 keeps.0 (all_front (IsOwnedAt program positions) (given around positive) (given around negative) both),
-            tail_lends negative around names (n + size e + size positive) is.1 (lent_in ahead.next is.0) lent is.3
-                (λ x there. grows is.0 ahead.next (name_of names x) (ahead.more (name_of names x) (named x there))) all keeps.1
-                (all_back (IsOwnedAt program positions) (given around positive) (given around negative) both),
+            (
+              tail_lends negative around names (n + size e + size positive) is.1 (lent_in ahead.next is.0) lent is.3
+                  (λ x there. grows is.0 ahead.next (name_of names x) (ahead.more (name_of names x) (named x there))) all keeps.1
+                  (all_back (IsOwnedAt program positions) (given around positive) (given around negative) both),
+              tt,
+            ),
           )
       tail_lends (match e rows) around names n code before lent is named low keeps owned =
           let block : Code = case (atom names n e) is.0 is.1 in

@@ -9,7 +9,7 @@ use Rattle.kk_syntax.specs.Programs.{ConstructorTree}
 use Rattle.kk_syntax.specs.Shapes.{is_among, variable_of}
 use Rattle.kk_syntax.specs.Trees.{Tree, variable, apply, branch, match, sequence, Trees, no_tree, tree, Rows, no_row, row}
 use Rattle.kk_core.specs.Codes.{Code, give, tail_call, case, compute, use_of, unpack, inside, Arms, no_arm, arm}
-use Rattle.kk_core.specs.Codes as Core
+use Rattle.kk_core.specs.Truths.{truth_case}
 use Rattle.kk_norm.specs.Names.{Names, name_of, named}
 use Rattle.kk_norm.specs.Normalized.{size, size_all, size_rows, pattern_size, part_count, atom, atoms, final, next, finish, numbers, opened, opened_all, pattern_names, IsCode, AreCodes, AreArms}
 use Rattle.kk_insert.specs.Insertion.{lent_in, lent_in_arms}
@@ -33,7 +33,6 @@ mutual
   pub grows : (code : Code) (before : List ℕ) → Part before (lent_in before code)
   grows (give x) before y is = is
   grows (tail_call f arguments) before y is = is
-  grows (Core.branch x positive negative) before y is = grows negative (lent_in before positive) y (grows positive before y is)
   grows (case x decisions arms) before y is = grow_arms arms before y is
   grows (compute x form arguments rest) before y is = grows rest before y is
   grows (use_of x rest) before y is = grows rest before y is
@@ -177,11 +176,14 @@ module _ (positions : PositionTable) where
           (passes_compute (finish (next later) (n + size_all es) form (atoms names n es)) later (n + size_all es) form (atoms names n es)
           (finish_next later (n + size_all es) form (atoms names n es)))
       passes (branch e positive negative) names n later code is =
-          let block : Code = Core.branch (atom names n e) is.0 is.1 in
+          let block : Code = truth_case (atom names n e) is.0 is.1 in
           passes_then code (inside (n + size e + size positive + size negative) block later) later
           (passes e names n (inside (n + size e + size positive + size negative) block later) code is.4)
           (passes_inside (n + size e + size positive + size negative) block later
-          (λ lent. (ends positive names (n + size e) is.0 is.2 lent, ends negative names (n + size e + size positive) is.1 is.3 lent)))
+          (λ lent. (
+            ends positive names (n + size e) is.0 is.2 lent,
+            (ends negative names (n + size e + size positive) is.1 is.3 lent, tt),
+          )))
       passes (match e rows) names n later code is =
           let block : Code = case (atom names n e) is.0 is.1 in
           passes_then code (inside (n + size e + size_rows rows) block later) later
@@ -206,8 +208,10 @@ module _ (positions : PositionTable) where
           (pass_all es names n (finish (final false) (n + size_all es) form (atoms names n es)) code is).tails lent
           (finish_block lent (n + size_all es) form (atoms names n es))
       ends (branch e positive negative) names n code is lent =
-          (passes e names n (Core.branch (atom names n e) is.0 is.1) code is.4).tails lent
-          (ends positive names (n + size e) is.0 is.2 lent, ends negative names (n + size e + size positive) is.1 is.3 lent)
+          (passes e names n (truth_case (atom names n e) is.0 is.1) code is.4).tails lent (
+            ends positive names (n + size e) is.0 is.2 lent,
+            (ends negative names (n + size e + size positive) is.1 is.3 lent, tt),
+          )
       ends (match e rows) names n code is lent =
           (passes e names n (case (atom names n e) is.0 is.1) code is.4).tails lent
           (end_arms rows names (atom names n e) (n + size e) is.1 is.3 lent)

@@ -1,5 +1,5 @@
 -- The assembler code of code with tokens is short: it is no longer than that code tells.
-use Rattle.std.proofs.Common.{◌≡◌, ℕ, suc, ◌+◌, ◌*◌, ◌≤◌, inl, inr, Bool, List, [], ◌∷◌, ◌++◌, length, map, Some, refl, sym, ap}
+use Rattle.std.proofs.Common.{◌≡◌, ℕ, suc, ◌+◌, ◌*◌, ◌≤◌, inl, inr, Bool, List, [], ◌∷◌, ◌++◌, length, Some, refl, sym, ap}
 use Rattle.std.proofs.Common.{subst, arith}
 use Rattle.std.specs.Prelude.{slice_get}
 use Rattle.kk_counted.specs.BareForms.{bare, bare_arms, bare_function, bare_program}
@@ -15,11 +15,10 @@ use Rattle.kk_counted.specs.TokenLowerable.{AreTokensLowerable}
 use Rattle.kk_counted.specs.TokenSpending.{SpendsTokens, SpendAllTokens, AreTokensSpent}
 use Rattle.kk_counted.specs.TokenedCodes.{Tokened, TokenedArms, TokenedFunction, TokenedProgram}
 use Rattle.kk_counted.specs.declared.shape.Shape.{Shape}
-use Rattle.rv_isa.specs.declared.asm.Action.TheVariants.{Label, Branch}
-use Rattle.rv_isa.specs.declared.asm.Condition.TheVariants.{Equal}
+use Rattle.rv_isa.specs.declared.asm.Action.TheVariants.{Label}
 use Rattle.rv_isa.specs.AsmCode.{Line, Lines}
 use Rattle.rv_isa.specs.Costs.{code_length, functions_length}
-use Rattle.rv_lower.specs.Lines.{Texts, acts, copies_to}
+use Rattle.rv_lower.specs.Lines.{Texts, acts}
 use Rattle.rv_lower.specs.Lowered.{Goal, returns, joins}
 use Rattle.rv_lower.specs.Written.{texts_of}
 use Rattle.rv_lower.proofs.Functions.{from_to_length}
