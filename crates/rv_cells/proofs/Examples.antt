@@ -10,16 +10,17 @@ use Rattle.kk_base.specs.Trace.{Event}
 use Rattle.kk_syntax.specs.Shapes.{is_among}
 use Rattle.kk_syntax.specs.declared.program.Form.TheVariants as OfForm
 use Rattle.kk_syntax.specs.declared.operator.BinaryOperator.TheVariants.{Add}
+use Rattle.kk_core.specs.declared.decisions.Answer.TheVariants.{Constructor}
 use Rattle.kk_counted.specs.BareForms.{bare_program}
 use Rattle.kk_counted.specs.CountedStates.{CountedSetting, CountedState, counted_first_state}
 use Rattle.kk_counted.specs.Marks.{CellMarks}
 use Rattle.kk_counted.specs.TokenedCodes.{Tokened, TokenedArms, TokenedFunction}
 use Rattle.kk_counted.proofs.Examples.{nil_or_cons}
 use Rattle.rv_isa.specs.declared.asm.Action.TheVariants.{Compute, Label, Jump, Branch, Call, Return, Routine as Calls, Hold, Unhold}
-use Rattle.rv_isa.specs.declared.asm.Condition.TheVariants.{Equal, NotEqual}
+use Rattle.rv_isa.specs.declared.asm.Condition.TheVariants.{NotEqual}
 use Rattle.rv_isa.specs.declared.asm.Operation.TheVariants as Op
 use Rattle.rv_isa.specs.declared.asm.RegisterOperation.TheVariants as Register
-use Rattle.rv_isa.specs.declared.asm.ImmediateOperation.TheVariants.{Addi, Andi}
+use Rattle.rv_isa.specs.declared.asm.ImmediateOperation.TheVariants.{Addi}
 use Rattle.rv_isa.specs.declared.immediate.Immediate.{Immediate}
 use Rattle.rv_isa.specs.declared.routine.Routine.TheVariants.{Take, Drop}
 use Rattle.rv_isa.specs.AsmMachine.{AsmTurn, asm_machine, asm_start}
@@ -88,9 +89,6 @@ immediate_8 = record { word = 8; in_range = (lit< tt, lit< tt) }
 abbrev immediate_12 : Immediate
 immediate_12 = record { word = 12; in_range = (lit< tt, lit< tt) }
 
-abbrev immediate_255 : Immediate
-immediate_255 = record { word = 255; in_range = (lit< tt, lit< tt) }
-
 abbrev minus_one : Immediate
 minus_one = record { word = 2 ^ 32 - 1; in_range = (lit< tt, lit< tt) }
 
@@ -111,14 +109,12 @@ makes_cons base x head rest = record { action = Calls Take; args = []; into = So
 
 -- ---- the function that adds 1: its token is value 7, and its temporaries begin at 8
 
+-- `Nil` has the word 1; the first arm is next
+abbrev test_lines : List Line
+test_lines = sets 1 8 ∷ acts (Branch NotEqual 1) (0 ∷ 8 ∷ []) ∷ []
+
 abbrev tests_lines : List Line
-tests_lines =
-    acts (Label 2) [] ∷ copies_to 0 8
-    ∷ copies_to 8 9 ∷ sets 1 10 ∷ acts (Branch Equal 3) (9 ∷ 10 ∷ [])
-    ∷ loads immediate_4 8 9 ∷ computes (Op.Immediate Andi immediate_255) (9 ∷ []) 9
-    ∷ copies_to 9 10 ∷ sets 1 11 ∷ acts (Branch Equal 4) (10 ∷ 11 ∷ [])
-    ∷ acts (Label 3) [] ∷ acts (Jump 0) []
-    ∷ acts (Label 4) [] ∷ acts (Jump 1) [] ∷ []
+tests_lines = acts (Label 2) [] ∷ test_lines
 
 -- the token is the cell where it has no other reference, and else it is null
 abbrev opening_lines : List Line
@@ -308,26 +304,24 @@ inc_code = (
   2,
   refl,
   (
-    copies_to 0 8
-        ∷ copies_to 8 9 ∷ sets 1 10 ∷ acts (Branch Equal 3) (9 ∷ 10 ∷ [])
-        ∷ loads immediate_4 8 9 ∷ computes (Op.Immediate Andi immediate_255) (9 ∷ []) 9
-        ∷ copies_to 9 10 ∷ sets 1 11 ∷ acts (Branch Equal 4) (10 ∷ 11 ∷ []) ∷ [],
-    acts (Label 3) [] ∷ acts (Jump 0) [] ∷ acts (Label 4) [] ∷ acts (Jump 1) [] ∷ [],
+    tests_lines,
+    [],
     (
-      [],
-      loads immediate_4 8 9 ∷ computes (Op.Immediate Andi immediate_255) (9 ∷ []) 9
-          ∷ copies_to 9 10 ∷ sets 1 11 ∷ acts (Branch Equal 4) (10 ∷ 11 ∷ []) ∷ [],
-      refl,
-      ([], loads immediate_4 8 9, immediate_255, refl, (immediate_4, refl, refl), refl, refl),
+      test_lines,
+      (
+        [],
+        test_lines,
+        record { found = Constructor 2; next = 1 } ∷ [],
+        [],
+        Some 2,
+        refl,
+        (refl, (Some (record { found = Constructor 3; next = 2 }), refl, refl)),
+        ([], Some (record { found = Constructor 2; next = 1 }), refl, refl),
+        refl,
+      ),
       refl,
     ),
-    (
-      acts (Jump 0) [] ∷ [],
-      acts (Label 4) [] ∷ acts (Jump 1) [] ∷ [],
-      refl,
-      (acts (Jump 1) [] ∷ [], [], refl, refl, refl),
-      refl,
-    ),
+    ([], [], refl, ([], [], refl, refl, refl), refl),
     refl,
   ),
   (

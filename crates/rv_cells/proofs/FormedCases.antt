@@ -1,11 +1,13 @@
 -- The lines of a case: those of its decisions before those of its arms, each behind its label.
-use Rattle.std.proofs.Common.{◌≡◌, ℕ, zero, suc, ◌+◌, ◌<◌, ◌≤◌, ◌⊎◌, inl, inr, true, List, [], ◌∷◌, ◌++◌, length, IsSome, refl}
+use Rattle.std.proofs.Common.{◌≡◌, ℕ, zero, suc, ◌+◌, ◌<◌, ◌≤◌, ◌⊎◌, inl, inr, true, List, [], ◌∷◌, ◌++◌, length, Option, None, Some, IsSome, refl}
+use Rattle.std.specs.Prelude.{◌==◌, slice_get}
+use Rattle.std.proofs.lemmas.Bool.{or_left, eq-eqb}
 use Rattle.std.proofs.Common.{sym, ap, subst, ◌∙◌, arith, append_assoc}
 use Rattle.kk_syntax.specs.Shapes.{is_among as is_bound}
 use Rattle.kk_counted.specs.Arms.{arm_count}
 use Rattle.kk_counted.specs.CountBounds.{HasAnArm}
 use Rattle.kk_counted.specs.CountedCodes.{CountedArms, no_arm, arm}
-use Rattle.kk_core.specs.Decisions.{NodeTree, AreOrderly}
+use Rattle.kk_core.specs.Decisions.{NodeTree, chooses, tests, AreOrderly}
 use Rattle.rv_isa.specs.declared.asm.Action.TheVariants.{Label}
 use Rattle.rv_isa.specs.AsmCode.{Line}
 use Rattle.rv_isa.specs.WellFormed.{is_alive}
@@ -15,9 +17,9 @@ use Rattle.rv_lower.proofs.Formed.{Readable, AreFormed, Good, HasRoom}
 use Rattle.rv_lower.proofs.AbsentLabels.{HasNo, has_no_append, found_here, alive_at_here, other_label}
 use Rattle.rv_lower.proofs.Codes.{Ahead, Fits, good_label, goal_up, goal_later}
 use Rattle.rv_cells.specs.Layout.{Layout}
-use Rattle.rv_cells.specs.CountedLines.{NodesLines}
+use Rattle.rv_cells.specs.CountedLines.{label_of, ways_of, NodesLines}
 use Rattle.rv_cells.proofs.FormedTests.{StandsAhead, stands_past}
-use Rattle.rv_cells.proofs.FormedNodes.{NameLater, nodes_none, nodes_good}
+use Rattle.rv_cells.proofs.FormedNodes.{NameLater, HaveLabels, nodes_none, nodes_good}
 
 -- a case that has an arm has some
 pub some_arm : (arms : CountedArms) → HasAnArm arms → 0 < arm_count arms
@@ -145,7 +147,7 @@ module _ (base : ℕ) (bound outer : List ℕ) (goal : Goal) (label rows low mid
 module _ (base : ℕ) (bound outer : List ℕ) (has : HasRoom base bound) (layout : Layout) (x : ℕ) (is_x : is_bound bound x ≡ true)
     (goal : Goal) (low rows nodes high : ℕ) (decisions : List NodeTree) (orderly : AreOrderly decisions rows) (some : 0 < rows)
     (nodes_are : nodes ≡ low + rows) (choice bodies : List Line)
-    (choice_is : NodesLines layout base nodes low x 0 decisions choice)
+    (choice_is : NodesLines layout base nodes (ways_of decisions nodes low) x 0 decisions choice)
     (arms : ArmsFit base bound outer goal low rows (nodes + length decisions) high bodies) where
   abbrev Before : ℕ → Type 0
   Before = Readable base base bound
@@ -153,21 +155,39 @@ module _ (base : ℕ) (bound outer : List ℕ) (has : HasRoom base bound) (layou
   within : low + rows ≤ nodes
   within = omega (arith, nodes_are)
 
+  -- each node leads to an arm that is there, or to its own label
+  lead : (j : ℕ) → ((row : ℕ) × ((row < rows) × (label_of nodes low j (slice_get decisions j) ≡ low + row)))
+      ⊎ (label_of nodes low j (slice_get decisions j) ≡ nodes + j)
+  lead j = by (slice_get decisions j) refl
+    where
+      by : (o : Option NodeTree) → slice_get decisions j ≡ o
+          → ((row : ℕ) × ((row < rows) × (label_of nodes low j o ≡ low + row))) ⊎ (label_of nodes low j o ≡ nodes + j)
+      by None is = inr refl
+      by (Some (chooses row)) is =
+          inl (row, (orderly.below j row (chooses row) is (or_left (row == row) (is_bound [] row) (eq-eqb row row refl)), refl))
+      by (Some (tests at edges otherwise)) is = inr refl
+
   case_none : (l : ℕ) → (l < low) ⊎ (high ≤ l) → HasNo l (choice ++ bodies)
   case_none l apart =
       has_no_append l choice bodies
-      (nodes_none base bound has nodes layout low rows x is_x within 0 (length decisions) decisions choice (omega arith) choice_is l
-      (far apart)) (arms.outside l apart)
+      (nodes_none base bound has nodes layout low rows x is_x within (ways_of decisions nodes low) lead 0 (length decisions) decisions
+      choice (omega arith) choice_is l (far apart)) (arms.outside l apart)
     where
       far : (l < low) ⊎ (high ≤ l) → (l < nodes + 0) ⊎ (nodes + length decisions ≤ l)
       far (inl less) = inl (omega (arith, less, nodes_are))
       far (inr above) = let up = arms.up in inr (omega (arith, above, up))
 
-  names : NameLater base bound has nodes layout low rows x is_x within 0 (length decisions) decisions
+  names : NameLater base bound has nodes layout low rows x is_x within (ways_of decisions nodes low) lead 0 (length decisions)
+      decisions
   names = (
     λ i j node at among. let later = orderly.later i j node at among in (omega (arith, later), later.1),
     λ i row node at among. orderly.below i row node at among,
   )
+
+  labels : HaveLabels base bound has nodes layout low rows x is_x within (ways_of decisions nodes low) lead 0 decisions
+  labels i node is =
+      let same : i ≡ 0 + i = omega arith in
+      subst (λ n. label_of nodes low n (slice_get decisions n) ≡ label_of nodes low n (Some node)) same (ap (label_of nodes low i) is)
 
   module _ (tail : List Line) (ahead : Ahead base outer goal low high tail) where
     bodies_good : ArmsGood base bound low rows (bodies ++ tail)
@@ -180,9 +200,9 @@ module _ (base : ℕ) (bound outer : List ℕ) (has : HasRoom base bound) (layou
         (ahead.fresh l (omega (arith, le, nodes_are)) (omega (arith, less, up)))
 
     case_good : Good Before (choice ++ (bodies ++ tail))
-    case_good = (nodes_good base bound has nodes layout low rows x is_x within (length decisions) (bodies ++ tail)
-        bodies_good.stands (record { formed = bodies_good.formed; alive = bodies_good.alive some }) 0 decisions choice
-        (omega arith) choice_is names fresh_nodes).0
+    case_good = (nodes_good base bound has nodes layout low rows x is_x within (ways_of decisions nodes low) lead (length decisions)
+        (bodies ++ tail) bodies_good.stands (record { formed = bodies_good.formed; alive = bodies_good.alive some }) 0 decisions choice
+        (omega arith) choice_is names labels fresh_nodes).0
 
   pub fits_case : Fits base bound outer goal low high (choice ++ bodies)
   fits_case = record {

@@ -1,10 +1,9 @@
 -- The lines of the nodes of decisions: before well-formed code in which the labels that they name stand, they are well formed.
-use Rattle.std.proofs.Common.{◌≡◌, ℕ, ◌+◌, ◌<◌, ◌≤◌, ◌||◌, ◌⊎◌, inl, inr, Bool, true, false, not, List, []}
-use Rattle.std.proofs.Common.{◌∷◌, ◌++◌, length, Option, None, Some, IsSome, refl, sym, ap, subst, ◌∙◌, arith, append_assoc}
+use Rattle.std.proofs.Common.{◌≡◌, ℕ, zero, suc, ◌+◌, ◌<◌, ◌≤◌, ◌⊎◌, inl, inr, Bool, true, false, not, List, []}
+use Rattle.std.proofs.Common.{◌∷◌, ◌++◌, length, nat_eq, Option, None, Some, option_map, option_to_list, IsSome, refl, sym, ap, subst, ◌∙◌, arith, append_assoc}
 use Rattle.std.specs.Prelude.{filter, if◌then◌else◌}
-use Rattle.std.proofs.lemmas.Bool.{false≢true, or_cases, false_from_ne_true, ne_eqb}
+use Rattle.std.proofs.lemmas.Bool.{false≢true, or_cases}
 use Rattle.kk_syntax.specs.Shapes.{is_among as is_bound}
-use Rattle.kk_core.specs.Decisions.{NodeTree, chooses, tests}
 use Rattle.kk_core.specs.declared.decisions.Answer.{Answer}
 use Rattle.kk_core.specs.declared.decisions.Edge.{Edge}
 use Rattle.rv_isa.specs.declared.asm.Action.TheVariants.{Jump, Branch}
@@ -14,17 +13,17 @@ use Rattle.rv_isa.specs.declared.asm.Operation.TheVariants as Op
 use Rattle.rv_isa.specs.declared.asm.ImmediateOperation.TheVariants.{Andi}
 use Rattle.rv_isa.specs.AsmCode.{Line}
 use Rattle.rv_isa.specs.AsmMachine.{is_label}
-use Rattle.rv_isa.specs.WellFormed.{is_alive, is_alive_at, is_alive_behind, most_values, AreDistinct, IsSpent}
-use Rattle.rv_lower.specs.Lines.{computes, acts}
+use Rattle.rv_isa.specs.WellFormed.{is_alive, is_alive_at, is_alive_behind, most_values}
+use Rattle.rv_lower.specs.Lines.{computes, sets, acts}
 use Rattle.rv_lower.proofs.Formed.{Each, Readable, formed_more, Good, HasRoom, weaker, all_each}
 use Rattle.rv_lower.proofs.Formed.{alive_line, good_computes, readable_small, readable_more, to_temporary, none_some}
 use Rattle.rv_lower.proofs.AbsentLabels.{HasNo, has_no_append, found_past, alive_at_past}
 use Rattle.rv_lower.proofs.Labels.{found_label}
 use Rattle.rv_lower.proofs.Codes.{good_alone}
 use Rattle.rv_cells.specs.Layout.{Layout}
-use Rattle.rv_cells.specs.CellLines.{Loads, Walks}
-use Rattle.rv_cells.specs.CountedLines.{is_plain, answer_word, answer_tag, number_tests}
-use Rattle.rv_cells.specs.CountedLines.{otherwise_lines, OddLines, TagLines, NodeLines}
+use Rattle.rv_cells.specs.CellLines.{Loads, Walks, walked, spare, jump_lines}
+use Rattle.rv_cells.specs.CountedLines.{is_plain, answer_word, answer_tag, Ways, number_tests, last_lines, ChoiceLines}
+use Rattle.rv_cells.specs.CountedLines.{OddLines, DecideLines, AreTried, TestLines, first_lines}
 
 -- a label stands in code, and only such values are alive there
 abbrev pub StandsAhead : (ℕ → Type 0) → ℕ → List Line → Type 0
@@ -38,19 +37,18 @@ stands_past B label lines more none ahead = (
       (alive_at_past label v lines more none) ∙ is),
 )
 
--- a branch on values that nothing reads later
+-- a branch on values
 good_branch : (B C : ℕ → Type 0) (condition : Condition) (label : ℕ) (args : List ℕ) (rest : List Line) → length args ≤ 2
-    → AreDistinct args → Each B args → Each (λ v. C v → ⊥) args → ((v : ℕ) → C v → B v) → ((v : ℕ) → B v → v < most_values)
+    → Each B args → ((v : ℕ) → C v → B v) → ((v : ℕ) → B v → v < most_values)
     → StandsAhead C label rest → Good C rest → Good B (acts (Branch condition label) args ∷ rest)
-good_branch B C condition label args rest few distinct each lost into small ahead good = record {
+good_branch B C condition label args rest few each into small ahead good = record {
   formed = formed_more (acts (Branch condition label) args) rest
       (record {
         labels = ahead.0;
         few = few;
         gives = λ is. absurd (false≢true is);
-        distinct = λ _. distinct;
-        spent = λ _. all_each (λ v. C v → ⊥) (IsSpent (acts (Branch condition label) args) rest) args
-            (λ v lost. false_from_ne_true (is_alive_behind v (Branch condition label) rest) (λ is. lost (behind v is))) lost;
+        distinct = λ is. absurd (false≢true is);
+        spent = λ is. absurd (false≢true is);
         args_small = all_each B (λ v. v < most_values) args small each;
         into_small = λ v is. absurd (none_some is);
       })
@@ -65,21 +63,95 @@ good_branch B C condition label args rest few distinct each lost into small ahea
     behind : (v : ℕ) → is_alive_behind v (Branch condition label) rest ≡ true → C v
     behind v is = either v (or_cases (is_alive v rest) (is_alive_at label v rest) is)
 
+-- ---- no label stands in these lines
+
+jump_none : (next label l : ℕ) → HasNo l (jump_lines next label)
+jump_none next label l = by (nat_eq label next)
+  where
+    by : (b : Bool) → HasNo l (if b then [] else (acts (Jump label) [] ∷ []))
+    by true = tt
+    by false = (refl, tt)
+
+last_none : (number : Answer → ℕ) (to : ℕ → ℕ) (next value t : ℕ) (last : Option Edge) (other : Option ℕ) (l : ℕ)
+    → HasNo l (last_lines number to next value t last other)
+last_none number to next value t None None l = tt
+last_none number to next value t None (Some other) l = jump_none next (to other) l
+last_none number to next value t (Some edge) None l = (refl, (refl, tt))
+last_none number to next value t (Some edge) (Some other) l = (refl, by (nat_eq (to edge.next) next))
+  where
+    by : (b : Bool) → HasNo l (if b then acts (Branch NotEqual (to other)) (value ∷ t ∷ []) ∷ []
+        else (acts (Branch Equal (to edge.next)) (value ∷ t ∷ []) ∷ jump_lines next (to other)))
+    by true = (refl, tt)
+    by false = (refl, jump_none next (to other) l)
+
+tests_none : (number : Answer → ℕ) (to : ℕ → ℕ) (value t : ℕ) (edges : List Edge) (l : ℕ)
+    → HasNo l (number_tests number to value t edges)
+tests_none number to value t [] l = tt
+tests_none number to value t (edge ∷ edges) l = (refl, (refl, tests_none number to value t edges l))
+
+choice_none : (number : Answer → ℕ) (to : ℕ → ℕ) (next value t : ℕ) (edges : List Edge) (other : Option ℕ) (lines : List Line)
+    (l : ℕ) → ChoiceLines number to next value t edges other lines → HasNo l lines
+choice_none number to next value t edges other lines l are =
+    subst (HasNo l) (sym are.3) (has_no_append l (number_tests number to value t are.0) _ (tests_none number to value t are.0 l)
+    (last_none number to next value t are.1 other l))
+
+load_none : (cell i into : ℕ) (line : Line) (l : ℕ) → Loads cell i into line → is_label l line.action ≡ false
+load_none cell i into line l loads = subst (λ (line : Line). is_label l line.action ≡ false) (sym loads.2) refl
+
+walks_none : (t value : ℕ) (at : List ℕ) (lines : List Line) (l : ℕ) → Walks t value at lines → HasNo l lines
+walks_none t value [] lines l is = subst (HasNo l) (sym is) tt
+walks_none t value (field ∷ way) lines l is =
+    subst (HasNo l) (sym is.4) (load_none value (2 + field) t is.0 l is.2, walks_none t t way is.1 l is.3)
+
+odd_none : (value t : ℕ) (to : ℕ → ℕ) (otherwise : Option ℕ) (odd : List Line) (l : ℕ) → OddLines value t to otherwise odd
+    → HasNo l odd
+odd_none value t to None odd l is = subst (HasNo l) (sym is) tt
+odd_none value t to (Some next) odd l is = subst (HasNo l) (sym is.2) (refl, (refl, tt))
+
+decide_none : (layout : Layout) (to : ℕ → ℕ) (next value t : ℕ) (plain tagged : List Edge) (otherwise other : Option ℕ)
+    (lines : List Line) (l : ℕ) → DecideLines layout to next value t plain tagged otherwise other lines → HasNo l lines
+decide_none layout to next value t plain [] otherwise other lines l is =
+    choice_none (answer_word layout) to next value t plain other lines l is
+decide_none layout to next value t plain (edge ∷ edges) otherwise other lines l is =
+    subst (HasNo l) (sym is.8) (has_no_append l (number_tests (answer_word layout) to value t plain) _
+    (tests_none (answer_word layout) to value t plain l)
+    (has_no_append l is.0 _ (odd_none value t to otherwise is.0 l is.4) (
+      load_none value 1 t is.1 l is.5,
+      (refl, choice_none (answer_tag layout) to next t (t + 1) (edge ∷ edges) other is.3 l is.7),
+    )))
+
+pub test_none : (layout : Layout) (base : ℕ) (to : ℕ → ℕ) (next x : ℕ) (at : List ℕ) (edges : List Edge) (otherwise : Option ℕ)
+    (lines : List Line) (l : ℕ) → TestLines layout base to next x at edges otherwise lines → HasNo l lines
+test_none layout base to next x at edges otherwise lines l is =
+    subst (HasNo l) (sym is.8) (has_no_append l is.0 is.1 (walks_none base x at is.0 l is.5)
+    (decide_none layout to next (walked base x at) (spare base at) is.2 is.3 otherwise is.4 is.1 l is.7))
+
+-- the first node goes to its arm without a label
+pub first_none : (ways : Ways) (k l : ℕ) → HasNo l (first_lines ways k)
+first_none ways zero l = jump_none (ways.behind 0) (ways.to 0) l
+first_none ways (suc k) l = tt
+
 module _ (base : ℕ) (bound : List ℕ) (has : HasRoom base bound) where
   abbrev With : ℕ → ℕ → Type 0
   With limit = Readable base limit bound
 
-  not_below : (limit v : ℕ) → base ≤ v → limit ≤ v → With limit v → ⊥
-  not_below limit v le above (inl is) = let low = has.low v is in absurd (omega (arith, low, le))
-  not_below limit v le above (inr is) = absurd (omega (arith, is, above))
+  -- a jump, unless it goes to the next line
+  pub jump_good : (t next label : ℕ) (rest : List Line) → base ≤ t → StandsAhead (With base) label rest → Good (With t) rest
+      → Good (With t) (jump_lines next label ++ rest)
+  jump_good t next label rest le ahead good = by (nat_eq label next)
+    where
+      by : (b : Bool) → Good (With t) ((if b then [] else (acts (Jump label) [] ∷ [])) ++ rest)
+      by true = good
+      by false = good_alone (With t) (Jump label) rest ahead.0 tt (λ v is. readable_more base base t bound le v (ahead.1 v is))
+          good.formed
 
-  module _ (nodes : ℕ) where
+  module _ (to : ℕ → ℕ) where
     -- each edge's label stands ahead
     abbrev pub EdgesAhead : List Edge → List Line → Type 0
     EdgesAhead [] code = Unit {0}
-    EdgesAhead (edge ∷ edges) code = StandsAhead (With base) (nodes + edge.next) code × EdgesAhead edges code
+    EdgesAhead (edge ∷ edges) code = StandsAhead (With base) (to edge.next) code × EdgesAhead edges code
 
-    pub edges_filter : (p : Edge → Bool) (edges : List Edge) (code : List Line) → EdgesAhead edges code
+    edges_filter : (p : Edge → Bool) (edges : List Edge) (code : List Line) → EdgesAhead edges code
         → EdgesAhead (filter p edges) code
     edges_filter p [] code ahead = tt
     edges_filter p (edge ∷ edges) code ahead = by (p edge) (edges_filter p edges code ahead.1)
@@ -92,212 +164,194 @@ module _ (base : ℕ) (bound : List ℕ) (has : HasRoom base bound) where
         → EdgesAhead edges (lines ++ more)
     edges_past [] lines more none ahead = tt
     edges_past (edge ∷ edges) lines more none ahead = (
-      stands_past (With base) (nodes + edge.next) lines more (none
-          (nodes + edge.next)) ahead.0,
+      stands_past (With base) (to edge.next) lines more (none (to edge.next)) ahead.0,
       edges_past edges lines more none ahead.1,
     )
 
-    tests_none : (number : Answer → ℕ) (value : ℕ) (edges : List Edge) (l : ℕ) → HasNo l (number_tests number value nodes edges)
-    tests_none number value [] l = tt
-    tests_none number value (edge ∷ edges) l = (refl, (refl, (refl, tests_none number value edges l)))
-
-    -- the tests of a temporary's word
-    tests_good : (number : Answer → ℕ) (value : ℕ) (edges : List Edge) (rest : List Line) → base ≤ value → value + 3 ≤ base + 8
-        → EdgesAhead edges rest → Good (With (value + 1)) rest
-        → Good (With (value + 1)) (number_tests number value nodes edges ++ rest)
-    tests_good number value [] rest le room ahead good = good
-    tests_good number value (edge ∷ edges) rest le room ahead good =
-        to_temporary base (value + 1) bound Op.Mv (value ∷ []) _ has (omega (arith, room)) refl (omega arith) (
-          inr
-              (le, omega arith),
-          tt,
-        )
-        (to_temporary base (value + 1 + 1) bound (Op.Li (number edge.found)) [] _ has (omega (arith, room)) refl (omega arith) tt
-        (good_branch (With (value + 1 + 1 + 1)) (With (value + 1)) Equal (nodes + edge.next) ((value + 1) ∷
-        (value + 1 + 1) ∷ []) behind
-        (omega arith) (ap (λ b. b || false) (ne_eqb (value + 1 + 1) (value + 1) (λ same. absurd (omega (arith, same)))), (refl, tt))
-        (inr (omega (arith, le), omega arith), (inr (omega (arith, le), omega arith), tt)) (
-          not_below (value + 1) (value + 1) (omega (arith, le)) (omega arith),
-          (
-            not_below (value + 1) (value + 1 + 1) (omega
-                (arith, le)) (omega arith),
-            tt,
-          ),
-        )
-        (λ v is. readable_more base (value + 1) (value + 1 + 1 + 1) bound (omega arith) v is)
-        (readable_small base (value + 1 + 1 + 1) bound has (omega (arith, room)))
-        (later.0, λ v is. readable_more base base (value + 1) bound (omega (arith, le)) v (later.1 v is))
-        (tests_good number value edges rest le room ahead.1 good)))
-      where
-        behind : List Line
-        behind = number_tests number value nodes edges ++ rest
-
-        later : StandsAhead (With base) (nodes + edge.next) behind
-        later = stands_past (With base) (nodes + edge.next) (number_tests number value nodes edges) rest
-            (tests_none number value edges (nodes + edge.next)) ahead.0
-
-    -- ---- nodes
+    edges_apart : (some more : List Edge) (code : List Line) → EdgesAhead (some ++ more) code
+        → EdgesAhead some code × EdgesAhead more code
+    edges_apart [] more code ahead = (tt, ahead)
+    edges_apart (edge ∷ some) more code ahead =
+        let later = edges_apart some more code ahead.1 in ((ahead.0, later.0), later.1)
 
     abbrev pub OtherAhead : Option ℕ → List Line → Type 0
     OtherAhead None code = Unit {0}
-    OtherAhead (Some next) code = StandsAhead (With base) (nodes + next) code
+    OtherAhead (Some next) code = StandsAhead (With base) (to next) code
 
     other_past : (otherwise : Option ℕ) (lines more : List Line) → ((l : ℕ) → HasNo l lines) → OtherAhead otherwise more
         → OtherAhead otherwise (lines ++ more)
     other_past None lines more none ahead = tt
-    other_past (Some next) lines more none ahead = stands_past (With base) (nodes + next) lines more (none (nodes + next)) ahead
+    other_past (Some next) lines more none ahead = stands_past (With base) (to next) lines more (none (to next)) ahead
 
-    abbrev Tested : ℕ → Type 0
-    Tested = With (base + 1)
+    left_ahead : (last : Option Edge) (other : Option ℕ) (code : List Line) → other ≡ option_map (λ (edge : Edge). edge.next) last
+        → EdgesAhead (option_to_list last) code → OtherAhead other code
+    left_ahead None other code is ahead = subst (λ o. OtherAhead o code) (sym is) tt
+    left_ahead (Some edge) other code is ahead = subst (λ o. OtherAhead o code) (sym is) ahead.0
 
-    into_tested : (v : ℕ) → With base v → Tested v
-    into_tested = readable_more base base (base + 1) bound (omega arith)
+    -- the edges that are tried, and where it goes on where no test holds
+    tried_ahead : (words tags : List Edge) (otherwise : Option ℕ) (plain tagged : List Edge) (other : Option ℕ) (code : List Line)
+        → AreTried words tags otherwise plain tagged other → EdgesAhead words code → EdgesAhead tags code
+        → OtherAhead otherwise code → EdgesAhead plain code × (EdgesAhead tagged code × OtherAhead other code)
+    tried_ahead words tags (Some next) plain tagged other code are first second last = (
+      subst (λ es. EdgesAhead es code) (sym are.0) first,
+      (subst (λ es. EdgesAhead es code) (sym are.1) second, subst (λ o. OtherAhead o code) (sym are.2) last),
+    )
+    tried_ahead words [] None plain tagged other code are first second last =
+        let both = edges_apart plain (option_to_list are.1.0) code (subst (λ es. EdgesAhead es code) are.1.1 first) in
+        (both.0, (subst (λ es. EdgesAhead es code) (sym are.0) tt, left_ahead are.1.0 other code are.1.2 both.1))
+    tried_ahead words (edge ∷ edges) None plain tagged other code are first second last =
+        let both = edges_apart tagged (option_to_list are.1.0) code (subst (λ es. EdgesAhead es code) are.1.1 second) in
+        (subst (λ es. EdgesAhead es code) (sym are.0) first, (both.0, left_ahead are.1.0 other code are.1.2 both.1))
 
-    here : Tested base
-    here = inr (omega arith, omega arith)
+    -- ---- tests of a value, with a temporary
 
-    small : base < most_values
-    small = let room = has.room in omega (arith, room)
+    module _ (value t : ℕ) (le : base ≤ t) (room : t + 2 ≤ base + 8) (readable : With t value) where
+      compare_good : (word : ℕ) (condition : Condition) (label : ℕ) (rest : List Line) → StandsAhead (With base) label rest
+          → Good (With t) rest → Good (With t) (sets word t ∷ acts (Branch condition label) (value ∷ t ∷ []) ∷ rest)
+      compare_good word condition label rest ahead good =
+          to_temporary base t bound (Op.Li word) [] _ has (omega (arith, room)) refl (omega arith) tt
+          (good_branch (With (t + 1)) (With t) condition label (value ∷ t ∷ []) rest (omega arith)
+          (readable_more base t (t + 1) bound (omega arith) value readable, (inr (le, omega arith), tt))
+          (readable_more base t (t + 1) bound (omega arith)) (readable_small base (t + 1) bound has (omega (arith, room)))
+          (ahead.0, λ v is. readable_more base base t bound le v (ahead.1 v is)) good)
 
-    otherwise_none : (otherwise : Option ℕ) (l : ℕ) → HasNo l (otherwise_lines nodes otherwise)
-    otherwise_none None l = tt
-    otherwise_none (Some next) l = (refl, tt)
+      tests_good : (number : Answer → ℕ) (edges : List Edge) (rest : List Line) → EdgesAhead edges rest → Good (With t) rest
+          → Good (With t) (number_tests number to value t edges ++ rest)
+      tests_good number [] rest ahead good = good
+      tests_good number (edge ∷ edges) rest ahead good =
+          compare_good (number edge.found) Equal (to edge.next) (number_tests number to value t edges ++ rest)
+          (stands_past (With base) (to edge.next) (number_tests number to value t edges) rest
+          (tests_none number to value t edges (to edge.next)) ahead.0)
+          (tests_good number edges rest ahead.1 good)
 
-    otherwise_good : (otherwise : Option ℕ) (rest : List Line) → OtherAhead otherwise rest → Good (With base) rest
-        → Good Tested (otherwise_lines nodes otherwise ++ rest)
-    otherwise_good None rest ahead good = weaker into_tested good
-    otherwise_good (Some next) rest ahead good =
-        good_alone Tested (Jump (nodes + next)) rest ahead.0 tt (λ v is. into_tested v (ahead.1 v is)) good.formed
-
-    load_none : (cell i into : ℕ) (line : Line) (l : ℕ) → Loads cell i into line → is_label l line.action ≡ false
-    load_none cell i into line l loads = subst (λ (line : Line). is_label l line.action ≡ false) (sym loads.2) refl
-
-    walks_none : (at : List ℕ) (lines : List Line) (l : ℕ) → Walks base at lines → HasNo l lines
-    walks_none [] lines l is = subst (HasNo l) (sym is) tt
-    walks_none (field ∷ way) lines l is =
-        subst (HasNo l) (sym is.4) (load_none base (2 + field) base is.0 l is.2, walks_none way is.1 l is.3)
-
-    walks_good : (at : List ℕ) (lines rest : List Line) → Walks base at lines → Good Tested rest → Good Tested (lines ++ rest)
-    walks_good [] lines rest is good = subst (λ (code : List Line). Good Tested (code ++ rest)) (sym is) good
-    walks_good (field ∷ way) lines rest is good =
-        subst (λ (code : List Line). Good Tested (code ++ rest)) (sym is.4)
-        (subst (λ (line : Line). Good Tested (line ∷ (is.1 ++ rest))) (sym is.2.2)
-        (good_computes Tested Tested (Op.Lw is.2.0) (base ∷ []) base (is.1 ++ rest) refl (omega arith) (here, tt)
-        (readable_small base (base + 1) bound has (omega arith)) small (λ v is _. is) (walks_good way is.1 rest is.3 good)))
-
-    odd_none : (otherwise : Option ℕ) (odd : List Line) (l : ℕ) → OddLines base nodes otherwise odd → HasNo l odd
-    odd_none None odd l is = subst (HasNo l) (sym is) tt
-    odd_none (Some next) odd l is = subst (HasNo l) (sym is.2) (refl, (refl, tt))
-
-    odd_good : (otherwise : Option ℕ) (odd rest : List Line) → OddLines base nodes otherwise odd → OtherAhead otherwise rest
-        → Good Tested rest → Good Tested (odd ++ rest)
-    odd_good None odd rest is ahead good = subst (λ (code : List Line). Good Tested (code ++ rest)) (sym is) good
-    odd_good (Some next) odd rest is ahead good =
-        subst (λ (code : List Line). Good Tested (code ++ rest)) (sym is.2)
-        (to_temporary base (base + 1) bound (Op.Immediate Andi is.0) (base ∷ [])
-        (acts (Branch NotEqual (nodes + next)) ((base + 1) ∷ []) ∷ rest) has (omega arith) refl (omega arith) (here, tt)
-        (good_branch (With (base + 1 + 1)) Tested NotEqual (nodes + next) ((base + 1) ∷ []) rest (omega arith) (refl, tt)
-        (inr (omega arith, omega arith), tt) (not_below (base + 1) (base + 1) (omega arith) (omega arith), tt)
-        (readable_more base (base + 1) (base + 1 + 1) bound (omega arith)) (readable_small base (base + 1 + 1) bound has
-        (omega arith))
-        (ahead.0, λ v at. into_tested v (ahead.1 v at)) good))
-
-    module _ (layout : Layout) where
-      tags_none : (edges : List Edge) (otherwise : Option ℕ) (lines : List Line) (l : ℕ)
-          → TagLines layout base nodes edges otherwise lines
-          → HasNo l lines
-      tags_none [] otherwise lines l is = subst (HasNo l) (sym is) tt
-      tags_none (edge ∷ edges) otherwise lines l is =
-          subst (HasNo l) (sym is.6) (has_no_append l is.0 _ (odd_none otherwise is.0 l is.3)
-          (load_none base 1 (base + 1) is.1 l is.4, (refl, tests_none (answer_tag layout) (base + 1) (edge ∷ edges) l)))
-
-      tags_good : (edges : List Edge) (otherwise : Option ℕ) (lines rest : List Line)
-          → TagLines layout base nodes edges otherwise lines
-          → EdgesAhead edges rest → OtherAhead otherwise rest → Good Tested rest → Good Tested (lines ++ rest)
-      tags_good [] otherwise lines rest is ahead other good = subst (λ (code : List Line). Good Tested (code ++ rest)) (sym is) good
-      tags_good (edge ∷ edges) otherwise lines rest is ahead other good =
-          subst (λ (code : List Line). Good Tested (code ++ rest)) (sym is.6)
-          (subst (Good Tested) (sym (append_assoc is.0 tag rest))
-          (odd_good otherwise is.0 (tag ++ rest) is.3
-          (other_past otherwise tag rest (λ l. (
-            load_none base 1 (base + 1) is.1 l is.4,
-            (
-              refl,
-              tests_none (answer_tag layout)
-                  (base + 1) (edge ∷ edges) l,
-            ),
-          )) other)
-          loaded))
+      last_good : (number : Answer → ℕ) (next : ℕ) (last : Option Edge) (other : Option ℕ) (rest : List Line)
+          → EdgesAhead (option_to_list last) rest → OtherAhead other rest → Good (With t) rest
+          → Good (With t) (last_lines number to next value t last other ++ rest)
+      last_good number next None None rest ahead out good = good
+      last_good number next None (Some other) rest ahead out good = jump_good t next (to other) rest le out good
+      last_good number next (Some edge) None rest ahead out good =
+          compare_good (number edge.found) Equal (to edge.next) rest ahead.0 good
+      last_good number next (Some edge) (Some other) rest ahead out good = by (nat_eq (to edge.next) next)
         where
-          masked : Line
-          masked = computes (Op.Immediate Andi is.2) ((base + 1) ∷ []) (base + 1)
+          by : (b : Bool) → Good (With t) (sets (number edge.found) t ∷ ((if b
+              then acts (Branch NotEqual (to other)) (value ∷ t ∷ []) ∷ []
+              else (acts (Branch Equal (to edge.next)) (value ∷ t ∷ []) ∷ jump_lines next (to other))) ++ rest))
+          by true = compare_good (number edge.found) NotEqual (to other) rest out good
+          by false = compare_good (number edge.found) Equal (to edge.next) (jump_lines next (to other) ++ rest)
+              (stands_past (With base) (to edge.next) (jump_lines next (to other)) rest (jump_none next (to other) (to edge.next)) ahead.0)
+              (jump_good t next (to other) rest le out good)
 
-          tag : List Line
-          tag = is.1 ∷ masked ∷ number_tests (answer_tag layout) (base + 1) nodes (edge ∷ edges)
+      choice_good : (number : Answer → ℕ) (next : ℕ) (edges : List Edge) (other : Option ℕ) (lines rest : List Line)
+          → ChoiceLines number to next value t edges other lines → EdgesAhead edges rest → OtherAhead other rest → Good (With t) rest
+          → Good (With t) (lines ++ rest)
+      choice_good number next edges other lines rest are ahead out good =
+          let ending = last_lines number to next value t are.1 other in
+          let both = edges_apart are.0 (option_to_list are.1) rest (subst (λ es. EdgesAhead es rest) are.2 ahead) in
+          subst (Good (With t))
+          (sym (ap (λ ls. ls ++ rest) are.3 ∙ append_assoc (number_tests number to value t are.0) ending rest))
+          (tests_good number are.0 (ending ++ rest)
+          (edges_past are.0 ending rest (last_none number to next value t are.1 other) both.0)
+          (last_good number next are.1 other rest both.1 out good))
 
-          tested : Good (With (base + 1 + 1)) (number_tests (answer_tag layout) (base + 1) nodes (edge ∷ edges) ++ rest)
-          tested = tests_good (answer_tag layout) (base + 1) (edge ∷ edges) rest (omega arith) (omega arith) ahead
-              (weaker (readable_more base (base + 1) (base + 1 + 1) bound (omega arith)) good)
+      odd_good : (otherwise : Option ℕ) (odd rest : List Line) → OddLines value t to otherwise odd → OtherAhead otherwise rest
+          → Good (With t) rest → Good (With t) (odd ++ rest)
+      odd_good None odd rest is ahead good = subst (λ (code : List Line). Good (With t) (code ++ rest)) (sym is) good
+      odd_good (Some next) odd rest is ahead good =
+          subst (λ (code : List Line). Good (With t) (code ++ rest)) (sym is.2)
+          (to_temporary base t bound (Op.Immediate Andi is.0) (value ∷ [])
+          (acts (Branch NotEqual (to next)) (t ∷ []) ∷ rest) has (omega (arith, room)) refl (omega arith) (readable, tt)
+          (good_branch (With (t + 1)) (With t) NotEqual (to next) (t ∷ []) rest (omega arith) (inr (le, omega arith), tt)
+          (readable_more base t (t + 1) bound (omega arith)) (readable_small base (t + 1) bound has (omega (arith, room)))
+          (ahead.0, λ v at. readable_more base base t bound le v (ahead.1 v at)) good))
 
-          loaded : Good Tested (tag ++ rest)
-          loaded = subst
-              (λ (line : Line). Good Tested (line ∷ masked ∷ (number_tests (answer_tag layout) (base + 1) nodes
-              (edge ∷ edges) ++ rest)))
-              (sym is.4.2)
-              (to_temporary base (base + 1) bound (Op.Lw is.4.0) (base ∷ []) _ has (omega arith) refl (omega arith) (here, tt)
-              (good_computes (With (base + 1 + 1)) (With (base + 1 + 1)) (Op.Immediate Andi is.2) ((base + 1) ∷ [])
-              (base + 1) _ refl
-              (omega arith) (inr (omega arith, omega arith), tt) (readable_small base (base + 1 + 1) bound has (omega arith))
-              (let room = has.room in omega (arith, room)) (λ v is _. is) tested))
+    here_readable : (t : ℕ) → base ≤ t → With (t + 1) t
+    here_readable t le = inr (le, omega arith)
 
-      -- the labels that a node names stand ahead
-      abbrev pub NodeAhead : ℕ → NodeTree → List Line → Type 0
-      NodeAhead arms (chooses row) code = StandsAhead (With base) (arms + row) code
-      NodeAhead arms (tests at edges otherwise) code = EdgesAhead edges code × OtherAhead otherwise code
+    decide_good : (layout : Layout) (next value t : ℕ) (plain tagged : List Edge) (otherwise other : Option ℕ) (lines rest : List Line)
+        → base ≤ t → t + 3 ≤ base + 8 → With t value
+        → DecideLines layout to next value t plain tagged otherwise other lines → EdgesAhead plain rest → EdgesAhead tagged rest
+        → OtherAhead otherwise rest → OtherAhead other rest → Good (With t) rest → Good (With t) (lines ++ rest)
+    decide_good layout next value t plain [] otherwise other lines rest le room readable is words tags out left good =
+        choice_good value t le (omega (arith, room)) readable (answer_word layout) next plain other lines rest is words left good
+    decide_good layout next value t plain (edge ∷ edges) otherwise other lines rest le room readable is words tags out left good =
+        subst (Good (With t)) (sym flat)
+        (tests_good value t le (omega (arith, room)) readable (answer_word layout) plain (is.0 ++ (loads ++ rest))
+        (edges_past plain is.0 (loads ++ rest) (λ l. odd_none value t to otherwise is.0 l is.4)
+        (edges_past plain loads rest loads_none words))
+        (odd_good value t le (omega (arith, room)) readable otherwise is.0 (loads ++ rest) is.4
+        (other_past otherwise loads rest loads_none out) loaded))
+      where
+        andi : Line
+        andi = computes (Op.Immediate Andi is.2) (t ∷ []) t
 
-      pub node_none : (arms x : ℕ) (node : NodeTree) (lines : List Line) (l : ℕ) → NodeLines layout base nodes arms x node lines
-          → HasNo l lines
-      node_none arms x (chooses row) lines l is = subst (HasNo l) (sym is) (refl, tt)
-      node_none arms x (tests at edges otherwise) lines l is =
-          subst (HasNo l) (sym is.4) (
-            refl,
-            has_no_append l is.0 _ (walks_none at is.0 l is.2)
-                (has_no_append l _ _ (tests_none (answer_word layout) base _ l)
-                (has_no_append l is.1 _ (tags_none _ otherwise is.1 l is.3) (otherwise_none otherwise l))),
-          )
+        loads : List Line
+        loads = is.1 ∷ andi ∷ is.3
 
-      pub node_good : (arms x : ℕ) (node : NodeTree) (lines rest : List Line) → is_bound bound x ≡ true
-          → NodeLines layout base nodes arms x node lines → NodeAhead arms node rest → Good (With base) rest
-          → Good (With base) (lines ++ rest)
-      node_good arms x (chooses row) lines rest bound_x is ahead good =
-          subst (λ (code : List Line). Good (With base) (code ++ rest)) (sym is)
-          (good_alone (With base) (Jump (arms + row)) rest ahead.0 tt ahead.1 good.formed)
-      node_good arms x (tests at edges otherwise) lines rest bound_x is ahead good =
-          subst (λ (code : List Line). Good (With base) (code ++ rest)) (sym is.4)
-          (to_temporary base base bound Op.Mv (x ∷ []) _ has (omega arith) refl (omega arith) (inl bound_x, tt)
-          (subst (Good Tested) (sym flat)
-          (walks_good at is.0 _ is.2 (tests_good (answer_word layout) base plain _ (omega arith) (omega arith) plain_ahead
-          (tags_good tagged otherwise is.1 _ is.3
-          (edges_past tagged other rest (otherwise_none otherwise) (edges_filter _ edges rest ahead.0))
-          (other_past otherwise other rest (otherwise_none otherwise) ahead.1) (otherwise_good otherwise rest ahead.1 good))))))
-        where
-          plain : List Edge
-          plain = filter (λ (edge : Edge). is_plain layout edge.found) edges
+        loads_none : (l : ℕ) → HasNo l loads
+        loads_none l = (
+          load_none value 1 t is.1 l is.5,
+          (refl, choice_none (answer_tag layout) to next t (t + 1) (edge ∷ edges) other is.3 l is.7),
+        )
 
-          tagged : List Edge
-          tagged = filter (λ (edge : Edge). not (is_plain layout edge.found)) edges
+        numbers : List Line
+        numbers = number_tests (answer_word layout) to value t plain
 
-          other : List Line
-          other = otherwise_lines nodes otherwise
+        flat : lines ++ rest ≡ numbers ++ (is.0 ++ (loads ++ rest))
+        flat = ap (λ ls. ls ++ rest) is.8 ∙ append_assoc numbers (is.0 ++ loads) rest
+            ∙ ap (λ (ls : List Line). numbers ++ ls) (append_assoc is.0 loads rest)
 
-          words : List Line
-          words = number_tests (answer_word layout) base nodes plain
+        chosen : Good (With (t + 1)) (is.3 ++ rest)
+        chosen = choice_good t (t + 1) (omega (arith, le)) (omega (arith, room)) (here_readable t le) (answer_tag layout) next
+            (edge ∷ edges) other is.3 rest is.7 tags left (weaker (readable_more base t (t + 1) bound (omega arith)) good)
 
-          plain_ahead : EdgesAhead plain (is.1 ++ (other ++ rest))
-          plain_ahead = edges_past plain is.1 (other ++ rest) (λ l. tags_none tagged otherwise is.1 l is.3)
-              (edges_past plain other rest (otherwise_none otherwise) (edges_filter _ edges rest ahead.0))
+        loaded : Good (With t) (loads ++ rest)
+        loaded = subst (λ (line : Line). Good (With t) (line ∷ andi ∷ (is.3 ++ rest))) (sym is.5.2)
+            (to_temporary base t bound (Op.Lw is.5.0) (value ∷ []) _ has (omega (arith, room)) refl (omega arith) (readable, tt)
+            (good_computes (With (t + 1)) (With (t + 1)) (Op.Immediate Andi is.2) (t ∷ []) t _ refl (omega arith)
+            (here_readable t le, tt) (readable_small base (t + 1) bound has (omega (arith, room)))
+            (let roomy = has.room in omega (arith, room, roomy)) (λ v is _. is) chosen))
 
-          flat : (is.0 ++ (words ++ (is.1 ++ other))) ++ rest ≡ is.0 ++ (words ++ (is.1 ++ (other ++ rest)))
-          flat = append_assoc is.0 (words ++ (is.1 ++ other)) rest
-              ∙ ap (λ (t : List Line). is.0 ++ t) (append_assoc words (is.1 ++ other) rest
-              ∙ ap (λ (t : List Line). words ++ t) (append_assoc is.1 other rest))
+    -- ---- a way to a value
+
+    again_good : (way : List ℕ) (lines rest : List Line) → Walks base base way lines → Good (With (base + 1)) rest
+        → Good (With (base + 1)) (lines ++ rest)
+    again_good [] lines rest is good = subst (λ (code : List Line). Good (With (base + 1)) (code ++ rest)) (sym is) good
+    again_good (field ∷ way) lines rest is good =
+        subst (λ (code : List Line). Good (With (base + 1)) (code ++ rest)) (sym is.4)
+        (subst (λ (line : Line). Good (With (base + 1)) (line ∷ (is.1 ++ rest))) (sym is.2.2)
+        (good_computes (With (base + 1)) (With (base + 1)) (Op.Lw is.2.0) (base ∷ []) base (is.1 ++ rest) refl (omega arith)
+        (inr (omega arith, omega arith), tt) (readable_small base (base + 1) bound has (omega arith))
+        (let room = has.room in omega (arith, room)) (λ v is _. is) (again_good way is.1 rest is.3 good)))
+
+    walks_good : (x : ℕ) (at : List ℕ) (lines rest : List Line) → is_bound bound x ≡ true → Walks base x at lines
+        → Good (With (spare base at)) rest → Good (With base) (lines ++ rest)
+    walks_good x [] lines rest bound_x is good = subst (λ (code : List Line). Good (With base) (code ++ rest)) (sym is) good
+    walks_good x (field ∷ way) lines rest bound_x is good =
+        subst (λ (code : List Line). Good (With base) (code ++ rest)) (sym is.4)
+        (subst (λ (line : Line). Good (With base) (line ∷ (is.1 ++ rest))) (sym is.2.2)
+        (to_temporary base base bound (Op.Lw is.2.0) (x ∷ []) (is.1 ++ rest) has (omega arith) refl (omega arith) (inl bound_x, tt)
+        (again_good way is.1 rest is.3 good)))
+
+    walked_readable : (x : ℕ) (at : List ℕ) → is_bound bound x ≡ true → With (spare base at) (walked base x at)
+    walked_readable x [] bound_x = inl bound_x
+    walked_readable x (field ∷ way) bound_x = inr (omega arith, omega arith)
+
+    spare_low : (at : List ℕ) → base ≤ spare base at × (spare base at + 3 ≤ base + 8)
+    spare_low [] = (omega arith, omega arith)
+    spare_low (field ∷ way) = (omega arith, omega arith)
+
+    pub test_good : (layout : Layout) (next x : ℕ) (at : List ℕ) (edges : List Edge) (otherwise : Option ℕ) (lines rest : List Line)
+        → is_bound bound x ≡ true → TestLines layout base to next x at edges otherwise lines → EdgesAhead edges rest
+        → OtherAhead otherwise rest → Good (With base) rest → Good (With base) (lines ++ rest)
+    test_good layout next x at edges otherwise lines rest bound_x is ahead out good =
+        let words = filter (λ (edge : Edge). is_plain layout edge.found) edges in
+        let tags = filter (λ (edge : Edge). not (is_plain layout edge.found)) edges in
+        let tried = tried_ahead words tags otherwise is.2 is.3 is.4 rest is.6
+        (edges_filter (λ (edge : Edge). is_plain layout edge.found) edges rest ahead)
+        (edges_filter (λ (edge : Edge). not (is_plain layout edge.found)) edges rest ahead) out in
+        let low = spare_low at in
+        subst (Good (With base)) (sym (ap (λ ls. ls ++ rest) is.8 ∙ append_assoc is.0 is.1 rest))
+        (walks_good x at is.0 (is.1 ++ rest) bound_x is.5
+        (decide_good layout next (walked base x at) (spare base at) is.2 is.3 otherwise is.4 is.1 rest low.0 low.1
+        (walked_readable x at bound_x) is.7 tried.0 tried.1.0 out tried.1.1
+        (weaker (readable_more base base (spare base at) bound low.0) good)))

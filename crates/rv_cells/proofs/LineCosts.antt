@@ -1,5 +1,5 @@
 -- What lines weigh in assembler code: rows of them, and the tests of decisions.
-use Rattle.std.proofs.Common.{◌≡◌, ◌≤◌, refl, ℕ, suc, ◌+◌, ◌*◌, List, [], ◌∷◌, length, sym, subst, arith}
+use Rattle.std.proofs.Common.{◌≡◌, ◌≤◌, refl, ℕ, suc, ◌+◌, ◌*◌, List, [], ◌∷◌, ◌++◌, length, sym, subst, arith}
 use Rattle.kk_core.specs.declared.decisions.Edge.{Edge}
 
 -- so much for each
@@ -16,10 +16,14 @@ row_more (x ∷ xs) cost = let later = row_more xs cost in omega (arith, later)
 abbrev pub most_moves : ℕ
 most_moves = 2
 
--- the tests of a node: three lines an edge
+-- the tests of a node: two lines an edge
 abbrev pub edges_cost : List Edge → ℕ
 edges_cost [] = 0
-edges_cost (edge ∷ edges) = (3 * most_moves + 7) + edges_cost edges
+edges_cost (edge ∷ edges) = (2 * most_moves + 5) + edges_cost edges
+
+pub edges_apart : (some more : List Edge) → edges_cost (some ++ more) ≡ edges_cost some + edges_cost more
+edges_apart [] more = omega arith
+edges_apart (edge ∷ some) more = let later = edges_apart some more in omega (arith, later)
 
 -- the most that the lines of a test weigh, for each of what it looks at
 abbrev pub look_cost : ℕ

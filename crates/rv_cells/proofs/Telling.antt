@@ -1,5 +1,5 @@
 -- What the words of values tell of the edges of a test.
-use Rattle.std.proofs.Common.{◌≡◌, ℕ, ◌+◌, ◌*◌, ◌%◌, ◌≤◌, ℤ, Bool, true, false, not, cond, List, [], ◌∷◌, length, filter, Option, Some, None, nat_eq, int_eq, refl, sym, ◌∙◌, ap, subst, arith, eqb-true, eq-eqb, ne_eqb}
+use Rattle.std.proofs.Common.{◌≡◌, ℕ, ◌+◌, ◌*◌, ◌%◌, ◌≤◌, ℤ, Bool, true, false, not, cond, List, [], ◌∷◌, ◌++◌, length, filter, Option, Some, None, option_map, option_to_list, nat_eq, int_eq, refl, sym, ◌∙◌, ap, subst, arith, eqb-true, eq-eqb, ne_eqb}
 use Rattle.std.proofs.lemmas.Bool.Decides.{Decides-int_eq}
 use Rattle.std.specs.Prelude.{if◌then◌else◌, ◌==◌}
 use Rattle.kk_source.specs.State.{Value, integer, unit, constant, place, Cell}
@@ -9,8 +9,8 @@ use Rattle.kk_core.specs.declared.decisions.Answer.TheVariants.{Number, Construc
 use Rattle.kk_core.specs.declared.decisions.Edge.{Edge}
 use Rattle.rv_isa.specs.Arithmetic.{signed, word_of}
 use Rattle.rv_cells.specs.Layout.{Layout, word_in}
-use Rattle.rv_cells.specs.CountedLines.{is_plain, answer_word, answer_tag}
-use Rattle.rv_cells.proofs.LineCosts.{most_moves, edges_cost}
+use Rattle.rv_cells.specs.CountedLines.{is_plain, answer_word, answer_tag, IsWithoutLast, AreTried}
+use Rattle.rv_cells.proofs.LineCosts.{most_moves, edges_cost, edges_apart}
 use Rattle.rv_cells.specs.Fitting.{IsInt32, AreAlike, AllAlike, ShowsIts}
 use Rattle.rv_cells.proofs.FormWords.{word_signed}
 
@@ -46,6 +46,42 @@ next_other (edge ∷ edges) otherwise found is =
         → (if b then Some edge.next else next_by edges otherwise found) ≡ otherwise
     by true later is = cc
     by false later is = later is
+
+-- edges behind others are taken where none of those is
+pub next_append : (some more : List Edge) (otherwise : Option ℕ) (found : Answer)
+    → next_by (some ++ more) otherwise found ≡ next_by some (next_by more otherwise found) found
+next_append [] more otherwise found = refl
+next_append (edge ∷ some) more otherwise found =
+    ap (λ next. if is_answer edge.found found then Some edge.next else next) (next_append some more otherwise found)
+
+-- where some edge is taken, the last one is where no other one is
+pub next_without_last : (edges some : List Edge) (other : Option ℕ) (found : Answer) (k : ℕ) → IsWithoutLast edges some other
+    → next_by edges None found ≡ Some k → next_by some other found ≡ Some k
+next_without_last edges some other found k without is =
+    go without.0 without.2 (sym (next_append some (option_to_list without.0) None found)
+    ∙ ap (λ es. next_by es None found) (sym without.1) ∙ is)
+  where
+    go : (last : Option Edge) → other ≡ option_map (λ (edge : Edge). edge.next) last
+        → next_by some (next_by (option_to_list last) None found) found ≡ Some k → next_by some other found ≡ Some k
+    go None leads taken = next_some some other found k taken
+    go (Some last) leads taken = by (is_answer last.found found) taken
+      where
+        by : (b : Bool) → next_by some (if b then Some last.next else None) found ≡ Some k → next_by some other found ≡ Some k
+        by true taken = ap (λ o. next_by some o found) leads ∙ taken
+        by false taken = next_some some other found k taken
+
+-- the edges that are tried cost no more than all
+pub tried_cost : (words tags : List Edge) (otherwise : Option ℕ) (plain tagged : List Edge) (other : Option ℕ)
+    → AreTried words tags otherwise plain tagged other
+    → edges_cost plain + edges_cost tagged ≤ edges_cost words + edges_cost tags
+tried_cost words tags (Some next) plain tagged other are =
+    let first = ap edges_cost are.0 in let second = ap edges_cost are.1 in omega (arith, first, second)
+tried_cost words [] None plain tagged other are =
+    let none = ap edges_cost are.0 in let all = ap edges_cost are.1.1 in
+    let apart = edges_apart plain (option_to_list are.1.0) in omega (arith, none, all, apart)
+tried_cost words (edge ∷ edges) None plain tagged other are =
+    let first = ap edges_cost are.0 in let all = ap edges_cost are.1.1 in
+    let apart = edges_apart tagged (option_to_list are.1.0) in omega (arith, first, all, apart)
 
 -- the edges that may be taken are kept
 pub next_keeps : (keeps : Edge → Bool) (edges : List Edge) (otherwise : Option ℕ) (found : Answer)
@@ -99,7 +135,7 @@ split_cost keeps (edge ∷ edges) = by (keeps edge) (split_cost keeps edges)
         (filter (λ edge. not (keeps edge)) edges) ≤ edges_cost edges
         → edges_cost (cond b (edge ∷ filter keeps edges) (filter keeps edges))
         + edges_cost (cond (not b) (edge ∷ filter (λ edge. not (keeps edge)) edges) (filter (λ edge. not (keeps edge)) edges))
-        ≤ (3 * most_moves + 7) + edges_cost edges
+        ≤ (2 * most_moves + 5) + edges_cost edges
     by true few = omega (arith, few)
     by false few = omega (arith, few)
 

@@ -1,44 +1,55 @@
 -- The lines of a node of decisions lead to the label of the node that is chosen, or of the arm.
-use Rattle.std.proofs.Common.{◌≡◌, ◌⊎◌, inl, inr, ℕ, zero, suc, ◌+◌, ◌*◌, ◌%◌, ◌<◌, ◌≤◌, Bool, true, false, not, List, [], ◌∷◌, ◌++◌, length, filter, Option, Some, None, nat_eq, bit_and, refl, sym, ◌∙◌, ap, subst, arith, append_assoc}
+use Rattle.std.proofs.Common.{◌≡◌, ◌⊎◌, inl, inr, ℕ, zero, suc, ◌+◌, ◌*◌, ◌%◌, ◌<◌, ◌≤◌, Bool, true, false, not, List, [], ◌∷◌, ◌++◌, length, filter, Option, Some, None, option_to_list, nat_eq, eqb-true, bit_and, refl, sym, ◌∙◌, ap, subst, arith, append_assoc}
 use Rattle.std.specs.Prelude.{if◌then◌else◌, cond, ℤ, option_map}
 use Rattle.cell_heap.specs.Blocks.{own}
 use Rattle.rv_isa.specs.declared.asm.Operation.TheVariants as Op
 use Rattle.rv_isa.specs.declared.asm.ImmediateOperation.TheVariants.{Andi}
 use Rattle.std.proofs.lemmas.Nat.{and_mask}
 use Rattle.kk_source.specs.State.{Value, integer, unit, constant, place, Cell}
-use Rattle.kk_core.specs.Decisions.{tests, value_at, answer_of, is_answer, next_by}
+use Rattle.kk_core.specs.Decisions.{value_at, answer_of, is_answer, next_by}
 use Rattle.kk_core.specs.declared.decisions.Answer.{Answer}
 use Rattle.kk_core.specs.declared.decisions.Answer.TheVariants.{Number, Constructor}
 use Rattle.kk_core.specs.declared.decisions.Edge.{Edge}
 use Rattle.kk_counted.specs.Heaps.{Held, cell_at, held_at, if_counted}
-use Rattle.rv_isa.specs.declared.asm.Action.TheVariants.{Branch}
-use Rattle.rv_isa.specs.declared.asm.Condition.TheVariants.{NotEqual}
+use Rattle.rv_isa.specs.declared.asm.Action.TheVariants.{Jump, Branch}
+use Rattle.rv_isa.specs.declared.asm.Condition.{Condition}
+use Rattle.rv_isa.specs.declared.asm.Condition.TheVariants.{Equal, NotEqual}
+use Rattle.rv_isa.specs.declared.immediate.Immediate.{Immediate}
 use Rattle.rv_isa.specs.AsmCode.{Line}
 use Rattle.rv_isa.specs.Frames.{Frame, put}
 use Rattle.rv_isa.specs.AsmMachine.{AsmTurn}
 use Rattle.rv_isa.specs.Processor.{Ending}
+use Rattle.rv_world.specs.Operations.{compares}
 use Rattle.rv_world.specs.World.{World}
-use Rattle.rv_lower.specs.Lines.{computes, acts, copies_to}
+use Rattle.rv_lower.specs.Lines.{computes, sets, acts}
 use Rattle.rv_lower.proofs.Labels.{found_label}
 use Rattle.rv_lower.proofs.Performing.{put_same, put_other}
 use Rattle.rv_cells.specs.Layout.{word_in, header_of}
-use Rattle.rv_cells.specs.CountedLines.{is_plain, answer_word, answer_tag, number_tests, otherwise_lines, OddLines, TagLines, NodeLines}
-use Rattle.rv_cells.proofs.LineCosts.{most_moves, row_cost, edges_cost}
+use Rattle.rv_cells.specs.CellLines.{Loads, walked, spare, equal_lines, jump_lines, either_lines}
+use Rattle.rv_cells.specs.CountedLines.{is_plain, answer_word, answer_tag, number_tests, last_lines, ChoiceLines, OddLines, DecideLines, AreTried, TestLines}
+use Rattle.rv_cells.proofs.LineCosts.{most_moves, row_cost, edges_cost, edges_apart}
 use Rattle.rv_cells.specs.Fitting.{AreAlike, AllAlike, ShowsIts}
 use Rattle.rv_cells.proofs.Held.{some-is, held_count}
 use Rattle.rv_cells.proofs.Words.{load_own, cell_named}
 use Rattle.rv_cells.proofs.Runs.{turn_of, Runs, runs_none, runs_then}
-use Rattle.rv_cells.proofs.Acting.{copy_runs, load_runs, andi_runs, jump_runs, falls_one_runs, branch_one_runs}
+use Rattle.rv_cells.proofs.Acting.{load_runs, andi_runs, jump_runs, falls_one_runs, branch_one_runs}
 use Rattle.rv_cells.proofs.Rows.{then_some}
 use Rattle.rv_cells.proofs.Walking.{walk_runs, test_falls, test_jumps}
 use Rattle.rv_cells.proofs.Spots.{Spot, Known, Here}
-use Rattle.rv_cells.proofs.Telling.{next_some, next_other, next_keeps, next_none, split_cost, alike_kept, same_kind, word_tells, tag_of_cell_tells}
+use Rattle.rv_cells.proofs.Telling.{next_some, next_other, next_append, next_without_last, next_keeps, next_none, tried_cost, split_cost, alike_kept, same_kind, word_tells, tag_of_cell_tells}
 
 -- each edge's number tells whether it is the answer
 abbrev pub AllTell : (Answer → ℕ) → ℕ → Answer → List Edge → Type 0
 AllTell number v found [] = Unit {0}
 AllTell number v found (edge ∷ edges) =
     (nat_eq v (number edge.found) ≡ is_answer edge.found found) × AllTell number v found edges
+
+-- what tells all of some edges and more tells all of both
+tells_apart : (number : Answer → ℕ) (v : ℕ) (found : Answer) (some more : List Edge) → AllTell number v found (some ++ more)
+    → AllTell number v found some × AllTell number v found more
+tells_apart number v found [] more tell = (tt, tell)
+tells_apart number v found (edge ∷ some) more tell =
+    let later = tells_apart number v found some more tell.1 in ((tell.0, later.0), later.1)
 
 module _ (known : Known) (s : Spot) (fs : List (Frame Line)) (here : Here known s) where
   abbrev moves : ℕ
@@ -105,169 +116,273 @@ module _ (known : Known) (s : Spot) (fs : List (Frame Line)) (here : Here known 
       → Runs known.target cost 1 (turn_with from values) (turn_with to values) → Leads limit cost from to values
   leads_same limit cost from to values runs = record { steps = 1; later = values; runs = runs; kept = λ z less. refl }
 
+  -- what is found at the next label are the next lines
+  abbrev pub Comes : ℕ → List Line → Type 0
+  Comes next rest = (there : List Line) → found_label next s.frame.whole ≡ Some there → there ≡ rest
+
+  -- ---- jumps and branches
+
+  pub jump_leads : (limit next label : ℕ) (rest there : List Line) (values : ℕ → Option ℕ)
+      → found_label label s.frame.whole ≡ Some there → Comes next rest
+      → Leads limit (most_moves + 2) (jump_lines next label ++ rest) there values
+  jump_leads limit next label rest there values finds comes = by (nat_eq label next) refl
+    where
+      by : (b : Bool) → nat_eq label next ≡ b
+          → Leads limit (most_moves + 2) ((if b then [] else (acts (Jump label) [] ∷ [])) ++ rest) there values
+      by true same =
+          let here_is : there ≡ rest = comes there (ap (λ l. found_label l s.frame.whole) (sym (eqb-true label next same)) ∙ finds) in
+          subst (λ ls. Leads limit (most_moves + 2) rest ls values) (sym here_is)
+          (leads_none limit (most_moves + 2) rest values)
+      by false differ =
+          leads_same limit (most_moves + 2) (acts (Jump label) [] ∷ rest) there values
+          (jump_runs known.target rest (record s.frame { cells = values }) fs s.world label there finds)
+
+  module _ (value t word v : ℕ) (values : ℕ → Option ℕ) (has : values value ≡ Some v) (apart : value < t) where
+    compare_falls : (condition : Condition) (label : ℕ) (rest : List Line) → compares condition v word ≡ false
+        → Leads t (2 * most_moves + 5) (sets word t ∷ acts (Branch condition label) (value ∷ t ∷ []) ∷ rest) rest values
+    compare_falls condition label rest not =
+        leads_more t t ((most_moves + 2) + (most_moves + 3)) (2 * most_moves + 5)
+        (sets word t ∷ acts (Branch condition label) (value ∷ t ∷ []) ∷ rest) rest values
+        (omega arith) (omega arith)
+        (record {
+          steps = 2;
+          later = put t (Some word) values;
+          runs = test_falls known.target rest (record s.frame { cells = values }) fs s.world condition value word t label v has apart
+              not;
+          kept = λ z less. put_other t z word values (λ e. omega (arith, e, less));
+        })
+
+    compare_jumps : (condition : Condition) (label : ℕ) (rest there : List Line) → compares condition v word ≡ true
+        → found_label label s.frame.whole ≡ Some there
+        → Leads t (2 * most_moves + 5) (sets word t ∷ acts (Branch condition label) (value ∷ t ∷ []) ∷ rest) there values
+    compare_jumps condition label rest there holds finds =
+        leads_more t t ((most_moves + 2) + (most_moves + 3)) (2 * most_moves + 5)
+        (sets word t ∷ acts (Branch condition label) (value ∷ t ∷ []) ∷ rest) there values
+        (omega arith) (omega arith)
+        (record {
+          steps = 2;
+          later = put t (Some word) values;
+          runs = test_jumps known.target rest (record s.frame { cells = values }) fs s.world condition value word t label v has apart
+              there holds finds;
+          kept = λ z less. put_other t z word values (λ e. omega (arith, e, less));
+        })
+
+    either_leads : (next equal other : ℕ) (rest there : List Line)
+        → (nat_eq v word ≡ true → found_label equal s.frame.whole ≡ Some there)
+        → (nat_eq v word ≡ false → found_label other s.frame.whole ≡ Some there) → Comes next rest
+        → Leads t ((2 * most_moves + 5) + (most_moves + 2)) (either_lines next value word t equal other ++ rest) there values
+    either_leads next equal other rest there to_equal to_other comes = by (nat_eq equal next) refl (nat_eq v word) refl
+      where
+        by : (b : Bool) → nat_eq equal next ≡ b → (c : Bool) → nat_eq v word ≡ c
+            → Leads t ((2 * most_moves + 5) + (most_moves + 2))
+            (sets word t ∷ ((if b then acts (Branch NotEqual other) (value ∷ t ∷ []) ∷ []
+            else (acts (Branch Equal equal) (value ∷ t ∷ []) ∷ jump_lines next other)) ++ rest)) there values
+        by true same true is =
+            let here_is : there ≡ rest = comes there (ap (λ l. found_label l s.frame.whole) (sym (eqb-true equal next same)) ∙ to_equal is) in
+            let from = sets word t ∷ acts (Branch NotEqual other) (value ∷ t ∷ []) ∷ rest in
+            leads_more t t (2 * most_moves + 5) ((2 * most_moves + 5) + (most_moves + 2)) from there values (omega arith) (omega arith)
+            (subst (λ ls. Leads t (2 * most_moves + 5) from ls values) (sym here_is)
+            (compare_falls NotEqual other rest (ap not is)))
+        by true same false is =
+            leads_more t t (2 * most_moves + 5) ((2 * most_moves + 5) + (most_moves + 2)) (sets word t ∷ acts (Branch NotEqual other) (value ∷ t ∷ []) ∷ rest) there values
+            (omega arith) (omega arith) (compare_jumps NotEqual other rest there (ap not is) (to_other is))
+        by false differ true is =
+            let more = jump_lines next other ++ rest in
+            leads_more t t (2 * most_moves + 5) ((2 * most_moves + 5) + (most_moves + 2)) (sets word t ∷ acts (Branch Equal equal) (value ∷ t ∷ []) ∷ more) there values
+            (omega arith) (omega arith) (compare_jumps Equal equal more there is (to_equal is))
+        by false differ false is =
+            let more = jump_lines next other ++ rest in
+            let first = compare_falls Equal equal more is in
+            leads_then t (2 * most_moves + 5) (most_moves + 2) (sets word t ∷ acts (Branch Equal equal) (value ∷ t ∷ []) ∷ more) more
+            there values first (jump_leads t next other rest there first.later (to_other is) comes)
+
   -- ---- tests of numbers
 
-  -- No edge is taken, and the next lines come; or one is, and its node's label.
-  abbrev Tested : (Answer → ℕ) → ℕ → ℕ → Answer → List Edge → List Line → (ℕ → Option ℕ) → Type 0
-  Tested number value nodes found edges rest values =
-      ((next_by edges None found ≡ None)
-      × Leads (value + 1) (edges_cost edges) (number_tests number value nodes edges ++ rest) rest values)
-      ⊎ ((k : ℕ) × (next_by edges None found ≡ Some k)
-      × ((there : List Line) → found_label (nodes + k) s.frame.whole ≡ Some there
-      → Leads (value + 1) (edges_cost edges) (number_tests number value nodes edges ++ rest) there values))
+  module _ (number : Answer → ℕ) (to : ℕ → ℕ) (value t v : ℕ) (found : Answer) (apart : value < t) where
+    abbrev tests_of : List Edge → List Line
+    tests_of edges = number_tests number to value t edges
 
-  after_falls : (number : Answer → ℕ) (value nodes v : ℕ) (found : Answer) (edge : Edge) (edges : List Edge) (rest : List Line)
-      (values : ℕ → Option ℕ) → is_answer edge.found found ≡ false
-      → (first : Leads (value + 1) (3 * most_moves + 7) (number_tests number value nodes (edge ∷ edges) ++ rest)
-      (number_tests number value nodes edges ++ rest) values)
-      → Tested number value nodes found edges rest first.later → Tested number value nodes found (edge ∷ edges) rest values
-  after_falls number value nodes v found edge edges rest values not first (inl none) =
-      inl (
-        ap (λ b. if b then Some edge.next else next_by edges None found) not ∙ none.0,
-        leads_then (value + 1) (3 * moves + 7) (edges_cost edges) (number_tests number value nodes (edge ∷ edges) ++ rest)
-            (number_tests number value nodes edges ++ rest) rest values first none.1,
-      )
-  after_falls number value nodes v found edge edges rest values not first (inr taken) =
-      inr (
-        taken.0,
-        ap (λ b. if b then Some edge.next else next_by edges None found) not ∙ taken.1,
-        λ there finds. leads_then (value + 1) (3 * moves + 7) (edges_cost edges)
-            (number_tests number value nodes (edge ∷ edges) ++ rest)
-            (number_tests number value nodes edges ++ rest) there values first (taken.2 there finds),
-      )
+    -- No edge is taken, and the next lines come; or one is, and its node's label.
+    abbrev Tested : List Edge → List Line → (ℕ → Option ℕ) → Type 0
+    Tested edges rest values =
+        ((next_by edges None found ≡ None) × Leads t (edges_cost edges) (number_tests number to value t edges ++ rest) rest values)
+        ⊎ ((k : ℕ) × (next_by edges None found ≡ Some k)
+        × ((there : List Line) → found_label (to k) s.frame.whole ≡ Some there
+        → Leads t (edges_cost edges) (number_tests number to value t edges ++ rest) there values))
 
-  tests_run : (number : Answer → ℕ) (value nodes v : ℕ) (found : Answer) (edges : List Edge) (rest : List Line)
-      (values : ℕ → Option ℕ) → values value ≡ Some v → AllTell number v found edges
-      → Tested number value nodes found edges rest values
-  tests_run number value nodes v found [] rest values has tell = inl (refl, leads_none (value + 1) 0 rest values)
-  tests_run number value nodes v found (edge ∷ edges) rest values has tell =
-      by (nat_eq v (number edge.found)) refl
-      (λ later still. tests_run number value nodes v found edges rest later still tell.1)
-    where
-      f : Frame Line
-      f = record s.frame { cells = values }
+    after_falls : (edge : Edge) (edges : List Edge) (rest : List Line) (values : ℕ → Option ℕ) → is_answer edge.found found ≡ false
+        → (first : Leads t (2 * most_moves + 5) (number_tests number to value t (edge ∷ edges) ++ rest)
+        (number_tests number to value t edges ++ rest) values)
+        → Tested edges rest first.later → Tested (edge ∷ edges) rest values
+    after_falls edge edges rest values not first (inl none) =
+        inl (
+          ap (λ b. if b then Some edge.next else next_by edges None found) not ∙ none.0,
+          leads_then t (2 * most_moves + 5) (edges_cost edges) (number_tests number to value t (edge ∷ edges) ++ rest)
+              (number_tests number to value t edges ++ rest) rest values first none.1,
+        )
+    after_falls edge edges rest values not first (inr taken) =
+        inr (
+          taken.0,
+          ap (λ b. if b then Some edge.next else next_by edges None found) not ∙ taken.1,
+          λ there finds. leads_then t (2 * most_moves + 5) (edges_cost edges)
+              (number_tests number to value t (edge ∷ edges) ++ rest)
+              (number_tests number to value t edges ++ rest) there values first (taken.2 there finds),
+        )
 
-      more : List Line
-      more = number_tests number value nodes edges ++ rest
+    tests_run : (edges : List Edge) (rest : List Line) (values : ℕ → Option ℕ) → values value ≡ Some v
+        → AllTell number v found edges → Tested edges rest values
+    tests_run [] rest values has tell = inl (refl, leads_none t 0 rest values)
+    tests_run (edge ∷ edges) rest values has tell =
+        by (nat_eq v (number edge.found)) refl (λ later still. tests_run edges rest later still tell.1)
+      where
+        more : List Line
+        more = number_tests number to value t edges ++ rest
 
-      by : (b : Bool) → nat_eq v (number edge.found) ≡ b
-          → ((later : ℕ → Option ℕ) → later value ≡ Some v → Tested number value nodes found edges rest later)
-          → Tested number value nodes found (edge ∷ edges) rest values
-      by true same again =
-          inr (
-            edge.next,
-            ap (λ b. if b then Some edge.next else next_by edges None found) (sym tell.0 ∙ same),
-            λ there finds. leads_more (value + 1) (value + 1)
-                ((most_moves + 2) + (most_moves + 2) + (most_moves + 3))
-                (edges_cost (edge ∷ edges)) (number_tests number value nodes (edge ∷ edges) ++ rest) there values
-                (omega arith) (omega arith)
-                (record {
-                  steps = 3;
-                  later = put (value + 1 + 1) (Some (number edge.found)) (put (value + 1) (Some v) values);
-                  runs = test_jumps known.target (number_tests number value nodes edges ++ rest)
-                      (record s.frame { cells = values }) fs
-                      s.world value (number edge.found) (value + 1) (nodes + edge.next) v has there same finds;
-                  kept = λ z less. put_other (value + 1 + 1) z (number edge.found) (put (value + 1) (Some v) values)
-                      (λ e. omega (arith, e, less))
-                      ∙ put_other (value + 1) z v values (λ e. omega (arith, e, less));
-                }),
-          )
-      by false differ again =
-          let later : ℕ → Option ℕ = put (value + 1 + 1) (Some (number edge.found)) (put (value + 1) (Some v) values) in
-          let kept : (z : ℕ) → z < value + 1 → later z ≡ values z
-          = λ z less. put_other (value + 1 + 1) z (number edge.found) (put (value + 1) (Some v) values)
-          (λ e. omega (arith, e, less))
-          ∙ put_other (value + 1) z v values (λ e. omega (arith, e, less)) in
-          after_falls number value nodes v found edge edges rest values (sym tell.0 ∙ differ)
-          (leads_more (value + 1) (value + 1) ((most_moves + 2) + (most_moves + 2) + (most_moves + 3))
-          (3 * most_moves + 7) (number_tests number value nodes (edge ∷ edges) ++ rest)
-          (number_tests number value nodes edges ++ rest) values (omega arith) (omega arith)
-          (record {
-            steps = 3;
-            later = later;
-            runs = test_falls known.target (number_tests number value nodes edges ++ rest) (record s.frame { cells = values }) fs
-                s.world value (number edge.found) (value + 1) (nodes + edge.next) v has differ;
-            kept = kept;
-          }))
-          (again later (kept value (omega arith) ∙ has))
+        by : (b : Bool) → nat_eq v (number edge.found) ≡ b
+            → ((later : ℕ → Option ℕ) → later value ≡ Some v → Tested edges rest later)
+            → Tested (edge ∷ edges) rest values
+        by true same again =
+            inr (
+              edge.next,
+              ap (λ b. if b then Some edge.next else next_by edges None found) (sym tell.0 ∙ same),
+              λ there finds. leads_more t t (2 * most_moves + 5) (edges_cost (edge ∷ edges))
+                  (number_tests number to value t (edge ∷ edges) ++ rest) there values (omega arith) (omega arith)
+                  (compare_jumps value t (number edge.found) v values has apart Equal (to edge.next) more there same finds),
+            )
+        by false differ again =
+            let first = compare_falls value t (number edge.found) v values has apart Equal (to edge.next) more differ in
+            after_falls edge edges rest values (sym tell.0 ∙ differ) first
+            (again first.later (first.kept value apart ∙ has))
 
-  -- ---- where no edge is taken
+    -- the last one
+    last_leads : (next : ℕ) (last : Option Edge) (other : Option ℕ) (k : ℕ) (rest there : List Line) (values : ℕ → Option ℕ)
+        → values value ≡ Some v → AllTell number v found (option_to_list last)
+        → next_by (option_to_list last) other found ≡ Some k → found_label (to k) s.frame.whole ≡ Some there → Comes next rest
+        → Leads t (edges_cost (option_to_list last) + (most_moves + 2))
+        (last_lines number to next value t last other ++ rest) there values
+    last_leads next None None k rest there values has tell is finds comes = cc
+    last_leads next None (Some other) k rest there values has tell is finds comes =
+        let same : other ≡ k = some-is is in
+        jump_leads t next (to other) rest there values (ap (λ n. found_label (to n) s.frame.whole) same ∙ finds) comes
+    last_leads next (Some edge) None k rest there values has tell is finds comes =
+        by (nat_eq v (number edge.found)) refl
+      where
+        by : (b : Bool) → nat_eq v (number edge.found) ≡ b
+            → Leads t (edges_cost (edge ∷ []) + (most_moves + 2)) (equal_lines value (number edge.found) t (to edge.next) ++ rest)
+            there values
+        by true same =
+            let taken : edge.next ≡ k
+            = some-is (sym (ap (λ b. if b then Some edge.next else None) (sym tell.0 ∙ same)) ∙ is) in
+            leads_more t t (2 * most_moves + 5) (edges_cost (edge ∷ []) + (most_moves + 2))
+            (equal_lines value (number edge.found) t (to edge.next) ++ rest) there values (omega arith) (omega arith)
+            (compare_jumps value t (number edge.found) v values has apart Equal (to edge.next) rest there same
+            (ap (λ n. found_label (to n) s.frame.whole) taken ∙ finds))
+        by false differ =
+            let none : None ≡ Some k = sym (ap (λ b. if b then Some edge.next else None) (sym tell.0 ∙ differ)) ∙ is in cc
+    last_leads next (Some edge) (Some other) k rest there values has tell is finds comes =
+        leads_more t t ((2 * most_moves + 5) + (most_moves + 2)) (edges_cost (edge ∷ []) + (most_moves + 2))
+        (either_lines next value (number edge.found) t (to edge.next) (to other) ++ rest) there values (omega arith) (omega arith)
+        (either_leads value t (number edge.found) v values has apart next (to edge.next) (to other) rest there
+        (λ same. ap (λ n. found_label (to n) s.frame.whole)
+        (some-is (sym (ap (λ b. if b then Some edge.next else Some other) (sym tell.0 ∙ same)) ∙ is)) ∙ finds)
+        (λ differ. ap (λ n. found_label (to n) s.frame.whole)
+        (some-is (sym (ap (λ b. if b then Some edge.next else Some other) (sym tell.0 ∙ differ)) ∙ is)) ∙ finds)
+        comes)
 
-  jumps_out : (nodes limit : ℕ) (otherwise : Option ℕ) (k : ℕ) (there rest : List Line) (values : ℕ → Option ℕ) → otherwise ≡ Some k
-      → found_label (nodes + k) s.frame.whole ≡ Some there
-      → Leads limit (most_moves + 2) (otherwise_lines nodes otherwise ++ rest) there values
-  jumps_out nodes limit None k there rest values is finds = cc
-  jumps_out nodes limit (Some j) k there rest values is finds =
-      let same : j ≡ k = some-is is in
-      leads_same limit (most_moves + 2) (otherwise_lines nodes (Some j) ++ rest) there values
-      (jump_runs known.target rest (record s.frame { cells = values }) fs s.world (nodes + j) there
-      (ap (λ n. found_label (nodes + n) s.frame.whole) same ∙ finds))
+    -- all of them
+    choice_leads : (next : ℕ) (edges : List Edge) (other : Option ℕ) (k : ℕ) (lines rest there : List Line) (values : ℕ → Option ℕ)
+        → values value ≡ Some v → AllTell number v found edges → next_by edges other found ≡ Some k
+        → found_label (to k) s.frame.whole ≡ Some there → Comes next rest
+        → ChoiceLines number to next value t edges other lines
+        → Leads t (edges_cost edges + (most_moves + 2)) (lines ++ rest) there values
+    choice_leads next edges other k lines rest there values has tell is finds comes are =
+        subst (λ ls. Leads t (edges_cost edges + (most_moves + 2)) ls there values)
+        (sym (ap (λ ls. ls ++ rest) are.3 ∙ append_assoc (tests_of some) ending rest))
+        (subst (λ n. Leads t (n + (most_moves + 2)) (tests_of some ++ (ending ++ rest)) there values)
+        (sym (ap edges_cost are.2 ∙ edges_apart some (option_to_list last)))
+        (by (tests_run some (ending ++ rest) values has tells.0)))
+      where
+        some : List Edge
+        some = are.0
+
+        last : Option Edge
+        last = are.1
+
+        ending : List Line
+        ending = last_lines number to next value t are.1 other
+
+        tells : AllTell number v found are.0 × AllTell number v found (option_to_list are.1)
+        tells = tells_apart number v found are.0 (option_to_list are.1) (subst (AllTell number v found) are.2 tell)
+
+        taken : next_by are.0 (next_by (option_to_list are.1) other found) found ≡ Some k
+        taken = sym (next_append are.0 (option_to_list are.1) other found) ∙ ap (λ es. next_by es other found) (sym are.2) ∙ is
+
+        by : Tested are.0 (last_lines number to next value t are.1 other ++ rest) values
+            → Leads t (edges_cost are.0 + edges_cost (option_to_list are.1) + (most_moves + 2))
+            (number_tests number to value t are.0 ++ (last_lines number to next value t are.1 other ++ rest)) there values
+        by (inl none) =
+            let behind = last_leads next are.1 other k rest there none.1.later (none.1.kept value apart ∙ has) tells.1
+            (sym (next_other are.0 (next_by (option_to_list are.1) other found) found none.0) ∙ taken) finds comes in
+            leads_more t t (edges_cost are.0 + (edges_cost (option_to_list are.1) + (most_moves + 2)))
+            (edges_cost are.0 + edges_cost (option_to_list are.1) + (most_moves + 2))
+            (number_tests number to value t are.0 ++ (last_lines number to next value t are.1 other ++ rest)) there values
+            (omega arith) (omega arith)
+            (leads_then t (edges_cost are.0) (edges_cost (option_to_list are.1) + (most_moves + 2))
+            (number_tests number to value t are.0 ++ (last_lines number to next value t are.1 other ++ rest))
+            (last_lines number to next value t are.1 other ++ rest) there values none.1 behind)
+        by (inr (j, is_j, leads)) =
+            let same : j ≡ k
+            = some-is (sym (next_some are.0 (next_by (option_to_list are.1) other found) found j is_j) ∙ taken) in
+            leads_more t t (edges_cost are.0) (edges_cost are.0 + edges_cost (option_to_list are.1) + (most_moves + 2))
+            (number_tests number to value t are.0 ++ (last_lines number to next value t are.1 other ++ rest)) there values
+            (omega arith) (omega arith) (leads there (ap (λ n. found_label (to n) s.frame.whole) same ∙ finds))
+
+  -- ---- where a value that is no cell goes on otherwise
 
   -- an address is even: the next lines come
-  even_falls : (value nodes w : ℕ) (otherwise : Option ℕ) (odd rest : List Line) (values : ℕ → Option ℕ)
-      → OddLines value nodes otherwise odd → values value ≡ Some w → w % 2 ≡ 0
-      → Leads (value + 1) (2 * most_moves + 5) (odd ++ rest) rest values
-  even_falls value nodes w None odd rest values lines has even =
-      subst (λ ls. Leads (value + 1) (2 * most_moves + 5) (ls ++ rest) rest values) (sym lines)
-      (leads_none (value + 1) (2 * most_moves + 5) rest values)
-  even_falls value nodes w (Some next) odd rest values lines has even =
+  even_falls : (value t w : ℕ) (to : ℕ → ℕ) (otherwise : Option ℕ) (odd rest : List Line) (values : ℕ → Option ℕ)
+      → OddLines value t to otherwise odd → values value ≡ Some w → w % 2 ≡ 0
+      → Leads t (2 * most_moves + 5) (odd ++ rest) rest values
+  even_falls value t w to None odd rest values lines has even =
+      subst (λ ls. Leads t (2 * most_moves + 5) (ls ++ rest) rest values) (sym lines)
+      (leads_none t (2 * most_moves + 5) rest values)
+  even_falls value t w to (Some next) odd rest values lines has even =
       let f = record s.frame { cells = values } in
       let bit : bit_and w lines.0.word ≡ 0 = ap (bit_and w) lines.1 ∙ and_mask w 1 ∙ even in
-      let values2 = put (value + 1) (Some (bit_and w lines.0.word)) values in
-      let branch = acts (Branch NotEqual (nodes + next)) ((value + 1) ∷ []) ∷ rest in
-      subst (λ ls. Leads (value + 1) (2 * most_moves + 5) (ls ++ rest) rest values) (sym lines.2)
-      (leads_more (value + 1) (value + 1) ((most_moves + 2) + (most_moves + 3)) (2 * most_moves + 5)
+      let values2 = put t (Some (bit_and w lines.0.word)) values in
+      let branch = acts (Branch NotEqual (to next)) (t ∷ []) ∷ rest in
+      subst (λ ls. Leads t (2 * most_moves + 5) (ls ++ rest) rest values) (sym lines.2)
+      (leads_more t t ((most_moves + 2) + (most_moves + 3)) (2 * most_moves + 5)
       _ rest values (omega arith) (omega arith)
-      (leads_then (value + 1) (most_moves + 2) (most_moves + 3) _ branch rest values
-      (leads_put (value + 1) (most_moves + 2) (value + 1) (bit_and w lines.0.word) _ branch values (omega arith)
-      (andi_runs known.target branch f fs s.world value (value + 1) w lines.0 has))
-      (leads_same (value + 1) (most_moves + 3) branch rest values2
-      (falls_one_runs known.target rest (record s.frame { cells = values2 }) fs s.world NotEqual (nodes + next) (value + 1)
-      (bit_and w lines.0.word) (put_same (value + 1) (bit_and w lines.0.word) values) (ap (λ b. not (nat_eq b 0)) bit)))))
+      (leads_then t (most_moves + 2) (most_moves + 3) _ branch rest values
+      (leads_put t (most_moves + 2) t (bit_and w lines.0.word) _ branch values (omega arith)
+      (andi_runs known.target branch f fs s.world value t w lines.0 has))
+      (leads_same t (most_moves + 3) branch rest values2
+      (falls_one_runs known.target rest (record s.frame { cells = values2 }) fs s.world NotEqual (to next) t
+      (bit_and w lines.0.word) (put_same t (bit_and w lines.0.word) values) (ap (λ b. not (nat_eq b 0)) bit)))))
 
   -- the word of a constructor without fields is odd: the label comes
-  odd_jumps : (value nodes w : ℕ) (otherwise : Option ℕ) (k : ℕ) (odd rest there : List Line) (values : ℕ → Option ℕ)
-      → OddLines value nodes otherwise odd → otherwise ≡ Some k → found_label (nodes + k) s.frame.whole ≡ Some there
+  odd_jumps : (value t w : ℕ) (to : ℕ → ℕ) (otherwise : Option ℕ) (k : ℕ) (odd rest there : List Line) (values : ℕ → Option ℕ)
+      → OddLines value t to otherwise odd → otherwise ≡ Some k → found_label (to k) s.frame.whole ≡ Some there
       → values value ≡ Some w → w % 2 ≡ 1
-      → Leads (value + 1) (2 * most_moves + 5) (odd ++ rest) there values
-  odd_jumps value nodes w None k odd rest there values lines is finds has odd_word = cc
-  odd_jumps value nodes w (Some next) k odd rest there values lines is finds has odd_word =
+      → Leads t (2 * most_moves + 5) (odd ++ rest) there values
+  odd_jumps value t w to None k odd rest there values lines is finds has odd_word = cc
+  odd_jumps value t w to (Some next) k odd rest there values lines is finds has odd_word =
       let f = record s.frame { cells = values } in
       let same : next ≡ k = some-is is in
       let bit : bit_and w lines.0.word ≡ 1 = ap (bit_and w) lines.1 ∙ and_mask w 1 ∙ odd_word in
-      let values2 = put (value + 1) (Some (bit_and w lines.0.word)) values in
-      let branch = acts (Branch NotEqual (nodes + next)) ((value + 1) ∷ []) ∷ rest in
-      subst (λ ls. Leads (value + 1) (2 * most_moves + 5) (ls ++ rest) there values) (sym lines.2)
-      (leads_more (value + 1) (value + 1) ((most_moves + 2) + (most_moves + 3)) (2 * most_moves + 5)
+      let values2 = put t (Some (bit_and w lines.0.word)) values in
+      let branch = acts (Branch NotEqual (to next)) (t ∷ []) ∷ rest in
+      subst (λ ls. Leads t (2 * most_moves + 5) (ls ++ rest) there values) (sym lines.2)
+      (leads_more t t ((most_moves + 2) + (most_moves + 3)) (2 * most_moves + 5)
       _ there values (omega arith) (omega arith)
-      (leads_then (value + 1) (most_moves + 2) (most_moves + 3) _ branch there values
-      (leads_put (value + 1) (most_moves + 2) (value + 1) (bit_and w lines.0.word) _ branch values (omega arith)
-      (andi_runs known.target branch f fs s.world value (value + 1) w lines.0 has))
-      (leads_same (value + 1) (most_moves + 3) branch there values2
-      (branch_one_runs known.target rest (record s.frame { cells = values2 }) fs s.world NotEqual (nodes + next) (value + 1)
-      (bit_and w lines.0.word) there (put_same (value + 1) (bit_and w lines.0.word) values) (ap (λ b. not (nat_eq b 0)) bit)
-      (ap (λ n. found_label (nodes + n) s.frame.whole) same ∙ finds)))))
-
-  -- the taken edge's label, or else the other one
-  finish : (number : Answer → ℕ) (value nodes limit : ℕ) (found : Answer) (edges : List Edge) (otherwise : Option ℕ) (k : ℕ)
-      (rest there : List Line) (values : ℕ → Option ℕ) → limit ≤ value + 1
-      → found_label (nodes + k) s.frame.whole ≡ Some there → next_by edges otherwise found ≡ Some k
-      → Tested number value nodes found edges (otherwise_lines nodes otherwise ++ rest) values
-      → Leads limit (edges_cost edges + (most_moves + 2))
-      (number_tests number value nodes edges ++ (otherwise_lines nodes otherwise ++ rest)) there values
-  finish number value nodes limit found edges otherwise k rest there values le finds next (inl none) =
-      let from = number_tests number value nodes edges ++ (otherwise_lines nodes otherwise ++ rest) in
-      let mid = otherwise_lines nodes otherwise ++ rest in
-      let first = leads_more (value + 1) limit (edges_cost edges) (edges_cost edges) from mid values
-      (omega arith) le none.1 in
-      leads_then limit (edges_cost edges) (moves + 2) from mid there values first
-      (jumps_out nodes limit otherwise k there rest first.later (sym (next_other edges otherwise found none.0) ∙ next) finds)
-  finish number value nodes limit found edges otherwise k rest there values le finds next (inr taken) =
-      let from = number_tests number value nodes edges ++ (otherwise_lines nodes otherwise ++ rest) in
-      let same : taken.0 ≡ k = some-is (sym (next_some edges otherwise found taken.0 taken.1) ∙ next) in
-      leads_more (value + 1) limit (edges_cost edges) (edges_cost edges + (moves + 2)) from there values
-      (omega arith) le
-      (taken.2 there (ap (λ n. found_label (nodes + n) s.frame.whole) same ∙ finds))
+      (leads_then t (most_moves + 2) (most_moves + 3) _ branch there values
+      (leads_put t (most_moves + 2) t (bit_and w lines.0.word) _ branch values (omega arith)
+      (andi_runs known.target branch f fs s.world value t w lines.0 has))
+      (leads_same t (most_moves + 3) branch there values2
+      (branch_one_runs known.target rest (record s.frame { cells = values2 }) fs s.world NotEqual (to next) t
+      (bit_and w lines.0.word) there (put_same t (bit_and w lines.0.word) values) (ap (λ b. not (nat_eq b 0)) bit)
+      (ap (λ n. found_label (to n) s.frame.whole) same ∙ finds)))))
 
   -- ---- the cell of a value
 
@@ -352,208 +467,258 @@ module _ (known : Known) (s : Spot) (fs : List (Frame Line)) (here : Here known 
 
   -- ---- a node that tests
 
-  module _ (base nodes : ℕ) (edges : List Edge) (otherwise : Option ℕ) (found : Answer) (k : ℕ) (rest there : List Line)
-      (finds : found_label (nodes + k) s.frame.whole ≡ Some there) (next : next_by edges otherwise found ≡ Some k)
-      (all : AllAlike known.layout found edges) where
-    abbrev tagged : List Edge
-    tagged = filter (λ edge. not (is_plain known.layout edge.found)) edges
+  -- where a value goes on that is no cell, and of which no word test holds
+  abbrev otherwise_of : List Edge → Option ℕ → Option ℕ → Option ℕ
+  otherwise_of [] otherwise other = other
+  otherwise_of (edge ∷ edges) otherwise other = otherwise
 
-    abbrev plain : List Edge
-    plain = filter (λ edge. is_plain known.layout edge.found) edges
+  -- The word tells of each edge that is tested by it whether it is the answer, and so do the tags of cells. By these edges it goes
+  -- on to a node.
+  record Tells (w : Value) (found : Answer) (plain tagged : List Edge) (otherwise other : Option ℕ) (k : ℕ) : Type 0 where
+    words : AllTell (answer_word known.layout) (word_in known.layout s.address w) found plain
+    tags : (c : ℕ) → found ≡ Constructor c → AllTell (answer_tag known.layout) (known.layout.tag c) found tagged
+    by_word : is_plain known.layout found ≡ true → next_by plain (otherwise_of tagged otherwise other) found ≡ Some k
+    by_tag : is_plain known.layout found ≡ false → (next_by plain None found ≡ None) × (next_by tagged other found ≡ Some k)
+    number : (n : ℤ) → found ≡ Number n → tagged ≡ []
 
+  tried_tells : (w : Value) (found : Answer) (words tags plain tagged : List Edge) (otherwise other : Option ℕ) (k : ℕ)
+      → Tells w found words tags otherwise otherwise k → AreTried words tags otherwise plain tagged other
+      → Tells w found plain tagged otherwise other k
+  tried_tells w found words tags plain tagged (Some next) other k all are =
+      subst (λ es. Tells w found es tagged (Some next) other k) (sym are.0)
+      (subst (λ es. Tells w found words es (Some next) other k) (sym are.1)
+      (subst (λ o. Tells w found words tags (Some next) o k) (sym are.2) all))
+  tried_tells w found words [] plain tagged None other k all are =
+      subst (λ es. Tells w found plain es None other k) (sym are.0) (record {
+        words = (tells_apart (answer_word known.layout) (word_in known.layout s.address w) found plain (option_to_list are.1.0)
+            (subst (AllTell (answer_word known.layout) (word_in known.layout s.address w) found) are.1.1 all.words)).0;
+        tags = λ c is. tt;
+        by_word = λ p. next_without_last words plain other found k are.1 (all.by_word p);
+        by_tag = λ p. let both = all.by_tag p in let none : None ≡ Some k = both.1 in cc;
+        number = λ n is. refl;
+      })
+  tried_tells w found words (edge ∷ edges) plain tagged None other k all are =
+      subst (λ es. Tells w found es tagged None other k) (sym are.0) (record {
+        words = all.words;
+        tags = λ c is. (tells_apart (answer_tag known.layout) (known.layout.tag c) found tagged (option_to_list are.1.0)
+            (subst (AllTell (answer_tag known.layout) (known.layout.tag c) found) are.1.1 (all.tags c is))).0;
+        by_word = λ p. go tagged (all.by_word p);
+        by_tag = λ p. let both = all.by_tag p in (both.0, next_without_last (edge ∷ edges) tagged other found k are.1 both.1);
+        number = λ n is. let none = all.number n is in cc;
+      })
+    where
+      go : (some : List Edge) → next_by words None found ≡ Some k → next_by words (otherwise_of some None other) found ≡ Some k
+      go [] is = next_some words other found k is
+      go (one ∷ some) is = is
+
+  module _ (to : ℕ → ℕ) (next k : ℕ) (rest there : List Line) (finds : found_label (to k) s.frame.whole ≡ Some there)
+      (comes : Comes next rest) (value t : ℕ) (apart : value < t) (w : Value) (found : Answer)
+      (answer : answer_of (cell_at s.heap) w ≡ Some found) (shows : ShowsIts known.layout w found) where
     abbrev tags_cost : List Edge → ℕ
     tags_cost some = 5 * most_moves + 11 + edges_cost some
 
-    -- a constructor without fields goes on otherwise
-    odd_tags : (w : ℕ) (some : List Edge) (tags : List Line) (values : ℕ → Option ℕ) → otherwise ≡ Some k
-        → TagLines known.layout base nodes some otherwise tags → values base ≡ Some w → w % 2 ≡ 1
-        → Leads base (tags_cost some) (tags ++ (otherwise_lines nodes otherwise ++ rest)) there values
-    odd_tags w [] tags values is lines has odd =
-        subst (λ ls. Leads base (tags_cost []) (ls ++ (otherwise_lines nodes otherwise ++ rest)) there values) (sym lines)
-        (leads_more base base (moves + 2) (tags_cost []) (otherwise_lines nodes otherwise ++ rest) there values (omega arith)
-        (omega arith) (jumps_out nodes base otherwise k there rest values is finds))
-    odd_tags w (edge ∷ more) tags values is lines has odd =
-        let behind = lines.1 ∷ computes (Op.Immediate Andi lines.2) ((base + 1) ∷ []) (base + 1)
-        ∷ number_tests (answer_tag known.layout) (base + 1) nodes (edge ∷ more) in
-        let out = otherwise_lines nodes otherwise ++ rest in
-        subst (λ ls. Leads base (tags_cost (edge ∷ more)) ls there values)
-        (sym (ap (λ ls. ls ++ out) lines.6 ∙ append_assoc lines.0 behind out))
-        (leads_more (base + 1) base (2 * moves + 5) (tags_cost (edge ∷ more)) (lines.0 ++ (behind ++ out)) there values
-        (omega arith)
-        (omega arith) (odd_jumps base nodes w otherwise k lines.0 (behind ++ out) there values lines.3 is finds has odd))
-
     -- a cell is told by its tag
-    cell_tags : (name c : ℕ) (some : List Edge) (tags : List Line) (values : ℕ → Option ℕ) → Shown name (Constructor c)
-        → found ≡ Constructor c
-        → next_by some otherwise found ≡ Some k → AllAlike known.layout (Constructor c) some
-        → TagLines known.layout base nodes some otherwise tags → values base ≡ Some (s.address name)
-        → Leads base (tags_cost some) (tags ++ (otherwise_lines nodes otherwise ++ rest)) there values
-    cell_tags name c [] tags values shows found_is by_tag alike lines has =
-        subst (λ ls. Leads base (tags_cost []) (ls ++ (otherwise_lines nodes otherwise ++ rest)) there values) (sym lines)
-        (leads_more base base (moves + 2) (tags_cost []) (otherwise_lines nodes otherwise ++ rest) there values (omega arith)
-        (omega arith) (jumps_out nodes base otherwise k there rest values by_tag finds))
-    cell_tags name c (edge ∷ more) tags values shows found_is by_tag alike lines has =
+    cell_leads : (name c : ℕ) (tagged : List Edge) (otherwise other : Option ℕ) (odd choice : List Line) (header : Line)
+        (byte : Immediate) (values : ℕ → Option ℕ) → Shown name (Constructor c)
+        → AllTell (answer_tag known.layout) (known.layout.tag c) found tagged → next_by tagged other found ≡ Some k
+        → OddLines value t to otherwise odd → Loads value 1 t header → byte.word ≡ 255
+        → ChoiceLines (answer_tag known.layout) to next t (t + 1) tagged other choice
+        → values value ≡ Some (s.address name)
+        → Leads t (5 * most_moves + 11 + edges_cost tagged)
+        (odd ++ (header ∷ computes (Op.Immediate Andi byte) (t ∷ []) t ∷ (choice ++ rest))) there values
+    cell_leads name c tagged otherwise other odd choice header byte values shows tell by_tag odds loads bytes chooses has =
         let m = most_moves in
-        let out = otherwise_lines nodes otherwise ++ rest in
-        let tests_lines = number_tests (answer_tag known.layout) (base + 1) nodes (edge ∷ more) in
-        let andi = computes (Op.Immediate Andi lines.2) ((base + 1) ∷ []) (base + 1) in
-        let r1 = lines.1 ∷ andi ∷ (tests_lines ++ out) in
-        let r2 = andi ∷ (tests_lines ++ out) in
-        let r3 = tests_lines ++ out in
+        let andi = computes (Op.Immediate Andi byte) (t ∷ []) t in
+        let r3 = choice ++ rest in
+        let r2 = andi ∷ r3 in
+        let r1 = header ∷ r2 in
         let same_maker : shows.made_by ≡ c = maker shows.is in
-        let header = header_of known.layout c in
-        let first = even_falls base nodes (s.address name) otherwise lines.0 r1 values lines.3 has shows.even in
+        let word1 = header_of known.layout c in
+        let first = even_falls value t (s.address name) to otherwise odd r1 values odds has shows.even in
         let v1 = first.later in
-        let has1 : v1 base ≡ Some (s.address name) = first.kept base (omega arith) ∙ has in
-        let v2 = put (base + 1) (Some header) v1 in
-        let word = bit_and header lines.2.word in
-        let v3 = put (base + 1) (Some word) v2 in
+        let has1 : v1 value ≡ Some (s.address name) = first.kept value apart ∙ has in
+        let v2 = put t (Some word1) v1 in
+        let word = bit_and word1 byte.word in
+        let v3 = put t (Some word) v2 in
         let low = known.narrow.tags c in
-        let word_is : word ≡ known.layout.tag c
-        = ap (bit_and header) lines.5 ∙ and_mask header 8 ∙ omega (arith, low) in
-        let second = leads_put (base + 1) (m + 2) (base + 1) header r1 r2 v1 (omega arith)
-        (load_runs known.target r2 (record s.frame { cells = v1 }) fs s.world base 1 (base + 1)
-        (s.address name) header lines.1 lines.4
-        has1 (load_own s.world.cells (s.address name) 1 header shows.words shows.block (omega arith)
+        let word_is : word ≡ known.layout.tag c = ap (bit_and word1) bytes ∙ and_mask word1 8 ∙ omega (arith, low) in
+        let second = leads_put t (m + 2) t word1 r1 r2 v1 (omega arith)
+        (load_runs known.target r2 (record s.frame { cells = v1 }) fs s.world value 1 t (s.address name) word1 header loads has1
+        (load_own s.world.cells (s.address name) 1 word1 shows.words shows.block (omega arith)
         (shows.header ∙ ap (λ d. Some (header_of known.layout d)) same_maker))) in
-        let third = leads_put (base + 1) (m + 2) (base + 1) word r2 r3 v2 (omega arith)
-        (andi_runs known.target r3 (record s.frame { cells = v2 }) fs s.world (base + 1) (base + 1) header lines.2
-        (put_same (base + 1) header v1)) in
-        let tell : AllTell (answer_tag known.layout) (known.layout.tag c) found (edge ∷ more)
-        = subst (λ a. AllTell (answer_tag known.layout) (known.layout.tag c) a (edge ∷ more)) (sym found_is)
-        (tags_tell c (edge ∷ more) alike) in
-        let fourth = finish (answer_tag known.layout) (base + 1) nodes (base + 1) found (edge ∷ more) otherwise k rest there v3
-        (omega arith) finds by_tag
-        (tests_run (answer_tag known.layout) (base + 1) nodes (known.layout.tag c) found (edge ∷ more) out v3
-        (put_same (base + 1) word v2 ∙ ap (λ n. Some n) word_is) tell) in
-        let cost = edges_cost (edge ∷ more) + (m + 2) in
-        let whole : Leads (base + 1) ((2 * m + 5) + ((m + 2) + ((m + 2) + cost))) (lines.0 ++ r1) there values
-        = leads_then (base + 1) (2 * m + 5) ((m + 2) + ((m + 2) + cost)) (lines.0 ++ r1) r1 there values first
-        (leads_then (base + 1) (m + 2) ((m + 2) + cost) r1 r2 there v1 second
-        (leads_then (base + 1) (m + 2) cost r2 r3 there v2 third fourth)) in
-        subst (λ ls. Leads base (tags_cost (edge ∷ more)) ls there values)
-        (sym (ap (λ ls. ls ++ out) lines.6 ∙ append_assoc lines.0 (lines.1 ∷ andi ∷ tests_lines) out))
-        (leads_more (base + 1) base ((2 * m + 5) + ((m + 2) + ((m + 2) + cost))) (tags_cost (edge ∷ more)) (lines.0 ++ r1) there
-        values (omega arith) (omega arith) whole)
+        let third = leads_put t (m + 2) t word r2 r3 v2 (omega arith)
+        (andi_runs known.target r3 (record s.frame { cells = v2 }) fs s.world t t word1 byte (put_same t word1 v1)) in
+        let fourth = leads_more (t + 1) t (edges_cost tagged + (m + 2)) (edges_cost tagged + (m + 2)) r3 there v3 (omega arith)
+        (omega arith)
+        (choice_leads (answer_tag known.layout) to t (t + 1) (known.layout.tag c) found (omega arith) next tagged other k choice rest
+        there v3 (put_same t word v2 ∙ ap (λ n. Some n) word_is) tell by_tag finds comes chooses) in
+        let cost = edges_cost tagged + (m + 2) in
+        leads_more t t ((2 * m + 5) + ((m + 2) + ((m + 2) + cost))) (5 * m + 11 + edges_cost tagged) (odd ++ r1) there values
+        (omega arith) (omega arith)
+        (leads_then t (2 * m + 5) ((m + 2) + ((m + 2) + cost)) (odd ++ r1) r1 there values first
+        (leads_then t (m + 2) ((m + 2) + cost) r1 r2 there v1 second
+        (leads_then t (m + 2) cost r2 r3 there v2 third fourth)))
       where
         maker : Constructor c ≡ Constructor shows.made_by → shows.made_by ≡ c
         maker is = cc
 
     -- the tests behind those of words, where none of those held
-    tags_run : (w : Value) (tags : List Line) (values : ℕ → Option ℕ) → answer_of (cell_at s.heap) w ≡ Some found
-        → ShowsIts known.layout w found → next_by plain None found ≡ None
-        → TagLines known.layout base nodes tagged otherwise tags → values base ≡ Some (word_in known.layout s.address w)
-        → Leads base (tags_cost tagged) (tags ++ (otherwise_lines nodes otherwise ++ rest)) there values
-    tags_run unit tags values answer shows none lines has = cc
-    tags_run (integer n) tags values answer shows none lines has =
-        let is : found ≡ Number n = number_found answer in
-        let empty : tagged ≡ [] = no_tagged n edges (subst (λ a. AllAlike known.layout a edges) is all) in
-        let keeps = next_keeps (λ edge. is_plain known.layout edge.found) edges otherwise found
-        (λ edge e. same_kind known.layout edge.found found e ∙ shows) in
-        let other : otherwise ≡ Some k = sym (next_other plain otherwise found none) ∙ sym keeps ∙ next in
-        let nothing : tags ≡ [] = subst (λ some. TagLines known.layout base nodes some otherwise tags) empty lines in
-        subst (λ ls. Leads base (tags_cost tagged) (ls ++ (otherwise_lines nodes otherwise ++ rest)) there values) (sym nothing)
-        (leads_more base base (moves + 2) (tags_cost tagged) (otherwise_lines nodes otherwise ++ rest) there values (omega arith)
-        (omega arith) (jumps_out nodes base otherwise k there rest values other finds))
+    tags_lead : (plain : List Edge) (edge : Edge) (edges : List Edge) (otherwise other : Option ℕ) (odd choice : List Line)
+        (header : Line) (byte : Immediate) (values : ℕ → Option ℕ) (v : Value) → v ≡ w
+        → Tells w found plain (edge ∷ edges) otherwise other k → next_by plain None found ≡ None
+        → OddLines value t to otherwise odd → Loads value 1 t header → byte.word ≡ 255
+        → ChoiceLines (answer_tag known.layout) to next t (t + 1) (edge ∷ edges) other choice
+        → values value ≡ Some (word_in known.layout s.address v)
+        → Leads t (5 * most_moves + 11 + edges_cost (edge ∷ edges))
+        (odd ++ (header ∷ computes (Op.Immediate Andi byte) (t ∷ []) t ∷ (choice ++ rest))) there values
+    tags_lead plain edge edges otherwise other odd choice header byte values (integer n) same tells none odds loads bytes chooses
+        has =
+        let is : Some (Number n) ≡ Some found = ap (answer_of (cell_at s.heap)) same ∙ answer in
+        let empty : edge ∷ edges ≡ [] = tells.number n (sym (some-is is)) in cc
+    tags_lead plain edge edges otherwise other odd choice header byte values unit same tells none odds loads bytes chooses has =
+        let is : None ≡ Some found = ap (answer_of (cell_at s.heap)) same ∙ answer in cc
+    tags_lead plain edge edges otherwise other odd choice header byte values (constant d) same tells none odds loads bytes chooses
+        has =
+        let shown_plain : is_plain known.layout found ≡ true = subst (λ u. ShowsIts known.layout u found) (sym same) shows in
+        let leads : otherwise ≡ Some k = sym (next_other plain otherwise found none) ∙ tells.by_word shown_plain in
+        let behind = header ∷ computes (Op.Immediate Andi byte) (t ∷ []) t ∷ (choice ++ rest) in
+        leads_more t t (2 * most_moves + 5) (5 * most_moves + 11 + edges_cost (edge ∷ edges)) (odd ++ behind) there values
+        (omega arith) (omega arith)
+        (odd_jumps value t (2 * known.layout.tag d + 1) to otherwise k odd behind there values odds leads finds has (omega arith))
+    tags_lead plain edge edges otherwise other odd choice header byte values (place name) same tells none odds loads bytes chooses
+        has =
+        let is : answer_of (cell_at s.heap) (place name) ≡ Some found = ap (answer_of (cell_at s.heap)) same ∙ answer in
+        let hidden : is_plain known.layout found ≡ false = subst (λ u. ShowsIts known.layout u found) (sym same) shows in
+        let it = shown name found is in
+        cell_leads name it.made_by (edge ∷ edges) otherwise other odd choice header byte values
+        (record { made_by = it.made_by; is = refl; words = it.words; block = it.block; header = it.header; even = it.even })
+        (tells.tags it.made_by it.is) (tells.by_tag hidden).1 odds loads bytes chooses has
+
+    decided_leads : (plain tagged : List Edge) (otherwise other : Option ℕ) (lines : List Line) (values : ℕ → Option ℕ)
+        → Tells w found plain tagged otherwise other k
+        → DecideLines known.layout to next value t plain tagged otherwise other lines
+        → values value ≡ Some (word_in known.layout s.address w)
+        → Leads t (edges_cost plain + (5 * most_moves + 11 + edges_cost tagged)) (lines ++ rest) there values
+    decided_leads plain [] otherwise other lines values tells are has =
+        leads_more t t (edges_cost plain + (most_moves + 2)) (edges_cost plain + (5 * most_moves + 11 + 0)) (lines ++ rest) there
+        values (omega arith) (omega arith)
+        (choice_leads (answer_word known.layout) to value t (word_in known.layout s.address w) found apart next plain other k lines rest
+        there values has tells.words (goes (is_plain known.layout found) refl) finds comes are)
       where
-        number_found : Some (Number n) ≡ Some found → found ≡ Number n
-        number_found e = cc
-    tags_run (constant d) tags values answer shows none lines has =
-        let keeps = next_keeps (λ edge. is_plain known.layout edge.found) edges otherwise found
-        (λ edge e. same_kind known.layout edge.found found e ∙ shows) in
-        let other : otherwise ≡ Some k = sym (next_other plain otherwise found none) ∙ sym keeps ∙ next in
-        odd_tags (2 * known.layout.tag d + 1) tagged tags values other lines has (omega arith)
-    tags_run (place name) tags values answer shows none lines has =
-        let it = shown name found answer in
-        let keeps = next_keeps (λ edge. not (is_plain known.layout edge.found)) edges otherwise found
-        (λ edge e. ap not (same_kind known.layout edge.found found e ∙ shows)) in
-        cell_tags name it.made_by tagged tags values
-        (record { made_by = it.made_by; is = refl; words = it.words; block = it.block; header = it.header; even = it.even }) it.is
-        (sym keeps ∙ next)
-        (subst (λ a. AllAlike known.layout a tagged) it.is
-        (alike_kept known.layout (λ edge. not (is_plain known.layout edge.found)) found edges all)) lines has
-
-    even_place : (w : Value) → answer_of (cell_at s.heap) w ≡ Some found → (name : ℕ) → w ≡ place name → s.address name % 2 ≡ 0
-    even_place w answer name is =
-        let it = shown name found (ap (answer_of (cell_at s.heap)) (sym is) ∙ answer) in it.even
-
-    word_outcome : (w : Value) (tags : List Line) (values : ℕ → Option ℕ) → answer_of (cell_at s.heap) w ≡ Some found
-        → ShowsIts known.layout w found → TagLines known.layout base nodes tagged otherwise tags
-        → values base ≡ Some (word_in known.layout s.address w)
-        → Tested (answer_word known.layout) base nodes found plain (tags ++ (otherwise_lines nodes otherwise ++ rest)) values
-        → Leads base (edges_cost plain + tags_cost tagged)
-        (number_tests (answer_word known.layout) base nodes plain ++ (tags ++ (otherwise_lines nodes otherwise ++ rest))) there
-        values
-    word_outcome w tags values answer shows lines has (inl none) =
-        let from = number_tests (answer_word known.layout) base nodes plain ++
-        (tags ++ (otherwise_lines nodes otherwise ++ rest)) in
-        let mid = tags ++ (otherwise_lines nodes otherwise ++ rest) in
-        let first = leads_more (base + 1) base (edges_cost plain) (edges_cost plain) from mid values (omega arith)
-        (omega arith) none.1 in
-        leads_then base (edges_cost plain) (tags_cost tagged) from mid there values first
-        (tags_run w tags first.later answer shows none.0 lines (none.1.kept base (omega arith) ∙ has))
-    word_outcome w tags values answer shows lines has (inr taken) =
-        let from = number_tests (answer_word known.layout) base nodes plain ++
-        (tags ++ (otherwise_lines nodes otherwise ++ rest)) in
-        let same : taken.0 ≡ k = taken_is w answer shows in
-        leads_more (base + 1) base (edges_cost plain) (edges_cost plain + tags_cost tagged) from there values
-        (omega arith)
-        (omega arith) (taken.2 there (ap (λ n. found_label (nodes + n) s.frame.whole) same ∙ finds))
+        goes : (b : Bool) → is_plain known.layout found ≡ b → next_by plain other found ≡ Some k
+        goes true is = tells.by_word is
+        goes false is = let both = tells.by_tag is in next_other plain other found both.0 ∙ both.1
+    decided_leads plain (edge ∷ edges) otherwise other lines values tells are has =
+        subst (λ ls. Leads t (edges_cost plain + (5 * most_moves + 11 + edges_cost (edge ∷ edges))) ls there values) (sym flat)
+        (by (tests_run (answer_word known.layout) to value t (word_in known.layout s.address w) found apart plain mid values has
+        tells.words))
       where
-        plain_taken : is_plain known.layout found ≡ true → taken.0 ≡ k
-        plain_taken is =
-            some-is (sym (next_keeps (λ edge. is_plain known.layout edge.found) edges otherwise found
-            (λ edge e. same_kind known.layout edge.found found e ∙ is)
-            ∙ next_some plain otherwise found taken.0 taken.1) ∙ next)
+        andi : Line
+        andi = computes (Op.Immediate Andi are.2) (t ∷ []) t
 
-        taken_is : (w : Value) → answer_of (cell_at s.heap) w ≡ Some found → ShowsIts known.layout w found → taken.0 ≡ k
-        taken_is (integer n) answer shows = plain_taken shows
-        taken_is unit answer shows = cc
-        taken_is (constant d) answer shows = plain_taken shows
-        taken_is (place name) answer shows =
-            let none = next_none (λ edge. is_plain known.layout edge.found) edges found
-            (λ edge e. same_kind known.layout edge.found found e ∙ shows) in
-            let both = sym none ∙ taken.1 in cc
+        numbers : List Line
+        numbers = number_tests (answer_word known.layout) to value t plain
 
-    -- the lines of the node, behind its label
-    pub tests_lead : (arms x : ℕ) (at : List ℕ) (v w : Value) (lines : List Line) (values : ℕ → Option ℕ)
-        → NodeLines known.layout base nodes arms x (tests at edges otherwise) lines
-        → values x ≡ Some (word_in known.layout s.address v) → value_at (cell_at s.heap) at v ≡ Some w
-        → answer_of (cell_at s.heap) w ≡ Some found → ShowsIts known.layout w found
-        → Leads base (6 * most_moves + 14 + row_cost at (most_moves + 2) + edges_cost edges)
-        (lines ++ rest) there values
-    tests_lead arms x at v w lines values node has walks answer shows =
-        let m = most_moves in
-        let word = word_in known.layout s.address v in
-        let out = otherwise_lines nodes otherwise in
-        let numbers = number_tests (answer_word known.layout) base nodes plain in
-        let r3 = node.1 ++ (out ++ rest) in
-        let r2 = numbers ++ r3 in
-        let r1 = node.0 ++ r2 in
-        let is : lines ++ rest ≡ copies_to x base ∷ r1
-        = ap (λ ls. ls ++ rest) node.4
-        ∙ ap (λ ls. copies_to x base ∷ ls)
-        (append_assoc node.0 (numbers ++ (node.1 ++ out)) rest
-        ∙ ap (λ ls. node.0 ++ ls) (append_assoc numbers (node.1 ++ out) rest
-        ∙ ap (λ ls. numbers ++ ls) (append_assoc node.1 out rest))) in
-        let v1 = put base (Some word) values in
-        let first = leads_put base (m + 2) base word (copies_to x base ∷ r1) r1 values (omega arith)
-        (copy_runs known.target r1 (record s.frame { cells = values }) fs s.world x base word has) in
-        let walk = walk_runs known s.address s.owners s.heap fs s.world here.follows r2 base at v w node.0
-        (record s.frame { cells = v1 }) node.2 (put_same base word values) walks in
-        let second : Leads base (row_cost at (m + 2)) r1 r2 v1 = record {
-          steps = length at;
-          later = walk.0;
-          runs = walk.1;
-          kept = λ z less. walk.3 z (λ e. omega (arith, e, less));
-        } in
-        let third = word_outcome w node.1 walk.0 answer shows node.3 walk.2
-        (tests_run (answer_word known.layout) base nodes (word_in known.layout s.address w) found plain r3 walk.0 walk.2
-        (plain_tell w found edges answer shows (even_place w answer) all)) in
-        let split = split_cost (λ edge. is_plain known.layout edge.found) edges in
-        let cost = edges_cost plain + tags_cost tagged in
-        subst (λ ls. Leads base (6 * m + 14 + row_cost at (m + 2) + edges_cost edges) ls there values) (sym is)
-        (leads_more base base ((m + 2) + (row_cost at (m + 2) + cost)) (6 * m + 14 + row_cost at (m + 2) + edges_cost edges)
-        (copies_to x base ∷ r1) there values (omega (arith, split)) (omega arith)
-        (leads_then base (m + 2) (row_cost at (m + 2) + cost) (copies_to x base ∷ r1) r1 there values first
-        (leads_then base (row_cost at (m + 2)) cost r1 r2 there v1 second third)))
+        mid : List Line
+        mid = are.0 ++ (are.1 ∷ andi ∷ (are.3 ++ rest))
+
+        flat : lines ++ rest ≡ numbers ++ mid
+        flat = ap (λ ls. ls ++ rest) are.8 ∙ append_assoc numbers (are.0 ++ (are.1 ∷ andi ∷ are.3)) rest
+            ∙ ap (λ ls. numbers ++ ls) (append_assoc are.0 (are.1 ∷ andi ∷ are.3) rest)
+
+        by : Tested (answer_word known.layout) to value t (word_in known.layout s.address w) found apart plain mid values
+            → Leads t (edges_cost plain + (5 * most_moves + 11 + edges_cost (edge ∷ edges))) (numbers ++ mid) there values
+        by (inl none) =
+            leads_then t (edges_cost plain) (5 * most_moves + 11 + edges_cost (edge ∷ edges)) (numbers ++ mid) mid there values none.1
+            (tags_lead plain edge edges otherwise other are.0 are.3 are.1 are.2 none.1.later w refl tells none.0 are.4 are.5 are.6 are.7
+            (none.1.kept value apart ∙ has))
+        by (inr taken) = to_label (is_plain known.layout found) refl
+          where
+            to_label : (b : Bool) → is_plain known.layout found ≡ b → Leads t (edges_cost plain + (5 * most_moves + 11 + edges_cost (edge ∷ edges))) (numbers ++ mid) there values
+            to_label true is =
+                let same : taken.0 ≡ k
+                = some-is (sym (next_some plain otherwise found taken.0 taken.1) ∙ tells.by_word is) in
+                leads_more t t (edges_cost plain) (edges_cost plain + (5 * most_moves + 11 + edges_cost (edge ∷ edges))) (numbers ++ mid) there values (omega arith) (omega arith)
+                (taken.2 there (ap (λ n. found_label (to n) s.frame.whole) same ∙ finds))
+            to_label false is = let none : None ≡ Some taken.0 = sym (tells.by_tag is).0 ∙ taken.1 in cc
+
+  -- what the edges of a test tell of a value
+  all_tell : (w : Value) (found : Answer) (edges : List Edge) (otherwise : Option ℕ) (k : ℕ)
+      → answer_of (cell_at s.heap) w ≡ Some found → ShowsIts known.layout w found → AllAlike known.layout found edges
+      → next_by edges otherwise found ≡ Some k
+      → Tells w found (filter (λ edge. is_plain known.layout edge.found) edges)
+      (filter (λ edge. not (is_plain known.layout edge.found)) edges) otherwise otherwise k
+  all_tell w found edges otherwise k answer shows all next = record {
+    words = plain_tell w found edges answer shows even_place all;
+    tags = λ c is. subst (λ a. AllTell (answer_tag known.layout) (known.layout.tag c) a tagged) (sym is)
+        (tags_tell c tagged (subst (λ a. AllAlike known.layout a tagged) is
+        (alike_kept known.layout (λ edge. not (is_plain known.layout edge.found)) found edges all)));
+    by_word = λ is. ap (λ o. next_by plain o found) (whichever tagged)
+        ∙ sym (next_keeps (λ edge. is_plain known.layout edge.found) edges otherwise found
+        (λ edge e. same_kind known.layout edge.found found e ∙ is)) ∙ next;
+    by_tag = λ is. (
+      next_none (λ edge. is_plain known.layout edge.found) edges found
+          (λ edge e. same_kind known.layout edge.found found e ∙ is),
+      sym (next_keeps (λ edge. not (is_plain known.layout edge.found)) edges otherwise found
+          (λ edge e. ap not (same_kind known.layout edge.found found e ∙ is))) ∙ next,
+    );
+    number = λ n is. no_tagged n edges (subst (λ a. AllAlike known.layout a edges) is all);
+  }
+    where
+      tagged : List Edge
+      tagged = filter (λ edge. not (is_plain known.layout edge.found)) edges
+
+      plain : List Edge
+      plain = filter (λ edge. is_plain known.layout edge.found) edges
+
+      whichever : (some : List Edge) → otherwise_of some otherwise otherwise ≡ otherwise
+      whichever [] = refl
+      whichever (edge ∷ some) = refl
+
+      even_place : (name : ℕ) → w ≡ place name → s.address name % 2 ≡ 0
+      even_place name is = (shown name found (ap (answer_of (cell_at s.heap)) (sym is) ∙ answer)).even
+
+  walked_below : (base x : ℕ) (at : List ℕ) → x < base → walked base x at < spare base at
+  walked_below base x [] low = low
+  walked_below base x (field ∷ way) low = omega arith
+
+  spare_above : (base : ℕ) (at : List ℕ) → base ≤ spare base at
+  spare_above base [] = omega arith
+  spare_above base (field ∷ way) = omega arith
+
+  -- the lines of a test, behind its label
+  pub test_leads : (base x next k : ℕ) (to : ℕ → ℕ) (at : List ℕ) (edges : List Edge) (otherwise : Option ℕ) (found : Answer)
+      (v w : Value) (lines rest there : List Line) (values : ℕ → Option ℕ) → x < base
+      → TestLines known.layout base to next x at edges otherwise lines
+      → values x ≡ Some (word_in known.layout s.address v) → value_at (cell_at s.heap) at v ≡ Some w
+      → answer_of (cell_at s.heap) w ≡ Some found → ShowsIts known.layout w found → next_by edges otherwise found ≡ Some k
+      → AllAlike known.layout found edges → found_label (to k) s.frame.whole ≡ Some there → Comes next rest
+      → Leads base (6 * most_moves + 14 + row_cost at (most_moves + 2) + edges_cost edges) (lines ++ rest) there values
+  test_leads base x next k to at edges otherwise found v w lines rest there values low node has walks answer shows leads all finds
+      comes =
+      let m = most_moves in
+      let words = filter (λ edge. is_plain known.layout edge.found) edges in
+      let tags = filter (λ edge. not (is_plain known.layout edge.found)) edges in
+      let t = spare base at in
+      let r1 = node.1 ++ rest in
+      let walk = walk_runs known s.address s.owners s.heap fs s.world here.follows r1 x base at v w node.0
+      (record s.frame { cells = values }) node.5 has walks in
+      let first : Leads base (row_cost at (m + 2)) (node.0 ++ r1) r1 values = record {
+        steps = length at;
+        later = walk.0;
+        runs = walk.1;
+        kept = λ z less. walk.3 z (λ e. omega (arith, e, less));
+      } in
+      let tells = tried_tells w found words tags node.2 node.3 otherwise node.4 k (all_tell w found edges otherwise k answer shows all
+      leads) node.6 in
+      let cost = edges_cost node.2 + (5 * m + 11 + edges_cost node.3) in
+      let second = leads_more t base cost cost r1 there walk.0 (omega arith) (spare_above base at)
+      (decided_leads to next k rest there finds comes (walked base x at) t (walked_below base x at low) w found answer shows node.2
+      node.3 otherwise node.4 node.1 walk.0 tells node.7 walk.2) in
+      let tried = tried_cost words tags otherwise node.2 node.3 node.4 node.6 in
+      let split = split_cost (λ edge. is_plain known.layout edge.found) edges in
+      subst (λ ls. Leads base (6 * m + 14 + row_cost at (m + 2) + edges_cost edges) ls there values)
+      (sym (ap (λ ls. ls ++ rest) node.8 ∙ append_assoc node.0 node.1 rest))
+      (leads_more base base (row_cost at (m + 2) + cost) (6 * m + 14 + row_cost at (m + 2) + edges_cost edges)
+      (node.0 ++ r1) there values (omega (arith, tried, split)) (omega arith)
+      (leads_then base (row_cost at (m + 2)) cost (node.0 ++ r1) r1 there values first second))

@@ -24,7 +24,7 @@ use Rattle.rv_lower.specs.Written.{texts_of}
 use Rattle.rv_lower.proofs.Functions.{from_to_length}
 use Rattle.rv_world.specs.Operations.{all_bytes}
 use Rattle.rv_cells.specs.CellLines.{dup_lines, drop_lines}
-use Rattle.rv_cells.specs.CountedLines.{Setting}
+use Rattle.rv_cells.specs.CountedLines.{Setting, ways_of}
 use Rattle.rv_cells.specs.Layout.{Layout, IsNarrow, header_of}
 use Rattle.rv_cells.specs.Tables.{table_of, layout_in}
 use Rattle.rv_cells.specs.TokenedLines.{values_of_slots, AskLines, CodeLines, ArmsLines, IsFunctionOf}
@@ -89,7 +89,7 @@ module _ (setting : Setting) (variables : ℕ) (table : CellMarks) (narrow : (c 
     code_short (Tokened.case x decisions arms) bound given goal low high lines left unspent held marked arities spends is =
         let whole = ap code_length is.6 in
         let apart = lines_append is.0 is.1 in
-        let choice = nodes_short setting.layout setting.base is.2 low x 0 decisions is.0 is.4 in
+        let choice = nodes_short setting.layout setting.base is.2 (ways_of decisions is.2 low) x 0 decisions is.0 is.4 in
         let bodies = arms_short arms bound given goal low (is.2 + length decisions) high is.1 left unspent marked.1 arities
         spends.1 is.5 in
         omega (arith, whole, apart, choice, bodies)

@@ -1,6 +1,6 @@
 -- The lines of a case do the step of the machine with tokens.
-use Rattle.std.proofs.Common.{◌≡◌, ℕ, zero, suc, ◌+◌, ◌*◌, ◌≤◌, inl, inr, Bool, List, [], ◌∷◌, ◌++◌, length, Option, Some, None, refl, sym, ◌∙◌, ap, subst, arith, append_assoc, mul-le-mul_right}
-use Rattle.std.specs.Prelude.{slice_get}
+use Rattle.std.proofs.Common.{◌≡◌, ℕ, zero, suc, ◌+◌, ◌*◌, ◌≤◌, ◌<◌, ◌⊎◌, inl, inr, Bool, List, [], ◌∷◌, ◌++◌, length, Option, Some, None, refl, sym, ◌∙◌, ap, subst, arith, append_assoc, mul-le-mul_right}
+use Rattle.std.specs.Prelude.{slice_get, drop}
 use Rattle.std.specs.Prelude.{option_map}
 use Rattle.std.proofs.lemmas.List.{append-nil}
 use Rattle.std.proofs.Math.Path.{path_j, subst_refl}
@@ -24,24 +24,25 @@ use Rattle.kk_counted.specs.TokenRuns.{AllLead}
 use Rattle.kk_counted.specs.TokenStates.{TokenJoin, TokenFrame, TokenConfiguration, bare_configuration}
 use Rattle.kk_counted.specs.TokenedCodes.{Tokened, TokenedArms}
 use Rattle.kk_counted.specs.Tokens.{Tokens}
-use Rattle.rv_isa.specs.declared.asm.Action.TheVariants.{Label, Jump}
+use Rattle.rv_isa.specs.declared.asm.Action.TheVariants.{Label}
 use Rattle.rv_isa.specs.AsmCode.{Line}
 use Rattle.rv_isa.specs.Frames.{Frame}
 use Rattle.rv_lower.specs.Lines.{acts}
 use Rattle.rv_lower.specs.Lowered.{Goal}
 use Rattle.rv_lower.proofs.Labels.{found_label}
 use Rattle.rv_cells.specs.Layout.{Layout, word_in}
-use Rattle.rv_cells.specs.CountedLines.{Setting, NodeLines, NodesLines}
-use Rattle.rv_cells.specs.Fitting.{FitsNode, FitsFrom}
+use Rattle.rv_cells.specs.CountedLines.{Setting, Ways, label_of, first_label, ways_of, TestLines, NodeLines, NodesLines}
+use Rattle.rv_cells.specs.CellLines.{jump_lines}
+use Rattle.rv_cells.specs.Fitting.{AllAlike, ShowsIts, FitsNode, FitsFrom}
 use Rattle.rv_cells.specs.TokenedLines.{HasSlots, HaveSlots, CodeLines, ArmsLines}
 use Rattle.rv_cells.proofs.Held.{some-is}
-use Rattle.rv_cells.proofs.Acting.{label_runs, jump_runs}
+use Rattle.rv_cells.proofs.Acting.{label_runs}
 use Rattle.rv_cells.proofs.FormPlaces.{Tree, Step, IsPart, arms_in, tree_in, stands_behind_three}
 use Rattle.rv_cells.proofs.LineCosts.{most_moves, row_cost, edges_cost, look_cost, test_within}
 use Rattle.rv_cells.proofs.Rows.{then_some}
 use Rattle.rv_cells.proofs.Runs.{turn_of, Runs, runs_then}
 use Rattle.rv_cells.proofs.Spots.{Spot, Known, Here}
-use Rattle.rv_cells.proofs.Testing.{Leads, leads_then, leads_more, tests_lead}
+use Rattle.rv_cells.proofs.Testing.{Leads, Comes, leads_then, leads_more, jump_leads, test_leads}
 use Rattle.rv_cells.proofs.TokenBlocks.{turns_to}
 use Rattle.rv_cells.proofs.TokenLineCosts.{forms, arms_forms}
 use Rattle.rv_cells.proofs.TokenLanding.{token_at, machine_at, CodeSteps, seen_action, kept_after}
@@ -49,41 +50,65 @@ use Rattle.rv_cells.proofs.TokenStanding.{Lowering, target, texts, setting, know
 
 -- ---- where nodes and arms stand
 
--- a node of a number stands behind its label
-pub record NodeAt (layout : Layout) (base nodes arms x l : ℕ) (node : NodeTree) (lines : List Line) : Type 0 where
+-- a test of a number stands behind its label, before the nodes that follow it
+pub record NodeAt (layout : Layout) (base nodes : ℕ) (ways : Ways) (x k : ℕ) (at : List ℕ) (edges : List Edge)
+    (otherwise : Option ℕ) (behind : List NodeTree) (lines : List Line) : Type 0 where
   pub before : List Line
-  pub first : List Line
+  pub own : List Line
   pub rest : List Line
-  pub is : lines ≡ before ++ (acts (Label l) [] ∷ (first ++ rest))
-  pub node_lines : NodeLines layout base nodes arms x node first
+  pub is : lines ≡ before ++ (acts (Label (nodes + k)) [] ∷ (own ++ rest))
+  pub test : TestLines layout base ways.to (ways.behind k) x at edges otherwise own
+  pub later : NodesLines layout base nodes ways x (suc k) behind rest
 
-pub node_at : (layout : Layout) (base nodes arms x k j : ℕ) (decisions : List NodeTree) (lines : List Line) (node : NodeTree)
-    → NodesLines layout base nodes arms x k decisions lines → slice_get decisions j ≡ Some node
-    → NodeAt layout base nodes arms x (nodes + (k + j)) node lines
-node_at layout base nodes arms x k j [] lines node are is = cc
-node_at layout base nodes arms x k zero (one ∷ more) lines node are is =
-    let same : one ≡ node = cc is in
-    let here : nodes + k ≡ nodes + (k + 0) = omega arith in
-    record {
+pub node_at : (layout : Layout) (base nodes : ℕ) (ways : Ways) (x k j n : ℕ) (decisions : List NodeTree) (lines : List Line)
+    (at : List ℕ) (edges : List Edge) (otherwise : Option ℕ) → n ≡ k + j → NodesLines layout base nodes ways x k decisions lines
+    → slice_get decisions j ≡ Some (tests at edges otherwise)
+    → NodeAt layout base nodes ways x n at edges otherwise (drop (suc j) decisions) lines
+node_at layout base nodes ways x k j n [] lines at edges otherwise number are is = cc
+node_at layout base nodes ways x k zero n (one ∷ more) lines at edges otherwise number are is =
+    let same : one ≡ tests at edges otherwise = some-is is in
+    let here : k ≡ n = omega (arith, number) in
+    let node = subst (λ t. NodeLines layout base nodes ways x k t are.0) same are.2 in
+    subst (λ n. NodeAt layout base nodes ways x n at edges otherwise more lines) here (record {
       before = [];
-      first = are.0;
+      own = node.0;
       rest = are.1;
-      is = are.4 ∙ ap (λ l. acts (Label l) [] ∷ (are.0 ++ are.1)) here;
-      node_lines = subst (λ n. NodeLines layout base nodes arms x n are.0) same are.2;
-    }
-node_at layout base nodes arms x k (suc j) (one ∷ more) lines node are is =
-    let later = node_at layout base nodes arms x (suc k) j more are.1 node are.3 is in
-    let there : nodes + (suc k + j) ≡ nodes + (k + suc j) = omega arith in
-    let head = acts (Label (nodes + k)) [] ∷ are.0 in
+      is = are.4 ∙ ap (λ ls. ls ++ are.1) node.2;
+      test = node.1;
+      later = are.3;
+    })
+node_at layout base nodes ways x k (suc j) n (one ∷ more) lines at edges otherwise number are is =
+    let later = node_at layout base nodes ways x (suc k) j n more are.1 at edges otherwise (omega (arith, number)) are.3 is in
     record {
-      before = head ++ later.before;
-      first = later.first;
+      before = are.0 ++ later.before;
+      own = later.own;
       rest = later.rest;
-      is = are.4 ∙ ap (λ ls. head ++ ls) (later.is ∙ ap (λ l. later.before ++ (acts (Label l) [] ∷ (later.first ++ later.rest)))
-          there)
-          ∙ sym (append_assoc head later.before (acts (Label (nodes + (k + suc j))) [] ∷ (later.first ++ later.rest)));
-      node_lines = later.node_lines;
+      is = are.4 ∙ ap (λ ls. are.0 ++ ls) later.is
+          ∙ sym (append_assoc are.0 later.before (acts (Label (nodes + n)) [] ∷ (later.own ++ later.rest)));
+      test = later.test;
+      later = later.later;
     }
+
+-- the lines of nodes but the first begin with the label of their first test, if there is one
+nodes_begin : (layout : Layout) (base nodes arms : ℕ) (ways : Ways) (x k : ℕ) (each : List NodeTree) (lines : List Line)
+    → NodesLines layout base nodes ways x (suc k) each lines
+    → ((lines ≡ []) × (first_label nodes arms (suc k) each ≡ arms))
+    ⊎ ((more : List Line) × (lines ≡ acts (Label (first_label nodes arms (suc k) each)) [] ∷ more))
+nodes_begin layout base nodes arms ways x k [] lines are = inl (are, refl)
+nodes_begin layout base nodes arms ways x k (chooses row ∷ each) lines are =
+    by (nodes_begin layout base nodes arms ways x (suc k) each are.1 are.3)
+  where
+    is : lines ≡ are.1
+    is = are.4 ∙ ap (λ ls. ls ++ are.1) are.2
+
+    by : ((are.1 ≡ []) × (first_label nodes arms (suc (suc k)) each ≡ arms))
+        ⊎ ((more : List Line) × (are.1 ≡ acts (Label (first_label nodes arms (suc (suc k)) each)) [] ∷ more))
+        → ((lines ≡ []) × (first_label nodes arms (suc (suc k)) each ≡ arms))
+        ⊎ ((more : List Line) × (lines ≡ acts (Label (first_label nodes arms (suc (suc k)) each)) [] ∷ more))
+    by (inl none) = inl (is ∙ none.0, none.1)
+    by (inr some) = inr (some.0, is ∙ some.1)
+nodes_begin layout base nodes arms ways x k (tests at edges otherwise ∷ each) lines are =
+    inr (are.2.0 ++ are.1, are.4 ∙ ap (λ ls. ls ++ are.1) are.2.2)
 
 -- an arm of a row stands behind its label
 record ArmAt (setting : Setting) (variables : ℕ) (goal : Goal) (l : ℕ) (body : Tokened) (lines : List Line) : Type 0 where
@@ -126,6 +151,13 @@ arm_stands setting variables goal label low high (suc row) (TokenedArms.arm one 
           ∙ sym (append_assoc head later.before (acts (Label (label + suc row)) [] ∷ (later.first ++ later.rest)));
       code = later.code;
     }
+
+-- where there is an arm, the lines begin with the label of the first one
+arms_begin : (setting : Setting) (variables : ℕ) (goal : Goal) (label low high row : ℕ) (arms : TokenedArms) (lines : List Line)
+    (body : Tokened) → ArmsLines setting variables goal label low arms lines high → tokened_arm_at arms row ≡ Some body
+    → (more : List Line) × (lines ≡ acts (Label label) [] ∷ more)
+arms_begin setting variables goal label low high row TokenedArms.no_arm lines body are is = cc
+arms_begin setting variables goal label low high row (TokenedArms.arm one more) lines body are is = (are.0 ++ are.1, are.5)
 
 -- ---- the part of an arm
 
@@ -273,31 +305,39 @@ module _ (program : Lowering) (x : ℕ) (decisions : List NodeTree) (arms : Toke
   choice_at : s.frame.whole ≡ at.does.placed.before ++ (choice ++ tail)
   choice_at = at.does.placed.place ∙ ap (λ ls. at.does.placed.before ++ ls) left_is
 
-  abbrev StandsAt : ℕ → NodeTree → Type 0
-  StandsAt k node = NodeAt program.layout base nodes low x (nodes + k) node choice
+  abbrev ways : Ways
+  ways = ways_of decisions at.does.placed.lines.2 at.does.placed.low
 
-  -- the lines from a node's label on
-  abbrev node_from : (k : ℕ) (node : NodeTree) → NodeAt program.layout base at.does.placed.lines.2 at.does.placed.low x
-      (at.does.placed.lines.2 + k) node at.does.placed.lines.0 → List Line
-  node_from k node stands = acts (Label (nodes + k)) [] ∷ (stands.first ++ (stands.rest ++ tail))
+  abbrev StandsAt : ℕ → List ℕ → List Edge → Option ℕ → Type 0
+  StandsAt k way edges otherwise =
+      NodeAt program.layout base nodes (ways_of decisions at.does.placed.lines.2 at.does.placed.low) x k way edges otherwise
+      (drop (suc k) decisions) choice
 
-  node_found : (k : ℕ) (node : NodeTree) (stands : StandsAt k node)
-      → found_label (nodes + k) s.frame.whole ≡ Some (node_from k node stands)
-  node_found k node stands =
-      let inner_lines = acts (Label (nodes + k)) [] ∷ (stands.first ++ stands.rest) in
-      let place : s.frame.whole ≡ (at.does.placed.before ++ stands.before) ++ node_from k node stands
-      = choice_at ∙ ap (λ ls. at.does.placed.before ++ (ls ++ tail)) stands.is
+  -- the lines from a test's label on
+  abbrev node_from : (k : ℕ) (way : List ℕ) (edges : List Edge) (otherwise : Option ℕ)
+      → NodeAt program.layout base at.does.placed.lines.2 (ways_of decisions at.does.placed.lines.2 at.does.placed.low) x k way edges
+      otherwise (drop (suc k) decisions) at.does.placed.lines.0 → List Line
+  node_from k way edges otherwise stands = acts (Label (nodes + k)) [] ∷ (stands.own ++ (stands.rest ++ tail))
+
+  node_place : (k : ℕ) (way : List ℕ) (edges : List Edge) (otherwise : Option ℕ) (stands : StandsAt k way edges otherwise)
+      → s.frame.whole ≡ (at.does.placed.before ++ stands.before) ++ node_from k way edges otherwise stands
+  node_place k way edges otherwise stands =
+      let inner_lines = acts (Label (nodes + k)) [] ∷ (stands.own ++ stands.rest) in
+      choice_at ∙ ap (λ ls. at.does.placed.before ++ (ls ++ tail)) stands.is
       ∙ ap (λ ls. at.does.placed.before ++ ls) (append_assoc stands.before inner_lines tail
-      ∙ ap (λ ls. stands.before ++ (acts (Label (nodes + k)) [] ∷ ls)) (append_assoc stands.first stands.rest tail))
-      ∙ sym (append_assoc at.does.placed.before stands.before (node_from k node stands)) in
-      finds (nodes + k) s.frame.whole (at.does.placed.before ++ stands.before)
-      (stands.first ++ (stands.rest ++ tail)) at.has.formed place
+      ∙ ap (λ ls. stands.before ++ (acts (Label (nodes + k)) [] ∷ ls)) (append_assoc stands.own stands.rest tail))
+      ∙ sym (append_assoc at.does.placed.before stands.before (node_from k way edges otherwise stands))
 
-  stands_of : (k : ℕ) (node : NodeTree) → slice_get decisions k ≡ Some node → StandsAt k node
-  stands_of k node is =
-      let same : nodes + (0 + k) ≡ nodes + k = omega arith in
-      subst (λ l. NodeAt program.layout base nodes low x l node choice) same
-      (node_at program.layout base nodes low x 0 k decisions choice node at.does.placed.lines.4 is)
+  node_found : (k : ℕ) (way : List ℕ) (edges : List Edge) (otherwise : Option ℕ) (stands : StandsAt k way edges otherwise)
+      → found_label (nodes + k) s.frame.whole ≡ Some (node_from k way edges otherwise stands)
+  node_found k way edges otherwise stands =
+      finds (nodes + k) s.frame.whole (at.does.placed.before ++ stands.before)
+      (stands.own ++ (stands.rest ++ tail)) at.has.formed (node_place k way edges otherwise stands)
+
+  stands_of : (k : ℕ) (way : List ℕ) (edges : List Edge) (otherwise : Option ℕ)
+      → slice_get decisions k ≡ Some (tests way edges otherwise) → StandsAt k way edges otherwise
+  stands_of k way edges otherwise is =
+      node_at program.layout base nodes ways x 0 k k decisions choice way edges otherwise (omega arith) at.does.placed.lines.4 is
 
   node_there : (steps k row : ℕ) → chosen_from (cell_at s.heap) v decisions steps k ≡ Some row
       → (node : NodeTree) × (slice_get decisions k ≡ Some node)
@@ -308,6 +348,13 @@ module _ (program : Lowering) (x : ℕ) (decisions : List NodeTree) (arms : Toke
           → (node : NodeTree) × (o ≡ Some node)
       by None is = cc
       by (Some node) is = (node, refl)
+
+  -- a node that chooses a row does so
+  row_chosen_there : (steps k row mine : ℕ) → slice_get decisions k ≡ Some (chooses mine)
+      → chosen_from (cell_at s.heap) v decisions steps k ≡ Some row → mine ≡ row
+  row_chosen_there zero k row mine is row_is = cc
+  row_chosen_there (suc steps) k row mine is row_is =
+      some-is (sym (ap (row_at (cell_at s.heap) v (chosen_from (cell_at s.heap) v decisions steps)) is) ∙ row_is)
 
   -- what the nodes look at that the value goes through from a node on
   abbrev looks : ℕ → ℕ → ℕ
@@ -327,111 +374,221 @@ module _ (program : Lowering) (x : ℕ) (decisions : List NodeTree) (arms : Toke
       ∙ ap (λ o. suc (length way + length edges) + looks_behind (looks steps) (and_then o (next_by edges otherwise))) finds
       ∙ ap (λ o. suc (length way + length edges) + looks_behind (looks steps) o) leads
 
-  -- from a node to the arm that is chosen
-  node_leads : (steps k row : ℕ) (node : NodeTree) (stands : StandsAt k node) (there : List Line) (values : ℕ → Option ℕ)
-      → slice_get decisions k ≡ Some node → chosen_from (cell_at s.heap) v decisions steps k ≡ Some row
-      → FitsFrom program.layout (cell_at s.heap) v decisions steps k
-      → found_label (low + row) s.frame.whole ≡ Some there
-      → values x ≡ Some (word_in program.layout s.address v)
-      → Goes (walk_cost steps k) (node_from k node stands) there values
-  node_leads zero k row node stands there values is row_is fits found_arm has = cc
-  node_leads (suc steps) k row (chooses chosen_row) stands there values is row_is fits found_arm has =
-      let m = most_moves in
-      let rest = stands.rest ++ tail in
-      let same : chosen_row ≡ row
-      = some-is (sym (ap (row_at (cell_at s.heap) v (chosen_from (cell_at s.heap) v decisions steps)) is) ∙ row_is) in
-      let from = acts (Label (nodes + k)) [] ∷ (acts (Jump (low + chosen_row)) [] ∷ rest) in
-      let mid = acts (Jump (low + chosen_row)) [] ∷ rest in
-      let f = record s.frame { cells = values } in
-      let jump = jump_runs (target program) rest f fs s.world (low + chosen_row) there
-      (ap (λ r. found_label (low + r) s.frame.whole) same ∙ found_arm) in
-      let lines_are : node_from k (chooses chosen_row) stands ≡ from
-      = ap (λ ls. acts (Label (nodes + k)) [] ∷ (ls ++ rest)) stands.node_lines in
-      subst (λ ls. Goes (walk_cost (suc steps) k) ls there values) (sym lines_are)
-      (leads_more known s fs here base base ((m + 0) + (m + 2)) (walk_cost (suc steps) k) from there values
-      (omega arith) (omega arith)
-      (record {
-        steps = 1 + 1;
-        later = values;
-        runs = runs_then (target program) (m + 0) (m + 2) 1 1 (turn_of from f fs s.world) (turn_of mid f fs s.world)
-            (turn_of there f fs s.world) (label_runs (target program) mid f fs s.world (nodes + k)) jump;
-        kept = λ z less. refl;
-      }))
-  node_leads (suc steps) k row (tests way edges otherwise) stands there values is row_is fits found_arm has =
-      let m = most_moves in
-      let behind = chosen_from (cell_at s.heap) v decisions steps in
-      let row_by = sym (ap (row_at (cell_at s.heap) v behind) is) ∙ row_is in
-      let first = then_some (found_at (cell_at s.heap) way v)
-      (λ found. and_then (next_by edges otherwise found) behind) row row_by in
-      let found = first.0 in
-      let value = then_some (value_at (cell_at s.heap) way v) (answer_of (cell_at s.heap)) found first.1 in
-      let next = then_some (next_by edges otherwise found) behind row first.2 in
-      let fits_here : FitsNode program.layout (cell_at s.heap) v (FitsFrom program.layout (cell_at s.heap) v decisions steps)
-      (Some (tests way edges otherwise))
-      = subst (FitsNode program.layout (cell_at s.heap) v (FitsFrom program.layout (cell_at s.heap) v decisions steps)) is fits in
-      let it = fits_here value.0 value.1 found value.2 in
-      let later = node_there steps next.0 row next.2 in
-      let stands_later = stands_of next.0 later.0 later.1 in
-      let goal = node_from next.0 later.0 stands_later in
-      let rest = stands.rest ++ tail in
-      let from = acts (Label (nodes + k)) [] ∷ (stands.first ++ rest) in
-      let f = record s.frame { cells = values } in
-      let cost = 6 * m + 14 + row_cost way (m + 2) + edges_cost edges in
-      let label : Leads known s fs here base (m + 0) from (stands.first ++ rest) values = record {
-        steps = 1;
-        later = values;
-        runs = label_runs (target program) (stands.first ++ rest) f fs s.world (nodes + k);
-        kept = λ z less. refl;
-      } in
-      let test = tests_lead known s fs here base nodes edges otherwise found next.0 rest goal
-      (node_found next.0 later.0 stands_later) next.1 it.1.0 low x way v value.0 stands.first values stands.node_lines has value.1
-      value.2
-      it.0 in
-      let below = at.has.values.below x at.does.placed.marked.0 in
-      let onward = node_leads steps next.0 row later.0 stands_later there test.later later.1 next.2 (it.1.1 next.0 next.1) found_arm
-      (test.kept x below ∙ has) in
-      let seen = test_looks steps k next.0 way edges otherwise found is first.1 next.1 in
-      let rest_cost = walk_cost steps next.0 in
-      leads_more known s fs here base base ((m + 0) + (cost + rest_cost)) (walk_cost (suc steps) k) from there values
-      (test_within (looks steps next.0) (looks (suc steps) k) way edges seen) (omega arith)
-      (leads_then known s fs here base (m + 0) (cost + rest_cost) from (stands.first ++ rest) there values label
-      (leads_then known s fs here base cost rest_cost (stands.first ++ rest) goal there values test onward))
+  module _ (row : ℕ) (body : Tokened) (there : List Line) (some : tokened_arm_at arms row ≡ Some body)
+      (found_arm : found_label (at.does.placed.low + row) s.frame.whole ≡ Some there) where
+    -- behind a node's lines come those of the label that is next
+    comes_behind : (k : ℕ) (rest start : List Line)
+        → NodesLines program.layout base nodes (ways_of decisions at.does.placed.lines.2 at.does.placed.low) x (suc k)
+        (drop (suc k) decisions) rest
+        → s.frame.whole ≡ start ++ (rest ++ (at.does.placed.lines.1 ++ at.does.placed.after))
+        → Comes known s fs here
+        (first_label at.does.placed.lines.2 at.does.placed.low (suc k) (drop (suc k) decisions))
+        (rest ++ (at.does.placed.lines.1 ++ at.does.placed.after))
+    comes_behind k rest start are place =
+        by (nodes_begin program.layout base nodes low ways x k (drop (suc k) decisions) rest are)
+      where
+        label : ℕ
+        label = first_label at.does.placed.lines.2 at.does.placed.low (suc k) (drop (suc k) decisions)
 
-  -- from the first line of a case
-  first_leads : (row : ℕ) (there : List Line) → chosen (cell_at s.heap) v decisions ≡ Some row
-      → found_label (low + row) s.frame.whole ≡ Some there
-      → Goes (walk_cost (length decisions) 0) (choice ++ tail) there s.frame.cells
-  first_leads row there is found_arm =
-      let first = node_there (length decisions) 0 row is in
-      let begins = starts decisions at.does.placed.lines.4 first.0 first.1 in
-      let here_at : choice ++ tail ≡ node_from 0 first.0 begins.0 = begins.1 in
-      subst (λ ls. Goes (walk_cost (length decisions) 0) ls there s.frame.cells) (sym here_at)
-      (node_leads (length decisions) 0 row first.0 begins.0 there s.frame.cells first.1 is (fit 0).bare.fits found_arm
-      (at.has.values.words x at.does.placed.marked.0))
-    where
-      starts : (some : List NodeTree)
-          → NodesLines program.layout base at.does.placed.lines.2 at.does.placed.low x 0 some at.does.placed.lines.0
-          → (node : NodeTree) → slice_get some 0 ≡ Some node
-          → (stands : NodeAt program.layout base at.does.placed.lines.2 at.does.placed.low x
-          (at.does.placed.lines.2 + 0) node at.does.placed.lines.0)
-          × (at.does.placed.lines.0 ++ (at.does.placed.lines.1 ++ at.does.placed.after)
-          ≡ acts (Label (at.does.placed.lines.2 + 0)) []
-          ∷ (stands.first ++ (stands.rest ++ (at.does.placed.lines.1 ++ at.does.placed.after))))
-      starts [] are node is = cc
-      starts (one ∷ more) are node is =
-          let same : one ≡ node = cc is in
-          let behind = at.does.placed.lines.1 ++ at.does.placed.after in (
-            record {
-              before = [];
-              first = are.0;
-              rest = are.1;
-              is = are.4;
-              node_lines =
-                  subst (λ n. NodeLines program.layout base at.does.placed.lines.2 at.does.placed.low x n are.0) same are.2;
-            },
-            ap (λ ls. ls ++ behind) are.4
-                ∙ ap (λ ls. acts (Label (at.does.placed.lines.2 + 0)) [] ∷ ls) (append_assoc are.0 are.1 behind),
-          )
+        behind : List Line
+        behind = rest ++ (at.does.placed.lines.1 ++ at.does.placed.after)
+
+        begun : (more : List Line) → behind ≡ acts (Label label) [] ∷ more → Comes known s fs here label behind
+        begun more is found_lines at_label =
+            some-is (sym at_label ∙ finds label s.frame.whole start more at.has.formed (place ∙ ap (λ ls. start ++ ls) is)) ∙ sym is
+
+        by : ((rest ≡ []) × (label ≡ at.does.placed.low)) ⊎ ((more : List Line) × (rest ≡ acts (Label label) [] ∷ more))
+            → Comes known s fs here label behind
+        by (inl none) =
+            let first = arms_begin (record { layout = program.layout; holds = at.shape.holds; base = base; texts = texts program })
+            at.shape.variables at.does.goal low (nodes + length decisions) at.does.placed.high row arms at.does.placed.lines.1 body
+            at.does.placed.lines.5 some in
+            begun (first.0 ++ at.does.placed.after)
+            (ap (λ ls. ls ++ tail) none.0 ∙ ap (λ ls. ls ++ at.does.placed.after) first.1
+            ∙ ap (λ l. acts (Label l) [] ∷ (first.0 ++ at.does.placed.after)) (sym none.1))
+        by (inr more) = begun (more.0 ++ tail) (ap (λ ls. ls ++ tail) more.1)
+
+    -- from a test to the arm that is chosen
+    node_leads : (steps k : ℕ) (way : List ℕ) (edges : List Edge) (otherwise : Option ℕ) (stands : StandsAt k way edges otherwise)
+        (values : ℕ → Option ℕ) → slice_get decisions k ≡ Some (tests way edges otherwise)
+        → chosen_from (cell_at s.heap) v decisions steps k ≡ Some row
+        → FitsFrom program.layout (cell_at s.heap) v decisions steps k
+        → values x ≡ Some (word_in program.layout s.address v)
+        → Goes (walk_cost steps k) (node_from k way edges otherwise stands) there values
+    node_leads zero k way edges otherwise stands values is row_is fits has = cc
+    node_leads (suc steps) k way edges otherwise stands values is row_is fits has =
+        by later.0 later.1
+        (λ its_way its_edges its_other its_stands its_values its_is fits_it it_has. node_leads steps next.0 its_way its_edges
+        its_other its_stands its_values its_is next.2 fits_it it_has)
+      where
+        m : ℕ
+        m = most_moves
+
+        goes_on : ℕ → Option ℕ
+        goes_on = chosen_from (cell_at s.heap) v decisions steps
+
+        first : (found : Answer) × (found_at (cell_at s.heap) way v ≡ Some found)
+            × (and_then (next_by edges otherwise found) goes_on ≡ Some row)
+        first = then_some (found_at (cell_at s.heap) way v) (λ found. and_then (next_by edges otherwise found) goes_on) row
+            (sym (ap (row_at (cell_at s.heap) v goes_on) is) ∙ row_is)
+
+        value : (w : Value) × (value_at (cell_at s.heap) way v ≡ Some w) × (answer_of (cell_at s.heap) w ≡ Some first.0)
+        value = then_some (value_at (cell_at s.heap) way v) (answer_of (cell_at s.heap)) first.0 first.1
+
+        next : (n : ℕ) × (next_by edges otherwise first.0 ≡ Some n) × (goes_on n ≡ Some row)
+        next = then_some (next_by edges otherwise first.0) goes_on row first.2
+
+        fits_here : FitsNode program.layout (cell_at s.heap) v (FitsFrom program.layout (cell_at s.heap) v decisions steps)
+            (Some (tests way edges otherwise))
+        fits_here = subst (FitsNode program.layout (cell_at s.heap) v (FitsFrom program.layout (cell_at s.heap) v decisions steps)) is
+            fits
+
+        it : ShowsIts program.layout value.0 first.0 × (AllAlike program.layout first.0 edges
+            × ((n : ℕ) → next_by edges otherwise first.0 ≡ Some n → FitsFrom program.layout (cell_at s.heap) v decisions steps n))
+        it = fits_here value.0 value.1 first.0 value.2
+
+        later : (node : NodeTree) × (slice_get decisions next.0 ≡ Some node)
+        later = node_there steps next.0 row next.2
+
+        rest : List Line
+        rest = stands.rest ++ tail
+
+        from : List Line
+        from = acts (Label (nodes + k)) [] ∷ (stands.own ++ rest)
+
+        cost : ℕ
+        cost = 6 * m + 14 + row_cost way (m + 2) + edges_cost edges
+
+        label : Leads known s fs here base (m + 0) from (stands.own ++ rest) values
+        label = record {
+          steps = 1;
+          later = values;
+          runs = label_runs (target program) (stands.own ++ rest) (record s.frame { cells = values }) fs s.world (nodes + k);
+          kept = λ z less. refl;
+        }
+
+        below : x < base
+        below = at.has.values.below x at.does.placed.marked.0
+
+        start : List Line
+        start = (at.does.placed.before ++ stands.before) ++ (acts (Label (nodes + k)) [] ∷ stands.own)
+
+        start_is : s.frame.whole ≡ start ++ rest
+        start_is = node_place k way edges otherwise stands
+            ∙ sym (append_assoc (at.does.placed.before ++ stands.before) (acts (Label (nodes + k)) [] ∷ stands.own) rest)
+
+        test : (to : List Line) → found_label (label_of nodes low next.0 (slice_get decisions next.0)) s.frame.whole ≡ Some to
+            → Leads known s fs here base cost (stands.own ++ rest) to values
+        test to to_is = test_leads known s fs here base x (first_label nodes low (suc k) (drop (suc k) decisions)) next.0 ways.to way
+            edges otherwise first.0 v value.0 stands.own rest to values below stands.test has value.1 value.2 it.0 next.1 it.1.0 to_is
+            (comes_behind k stands.rest start stands.later start_is)
+
+        within : (m + 0) + (cost + (look_cost * looks steps next.0 + (2 * m + 2))) ≤ walk_cost (suc steps) k
+        within = test_within (looks steps next.0) (looks (suc steps) k) way edges
+            (test_looks steps k next.0 way edges otherwise first.0 is first.1 next.1)
+
+        by : (node : NodeTree) → slice_get decisions next.0 ≡ Some node
+            → ((its_way : List ℕ) (its_edges : List Edge) (its_other : Option ℕ) (its_stands : StandsAt next.0 its_way its_edges its_other)
+            (its_values : ℕ → Option ℕ) → slice_get decisions next.0 ≡ Some (tests its_way its_edges its_other)
+            → FitsFrom program.layout (cell_at s.heap) v decisions steps next.0
+            → its_values x ≡ Some (word_in program.layout s.address v)
+            → Goes (walk_cost steps next.0) (node_from next.0 its_way its_edges its_other its_stands) there its_values)
+            → Goes (walk_cost (suc steps) k) (node_from k way edges otherwise stands) there values
+        by (chooses mine) node_is again =
+            let same : mine ≡ row = row_chosen_there steps next.0 row mine node_is next.2 in
+            leads_more known s fs here base base ((m + 0) + cost) (walk_cost (suc steps) k) from there values (omega (arith, within))
+            (omega arith)
+            (leads_then known s fs here base (m + 0) cost from (stands.own ++ rest) there values label
+            (test there (ap (λ o. found_label (label_of nodes low next.0 o) s.frame.whole) node_is
+            ∙ ap (λ r. found_label (low + r) s.frame.whole) same ∙ found_arm)))
+        by (tests its_way its_edges its_other) node_is again =
+            let stands_later = stands_of next.0 its_way its_edges its_other node_is in
+            let goal = node_from next.0 its_way its_edges its_other stands_later in
+            let through = test goal (ap (λ o. found_label (label_of nodes low next.0 o) s.frame.whole) node_is
+            ∙ node_found next.0 its_way its_edges its_other stands_later) in
+            let onward = again its_way its_edges its_other stands_later through.later node_is (it.1.1 next.0 next.1)
+            (through.kept x below ∙ has) in
+            leads_more known s fs here base base ((m + 0) + (cost + walk_cost steps next.0)) (walk_cost (suc steps) k) from there values
+            within (omega arith)
+            (leads_then known s fs here base (m + 0) (cost + walk_cost steps next.0) from (stands.own ++ rest) there values label
+            (leads_then known s fs here base cost (walk_cost steps next.0) (stands.own ++ rest) goal there values through onward))
+
+    -- from the first line of a case
+    first_leads : chosen (cell_at s.heap) v decisions ≡ Some row
+        → Goes (walk_cost (length decisions) 0) (choice ++ tail) there s.frame.cells
+    first_leads is = let first = node_there (length decisions) 0 row is in by first.0 first.1
+      where
+        own_word : s.frame.cells x ≡ Some (word_in program.layout s.address v)
+        own_word = at.has.values.words x at.does.placed.marked.0
+
+        -- a first node that chooses its row jumps there
+        at_once : (some : List NodeTree) (mine : ℕ)
+            → NodesLines program.layout base at.does.placed.lines.2
+            (ways_of decisions at.does.placed.lines.2 at.does.placed.low) x 0 some at.does.placed.lines.0
+            → slice_get some 0 ≡ Some (chooses mine)
+            → (rest : List Line) × (NodesLines program.layout base at.does.placed.lines.2
+            (ways_of decisions at.does.placed.lines.2 at.does.placed.low) x 1 (drop 1 some) rest
+            × (at.does.placed.lines.0 ≡ jump_lines (first_label at.does.placed.lines.2 at.does.placed.low 1 (drop 1 decisions))
+            (label_of at.does.placed.lines.2 at.does.placed.low 0 (slice_get decisions 0)) ++ rest))
+        at_once [] mine are node_is = cc
+        at_once (one ∷ more) mine are node_is =
+            let same : one ≡ chooses mine = some-is node_is in
+            let node = subst (λ t. NodeLines program.layout base at.does.placed.lines.2
+            (ways_of decisions at.does.placed.lines.2 at.does.placed.low) x 0 t are.0) same are.2 in
+            (are.1, (are.3, are.4 ∙ ap (λ ls. ls ++ are.1) node))
+
+        first_at : (some : List NodeTree) (way : List ℕ) (edges : List Edge) (otherwise : Option ℕ)
+            → NodesLines program.layout base at.does.placed.lines.2
+            (ways_of decisions at.does.placed.lines.2 at.does.placed.low) x 0 some at.does.placed.lines.0
+            → slice_get some 0 ≡ Some (tests way edges otherwise)
+            → (stands : NodeAt program.layout base at.does.placed.lines.2
+            (ways_of decisions at.does.placed.lines.2 at.does.placed.low) x 0 way edges otherwise (drop 1 some) at.does.placed.lines.0)
+            × (stands.before ≡ [])
+        first_at [] way edges otherwise are node_is = cc
+        first_at (one ∷ more) way edges otherwise are node_is =
+            let same : one ≡ tests way edges otherwise = some-is node_is in
+            let node = subst (λ t. NodeLines program.layout base at.does.placed.lines.2
+            (ways_of decisions at.does.placed.lines.2 at.does.placed.low) x 0 t are.0) same are.2 in (
+              record {
+                before = [];
+                own = node.0;
+                rest = are.1;
+                is = are.4 ∙ ap (λ ls. ls ++ are.1) node.2;
+                test = node.1;
+                later = are.3;
+              },
+              refl,
+            )
+
+        by : (node : NodeTree) → slice_get decisions 0 ≡ Some node
+            → Goes (walk_cost (length decisions) 0) (choice ++ tail) there s.frame.cells
+        by (chooses mine) node_is =
+            let m = most_moves in
+            let jump = at_once decisions mine at.does.placed.lines.4 node_is in
+            let same : mine ≡ row = row_chosen_there (length decisions) 0 row mine node_is is in
+            let next = first_label nodes low 1 (drop 1 decisions) in
+            let label = label_of nodes low 0 (slice_get decisions 0) in
+            let jumps = jump_lines next label in
+            let from_is : choice ++ tail ≡ jumps ++ (jump.0 ++ tail)
+            = ap (λ ls. ls ++ tail) jump.1.1 ∙ append_assoc jumps jump.0 tail in
+            let place : s.frame.whole ≡ (at.does.placed.before ++ jumps) ++ (jump.0 ++ tail)
+            = choice_at ∙ ap (λ ls. at.does.placed.before ++ ls) from_is
+            ∙ sym (append_assoc at.does.placed.before jumps (jump.0 ++ tail)) in
+            subst (λ ls. Goes (walk_cost (length decisions) 0) ls there s.frame.cells) (sym from_is)
+            (leads_more known s fs here base base (m + 2) (walk_cost (length decisions) 0) (jumps ++ (jump.0 ++ tail)) there s.frame.cells
+            (omega arith) (omega arith)
+            (jump_leads known s fs here base next label (jump.0 ++ tail) there s.frame.cells
+            (ap (λ o. found_label (label_of nodes low 0 o) s.frame.whole) node_is
+            ∙ ap (λ r. found_label (low + r) s.frame.whole) same ∙ found_arm)
+            (comes_behind 0 jump.0 (at.does.placed.before ++ jumps) jump.1.0 place)))
+        by (tests way edges otherwise) node_is =
+            let begins = first_at decisions way edges otherwise at.does.placed.lines.4 node_is in
+            let from_is : choice ++ tail ≡ node_from 0 way edges otherwise begins.0
+            = ap (λ ls. ls ++ tail) (begins.0.is
+            ∙ ap (λ ls. ls ++ (acts (Label (nodes + 0)) [] ∷ (begins.0.own ++ begins.0.rest))) begins.1)
+            ∙ ap (λ ls. acts (Label (nodes + 0)) [] ∷ ls) (append_assoc begins.0.own begins.0.rest tail) in
+            subst (λ ls. Goes (walk_cost (length decisions) 0) ls there s.frame.cells) (sym from_is)
+            (node_leads (length decisions) 0 way edges otherwise begins.0 s.frame.cells node_is is (fit 0).bare.fits own_word)
 
   pub case_does : Follows_step program idle
       (token_at program (Tokened.case x decisions arms) s.environment inner frames s.heap tokens input)
@@ -463,8 +620,8 @@ module _ (program : Lowering) (x : ℕ) (decisions : List NodeTree) (arms : Toke
       = choice_at ∙ ap (λ ls. p.before ++ (choice ++ ls)) tail_is
       ∙ sym (append_assoc p.before choice (stands.before ++ (label ∷ behind)))
       ∙ sym (append_assoc (p.before ++ choice) stands.before (label ∷ behind)) in
-      let leads = first_leads row (label ∷ behind) choose.1
-      (finds (low + row) s.frame.whole ((p.before ++ choice) ++ stands.before) behind at.has.formed place) in
+      let leads = first_leads row body (label ∷ behind) choose.2
+      (finds (low + row) s.frame.whole ((p.before ++ choice) ++ stands.before) behind at.has.formed place) choose.1 in
       let f = record s.frame { cells = leads.later } in
       let cost = walk_cost (length decisions) 0 in
       let t2 = turn_of behind f fs s.world in

@@ -32,7 +32,7 @@ use Rattle.rv_lower.proofs.Grown.{grows_of, grows_took, grows_none, grows_then, 
 use Rattle.rv_cells.specs.declared.decide.Targets.{Targets}
 use Rattle.rv_cells.specs.Layout.{header_of}
 use Rattle.rv_cells.specs.CellLines.{FillLines, ReadLines, dup_lines, drop_lines}
-use Rattle.rv_cells.specs.CountedLines.{Setting, NodesLines}
+use Rattle.rv_cells.specs.CountedLines.{Setting, ways_of, NodesLines}
 use Rattle.rv_cells.specs.TokenedLines.{CodeLines, ArmsLines, values_of_slots}
 use Rattle.rv_cells.specs.TokenedWritten.{token_test_lines, WroteFill, WroteAsk, WroteTokened, WroteTokenedArms, WroteTokenedSteps}
 use Rattle.rv_cells.specs.Written.{Facts, setting_in, TookTargets, WroteCountOpening, WroteValue}
@@ -432,7 +432,7 @@ count_of_arms (body ∷ each) = ap suc (count_of_arms each)
 pub code_cases : {a b c d : Lowering} (facts : Facts) (variables : ℕ) (goal : Goal) (x : ℕ) (decisions : List NodeTree)
     (arms : List Tokened) (targets : Targets)
     → TookTargets (length arms) (length decisions) targets a b
-    → WroteLines (NodesLines facts.layout b.base targets.nodes targets.arms x 0 decisions) b c
+    → WroteLines (NodesLines facts.layout b.base targets.nodes (ways_of decisions targets.nodes targets.arms) x 0 decisions) b c
     → WroteTokenedArms facts variables goal targets.arms arms c d
     → WroteTokened facts variables goal (Tokened.case x decisions (tokened_arms arms)) a d
 code_cases {a} {b} {c} {d} facts variables goal x decisions arms targets took choice bodies = record {
@@ -443,8 +443,9 @@ code_cases {a} {b} {c} {d} facts variables goal x decisions arms targets took ch
     bodies.lines,
     targets.nodes,
     took.second ∙ ap (λ (n : ℕ). a.next_label + n) (sym (count_of_arms arms)),
-    subst (λ n. NodesLines facts.layout a.base targets.nodes n x 0 decisions choice.lines) took.first
-        (subst (λ n. NodesLines facts.layout n targets.nodes targets.arms x 0 decisions choice.lines) took.took.base choice.are),
+    subst (λ n. NodesLines facts.layout a.base targets.nodes (ways_of decisions targets.nodes n) x 0 decisions choice.lines)
+        took.first (subst (λ n. NodesLines facts.layout n targets.nodes (ways_of decisions targets.nodes targets.arms) x 0 decisions
+        choice.lines) took.took.base choice.are),
     arms_same facts variables goal a.next_label (tokened_arms arms) bodies.lines d.next_label (choice.wrote.base ∙ took.took.base)
         refl low_is
         (subst (λ n. ArmsLines (setting_in facts c.base (texts_written d ++ later)) variables goal n c.next_label
@@ -494,7 +495,8 @@ pub cases_written : {a b c d : Lowering} (facts : Facts) (variables : ℕ) (goal
     → last ≡ OfLast.Case x decisions arms → nodes ≡ decisions.nodes.items
     → second ≡ arms.items → count ≡ length arms.items
     → TookTargets count (length decisions.nodes.items) targets a b
-    → WroteLines (NodesLines facts.layout b.base targets.nodes targets.arms x 0 (map node_tree nodes)) b c
+    → WroteLines (NodesLines facts.layout b.base targets.nodes (ways_of (map node_tree nodes) targets.nodes targets.arms) x 0
+    (map node_tree nodes)) b c
     → WroteTokenedArms facts variables goal targets.arms (map tokened_code second) c d
     → WroteTokened facts variables goal (tokened_last_code last) a d
 cases_written {a} {b} {c} {d} facts variables goal last x decisions arms targets nodes second count is nodes_is second_is
@@ -505,8 +507,8 @@ cases_written {a} {b} {c} {d} facts variables goal last x decisions arms targets
     (subst (λ n. TookTargets n (length (decisions_of decisions)) targets a b)
     (count_is ∙ sym (length-map arms.items tokened_code))
     (subst (λ n. TookTargets count n targets a b) (sym (length-map decisions.nodes.items node_tree)) took))
-    (subst (λ ns. WroteLines (NodesLines facts.layout b.base targets.nodes targets.arms x 0 (map node_tree ns)) b c) nodes_is
-    choice)
+    (subst (λ ns. WroteLines (NodesLines facts.layout b.base targets.nodes
+    (ways_of (map node_tree ns) targets.nodes targets.arms) x 0 (map node_tree ns)) b c) nodes_is choice)
     (subst (λ bs. WroteTokenedArms facts variables goal targets.arms (map tokened_code bs) c d) second_is bodies))
 
 step_is : (step : TokenedStep) (same : TokenedStep) (move : TokenedMove) → step ≡ same → tokened_move same ≡ move

@@ -4,6 +4,8 @@ use Rattle.std.proofs.Common.{
   ℕ,
   suc,
   ◌+◌,
+  ◌-◌,
+  ◌≤◌,
   ◌<◌,
   Bool,
   true,
@@ -26,10 +28,12 @@ use Rattle.std.proofs.Common.{
   append-nil,
   append_assoc,
 }
-use Rattle.std.specs.Prelude.{filter}
-use Rattle.std.proofs.lemmas.List.{length-take-le, take_more}
+use Rattle.std.specs.Prelude.{filter, map, drop, slice_range, option_to_list}
+use Rattle.std.proofs.lemmas.List.{length-take-le, take_more, take_all, length-drop, drop-map}
 use Rattle.kk_syntax.specs.Shapes.{is_among}
-use Rattle.kk_core.specs.Decisions.{NodeTree, tests}
+use Rattle.kk_core.specs.Decisions.{NodeTree, node_tree, tests}
+use Rattle.kk_core.specs.declared.decisions.Answer.{Answer}
+use Rattle.kk_core.specs.declared.decisions.Node.{Node}
 use Rattle.kk_core.specs.declared.decisions.Edge.{Edge}
 use Rattle.rv_isa.specs.declared.asm.Action.TheVariants.{Label, Branch}
 use Rattle.rv_isa.specs.declared.asm.Condition.TheVariants.{NotEqual}
@@ -43,16 +47,21 @@ use Rattle.rv_lower.specs.Written.{Wrote, WroteLines, TookLabel}
 use Rattle.rv_lower.proofs.Written.{wrote_then}
 use Rattle.rv_lower.proofs.Grown.{grows_of, grows_took, grows_then, grows_more}
 use Rattle.rv_cells.specs.Layout.{Layout}
-use Rattle.rv_cells.specs.CellLines.{Loads, Stores, AllLoads, AllStores, StoresIf, SomeStores, is_kept, Walks, dups_lines, drops_lines, CountLines, ConstructLines}
+use Rattle.rv_cells.specs.CellLines.{Loads, Stores, AllLoads, AllStores, StoresIf, SomeStores, is_kept, Walks, walked, spare, dups_lines, drops_lines, CountLines, ConstructLines}
 use Rattle.rv_cells.specs.CellLines.{FillingLines, FillLines, hold_lines, unhold_lines}
 use Rattle.rv_cells.specs.CountedLines.{
   is_plain,
   answer_word,
   answer_tag,
+  Ways,
+  first_label,
   number_tests,
-  otherwise_lines,
+  last_lines,
+  ChoiceLines,
   OddLines,
-  TagLines,
+  DecideLines,
+  AreTried,
+  TestLines,
   NodeLines,
   NodesLines,
 }
@@ -152,21 +161,42 @@ stores_more cell n index xs lines line less is all one =
     (more_stores cell 2 (get_or xs n 0) (take n xs) lines line all
     (subst (λ i. Stores cell i (get_or xs n 0) line) (is ∙ ap (λ m. 2 + m) (sym (length_taken xs n less))) one))
 
-more_walk : (value field : ℕ) (way : List ℕ) (lines : List Line) (line : Line) → Walks value way lines
-    → Loads value (2 + field) value line
-    → Walks value (way ++ field ∷ []) (lines ++ line ∷ [])
-more_walk value field [] lines line walks one = (line, [], one, refl, ap (λ ls. ls ++ line ∷ []) walks)
-more_walk value field (first ∷ way) lines line walks one =
-    (walks.0, walks.1 ++ line ∷ [], walks.2, more_walk value field way walks.1 line walks.3 one, ap (λ ls. ls ++ line ∷ []) walks.4)
+more_walk : (temporary value field : ℕ) (way : List ℕ) (lines : List Line) (line : Line) → Walks temporary value way lines
+    → Loads (walked temporary value way) (2 + field) temporary line
+    → Walks temporary value (way ++ field ∷ []) (lines ++ line ∷ [])
+more_walk temporary value field [] lines line walks one = (line, [], one, refl, ap (λ ls. ls ++ line ∷ []) walks)
+more_walk temporary value field (first ∷ way) lines line walks one = (
+  walks.0,
+  walks.1 ++ line ∷ [],
+  walks.2,
+  more_walk temporary temporary field way walks.1 line walks.3
+      (subst (λ cell. Loads cell (2 + field) temporary line) (sym (walked_again temporary way)) one),
+  ap (λ ls. ls ++ line ∷ []) walks.4,
+)
+  where
+    walked_again : (temporary : ℕ) (way : List ℕ) → walked temporary temporary way ≡ temporary
+    walked_again temporary [] = refl
+    walked_again temporary (field ∷ way) = refl
 
-pub walk_more : {n index : ℕ} {line : Line} {a b c : Lowering} (value : ℕ) (xs : List ℕ) → n < length xs → index ≡ 2 + get_or xs n 0
-    → WroteLines (Walks value (take n xs)) a b → Loads value index value line → Wrote (line ∷ []) b c
-    → WroteLines (Walks value (take (n + 1) xs)) a c
-walk_more {n} {index} {line} {a} {b} {c} value xs less is wrote one more = record {
+pub walked_more : (temporary value n : ℕ) (xs : List ℕ) → n < length xs → walked temporary value (take (n + 1) xs) ≡ temporary
+walked_more temporary value n xs less =
+    ap (walked temporary value) (take_more xs n 0 less) ∙ behind (take n xs)
+  where
+    behind : (way : List ℕ) → walked temporary value (way ++ get_or xs n 0 ∷ []) ≡ temporary
+    behind [] = refl
+    behind (field ∷ way) = refl
+
+pub walk_more : {n index cell : ℕ} {line : Line} {a b c : Lowering} (temporary value : ℕ) (xs : List ℕ) → n < length xs
+    → index ≡ 2 + get_or xs n 0 → cell ≡ walked temporary value (take n xs)
+    → WroteLines (Walks temporary value (take n xs)) a b → Loads cell index temporary line → Wrote (line ∷ []) b c
+    → WroteLines (Walks temporary value (take (n + 1) xs)) a c
+walk_more {n} {index} {cell} {line} {a} {b} {c} temporary value xs less is from wrote one more = record {
   lines = wrote.lines ++ line ∷ [];
   wrote = wrote_then wrote.wrote more;
-  are = subst (λ ys. Walks value ys (wrote.lines ++ line ∷ [])) (sym (take_more xs n 0 less))
-      (more_walk value (get_or xs n 0) (take n xs) wrote.lines line wrote.are (subst (λ i. Loads value i value line) is one));
+  are = subst (λ ys. Walks temporary value ys (wrote.lines ++ line ∷ [])) (sym (take_more xs n 0 less))
+      (more_walk temporary value (get_or xs n 0) (take n xs) wrote.lines line wrote.are
+      (subst (λ i. Loads (walked temporary value (take n xs)) i temporary line) is
+      (subst (λ from. Loads from index temporary line) from one)));
 }
 
 -- ---- an opening by the count of a cell
@@ -286,116 +316,154 @@ fill_written {x} {token} {header} {filled} {others} {arguments} {kept} {a} {b} {
 
 -- ---- tests
 
-pub odd_lines : (value nodes node odd label : ℕ) (otherwise : Option ℕ) (one : Immediate) (first second : Line)
-    → otherwise ≡ Some node
-    → odd ≡ value + 1 → label ≡ nodes + node → one.word ≡ 1 → first ≡ computes (Op.Immediate Andi one) (value ∷ []) odd
-    → second ≡ acts (Branch NotEqual label) (odd ∷ []) → OddLines value nodes otherwise (first ∷ second ∷ [])
-odd_lines value nodes node odd label otherwise one first second is odd_is label_is word first_is second_is =
-    subst (λ other. OddLines value nodes other (first ∷ second ∷ [])) (sym is)
-    (one, word, cc (odd_is, label_is, first_is, second_is))
+pub odd_lines : (value temporary node label : ℕ) (to : ℕ → ℕ) (otherwise : Option ℕ) (one : Immediate) (first second : Line)
+    → otherwise ≡ Some node → label ≡ to node → one.word ≡ 1
+    → first ≡ computes (Op.Immediate Andi one) (value ∷ []) temporary → second ≡ acts (Branch NotEqual label) (temporary ∷ [])
+    → OddLines value temporary to otherwise (first ∷ second ∷ [])
+odd_lines value temporary node label to otherwise one first second is label_is word first_is second_is =
+    subst (λ other. OddLines value temporary to other (first ∷ second ∷ [])) (sym is)
+    (one, word, cc (label_is, first_is, second_is))
 
-pub tag_lines : (layout : Layout) (value tag nodes : ℕ) (edges : List Edge) (otherwise : Option ℕ) (odd loads : List Line)
-    → (edges ≡ [] → ⊥)
-    → tag ≡ value + 1 → OddLines value nodes otherwise odd → LoadsTag value tag loads
-    → TagLines layout value nodes edges otherwise (odd ++ (loads ++ number_tests (answer_tag layout) tag nodes edges))
-tag_lines layout value tag nodes [] otherwise odd loads some is odds loaded = absurd (some refl)
-tag_lines layout value tag nodes (edge ∷ edges) otherwise odd loads some is odds loaded =
-    subst (λ t. TagLines layout value nodes (edge ∷ edges) otherwise
-    (odd ++ (loads ++ number_tests (answer_tag layout) t nodes (edge ∷ edges)))) (sym is)
-    (by (subst (λ t. LoadsTag value t loads) is loaded))
-  where
-    by : LoadsTag value (value + 1) loads
-        → TagLines layout value nodes (edge ∷ edges) otherwise
-        (odd ++ (loads ++ number_tests (answer_tag layout) (value + 1) nodes (edge ∷ edges)))
-    by here = (
-      odd,
-      here.0,
-      here.1,
-      odds,
-      here.2,
-      here.3,
-      ap (λ (ls : List Line). odd ++ (ls ++ number_tests (answer_tag layout) (value + 1) nodes (edge ∷ edges))) here.4,
-    )
-
-pub tags_written : {tag : ℕ} {a b c d : Lowering} (layout : Layout) (nodes : ℕ) (edges : List Edge) (otherwise : Option ℕ)
-    → (edges ≡ [] → ⊥)
-    → tag ≡ a.base + 1 → WroteLines (OddLines a.base nodes otherwise) a b → WroteLines (LoadsTag a.base tag) b c
-    → Wrote (number_tests (answer_tag layout) tag nodes edges) c d → WroteLines (TagLines layout a.base nodes edges otherwise) a d
-tags_written {tag} {a} {b} {c} {d} layout nodes edges otherwise some is odd loads more = record {
-  lines = odd.lines ++ (loads.lines ++ number_tests (answer_tag layout) tag nodes edges);
-  wrote = wrote_then odd.wrote (wrote_then loads.wrote more);
-  are = tag_lines layout a.base tag nodes edges otherwise odd.lines loads.lines some is odd.are loads.are;
+-- the tests of a number, the last one apart
+pub choice_written : {a b c : Lowering} (number : Answer → ℕ) (to : ℕ → ℕ) (next value temporary : ℕ) (edges some : List Edge)
+    (last : Option Edge) (other : Option ℕ) → edges ≡ some ++ option_to_list last
+    → Wrote (number_tests number to value temporary some) a b → Wrote (last_lines number to next value temporary last other) b c
+    → WroteLines (ChoiceLines number to next value temporary edges other) a c
+choice_written number to next value temporary edges some last other is first second = record {
+  lines = number_tests number to value temporary some ++ last_lines number to next value temporary last other;
+  wrote = wrote_then first second;
+  are = (some, last, is, refl);
 }
 
-pub tests_written : {plain others : List Edge} {a b c d e f : Lowering} (layout : Layout) (nodes arms x : ℕ) (at : List ℕ)
-    (edges : List Edge) (otherwise : Option ℕ)
-    → Wrote (copies_to x a.base ∷ []) a b → WroteLines (Walks a.base at) b c
-    → plain ≡ filter (λ edge. is_plain layout edge.found) edges
-    → others ≡ filter (λ edge. not (is_plain layout edge.found)) edges
-    → Wrote (number_tests (answer_word layout) a.base nodes plain) c d
-    → WroteLines (TagLines layout d.base nodes others otherwise) d e → Wrote (otherwise_lines nodes otherwise) e f
-    → WroteLines (NodeLines layout a.base nodes arms x (tests at edges otherwise)) a f
-tests_written {plain} {others} {a} {b} {c} {d} {e} {f} layout nodes arms x at edges otherwise copied walk plain_is others_is words
-    tags last = record {
-      lines = copies_to x a.base ∷ (walk.lines ++ (worded ++ (tags.lines ++ otherwise_lines nodes otherwise)));
-      wrote = wrote_then copied (wrote_then walk.wrote (wrote_then
-          (subst (λ es. Wrote (number_tests (answer_word layout) a.base nodes es) c d) plain_is words) (wrote_then tags.wrote last)));
+decide_lines : (layout : Layout) (to : ℕ → ℕ) (next value temporary : ℕ) (plain tagged : List Edge) (otherwise other : Option ℕ)
+    (odd loads choice : List Line) → (tagged ≡ [] → ⊥) → OddLines value temporary to otherwise odd
+    → LoadsTag value temporary loads → ChoiceLines (answer_tag layout) to next temporary (temporary + 1) tagged other choice
+    → DecideLines layout to next value temporary plain tagged otherwise other
+    (number_tests (answer_word layout) to value temporary plain ++ (odd ++ (loads ++ choice)))
+decide_lines layout to next value temporary plain [] otherwise other odd loads choice some odds loaded chosen =
+    absurd (some refl)
+decide_lines layout to next value temporary plain (edge ∷ edges) otherwise other odd loads choice some odds loaded chosen = (
+  odd,
+  loaded.0,
+  loaded.1,
+  choice,
+  odds,
+  loaded.2,
+  loaded.3,
+  chosen,
+  ap (λ (ls : List Line). number_tests (answer_word layout) to value temporary plain ++ (odd ++ (ls ++ choice))) loaded.4,
+)
+
+pub tags_written : {above : ℕ} {a b c d e : Lowering} (layout : Layout) (to : ℕ → ℕ) (next value temporary : ℕ)
+    (plain tagged : List Edge) (otherwise other : Option ℕ) → (tagged ≡ [] → ⊥) → above ≡ temporary + 1
+    → Wrote (number_tests (answer_word layout) to value temporary plain) a b
+    → WroteLines (OddLines value temporary to otherwise) b c → WroteLines (LoadsTag value temporary) c d
+    → WroteLines (ChoiceLines (answer_tag layout) to next temporary above tagged other) d e
+    → WroteLines (DecideLines layout to next value temporary plain tagged otherwise other) a e
+tags_written {above} layout to next value temporary plain tagged otherwise other some is words odd loads choice = record {
+  lines = number_tests (answer_word layout) to value temporary plain ++ (odd.lines ++ (loads.lines ++ choice.lines));
+  wrote = wrote_then words (wrote_then odd.wrote (wrote_then loads.wrote choice.wrote));
+  are = decide_lines layout to next value temporary plain tagged otherwise other odd.lines loads.lines choice.lines some odd.are
+      loads.are
+      (subst (λ t. ChoiceLines (answer_tag layout) to next temporary t tagged other choice.lines) is choice.are);
+}
+
+pub words_written : {a b : Lowering} (layout : Layout) (to : ℕ → ℕ) (next value temporary : ℕ) (plain tagged : List Edge)
+    (otherwise other : Option ℕ) → tagged ≡ [] → WroteLines (ChoiceLines (answer_word layout) to next value temporary plain other) a b
+    → WroteLines (DecideLines layout to next value temporary plain tagged otherwise other) a b
+words_written {a} {b} layout to next value temporary plain tagged otherwise other none wrote =
+    subst (λ es. WroteLines (DecideLines layout to next value temporary plain es otherwise other) a b) (sym none)
+    (record { lines = wrote.lines; wrote = wrote.wrote; are = wrote.are })
+
+pub test_written : {value temporary : ℕ} {a b c : Lowering} (base : ℕ) (layout : Layout) (to : ℕ → ℕ) (next x : ℕ) (at : List ℕ)
+    (edges : List Edge) (otherwise : Option ℕ) (plain tagged : List Edge) (other : Option ℕ)
+    → WroteLines (Walks base x at) a b → value ≡ walked base x at → temporary ≡ spare base at
+    → AreTried (filter (λ edge. is_plain layout edge.found) edges) (filter (λ edge. not (is_plain layout edge.found)) edges) otherwise
+    plain tagged other
+    → WroteLines (DecideLines layout to next value temporary plain tagged otherwise other) b c
+    → WroteLines (TestLines layout base to next x at edges otherwise) a c
+test_written {value} {temporary} {a} {b} {c} base layout to next x at edges otherwise plain tagged other walk value_is spare_is tried
+    decided = record {
+      lines = walk.lines ++ decided.lines;
+      wrote = wrote_then walk.wrote decided.wrote;
       are = (
         walk.lines,
-        tags.lines,
+        decided.lines,
+        plain,
+        tagged,
+        other,
         walk.are,
-        subst (λ es. TagLines layout a.base nodes es otherwise tags.lines) others_is
-            (subst (λ n. TagLines layout n nodes others otherwise tags.lines) (words.base ∙ walk.wrote.base ∙ copied.base) tags.are),
+        tried,
+        subst (λ v. DecideLines layout to next v (spare base at) plain tagged otherwise other decided.lines) value_is
+            (subst (λ t. DecideLines layout to next value t plain tagged otherwise other decided.lines) spare_is decided.are),
         refl,
       );
     }
-  where
-    worded : List Line
-    worded = number_tests (answer_word layout) a.base nodes (filter (λ edge. is_plain layout edge.found) edges)
 
-more_nodes : (layout : Layout) (base nodes arms x k : ℕ) (each : List NodeTree) (node : NodeTree) (lines first : List Line)
-    → NodesLines layout base nodes arms x k each lines
-    → NodeLines layout base nodes arms x node first
-    → NodesLines layout base nodes arms x k (each ++ node ∷ []) (lines ++ (acts (Label (nodes + (k + length each))) [] ∷ first))
-more_nodes layout base nodes arms x k [] node lines first all one = (
+-- a test behind its label
+pub labelled_test : {label behind : ℕ} {a b c : Lowering} (layout : Layout) (nodes : ℕ) (ways : Ways) (x k : ℕ) (at : List ℕ)
+    (edges : List Edge) (otherwise : Option ℕ) → label ≡ nodes + k → behind ≡ ways.behind k → Wrote (acts (Label label) [] ∷ []) a b
+    → WroteLines (TestLines layout b.base ways.to behind x at edges otherwise) b c
+    → WroteLines (NodeLines layout a.base nodes ways x k (tests at edges otherwise)) a c
+labelled_test {label} {behind} {a} {b} {c} layout nodes ways x k at edges otherwise is behind_is labelled test = record {
+  lines = acts (Label (nodes + k)) [] ∷ test.lines;
+  wrote = wrote_then (subst (λ n. Wrote (acts (Label n) [] ∷ []) a b) is labelled) test.wrote;
+  are = (
+    test.lines,
+    subst (λ n. TestLines layout n ways.to (ways.behind k) x at edges otherwise test.lines) labelled.base
+        (subst (λ n. TestLines layout b.base ways.to n x at edges otherwise test.lines) behind_is test.are),
+    refl,
+  );
+}
+
+more_nodes : (layout : Layout) (base nodes : ℕ) (ways : Ways) (x k : ℕ) (each : List NodeTree) (node : NodeTree)
+    (lines first : List Line) → NodesLines layout base nodes ways x k each lines
+    → NodeLines layout base nodes ways x (k + length each) node first
+    → NodesLines layout base nodes ways x k (each ++ node ∷ []) (lines ++ first)
+more_nodes layout base nodes ways x k [] node lines first all one = (
   first,
   [],
-  one,
+  subst (λ n. NodeLines layout base nodes ways x n node first) (none k) one,
   refl,
-  ap (λ (ls : List Line). ls ++ (acts (Label (nodes + (k + 0))) [] ∷ first)) all
-      ∙ ap (λ (n : ℕ). acts (Label n) [] ∷ first) (zero_more nodes k)
-      ∙ ap (λ (ls : List Line). acts (Label (nodes + k)) [] ∷ ls) (sym (append-nil first)),
+  ap (λ (ls : List Line). ls ++ first) all ∙ sym (append-nil first),
 )
   where
-    zero_more : (n m : ℕ) → n + (m + 0) ≡ n + m
-    zero_more n m = omega arith
-more_nodes layout base nodes arms x k (other ∷ each) node lines first all one = (
+    none : (n : ℕ) → n + 0 ≡ n
+    none n = omega arith
+more_nodes layout base nodes ways x k (other ∷ each) node lines first all one = (
   all.0,
-  all.1 ++ (acts (Label (nodes + (suc k + length each))) [] ∷ first),
+  all.1 ++ first,
   all.2,
-  more_nodes layout base nodes arms x (suc k) each node all.1 first all.3 one,
-  ap (λ (ls : List Line). ls ++ (acts (Label (nodes + (k + suc (length each)))) [] ∷ first)) all.4
-      ∙ ap (λ (ls : List Line). acts (Label (nodes + k)) [] ∷ ls)
-      (append_assoc all.0 all.1 (acts (Label (nodes + (k + suc (length each)))) [] ∷ first))
-      ∙ ap (λ (n : ℕ). acts (Label (nodes + k)) [] ∷ (all.0 ++ (all.1 ++ (acts (Label (nodes + n)) [] ∷ first))))
-      (one_more k (length each)),
+  more_nodes layout base nodes ways x (suc k) each node all.1 first all.3
+      (subst (λ n. NodeLines layout base nodes ways x n node first) (one_more k (length each)) one),
+  ap (λ (ls : List Line). ls ++ first) all.4 ∙ append_assoc all.0 all.1 first,
 )
   where
     one_more : (n m : ℕ) → n + suc m ≡ suc n + m
     one_more n m = omega arith
 
-pub nodes_more : {label : ℕ} {a b c d : Lowering} (layout : Layout) (nodes arms x : ℕ) (each : List NodeTree) (node : NodeTree)
-    → label ≡ nodes + length each
-    → WroteLines (NodesLines layout a.base nodes arms x 0 each) a b → Wrote (acts (Label label) [] ∷ []) b c
-    → WroteLines (NodeLines layout c.base nodes arms x node) c d
-    → WroteLines (NodesLines layout a.base nodes arms x 0 (each ++ node ∷ [])) a d
-nodes_more {label} {a} {b} {c} {d} layout nodes arms x each node is wrote labelled one = record {
-  lines = wrote.lines ++ (acts (Label (nodes + (0 + length each))) [] ∷ one.lines);
-  wrote = wrote_then wrote.wrote (wrote_then (subst (λ n. Wrote (acts (Label n) [] ∷ []) b c)
-      (is ∙ ap (λ m. nodes + m) (none (length each))) labelled) one.wrote);
-  are = more_nodes layout a.base nodes arms x 0 each node wrote.lines one.lines wrote.are
-      (subst (λ n. NodeLines layout n nodes arms x node one.lines) (labelled.base ∙ wrote.wrote.base) one.are);
+pub nodes_more : {number : ℕ} {a b c : Lowering} (layout : Layout) (nodes : ℕ) (ways : Ways) (x : ℕ) (each : List NodeTree)
+    (node : NodeTree) → number ≡ length each
+    → WroteLines (NodesLines layout a.base nodes ways x 0 each) a b
+    → WroteLines (NodeLines layout b.base nodes ways x number node) b c
+    → WroteLines (NodesLines layout a.base nodes ways x 0 (each ++ node ∷ [])) a c
+nodes_more {number} {a} {b} {c} layout nodes ways x each node is wrote one = record {
+  lines = wrote.lines ++ one.lines;
+  wrote = wrote_then wrote.wrote one.wrote;
+  are = more_nodes layout a.base nodes ways x 0 each node wrote.lines one.lines wrote.are
+      (subst (λ n. NodeLines layout a.base nodes ways x n node one.lines) (is ∙ none (length each))
+      (subst (λ n. NodeLines layout n nodes ways x number node one.lines) wrote.wrote.base one.are));
 }
   where
     none : (n : ℕ) → n ≡ 0 + n
     none n = omega arith
+
+-- the first label of the nodes from one on
+pub later_label : (nodes arms k : ℕ) (each rest : List Node) → rest ≡ slice_range each k (length each)
+    → first_label nodes arms k (map node_tree rest) ≡ first_label nodes arms k (drop k (map node_tree each))
+later_label nodes arms k each rest is =
+    ap (λ ns. first_label nodes arms k (map node_tree ns)) (is ∙ take_all (length each - k) (drop k each) few)
+    ∙ ap (first_label nodes arms k) (sym (drop-map node_tree k each))
+  where
+    few : length (drop k each) ≤ length each - k
+    few = let left = length-drop k each in omega (arith, left)

@@ -1,6 +1,6 @@
 -- The assembler lines of the counted forms that touch cells. Value x of a function's assembler code is variable x; the values
 -- from `base` on are temporaries.
-use Rattle.std.specs.Prelude.{◌≡◌, ℕ, suc, ◌+◌, ◌*◌, ◌-◌, ◌^◌, Bool, true, false, List, [], ◌∷◌, ◌++◌, filter, Some, not, if◌then◌else◌}
+use Rattle.std.specs.Prelude.{◌≡◌, ℕ, suc, ◌+◌, ◌*◌, ◌-◌, ◌^◌, Bool, true, false, List, [], ◌∷◌, ◌++◌, filter, Some, not, nat_eq, if◌then◌else◌}
 use Rattle.kk_syntax.specs.Shapes.{is_among}
 use Rattle.rv_isa.specs.declared.asm.Action.TheVariants.{Compute, Label, Jump, Branch, Routine as Calls, Hold, Unhold}
 use Rattle.rv_isa.specs.declared.asm.Condition.TheVariants.{Equal, NotEqual}
@@ -126,14 +126,32 @@ TokenUniqueLines base holds shared behind x fields used token lines =
 
 -- ---- tests
 
--- from a value to the one at a position: a temporary, which has the value, takes one field after the other
-abbrev pub Walks : ℕ → List ℕ → List Line → Type 0
-Walks temporary [] lines = lines ≡ []
-Walks temporary (field ∷ way) lines =
-    (first : Line) × (more : List Line) × Loads temporary (2 + field) temporary first × Walks temporary way more
+-- From a value to the one at a position: a temporary takes one field after the other, the first one from the value itself.
+abbrev pub Walks : ℕ → ℕ → List ℕ → List Line → Type 0
+Walks temporary value [] lines = lines ≡ []
+Walks temporary value (field ∷ way) lines =
+    (first : Line) × (more : List Line) × Loads value (2 + field) temporary first × Walks temporary temporary way more
     × (lines ≡ first ∷ more)
+
+-- which one then has the value at the position, and the first temporary that is free
+abbrev pub walked : ℕ → ℕ → List ℕ → ℕ
+walked temporary value [] = value
+walked temporary value (field ∷ way) = temporary
+
+abbrev pub spare : ℕ → List ℕ → ℕ
+spare temporary [] = temporary
+spare temporary (field ∷ way) = temporary + 1
 
 -- to a label where a value has a word
 abbrev pub equal_lines : ℕ → ℕ → ℕ → ℕ → List Line
-equal_lines value word temporary label =
-    copies_to value temporary ∷ sets word (temporary + 1) ∷ acts (Branch Equal label) (temporary ∷ (temporary + 1) ∷ []) ∷ []
+equal_lines value word temporary label = sets word temporary ∷ acts (Branch Equal label) (value ∷ temporary ∷ []) ∷ []
+
+-- to a label, unless that is the next one
+abbrev pub jump_lines : ℕ → ℕ → List Line
+jump_lines next label = if nat_eq label next then [] else (acts (Jump label) [] ∷ [])
+
+-- to one label where a value has a word, and else to another one
+abbrev pub either_lines : ℕ → ℕ → ℕ → ℕ → ℕ → ℕ → List Line
+either_lines next value word temporary equal other =
+    sets word temporary ∷ (if nat_eq equal next then acts (Branch NotEqual other) (value ∷ temporary ∷ []) ∷ []
+    else (acts (Branch Equal equal) (value ∷ temporary ∷ []) ∷ jump_lines next other))

@@ -19,7 +19,7 @@ use Rattle.rv_lower.specs.Lines.{sets, copies_to, acts, copies, temporaries, Tex
 use Rattle.rv_lower.specs.Lowered.{Goal, returns, joins, goal_lines, from_to}
 use Rattle.rv_cells.specs.Layout.{Layout, header_of}
 use Rattle.rv_cells.specs.CellLines.{FillLines, ReadLines, TokenUniqueLines, dup_lines, drop_lines}
-use Rattle.rv_cells.specs.CountedLines.{Setting, ComputeLines, NodesLines}
+use Rattle.rv_cells.specs.CountedLines.{Setting, ComputeLines, ways_of, NodesLines}
 
 -- ---- slots
 
@@ -77,7 +77,7 @@ abbrev mutual
       (lines ≡ copies setting.base arguments ++ acts (TailCall f) (temporaries setting.base arguments) ∷ []) × (low ≡ high)
   CodeLines setting variables goal low (Tokened.case x decisions arms) lines high =
       (choice : List Line) × (bodies : List Line) × (nodes : ℕ) × (nodes ≡ low + arm_count (bare_arms arms))
-      × NodesLines setting.layout setting.base nodes low x 0 decisions choice
+      × NodesLines setting.layout setting.base nodes (ways_of decisions nodes low) x 0 decisions choice
       × ArmsLines setting variables goal low (nodes + length decisions) arms bodies high × (lines ≡ choice ++ bodies)
   CodeLines setting variables goal low (Tokened.compute x form arguments others rest) lines high =
       (own : List Line) × (more : List Line) × (middle : ℕ) × AskLines setting variables low x form arguments others own middle

@@ -1,6 +1,8 @@
 -- What was written of a function's assembler code, from its counted form.
-use Rattle.std.specs.Prelude.{◌≡◌, ℕ, ◌+◌, ◌-◌, ◌^◌, Bool, false, List, [], ◌∷◌, ◌++◌, slice_index_or}
+use Rattle.std.specs.Prelude.{◌≡◌, ℕ, ◌+◌, ◌-◌, ◌^◌, Bool, false, List, [], ◌∷◌, ◌++◌, map, slice_index_or}
 use Rattle.kk_syntax.specs.declared.program.Form.{Form}
+use Rattle.kk_core.specs.Decisions.{node_tree}
+use Rattle.kk_core.specs.declared.decisions.Answer.{Answer}
 use Rattle.rv_isa.specs.declared.asm.Action.TheVariants.{Jump, Branch}
 use Rattle.rv_isa.specs.declared.asm.Condition.TheVariants.{NotEqual}
 use Rattle.rv_isa.specs.declared.asm.Operation.TheVariants as Op
@@ -12,9 +14,12 @@ use Rattle.rv_lower.specs.Lines.{computes, sets, acts}
 use Rattle.rv_lower.specs.Written.{lines_written, texts_written, texts_of, Grows}
 use Rattle.rv_cells.specs.declared.known.Known.{Known}
 use Rattle.rv_cells.specs.declared.decide.Targets.{Targets}
+use Rattle.rv_cells.specs.declared.decide.CaseWays.{CaseWays}
+use Rattle.rv_cells.specs.declared.decide.Shown.{Shown}
+use Rattle.rv_cells.specs.declared.decide.Shown.TheVariants.{Word, Tag}
 use Rattle.rv_cells.specs.Layout.{Layout, layout_of}
 use Rattle.rv_cells.specs.CellLines.{Loads, Stores, CountLines}
-use Rattle.rv_cells.specs.CountedLines.{Setting, ComputeLines}
+use Rattle.rv_cells.specs.CountedLines.{Setting, ComputeLines, Ways, ways_of, answer_word, answer_tag}
 
 -- ---- what is known
 
@@ -27,6 +32,15 @@ holds_known known x = holds_in known.marks.now x
 
 abbrev pub layout_known : Known → Layout
 layout_known known = layout_of known.constructors.now
+
+-- where the tests of a case lead
+abbrev pub ways_known : CaseWays → Ways
+ways_known ways = ways_of (map node_tree ways.nodes.now) ways.targets.nodes ways.targets.arms
+
+-- the number that shows an answer: its word, or its tag
+abbrev pub number_shown : Shown → Layout → Answer → ℕ
+number_shown Word layout = answer_word layout
+number_shown Tag layout = answer_tag layout
 
 -- the string literals, how values look, and which variables are of types with cells
 pub record Facts : Type 0 where

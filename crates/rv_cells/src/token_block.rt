@@ -9,7 +9,7 @@ ghost use Rattle.rv_cells.specs.Written.{facts_of};
 
 use crate::block::take_targets;
 use crate::cells::{write_drop, write_dup, write_reading};
-use crate::decide::write_nodes;
+use crate::decide::{CaseWays, write_nodes};
 use crate::known::Known;
 use crate::token_cells::{
     with_first, write_asking, write_fill, write_freed, write_hold, write_move, write_null,
@@ -173,7 +173,8 @@ fn write_last(
         }
         TokenedLast::Case(variable, decisions, arms) => {
             let targets = take_targets(lowering, decisions, arms.len())?;
-            write_nodes(lowering, known, targets, *variable, decisions.nodes())?;
+            let nodes = decisions.nodes();
+            write_nodes(lowering, known, &CaseWays { nodes, targets }, *variable)?;
             write_arms(lowering, known, targets.arms, arms, goal)
         }
         TokenedLast::IfToken(slot, there, absent) => {

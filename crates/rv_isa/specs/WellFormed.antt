@@ -81,6 +81,7 @@ may_give _ = false
 -- whether the arguments of an action are handed over: their places are lost
 abbrev pub hands_over : Action → Bool
 hands_over (Compute operation) = false
+hands_over (Branch condition l) = false
 hands_over Hold = false
 hands_over Unhold = false
 hands_over _ = true

@@ -81,7 +81,7 @@ action_loads action args few =
 
 takes_number : (action : Action) (n : ℕ) → n < most_args action → hands_over action ≡ true → takes_at action n (register (numbered (first_register action + n))) ≡ true
 takes_number (Compute operation) n few over = refl
-takes_number (Branch condition l) n few over = refl
+takes_number (Branch condition l) n few over = absurd (false≢true over)
 takes_number (Label l) n few over = absurd (omega (arith, few))
 takes_number (Jump l) n few over = absurd (omega (arith, few))
 takes_number (Call f) n few over = eq-eqb _ _ (number_is (10 + n) (omega (arith, few)))
@@ -127,6 +127,8 @@ takes_row action first loaded n (v ∷ vs) distinct takes stand =
 takes_args : (action : Action) (args : List ℕ) → length args ≤ most_args action → (hands_over action ≡ true → AreDistinct args)
     → take_from action 0 (map (operand_at (place_in (loaded_for action args))) args) ≡ true
 takes_args (Compute operation) args few distinct = takes_any (Compute operation) is_register (load_from 5 args) 0 args (λ k place t. t) (λ v t. place_loaded 5 args v t)
+takes_args (Branch condition l) args few distinct =
+    takes_any (Branch condition l) is_register (load_from 5 args) 0 args (λ k place t. t) (λ v t. place_loaded 5 args v t)
 takes_args Hold args few distinct = takes_any Hold is_slot [] 0 args (λ k place t. t) (λ v t. refl)
 takes_args Unhold args few distinct = takes_any Unhold is_slot [] 0 args (λ k place t. t) (λ v t. refl)
 takes_args action args few distinct = in_row action args few refl (distinct refl)

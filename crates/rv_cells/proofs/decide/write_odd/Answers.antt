@@ -1,6 +1,7 @@
 use Rattle.std.proofs.Common.{[], ◌∷◌, map}
 use Rattle.std.proofs.lemmas.Result.{on_ok_weaker}
 use Rattle.rv_lower.specs.Written.{short_line}
+use Rattle.rv_cells.specs.Written.{ways_known}
 use Rattle.rv_cells.proofs.Written.{odd_lines}
 use Rattle.rv_cells.proofs.decide.write_odd.Goals as goal
 
@@ -10,8 +11,8 @@ returns c =
     (λ wrote. record {
       lines = map short_line (c.unary.result ∷ c.act.result ∷ []);
       wrote = wrote;
-      are = odd_lines c.args.value c.args.nodes c.in-Some.node c.in_ok-odd.odd c.in_ok-label.label c.args.otherwise c.new.result
-          (short_line c.unary.result) (short_line c.act.result) c.in-Some.is c.in_ok-odd.ensures c.in_ok-label.ensures c.new.ensures
+      are = odd_lines c.args.value c.args.temporary c.in-Some.node c.in_ok-label.label (ways_known c.args.ways.now).to c.args.otherwise
+          c.new.result (short_line c.unary.result) (short_line c.act.result) c.in-Some.is c.in_ok-label.ensures c.new.ensures
           c.unary.ensures c.act.ensures;
     })
     c.write.ensures

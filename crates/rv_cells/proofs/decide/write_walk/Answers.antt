@@ -1,7 +1,10 @@
-use Rattle.rv_cells.proofs.Written.{walk_more}
+use Rattle.std.proofs.Common.{sym}
+use Rattle.rv_cells.proofs.Written.{walk_more, walked_more}
 use Rattle.rv_cells.proofs.decide.write_walk.Goals as goal
 
 pub loop-field-preserved : goal.loop-field-preserved
-loop-field-preserved c =
-    walk_more c.args.value c.args.at.now c.loop-field-test.true c.in_ok-sum.ensures c.loop-field.invariant c.in_ok-line.ensures
-    c.in_ok-write.ensures
+loop-field-preserved c = record {
+  wrote = walk_more c.args.temporary c.args.value c.args.at.now c.loop-field-test.true c.in_ok-sum.ensures
+      c.loop-field.invariant.there c.loop-field.invariant.wrote c.in_ok-line.ensures c.in_ok-write.ensures;
+  there = sym (walked_more c.args.temporary c.args.value c.loop-field.field-index c.args.at.now c.loop-field-test.true);
+}

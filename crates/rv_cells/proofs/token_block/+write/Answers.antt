@@ -152,23 +152,23 @@ write_inside-returns t c =
 
 pub write_last-returns-in_ok-write_label-in-IfToken : goal.write_last-returns-in_ok-write_label-in-IfToken
 write_last-returns-in_ok-write_label-in-IfToken t c =
-    on_ok_weaker c.write_tokened-in-IfToken-2.result
+    on_ok_weaker c.write_tokened-in-IfToken.result
     (λ second. subst (λ (code : Tokened). WroteTokened (facts_of c.args.known.now) (variables_known c.args.known.now) (goal_of
     c.args.goal)
-    code c.args.lowering.now c.write_tokened-in-IfToken-2.new.lowering)
+    code c.args.lowering.now c.write_tokened-in-IfToken.new.lowering)
     (code_of_if_token c.args.last.now c.in-IfToken.slot c.in-IfToken.there c.in-IfToken.absent c.deref-in-IfToken.result.now
     c.deref-in-IfToken-2.result.now c.in-IfToken.is c.deref-in-IfToken.ensures c.deref-in-IfToken-2.ensures)
     (code_if_tokens c.in_ok-label-in-IfToken.ensures c.in_ok-write_token_test-in-IfToken.ensures
     c.in_ok-write_tokened-in-IfToken.ensures
     c.in_ok-write_label-in-IfToken.ensures second))
-    c.write_tokened-in-IfToken-2.ensures
+    c.write_tokened-in-IfToken.ensures
 
 pub write_last-returns-in_ok-write_nodes-in-Case : goal.write_last-returns-in_ok-write_nodes-in-Case
 write_last-returns-in_ok-write_nodes-in-Case t c =
     on_ok_weaker c.write_arms.result
     (λ bodies. cases_written (facts_of c.args.known.now) (variables_known c.args.known.now) (goal_of c.args.goal) c.args.last.now
     c.in-Case.variable c.in-Case.decisions c.in-Case.arms c.in_ok-targets-in-Case.targets
-    c.nodes.result.now c.deref-in-Case.result.now c.len.result c.in-Case.is c.nodes.ensures
+    c.nodes-nodes.result.now c.deref-in-Case.result.now c.len.result c.in-Case.is c.nodes-nodes.ensures
     c.deref-in-Case.ensures.value (omega (arith, c.len.ensures, c.in-Case.arms.ok.0))
     c.in_ok-targets-in-Case.ensures c.in_ok-write_nodes-in-Case.ensures bodies)
     c.write_arms.ensures
