@@ -45,12 +45,12 @@ nothing_put = refl
 exits-are : number_of Ended ∷ number_of HeapFull ∷ number_of StackFull ∷ [] ≡ 0 ∷ 101 ∷ 102 ∷ []
 exits-are = refl
 
-no_cells : layout_of 0 1 4 ≡ record { cells = 32; cells_end = 32; stack = 4096; stack_end = 4100 }
+no_cells : layout_of 0 1 4 ≡ record { cells = 32; cells_end = 32; stack = 32; stack_end = 36 }
 no_cells = refl
 
--- the word before the stack is no cell's
-full_page : layout_of 127 1 4 ≡ record { cells = 32; cells_end = 4096; stack = 8192; stack_end = 8196 }
-full_page = refl
+-- a wide frame, in which the stack pointer stands above the first word
+wide_frame : layout_of 1 2 2048 ≡ record { cells = 32; cells_end = 64; stack = 2112; stack_end = 6208 }
+wide_frame = refl
 
 -- two cells at 4128
 abbrev two_cells : Pool

@@ -8,22 +8,15 @@ use rv_isa::environment::CELL_SIZE;
 /// Bytes before the cells: the buffer, and what is missing to a multiple of a cell's.
 const BYTES_BEFORE_CELLS: u32 = 32;
 
-/// The stack pointer is at a multiple of these bytes in the lowest frame, so that one LUI gives its address.
-const PAGE_BYTES: u32 = 4096;
-
-/// Bytes of a word.
-const WORD_BYTES: u32 = 4;
-
 /// Where the runtime's data stand, as distances in bytes from the start of the image's memory part. The buffer of prints
 /// and reads stands at that start.
 #[derive(Clone, Copy, PartialEq, Eq, Debug)]
 pub struct Layout {
     /// The first cell.
     pub cells: u32,
-    /// The end of the cells.
+    /// The end of the cells. The lowest frame that the stack has room for begins there.
     pub cells_end: u32,
-    /// Where the stack pointer stands in the lowest frame that the stack has room for. The word before that frame is no
-    /// cell's: a call that finds no frame may write there.
+    /// Where the stack pointer stands in that frame.
     pub stack: u32,
     /// Where the stack pointer stands before the first frame, and the end of the memory part.
     pub stack_end: u32,
@@ -56,8 +49,7 @@ impl Layout {
         ensures { result ≡ layout_of cells depth frame_bytes }
     {
         let cells_end = BYTES_BEFORE_CELLS + CELL_SIZE * cells;
-        let low = cells_end + WORD_BYTES + below_pointer(frame_bytes);
-        let stack = low.div_ceil(PAGE_BYTES) * PAGE_BYTES;
+        let stack = cells_end + below_pointer(frame_bytes);
         Layout {
             cells: BYTES_BEFORE_CELLS,
             cells_end,

@@ -25,7 +25,7 @@ use Rattle.elf_image.specs.Program.{IsProgramImage, program_parts, text_start, m
 use Rattle.elf_image.specs.declared.part.Part.{Part}
 use Rattle.cell_heap.specs.Pool.{Pool}
 use Rattle.cell_runtime.specs.declared.start.TheConstants.{TEXT_WORDS}
-use Rattle.cell_runtime.specs.Layouts.{below_pointer, next_page}
+use Rattle.cell_runtime.specs.Layouts.{below_pointer}
 use Rattle.cell_runtime.proofs.Reaching.{below_most}
 use Rattle.cell_runtime.specs.Texts.{IsText}
 use Rattle.rv_world.specs.Operations.{Constants, all_bytes}
@@ -46,7 +46,7 @@ use Rattle.rv_place.specs.Running.{HasCells, NeverStuck}
 use Rattle.rv_place.specs.Texts.{ArePlaceable, ArePlacedWords, map_of, pool_in, constants_of, text_bytes, most_text_words, most_constant_bytes}
 use Rattle.rv_place.proofs.BootFits.{FitsImage, fits-image}
 use Rattle.rv_place.proofs.BootLoaded.{text-fetched}
-use Rattle.rv_place.proofs.BootSizes.{bytes_most, page_multiple}
+use Rattle.rv_place.proofs.BootSizes.{bytes_most}
 use Rattle.rv_place.specs.declared.words.Words.{Words}
 use Rattle.kk_back.specs.Assembled.{IsPlaceable, IsAsmImage}
 use Rattle.kk_back.proofs.Placeable.{frame_most, as_many}
@@ -68,13 +68,11 @@ placeable cells depth asm placed runtime made valid plain runtime_is sizes =
     let shorter : placed_functions_length placed_are ≤ functions_length functions = plain.short in
     let bytes : length (all_bytes (placed_constants placed)) ≡ length (all_bytes (asm_constants asm)) = ap (λ (texts : List (List ℕ)). length (all_bytes texts)) valid.constants in
     let most : length (all_bytes (asm_constants asm)) ≤ 8388608 = made.fits.bytes in
-    let low : ℕ = 32 + 32 * cells + 4 + below_pointer (frame_size placed_are) in
-    let bottom_is : runtime.memory.stack_bottom ≡ next_page low = ap (λ (memory : DataSection). memory.stack_bottom) runtime_is.memory in
+    let bottom_is : runtime.memory.stack_bottom ≡ 32 + 32 * cells + below_pointer (frame_size placed_are) = ap (λ (memory : DataSection). memory.stack_bottom) runtime_is.memory in
     record {
       lines = runtime_is.within;
       runtime_size = omega (arith, runtime_is.words);
       bottom = omega (arith, bottom_is, sizes.few_cells, below_most (frame_size placed_are));
-      bottom_page = omega (arith, bottom_is, page_multiple low);
       frames = frame;
       few_functions = omega (arith, same, few);
       short = omega (arith, fits, shorter);

@@ -23,10 +23,10 @@ use Rattle.rv_isa.specs.declared.routine.Routine as routine
 use Rattle.rv_isa.specs.PlacedCode.{PlacedLine, moves, PlacedLines}
 use Rattle.rv_isa.specs.Standing.{Code}
 use Rattle.rv_isa.proofs.Same.{same_register}
-use Rattle.rv_place.specs.Registers.{sp, t0}
+use Rattle.rv_place.specs.Registers.{s3}
 use Rattle.rv_place.specs.Instructions.{words_of_jump, JumpsTo, CallsTo, BranchesOn, words_of_operation}
-use Rattle.rv_place.specs.Addresses.{slot_offset, words_of_shift, slots_of_place, slots_of_operands, words_of_action, words_of_line, words_of_lines, forms_of, entry_words, entries_from, words_of_function, words_of_functions}
-use Rattle.rv_place.specs.Lines.{Map, IsFromPointer, IsOffsetOf, IsSymbolAt, EntersAt, LinesAt, FunctionsAt, BranchesTo}
+use Rattle.rv_place.specs.Addresses.{slot_offset, words_of_shift, slots_of_place, slots_of_operands, words_of_action, words_of_line, words_of_lines, forms_of, words_to_frame, entry_words, entries_from, words_of_function, words_of_functions}
+use Rattle.rv_place.specs.Lines.{Map, IsFromPointer, IsOffsetOf, IsSymbolAt, frame_register, EntersAt, LinesAt, FunctionsAt, BranchesTo}
 use Rattle.rv_place.specs.declared.reach.Forms.{Forms}
 use Rattle.rv_place.specs.declared.reach.Reach.{Reach}
 use Rattle.rv_place.specs.declared.reach.Reach.TheVariants.{Near, Far}
@@ -179,21 +179,24 @@ module _ (chart : Chart) (labels : Labels) (from : ℕ) (args : List Operand) (i
         emitted)
 
 -- the branch of an entry, to the stop for a full stack
-pub entry_branch : {chart : Chart} {map : Map} → Charts chart map → (code : Code) (at target from : ℕ) → at ≡ from → IsInText map at (entry_words map.jumps) → {a b : Register} → a.number ≡ 2 → b.number ≡ 5
-    → IsSymbolAt map symbol.StackFull target
-    → (at + 4 ≡ from + 4 → JumpReaches chart.jumps (at + 4 + 4) chart.symbols.stack_full → BranchesOn chart.jumps Far code (at + 4) Equal a b chart.symbols.stack_full)
-    → BranchesOn map.jumps Far code (at + 4) Equal sp t0 target
+pub entry_branch : {chart : Chart} {map : Map} → Charts chart map → (code : Code) (at target from : ℕ) → at ≡ from → IsInText map at (entry_words map.jumps)
+    → {a b : Register} → a.number ≡ (frame_register chart.jumps).number → b.number ≡ 19 → IsSymbolAt map symbol.StackFull target
+    → (at + 4 * words_to_frame chart.jumps ≡ from + 4 * words_to_frame chart.jumps → JumpReaches chart.jumps (at + 4 * words_to_frame chart.jumps + 4) chart.symbols.stack_full
+    → BranchesOn chart.jumps Far code (at + 4 * words_to_frame chart.jumps) Equal a b chart.symbols.stack_full)
+    → BranchesOn map.jumps Far code (at + 4 * words_to_frame map.jumps) Equal (frame_register map.jumps) s3 target
 entry_branch {chart} {map} charts code at target from is inside {a} {b} a_is b_is (before, behind, target_is) here =
     let same : chart.symbols.stack_full ≡ target = charts.symbols.stack_full before behind ∙ sym target_is in
     let high = charts.symbols_in symbol.StackFull before behind in
-    let reaches : JumpReaches chart.jumps (at + 4 + 4) target =
-    jump_reaches charts chart.jumps charts.jumps (at + 4 + 4) target (omega (arith, inside.word)) (omega (arith, target_is, charts.first_word)) (omega (arith, inside.low)) (omega (arith, inside.high))
+    let test : ℕ = at + 4 * words_to_frame chart.jumps in
+    let within : IsInText map at (entry_words chart.jumps) = subst (λ (j : Reach). IsInText map at (entry_words j)) (sym charts.jumps) inside in
+    let reaches : JumpReaches chart.jumps (test + 4) target =
+    jump_reaches charts chart.jumps charts.jumps (test + 4) target (omega (arith, within.word)) (omega (arith, target_is, charts.first_word)) (omega (arith, within.low)) (omega (arith, within.high))
     (omega (arith, target_is)) (omega (arith, target_is, high)) in
-    let there = here (ap (λ p. p + 4) is) (subst (JumpReaches chart.jumps (at + 4 + 4)) (sym same) reaches) in
-    subst (λ (j : Reach). BranchesOn j Far code (at + 4) Equal sp t0 target) charts.jumps
-    (subst (λ (w : ℕ). BranchesOn chart.jumps Far code (at + 4) Equal sp t0 w) same
-    (subst (λ (r : Register). BranchesOn chart.jumps Far code (at + 4) Equal r t0 chart.symbols.stack_full) (same_register a sp a_is)
-    (subst (λ (r : Register). BranchesOn chart.jumps Far code (at + 4) Equal a r chart.symbols.stack_full) (same_register b t0 b_is) there)))
+    let there = here (ap (λ p. p + 4 * words_to_frame chart.jumps) is) (subst (JumpReaches chart.jumps (test + 4)) (sym same) reaches) in
+    subst (λ (j : Reach). BranchesOn j Far code (at + 4 * words_to_frame j) Equal (frame_register j) s3 target) charts.jumps
+    (subst (λ (w : ℕ). BranchesOn chart.jumps Far code test Equal (frame_register chart.jumps) s3 w) same
+    (subst (λ (r : Register). BranchesOn chart.jumps Far code test Equal r s3 chart.symbols.stack_full) (same_register a (frame_register chart.jumps) a_is)
+    (subst (λ (r : Register). BranchesOn chart.jumps Far code test Equal a r chart.symbols.stack_full) (same_register b s3 b_is) there)))
 
 -- ---- lines and functions, one behind the other
 

@@ -17,7 +17,7 @@ use Rattle.cell_heap.proofs.Frames.{SameInside, SameInside-store}
 use Rattle.cell_heap.proofs.Blocks.{outside-holds}
 use Rattle.rv_world.specs.World.{World, first_world}
 use Rattle.rv_world.specs.Operations.{all_bytes}
-use Rattle.rv_place.specs.Addresses.{words_of_shift, entry_words, frame_bias}
+use Rattle.rv_place.specs.Addresses.{words_of_shift, words_to_frame, entry_words, frame_bias}
 use Rattle.rv_place.specs.Lines.{Map, FunctionAt}
 use Rattle.rv_place.specs.Grounds.{stack_end, constant_bytes, Ground, Rests}
 use Rattle.rv_place.specs.Running.{AllPlain, most_lines, FramesAt, Running}
@@ -69,12 +69,12 @@ module _ {map : Map} {pool : Pool} {functions : List PlacedLines} {depth buffer 
   allowed : can_store parts base 4 ≡ true
   allowed = ground.stores base above (omega (arith, base_is, ground.some_frame)) base_word
 
-  takes : Shifts pool.cells code (2 + words_of_shift map.jumps + 1) (5 ∷ 2 ∷ []) (with_number base 4 stop s.memory) (base + frame_bias map.jumps) (entry + 4 * entry_words map.jumps) s
+  takes : Shifts pool.cells code (words_to_frame map.jumps + 1 + words_of_shift map.jumps + 1) (5 ∷ 2 ∷ []) (with_number base 4 stop s.memory) (base + frame_bias map.jumps) (entry + 4 * entry_words map.jumps) s
   takes =
       let full = ground.stack_full in
-      let more : base + map.frame ≢ map.bottom = λ e. omega (arith, above, ground.some_frame) in
-      entry_takes pool.cells ground.below before.rests.stands map entry before.pc_is main_at.entry full.0 full.1 base stop (before.base_is ∙ ap (λ b. b + frame_bias map.jumps) (sym base_is)) before.way_is
-      more (omega (arith, base_is, ground.in_range)) base_word (rw before.rests.parts_are allowed)
+      let more : stack_end map depth ≢ map.bottom = λ e. omega (arith, e, base_is, above, ground.some_frame) in
+      entry_takes pool.cells ground.below before.rests.stands map entry before.pc_is main_at.entry full.0 full.1 (stack_end map depth) before.base_is ground.in_range
+      (before.cells.memory.end ∙ ground.cells_below) base stop (sym base_is) before.way_is more base_word (rw before.rests.parts_are allowed)
       (behind_misses before.cells base (omega (arith, above, ground.cells_below)))
 
   constants_stay : bytes_at takes.after.memory map.constants.first (constant_bytes map) ≡ all_bytes map.constants.texts
@@ -89,7 +89,7 @@ module _ {map : Map} {pool : Pool} {functions : List PlacedLines} {depth buffer 
       (entered_in (most_lines functions) 0 entry main before.rests.stands ground.below entry_is main_at (plain_found functions plain 0 main first) (few_found functions 0 main first))
       (λ k w e. cc) refl (refl, base_is)
 
-  pub entry-begins : Begins map pool functions depth stop code parts main input (2 + words_of_shift map.jumps + 1) s
+  pub entry-begins : Begins map pool functions depth stop code parts main input (words_to_frame map.jumps + 1 + words_of_shift map.jumps + 1) s
   entry-begins = record {
     after = takes.after;
     walks = walks_done takes.done;

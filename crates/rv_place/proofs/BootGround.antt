@@ -12,7 +12,7 @@ use Rattle.rv_isa.specs.declared.placed.Symbol.TheVariants as symbol
 use Rattle.rv_isa.specs.PlacedCode.{placed_functions}
 use Rattle.rv_isa.specs.Standing.{Code, code_of}
 use Rattle.rv_isa.proofs.Standing.{Has-front, Has-get, code_of-Has, code_of-place}
-use Rattle.cell_runtime.specs.Layouts.{below_pointer, next_page, layout_of}
+use Rattle.cell_runtime.specs.Layouts.{below_pointer, layout_of}
 use Rattle.cell_runtime.specs.Lines.{words_of}
 use Rattle.cell_runtime.proofs.Reaching.{below_most}
 use Rattle.cell_runtime.specs.Texts.{IsRuntime, runtime_labels, IsText}
@@ -28,11 +28,11 @@ use Rattle.rv_place.specs.Images.{code_in}
 use Rattle.rv_place.specs.declared.words.Words.{Words}
 use Rattle.rv_place.specs.Addresses.{jump_words, words_of_functions, IsBehind, frame_size}
 use Rattle.rv_place.specs.declared.reach.Reach.TheVariants.{Near}
-use Rattle.rv_place.specs.Texts.{ArePlaceable, most_text_words, most_constant_bytes, jumps_of, text_bytes, memory_of, pool_in, map_of, ArePlacedWords}
+use Rattle.rv_place.specs.Texts.{ArePlaceable, most_text_words, most_constant_bytes, text_bytes, memory_of, pool_in, map_of, ArePlacedWords}
 use Rattle.rv_place.specs.Grounds.{HasRoutine, Ground}
 use Rattle.rv_place.proofs.BootLoaded.{two_parts, text-loaded, memory-loaded, memory-stored, stored-behind}
-use Rattle.rv_place.proofs.BootSizes.{memory_behind, memory_page, page_behind, page_near, page_multiple, stack_most, words_most, bytes_most, memory_most}
-use Rattle.rv_place.proofs.Shifting.{bias_below, bias_word}
+use Rattle.rv_place.proofs.BootSizes.{memory_behind, memory_page, stack_most, words_most, bytes_most, memory_most}
+use Rattle.rv_place.proofs.Shifting.{bias_below}
 
 -- the stop behind the start, where main comes back to
 abbrev pub stop_address : ℕ
@@ -66,15 +66,14 @@ behind_read_byte =
 
 -- ---- the room in memory
 
--- The text ends before the memory behind it. There the buffer and the cells come first, and the stack at the begin of a page; all is far below 2^32.
+-- The text ends before the memory behind it. There the buffer and the cells come first, and the stack behind them; all is far below 2^32.
 pub record HasRoom (cells depth frame text memory bottom size : ℕ) : Type 0 where
   pub few_text : text ≤ 4 * most_text_words + most_constant_bytes
   pub behind : text_start + text ≤ memory
   pub near : memory ≤ text_start + 4 * most_text_words + most_constant_bytes + 4095
   pub memory_page : memory % 4096 ≡ 0
-  pub some_cells : 36 + 32 * cells + below_pointer frame ≤ bottom
-  pub few_cells : bottom ≤ 33560611
-  pub bottom_page : bottom % 4096 ≡ 0
+  pub some_cells : bottom ≡ 32 + 32 * cells + below_pointer frame
+  pub few_cells : bottom ≤ 33556512
   pub size_is : size ≡ bottom + depth * frame
   pub few_frames : depth * frame ≤ 267911168
 
@@ -82,17 +81,17 @@ pub has-room : {cells depth : ℕ} {runtime program : Placed} → cells ≤ grea
     → HasRoom cells depth (frame_size (placed_functions program)) (text_bytes runtime program) (memory_of runtime program) runtime.memory.stack_bottom runtime.memory.size
 has-room {cells} {depth} {runtime} {program} few_cells few_depth is_runtime placeable =
     let below = below_most (frame_size (placed_functions program)) in
-    let low : ℕ = 32 + 32 * cells + 4 + below_pointer (frame_size (placed_functions program)) in
-    let bottom_is : runtime.memory.stack_bottom ≡ next_page low = ap (λ (section : DataSection). section.stack_bottom) is_runtime.memory in
-    let size_is : runtime.memory.size ≡ next_page low + depth * frame_size (placed_functions program) = ap (λ (section : DataSection). section.size) is_runtime.memory in
+    let bottom_is : runtime.memory.stack_bottom ≡ 32 + 32 * cells + below_pointer (frame_size (placed_functions program)) =
+    ap (λ (section : DataSection). section.stack_bottom) is_runtime.memory in
+    let size_is : runtime.memory.size ≡ 32 + 32 * cells + below_pointer (frame_size (placed_functions program)) + depth * frame_size (placed_functions program) =
+    ap (λ (section : DataSection). section.size) is_runtime.memory in
     record {
       few_text = bytes_most placeable;
       behind = memory_behind (text_bytes runtime program);
       near = memory_most placeable;
       memory_page = memory_page (text_bytes runtime program);
-      some_cells = rw bottom_is (omega (arith, page_behind low));
-      few_cells = rw bottom_is (omega (arith, page_near low));
-      bottom_page = rw bottom_is (page_multiple low);
+      some_cells = bottom_is;
+      few_cells = omega (arith, bottom_is, below, few_cells);
       size_is = rw bottom_is size_is;
       few_frames = stack_most depth (frame_size (placed_functions program)) few_depth placeable.frames;
     }
@@ -135,7 +134,6 @@ module _ {cells depth : ℕ} {runtime program : Placed} {words : Words} (is_runt
       let bias = bias_below (frame_size (placed_functions program)) jump_words (words_of runtime.natives.items + words_of_functions Near (placed_functions program)) in
       let some_cells = room.some_cells in
       let below = below_most (frame_size (placed_functions program)) in
-      let bias_words = bias_word (jumps_of runtime program) in
       record {
         functions_at = placed.functions;
         below = λ at i here.
@@ -146,12 +144,12 @@ module _ {cells depth : ℕ} {runtime program : Placed} {words : Words} (is_runt
         some_frame = omega arith;
         frame_words = omega arith;
         some_depth = some_depth;
-        bottom_word = omega (arith, room.memory_page, room.bottom_page, bias_words);
+        bottom_word = omega (arith, room.memory_page, room.some_cells, bias);
         in_range = omega (arith, room.near, room.few_cells, room.few_frames);
         loads = λ at low high word. memory-loaded text memory size at 4 (omega arith) (omega (arith, room.size_is));
         stores = λ at low high word. memory-stored text memory size at 4 (omega arith) (omega (arith, room.size_is));
         buffer_below = omega (arith, memory_is);
-        cells_below = omega (arith, room.some_cells);
+        cells_below = omega (arith, room.some_cells, memory_is, bias);
         buffer_loads = memory-loaded text memory size memory buffer_bytes (omega arith) (omega (arith, room.size_is, room.some_cells));
         buffer_stores = memory-stored text memory size memory buffer_bytes (omega arith) (omega (arith, room.size_is, room.some_cells));
         byte_loads = memory-loaded text memory size memory 1 (omega arith) (omega (arith, room.size_is, room.some_cells));

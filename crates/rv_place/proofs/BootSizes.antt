@@ -8,7 +8,6 @@ use Rattle.rv_isa.specs.declared.asm.Action.TheVariants.{Compute, Label, Jump, B
 use Rattle.rv_isa.specs.declared.placed.Placed.{Placed}
 use Rattle.rv_isa.specs.Costs.{action_length, placed_line_length, placed_code_length, placed_functions_length}
 use Rattle.rv_isa.specs.PlacedCode.{PlacedLine, does, moves, PlacedLines, placed_functions, placed_constants}
-use Rattle.cell_runtime.specs.Layouts.{next_page}
 use Rattle.rv_world.specs.Operations.{all_bytes}
 use Rattle.rv_place.specs.declared.words.Words.{Words}
 use Rattle.rv_place.specs.Addresses.{words_of_action, words_of_line, words_of_lines, words_of_functions, forms_of}
@@ -16,6 +15,7 @@ use Rattle.rv_place.specs.declared.reach.Forms.{Forms}
 use Rattle.rv_place.specs.declared.reach.Reach.{Reach}
 use Rattle.rv_place.proofs.RunningLines.{jump_most, shift_most, branch_most}
 use Rattle.rv_place.proofs.RunningMoves.{operation_weighs}
+use Rattle.rv_place.proofs.Shifting.{to_frame_most}
 use Rattle.rv_place.specs.Texts.{ArePlaceable, most_text_words, most_constant_bytes, text_words, text_bytes, memory_of, ArePlacedWords, jumps_of}
 use Rattle.rv_place.specs.Bytes.{IsTextOf}
 
@@ -43,9 +43,9 @@ lines_most forms (line ∷ lines) = omega (arith, line_most forms line, lines_mo
 
 functions_most : (jumps : Reach) (functions : List PlacedLines) → words_of_functions jumps functions ≤ 7 * length functions + placed_functions_length functions
 functions_most jumps [] = omega arith
-functions_most jumps (function ∷ functions) = omega (arith, jump_most jumps, shift_most jumps, lines_most (forms_of jumps function.code) function.code, functions_most jumps functions)
+functions_most jumps (function ∷ functions) = omega (arith, jump_most jumps, shift_most jumps, to_frame_most jumps, lines_most (forms_of jumps function.code) function.code, functions_most jumps functions)
 
--- ---- pages
+-- ---- memory
 
 pub memory_behind : (n : ℕ) → text_start + n ≤ memory_start n
 memory_behind n = omega arith
@@ -55,15 +55,6 @@ memory_near n = omega arith
 
 pub memory_page : (n : ℕ) → memory_start n % 4096 ≡ 0
 memory_page n = omega arith
-
-pub page_behind : (n : ℕ) → n ≤ next_page n
-page_behind n = omega arith
-
-pub page_near : (n : ℕ) → next_page n ≤ n + 4095
-page_near n = omega arith
-
-pub page_multiple : (n : ℕ) → next_page n % 4096 ≡ 0
-page_multiple n = omega arith
 
 -- all frames
 pub stack_most : (depth frame : ℕ) → depth ≤ greatest_depth → frame ≤ 4088 → depth * frame ≤ 267911168

@@ -29,7 +29,7 @@ use Rattle.rv_isa.specs.Environment.{stepped}
 use Rattle.rv_isa.specs.Execution.{rv32im, effect_at, Leads, Along}
 use Rattle.rv_isa.specs.Standing.{Code, Stands}
 use Rattle.rv_isa.proofs.Fits.{EffectFits, effect_of_fits}
-use Rattle.rv_isa.proofs.Runs.{run-zero, Leads-then, Leads-each}
+use Rattle.rv_isa.proofs.Runs.{run-zero, Leads-none, Leads-then, Leads-each}
 use Rattle.rv_isa.proofs.Standing.{Stands-leads}
 use Rattle.rv_isa.proofs.Instructions.{value-put_same, value-put_other, leads-sets, leads-to, leads-lw, leads-sw, leads-jal, leads-jalr}
 use Rattle.cell_runtime.specs.Registers.{IsOutside}
@@ -161,6 +161,20 @@ done_then {cells} {code} {n} {k} {front} {back} first second = record {
   trace_is = second.trace_is ∙ first.trace_is;
   kept = λ x out. second.kept x (outside_back x front back out) ∙ first.kept x (outside_front x front back out);
   avoids = Leads-each (λ progress. AvoidsFreeCells cells progress.processor) first.leads first.avoids second.avoids;
+}
+
+-- no instruction
+pub done_none : {cells : ℕ} {code : Code} {changed : List ℕ} {at : ℕ} {s : Processor} → Stands code s → s.pc ≡ at → Done cells code 0 changed s.memory at s s
+done_none {s = s} stands pc_is = record {
+  leads = Leads-none s;
+  stands = stands;
+  pc_is = pc_is;
+  memory_is = refl;
+  parts_are = refl;
+  left_is = refl;
+  trace_is = refl;
+  kept = λ x out. refl;
+  avoids = λ k less. absurd (omega arith);
 }
 
 -- the same of another name of the memory and of the address, and of registers among which those are

@@ -7,6 +7,7 @@ use Rattle.rv_isa.specs.declared.register.Register.{Register}
 use Rattle.rv_isa.specs.declared.asm.Action.{Action}
 use Rattle.rv_isa.specs.declared.asm.Action.TheVariants.{Jump, Branch, Call, TailCall, Return}
 use Rattle.rv_isa.specs.declared.asm.Condition.{Condition}
+use Rattle.rv_isa.specs.declared.asm.Condition.TheVariants.{Equal}
 use Rattle.rv_isa.specs.declared.placed.Place.{Place}
 use Rattle.rv_isa.specs.declared.placed.Place.TheVariants.{Register as register, Slot as slot}
 use Rattle.rv_isa.specs.declared.placed.Operand.{Operand}
@@ -19,7 +20,7 @@ use Rattle.rv_isa.specs.PlacedMachine.{PlacedState, PlacedTurn, is_label_line, r
 use Rattle.rv_isa.specs.Bytes.{number_at, with_number}
 use Rattle.rv_isa.specs.Processor.{Processor, Ending, exited, value, can_store}
 use Rattle.rv_isa.specs.Execution.{run, Leads}
-use Rattle.rv_isa.specs.Standing.{Code}
+use Rattle.rv_isa.specs.Standing.{Code, Stands}
 use Rattle.rv_isa.specs.declared.placed.Symbol.TheVariants as symbol
 use Rattle.rv_isa.proofs.Memory.{word-apart}
 use Rattle.cell_heap.specs.Known.{HoldsCells, SameRoots}
@@ -30,18 +31,19 @@ use Rattle.cell_runtime.specs.Registers.{IsOutside}
 use Rattle.rv_world.specs.Operations.{holds}
 use Rattle.cell_heap.specs.Pool.{Pool}
 use Rattle.rv_world.specs.World.{World, primitives}
-use Rattle.rv_place.specs.Registers.{zero_register, ra}
-use Rattle.rv_place.specs.Addresses.{words_of_shift, words_of_lines, label_address, entry_words, frame_bias}
-use Rattle.rv_place.specs.Instructions.{words_of_jump, JumpsTo, CallsTo, words_of_branch}
+use Rattle.rv_place.specs.Registers.{zero_register, ra, s3}
+use Rattle.rv_place.specs.Addresses.{words_of_shift, words_of_lines, words_to_frame, label_address, entry_words, frame_bias}
+use Rattle.rv_place.specs.Instructions.{words_of_jump, JumpsTo, CallsTo, words_of_branch, BranchesOn}
 use Rattle.rv_place.specs.declared.reach.Forms.{Forms}
 use Rattle.rv_place.specs.declared.reach.Reach.{Reach}
-use Rattle.rv_place.specs.declared.reach.Reach.TheVariants.{Far}
-use Rattle.rv_place.specs.Lines.{Map, ReturnsFrom, BranchesTo, FunctionAt, ActsAt, IsSymbolAt}
+use Rattle.rv_place.specs.declared.reach.Reach.TheVariants.{Near, Far, Wide}
+use Rattle.rv_place.specs.Lines.{Map, ReturnsFrom, BranchesTo, frame_register, FindsFrame, EntersAt, FunctionAt, ActsAt, IsSymbolAt}
 use Rattle.rv_place.specs.Grounds.{Ground, stack_end}
 use Rattle.rv_place.specs.Running.{AllPlain, most_lines, IsIn, AwaitsFirst, FramesAt, links_in, links_of, Agrees, Running}
 use Rattle.rv_place.proofs.RunningExecuting.{Goes, misses_done, done_then, done_as}
 use Rattle.rv_place.proofs.RunningRows.{Shifts, jump_to, jump_last, branch_last, entry_full, entry_takes, return_goes}
 use Rattle.rv_place.proofs.RunningFree.{behind_misses}
+use Rattle.rv_place.proofs.Shifting.{to_frame_most}
 use Rattle.rv_place.proofs.RunningFrames.{known_put, agrees_put, frames_pushed}
 use Rattle.rv_place.proofs.RunningLinks.{roots_done, cells_done, cells_ended, slots_below}
 use Rattle.rv_place.proofs.RunningLines.{Labelled, label_found, label_there, jump_below, function_found, plain_found, few_found, entered_in, goes_to_label, jump_some, jump_most, shift_most, branch_some, branch_most, branch_below}
@@ -162,6 +164,15 @@ module _ {map_of : Map} {pool : Pool} {functions : List PlacedLines} {depth buff
 
 -- ---- calls
 
+-- an entry is at a word
+entry_word : {map : Map} {code : Code} {at target : ℕ} {s : Processor} → Stands code s → EntersAt map code at → IsSymbolAt map symbol.StackFull target → at % 4 ≡ 0
+entry_word {map} {code} {at} {target} stands entry there = by map.jumps entry.finds (entry.full target there)
+  where
+    by : (jumps : Reach) → FindsFrame jumps code at → BranchesOn map.jumps Far code (at + 4 * words_to_frame jumps) Equal (frame_register jumps) s3 target → at % 4 ≡ 0
+    by Near finds (over, over_is, here, jump) = let word = stands.aligned (at + 4 * 0) _ here in omega arith
+    by Far finds (over, over_is, here, jump) = let word = stands.aligned (at + 4 * 0) _ here in omega arith
+    by Wide (down, down_is, here) branch = stands.aligned at _ here
+
 module _ {map_of : Map} {pool : Pool} {functions : List PlacedLines} {depth buffer stop : ℕ} {code : Code} {parts : List Part} (ground : Ground map_of pool functions depth buffer stop code parts) (plain : AllPlain functions)
     (f : Frame PlacedLine) (fs : List (Frame PlacedLine)) (known : ℕ → Option ℕ) (world : World) (s : Processor)
     (running : Running map_of pool functions depth stop code parts (record { frames = f ∷ fs; registers = known; shared = world }) s) (rest : List PlacedLine) (old : ℕ) (forms : Forms) where
@@ -196,23 +207,30 @@ module _ {map_of : Map} {pool : Pool} {functions : List PlacedLines} {depth buff
       (agrees_done s gets.after (passed 0 words) gets.done (refl, (refl, tt)) (passed_agree (TailCall g) args words (λ k place is_one. is_one) fit.0 words_are))
       (subst (λ links. HoldsCells pool world.cells links gets.after) (ap (λ held. links_in running.base f.cells held (links_of map_of (running.base + map_of.frame) fs)) free.0) (cells_done running.cells (roots_done gets.done refl) gets.done.memory_is))) (jump_some forms.jumps) (jump_most forms.jumps))
 
+  -- the end of the cells is where the lowest frame begins
+  end_kept : (u : Processor) → value u.registers 19 ≡ value s.registers 19 → value u.registers 19 ≡ map_of.bottom
+  end_kept u same = same ∙ running.cells.memory.end ∙ ground.cells_below
+
   -- ---- a call that finds no frame left
 
   full_comes : (g : ℕ) (callee : PlacedLines) (entry : ℕ) → FunctionAt map_of code entry callee → CallsTo forms.jumps code s.pc entry → depth ≤ length (f ∷ fs)
       → Comes map_of pool functions depth stop code parts 7 old (ended (primitives map_of.constants pool).stack_full world) s
   full_comes g callee entry function calls full =
-      let word = running.rests.stands.aligned entry _ function.entry.sets in
+      let word = entry_word running.rests.stands function.entry ground.stack_full.1 in
       let full_at = ground.stack_full in
       let called = jump_to pool.cells ground.below running.rests.stands forms.jumps s.pc refl ra entry calls word in
-      let last : value called.after.registers 2 ≡ map_of.bottom + frame_bias map_of.jumps =
-      called.done.kept 2 ((λ e. cc), ((λ e. cc), tt)) ∙ (running.base_is ∙ ap (λ b. b + frame_bias map_of.jumps) (sp_last ground f fs known world s running full)) in
-      let goes = entry_full pool.cells ground.below called.done.stands map_of entry called.done.pc_is function.entry full_at.0 full_at.1 (symbol_word full_at.0 full_at.1) last in
+      let last = sp_last ground f fs known world s running full in
+      let range = ground.in_range in
+      let high = sp_high ground f fs known world s running in
+      let goes = entry_full pool.cells ground.below called.done.stands map_of entry called.done.pc_is function.entry full_at.0 full_at.1 running.base
+      (called.done.kept 2 ((λ e. cc), ((λ e. cc), tt)) ∙ running.base_is) (omega arith) (end_kept called.after (called.done.kept 19 ((λ e. cc), ((λ e. cc), tt))))
+      (symbol_word full_at.0 full_at.1) last in
       let done = done_then called.done goes.done in
       let exits = full_at.2 goes.after (record { stands = stands_part ground.own_part done.stands; pc_is = done.pc_is }) in
-      comes_ended map_of pool functions depth stop code parts 7 old (primitives map_of.constants pool).stack_full world s (words_of_jump forms.jumps + (1 + words_of_branch map_of.jumps Far) + 3) (record { processor = exits.last; ending = exited 102 }) (exit_runs s goes.after done.leads exits)
+      comes_ended map_of pool functions depth stop code parts 7 old (primitives map_of.constants pool).stack_full world s (words_of_jump forms.jumps + (words_to_frame map_of.jumps + words_of_branch map_of.jumps Far) + 3) (record { processor = exits.last; ending = exited 102 }) (exit_runs s goes.after done.leads exits)
       (passes_to_exit ground done exits)
       (refl, exits.trace ∙ (done.trace_is ∙ running.trace), (links_of map_of running.base (f ∷ fs), cells_ended (cells_done running.cells (roots_done done refl) (done.memory_is ∙ called.done.memory_is)) exits))
-      (omega arith) (omega (arith, jump_most forms.jumps, jump_most map_of.jumps))
+      (omega arith) (omega (arith, jump_most forms.jumps, jump_most map_of.jumps, to_frame_most map_of.jumps))
     where
       symbol_word : (target : ℕ) → IsSymbolAt map_of symbol.StackFull target → target % 4 ≡ 0
       symbol_word target (before, behind, is) = let word = ground.runtime_word in omega arith
@@ -244,7 +262,7 @@ module _ {map_of : Map} {pool : Pool} {functions : List PlacedLines} {depth buff
       → Comes map_of pool functions depth stop code parts 7 old (placed_goes (placed_entered g callee) (record left_behind { into = awaited into } ∷ fs) (passed 0 words) world) s
   call_comes g callee entry args into words callee_is entry_is function calls is_behind gives agrees room =
       let stand = running.frames in
-      let word = running.rests.stands.aligned entry _ function.entry.sets in
+      let word = entry_word running.rests.stands function.entry ground.stack_full.1 in
       let full_at = ground.stack_full in
       let called = jump_to pool.cells ground.below running.rests.stands forms.jumps s.pc refl ra entry calls word in
       let last = jump_last pool.cells ground.below forms.jumps s.pc ra entry calls in
@@ -255,11 +273,11 @@ module _ {map_of : Map} {pool : Pool} {functions : List PlacedLines} {depth buff
       let some = ground.some_frame in
       let range = ground.in_range in
       let base_is : sp ≡ base + map_of.frame = omega arith in
-      let sp_is : value called.after.registers 2 ≡ base + map_of.frame + frame_bias map_of.jumps =
-      called.done.kept 2 ((λ e. cc), ((λ e. cc), tt)) ∙ (running.base_is ∙ ap (λ b. b + frame_bias map_of.jumps) base_is) in
       let base_words : base % 4 ≡ 0 = (let a = sp_word ground f fs known world s running in let b = ground.frame_words in omega arith) in
       let allowed : can_store parts base 4 ≡ true = ground.stores base (omega arith) (omega arith) base_words in
-      let takes = entry_takes pool.cells ground.below called.done.stands map_of entry called.done.pc_is function.entry full_at.0 full_at.1 base (s.pc + 4 * words_of_jump forms.jumps) sp_is (called.value_is (λ e. cc)) (omega arith) (omega arith) base_words
+      let takes = entry_takes pool.cells ground.below called.done.stands map_of entry called.done.pc_is function.entry full_at.0 full_at.1 sp
+      (called.done.kept 2 ((λ e. cc), ((λ e. cc), tt)) ∙ running.base_is) (omega arith) (end_kept called.after (called.done.kept 19 ((λ e. cc), ((λ e. cc), tt))))
+      base (s.pc + 4 * words_of_jump forms.jumps) base_is (called.value_is (λ e. cc)) (λ e. omega (arith, e)) base_words
       (rw (called.done.parts_are, running.rests.parts_are) allowed)
       (misses_done base called.done ((λ e. cc), ((λ e. cc), tt)) ((λ e. cc), ((λ e. cc), tt)) ((λ e. cc), ((λ e. cc), tt)) (behind_misses running.cells base (let under = ground.cells_below in omega arith))) in
       let done = done_as {changed' = 1 ∷ 1 ∷ 5 ∷ 2 ∷ []} (done_then called.done takes.done) (ap (λ m. with_number base 4 (s.pc + 4 * words_of_jump forms.jumps) m) called.done.memory_is) refl (λ x out. out) in
@@ -267,13 +285,13 @@ module _ {map_of : Map} {pool : Pool} {functions : List PlacedLines} {depth buff
       let waiting : FramesAt map_of code (most_lines functions) stop (stack_end map_of depth) s.memory (s.pc + 4 * words_of_jump forms.jumps) (base + map_of.frame) (record left_behind { into = awaited into } ∷ fs) =
       subst (λ b. FramesAt map_of code (most_lines functions) stop (stack_end map_of depth) s.memory (s.pc + 4 * words_of_jump forms.jumps) b (record left_behind { into = awaited into } ∷ fs)) base_is
       (is_behind (s.pc + 4 * words_of_jump forms.jumps) refl (omega arith), stand.1, awaits_first g into gives, stand.3) in
-      comes_go map_of pool functions depth stop code parts 7 old after s takes.after (words_of_jump forms.jumps + (2 + words_of_shift map_of.jumps + 1)) (walks_done done)
+      comes_go map_of pool functions depth stop code parts 7 old after s takes.after (words_of_jump forms.jumps + (words_to_frame map_of.jumps + 1 + words_of_shift map_of.jumps + 1)) (walks_done done)
       (runs_on map_of pool functions depth stop code parts (record { frames = f ∷ fs; registers = known; shared = world }) world.cells s takes.after after.frames (passed 0 words) base running done
       (constants_kept ground f fs known world s running base (s.pc + 4 * words_of_jump forms.jumps) allowed) room takes.base_is
       (frames_pushed map_of code (most_lines functions) stop (stack_end map_of depth) ground.some_frame s.memory base (s.pc + 4 * words_of_jump forms.jumps) (entry + 4 * entry_words map_of.jumps) (placed_entered g callee) (record left_behind { into = awaited into } ∷ fs) (omega arith)
       (callee_in g callee entry callee_is entry_is function) (λ k w none. cc) refl waiting)
       (agrees_same (passed 0 words) s.registers takes.after.registers agrees (λ x w is. done.kept x (outside_entry x (passed_high 0 words x w is))))
-      (pushed_cells base base_is takes.after (roots_done done refl) done.memory_is (omega arith))) (omega arith) (omega (arith, jump_most forms.jumps, shift_most map_of.jumps))
+      (pushed_cells base base_is takes.after (roots_done done refl) done.memory_is (omega arith))) (omega arith) (omega (arith, jump_most forms.jumps, shift_most map_of.jumps, to_frame_most map_of.jumps))
 
   -- what a call comes to, by whether the stack is full
   abbrev called : ℕ → Option Operand → List ℕ → Bool → PlacedLines → PlacedTurn World Ending

@@ -8,7 +8,7 @@ use Rattle.rv_isa.specs.Frames.{Frame, found}
 use Rattle.rv_isa.specs.PlacedMachine.{is_label_line, placed_entered}
 use Rattle.rv_isa.specs.Processor.{Processor}
 use Rattle.rv_isa.specs.Standing.{Code, Stands}
-use Rattle.rv_place.specs.Addresses.{words_of_shift, words_of_line, words_of_lines, label_address, forms_of, entry_words}
+use Rattle.rv_place.specs.Addresses.{words_of_shift, words_to_frame, words_of_line, words_of_lines, label_address, forms_of, entry_words}
 use Rattle.rv_place.specs.Instructions.{words_of_jump, JumpsBy, words_of_branch, BranchesOn}
 use Rattle.rv_place.specs.Registers.{zero_register}
 use Rattle.rv_place.specs.declared.reach.Forms.{Forms}
@@ -128,8 +128,9 @@ few_found (function ∷ functions) (suc g) callee is =
 pub entered_in : {map : Map} {code : Code} {s : Processor} (most g entry : ℕ) (callee : PlacedLines) → Stands code s → ((at : ℕ) (i : Instr) → code at ≡ Some i → at + 4 < 2 ^ 32)
     → slice_get map.entries g ≡ Some entry → FunctionAt map code entry callee → ArePlain callee.code callee.code → length callee.code ≤ most → IsIn map code most (entry + 4 * entry_words map.jumps) (placed_entered g callee)
 entered_in {map} most g entry callee stands below entry_is function plain few =
-    let first = stands.aligned entry _ function.entry.sets in
-    let last = below (entry + 8 + 4 * words_of_jump map.jumps + 4 * words_of_shift map.jumps) _ function.entry.saves in
+    let saving : ℕ = entry + 4 * words_to_frame map.jumps + 4 + 4 * words_of_jump map.jumps + 4 * words_of_shift map.jumps in
+    let word = stands.aligned saving _ function.entry.saves in
+    let last = below saving _ function.entry.saves in
     record {
       forms = forms_of map.jumps callee.code;
       start = entry + 4 * entry_words map.jumps;

@@ -16,13 +16,13 @@ use Rattle.rv_isa.specs.Bytes.{number_at, with_number}
 use Rattle.rv_isa.specs.Processor.{Processor, value, can_load, can_store}
 use Rattle.rv_isa.specs.Standing.{Code, Stands}
 use Rattle.rv_world.specs.Operations.{compares}
-use Rattle.rv_place.specs.Registers.{zero_register, ra, sp, t0}
-use Rattle.rv_place.specs.Addresses.{words_of_shift, entry_words, frame_bias}
+use Rattle.rv_place.specs.Registers.{zero_register, ra, sp, t0, s3}
+use Rattle.rv_place.specs.Addresses.{words_of_shift, words_to_frame, entry_words, frame_bias}
 use Rattle.rv_place.specs.Instructions.{branch_instruction, opposite, LoadsWord, words_of_jump, JumpsFar, JumpsBy, words_of_branch, BranchesFar, BranchesOn}
 use Rattle.rv_place.specs.declared.reach.Reach.{Reach}
 use Rattle.rv_place.specs.declared.reach.Reach.TheVariants.{Near, Far, Wide}
-use Rattle.rv_place.specs.Lines.{Map, ShiftsStack, IsSymbolAt, ReturnsFrom, EntersAt}
-use Rattle.rv_place.proofs.RunningExecuting.{addi_row, lui_row, branch_effect, MissesFree, Done, Gets, Goes, misses_done, done_then, done_as, done_on, target_of, next_is, plain_gets, load_gets, store_goes, jump_gets, branch_goes, opposite_compares, near_gets}
+use Rattle.rv_place.specs.Lines.{Map, ShiftsStack, IsSymbolAt, ReturnsFrom, frame_register, FindsFrame, EntersAt}
+use Rattle.rv_place.proofs.RunningExecuting.{addi_row, lui_row, branch_effect, MissesFree, Done, Gets, Goes, misses_done, done_none, done_then, done_as, done_on, target_of, next_is, plain_gets, load_gets, store_goes, jump_gets, branch_goes, opposite_compares, near_gets}
 
 -- instructions that leave a word in the stack pointer
 pub record Shifts (cells : ℕ) (code : Code) (steps : ℕ) (changed : List ℕ) (memory : ℕ → ℕ) (base next : ℕ) (s : Processor) : Type 0 where
@@ -45,6 +45,13 @@ from_pointer base bias above offset is below = omega (arith, is)
 -- the first word of a frame
 first_word : (base bias offset : ℕ) → sum_word bias offset ≡ 0 → base < 2 ^ 32 → sum_word (base + bias) offset ≡ base
 first_word base bias offset is below = omega (arith, is)
+
+-- where nothing is added
+stays_at : (at : ℕ) → at ≡ at + 4 * 0
+stays_at at = omega arith
+
+stays_at' : (base : ℕ) → base + 0 ≡ base
+stays_at' base = omega arith
 
 same_address : (base : ℕ) → base < 2 ^ 32 → sum_word base 0 ≡ base
 same_address base below = omega arith
@@ -158,61 +165,71 @@ module _ (cells : ℕ) {code : Code} (below : (at : ℕ) (i : Instr) → code at
 
   -- ---- entries
 
-  module _ {s : Processor} (stands : Stands code s) (map : Map) (at : ℕ) (pc_is : s.pc ≡ at) (entry : EntersAt map code at) (full : ℕ) (full_at : IsSymbolAt map symbol.StackFull full) where
-    -- the stack pointer in the lowest frame
-    abbrev lowest : ℕ
-    lowest = map.bottom + frame_bias map.jumps
+  -- the address of the newest frame has come to its register
+  record Found (jumps : Reach) (at base : ℕ) (s : Processor) : Type 0 where
+    after : Processor
+    done : Done cells code (words_to_frame jumps) (5 ∷ []) s.memory (at + 4 * words_to_frame jumps) s after
+    frame_is : value after.registers (frame_register jumps).number ≡ base
 
-    bottom_gets : Gets cells code 1 (5 ∷ []) 5 lowest (at + 4) s
-    bottom_gets =
-        let first = plain_gets cells below stands pc_is (lui_row t0 entry.bottom) entry.sets in
-        record { after = first.after; done = first.done; value_is = λ some. first.value_is some ∙ entry.bottom_is }
+  found_at : {s : Processor} → Stands code s → (jumps : Reach) (at base : ℕ) → s.pc ≡ at → FindsFrame jumps code at → base < 2 ^ 32 → value s.registers 2 ≡ base + frame_bias jumps
+      → Found jumps at base s
+  found_at {s} stands Near at base pc_is finds fits base_is = record { after = s; done = done_none stands (pc_is ∙ stays_at at); frame_is = base_is ∙ stays_at' base }
+  found_at {s} stands Far at base pc_is finds fits base_is = record { after = s; done = done_none stands (pc_is ∙ stays_at at); frame_is = base_is ∙ stays_at' base }
+  found_at {s} stands Wide at base pc_is (down, down_is, here) fits base_is =
+      let gets = plain_gets cells below stands pc_is (addi_row t0 sp down) here in
+      let frame : sum_word (value s.registers 2) down.word ≡ base = rw (base_is, down_is) (omega arith) in
+      record { after = gets.after; done = gets.done; frame_is = gets.value_is (λ e. cc) ∙ frame }
 
-    same_sp : value bottom_gets.after.registers 2 ≡ value s.registers 2
-    same_sp = bottom_gets.done.kept 2 ((λ e. cc), tt)
+  module _ {s : Processor} (stands : Stands code s) (map : Map) (at : ℕ) (pc_is : s.pc ≡ at) (entry : EntersAt map code at) (full : ℕ) (full_at : IsSymbolAt map symbol.StackFull full)
+      (base : ℕ) (base_is : value s.registers 2 ≡ base + frame_bias map.jumps) (fits : base + frame_bias map.jumps < 2 ^ 32) (end_is : value s.registers 19 ≡ map.bottom) where
+    found : Found map.jumps at base s
+    found = found_at stands map.jumps at base pc_is entry.finds (omega arith) base_is
 
-    test_is : (test : Bool) → nat_eq (value s.registers 2) lowest ≡ test → compares Equal (value bottom_gets.after.registers 2) (value bottom_gets.after.registers 5) ≡ test
-    test_is test is = rw (same_sp, bottom_gets.value_is (λ e. cc)) is
+    test_is : (test : Bool) → nat_eq base map.bottom ≡ test → compares Equal (value found.after.registers (frame_register map.jumps).number) (value found.after.registers 19) ≡ test
+    test_is test is = rw (found.frame_is, found.done.kept 19 ((λ e. cc), tt), end_is) is
 
     -- at the lowest frame the stack is full
-    pub entry_full : full % 4 ≡ 0 → value s.registers 2 ≡ map.bottom + frame_bias map.jumps → Goes cells code (1 + words_of_branch map.jumps Far) (5 ∷ 1 ∷ 0 ∷ []) s.memory full s
+    pub entry_full : full % 4 ≡ 0 → base ≡ map.bottom → Goes cells code (words_to_frame map.jumps + words_of_branch map.jumps Far) (5 ∷ 1 ∷ 0 ∷ []) s.memory full s
     entry_full aligned last =
-        let test : nat_eq (value s.registers 2) lowest ≡ true = grind (arith, nat_tests) in
-        let second = branch_taken bottom_gets.done.stands (at + 4) bottom_gets.done.pc_is Equal sp t0 full map.jumps Far (entry.full full full_at) aligned (test_is true test) in
-        record { after = second.after; done = done_on bottom_gets.done second.done }
+        let test : nat_eq base map.bottom ≡ true = grind (arith, nat_tests) in
+        let second = branch_taken found.done.stands (at + 4 * words_to_frame map.jumps) found.done.pc_is Equal (frame_register map.jumps) s3 full map.jumps Far (entry.full full full_at) aligned (test_is true test) in
+        record { after = second.after; done = done_on found.done second.done }
 
     -- else the test leads over the jump
-    entry_passes : value s.registers 2 ≢ lowest → Goes cells code 2 (5 ∷ []) s.memory (at + 8 + 4 * words_of_jump map.jumps) s
+    entry_passes : base ≢ map.bottom → Goes cells code (words_to_frame map.jumps + 1) (5 ∷ []) s.memory (at + 4 * words_to_frame map.jumps + 4 + 4 * words_of_jump map.jumps) s
     entry_passes more =
-        let test : nat_eq (value s.registers 2) lowest ≡ false = grind (arith, nat_tests) in
-        let second = branch_passed bottom_gets.done.stands (at + 4) bottom_gets.done.pc_is Equal sp t0 full map.jumps Far (entry.full full full_at) (test_is false test) in
-        record { after = second.after; done = done_as {changed' = 5 ∷ []} (done_on bottom_gets.done second.done) refl (omega arith) (λ x out. out) }
+        let test : nat_eq base map.bottom ≡ false = grind (arith, nat_tests) in
+        let second = branch_passed found.done.stands (at + 4 * words_to_frame map.jumps) found.done.pc_is Equal (frame_register map.jumps) s3 full map.jumps Far (entry.full full full_at) (test_is false test) in
+        record { after = second.after; done = done_as {changed' = 5 ∷ []} (done_on found.done second.done) refl (omega arith) (λ x out. out) }
 
     -- and a frame is taken
-    entry_shifts : (base : ℕ) → value s.registers 2 ≡ base + map.frame + frame_bias map.jumps → base + map.frame ≢ map.bottom → base + map.frame + frame_bias map.jumps < 2 ^ 32
-        → Shifts cells code (2 + words_of_shift map.jumps) (5 ∷ 2 ∷ []) s.memory (base + frame_bias map.jumps) (at + 8 + 4 * words_of_jump map.jumps + 4 * words_of_shift map.jumps) s
-    entry_shifts base base_is more fits =
-        let tested : Goes cells code 2 (5 ∷ []) s.memory (at + 8 + 4 * words_of_jump map.jumps) s = entry_passes (λ e. more (omega (arith, e, base_is))) in
-        let old_base : value tested.after.registers 2 ≡ base + map.frame + frame_bias map.jumps = tested.done.kept 2 ((λ e. cc), tt) ∙ base_is in
-        let third = shifts_by tested.done.stands map.jumps (2 ^ 32 - map.frame) (at + 8 + 4 * words_of_jump map.jumps) tested.done.pc_is entry.takes in
+    entry_shifts : (lower : ℕ) → base ≡ lower + map.frame → base ≢ map.bottom
+        → Shifts cells code (words_to_frame map.jumps + 1 + words_of_shift map.jumps) (5 ∷ 2 ∷ []) s.memory (lower + frame_bias map.jumps)
+        (at + 4 * words_to_frame map.jumps + 4 + 4 * words_of_jump map.jumps + 4 * words_of_shift map.jumps) s
+    entry_shifts lower lower_is more =
+        let tested = entry_passes more in
+        let old_base : value tested.after.registers 2 ≡ lower + map.frame + frame_bias map.jumps =
+        tested.done.kept 2 ((λ e. cc), tt) ∙ base_is ∙ ap (λ b. b + frame_bias map.jumps) lower_is in
+        let third = shifts_by tested.done.stands map.jumps (2 ^ 32 - map.frame) (at + 4 * words_to_frame map.jumps + 4 + 4 * words_of_jump map.jumps) tested.done.pc_is entry.takes in
         record {
           after = third.after;
           done = done_on tested.done third.done;
-          base_is = third.base_is ∙ rw old_base (shifted base map.frame (frame_bias map.jumps) fits);
+          base_is = third.base_is ∙ rw old_base (shifted lower map.frame (frame_bias map.jumps) (omega (arith, fits, lower_is)));
         }
 
-    pub entry_takes : (base way : ℕ) → value s.registers 2 ≡ base + map.frame + frame_bias map.jumps → value s.registers 1 ≡ way → base + map.frame ≢ map.bottom → base + map.frame + frame_bias map.jumps < 2 ^ 32
-        → base % 4 ≡ 0 → can_store s.parts base 4 ≡ true → MissesFree cells s base
-        → Shifts cells code (2 + words_of_shift map.jumps + 1) (5 ∷ 2 ∷ []) (with_number base 4 way s.memory) (base + frame_bias map.jumps) (at + 4 * entry_words map.jumps) s
-    entry_takes base way base_is way_is more fits aligned allowed misses =
-        let moved = entry_shifts base base_is more fits in
-        let address : sum_word (value moved.after.registers 2) entry.back.word ≡ base = rw moved.base_is (first_word base (frame_bias map.jumps) entry.back.word entry.back_is (omega arith)) in
+    pub entry_takes : (lower way : ℕ) → base ≡ lower + map.frame → value s.registers 1 ≡ way → base ≢ map.bottom → lower % 4 ≡ 0 → can_store s.parts lower 4 ≡ true → MissesFree cells s lower
+        → Shifts cells code (words_to_frame map.jumps + 1 + words_of_shift map.jumps + 1) (5 ∷ 2 ∷ []) (with_number lower 4 way s.memory) (lower + frame_bias map.jumps) (at + 4 * entry_words map.jumps) s
+    entry_takes lower way lower_is way_is more aligned allowed misses =
+        let moved = entry_shifts lower lower_is more in
+        let address : sum_word (value moved.after.registers 2) entry.back.word ≡ lower =
+        rw moved.base_is (first_word lower (frame_bias map.jumps) entry.back.word entry.back_is (omega (arith, fits, lower_is))) in
         let saved : value moved.after.registers 1 ≡ way = moved.done.kept 1 ((λ e. cc), ((λ e. cc), tt)) ∙ way_is in
-        let last = store_goes cells below moved.done.stands {at = at + 8 + 4 * words_of_jump map.jumps + 4 * words_of_shift map.jumps} moved.done.pc_is {base = sp} {from = ra} {offset = entry.back} {address = base} {word = way} entry.saves address saved aligned (rw moved.done.parts_are allowed)
-        (misses_done base moved.done ((λ e. cc), ((λ e. cc), tt)) ((λ e. cc), ((λ e. cc), tt)) ((λ e. cc), ((λ e. cc), tt)) misses) in
+        let last = store_goes cells below moved.done.stands {at = at + 4 * words_to_frame map.jumps + 4 + 4 * words_of_jump map.jumps + 4 * words_of_shift map.jumps} moved.done.pc_is {base = sp} {from = ra} {offset = entry.back}
+        {address = lower} {word = way} entry.saves address saved aligned (rw moved.done.parts_are allowed)
+        (misses_done lower moved.done ((λ e. cc), ((λ e. cc), tt)) ((λ e. cc), ((λ e. cc), tt)) ((λ e. cc), ((λ e. cc), tt)) misses) in
         record {
           after = last.after;
-          done = done_as {changed' = 5 ∷ 2 ∷ []} (done_then moved.done last.done) (ap (λ m. with_number base 4 way m) moved.done.memory_is) (omega arith) (λ x out. out);
+          done = done_as {changed' = 5 ∷ 2 ∷ []} (done_then moved.done last.done) (ap (λ m. with_number lower 4 way m) moved.done.memory_is) (omega arith) (λ x out. out);
           base_is = last.done.kept 2 tt ∙ moved.base_is;
         }
 

@@ -65,9 +65,15 @@ forms_of jumps lines = record { jumps = jumps; branches = reach_of branch_words 
 
 -- ---- functions
 
--- a function begins with its entry, which compares the stack with its lowest frame, takes a frame and saves the way back
+-- how many instructions give the address of a frame: none where the stack pointer is at its first word
+abbrev pub words_to_frame : Reach → ℕ
+words_to_frame Near = 0
+words_to_frame Far = 0
+words_to_frame Wide = 1
+
+-- a function begins with its entry, which compares the newest frame with the lowest one, takes a frame and saves the way back
 abbrev pub entry_words : Reach → ℕ
-entry_words jumps = 3 + words_of_jump jumps + words_of_shift jumps
+entry_words jumps = words_to_frame jumps + 2 + words_of_jump jumps + words_of_shift jumps
 
 abbrev pub words_of_function : Reach → PlacedLines → ℕ
 words_of_function jumps function = entry_words jumps + words_of_lines (forms_of jumps function.code) function.code

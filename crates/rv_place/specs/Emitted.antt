@@ -21,7 +21,7 @@ use Rattle.rv_isa.specs.Standing.{Code, Has}
 use Rattle.cell_runtime.specs.Lines.{Spells}
 use Rattle.cell_runtime.specs.Lines as OfRuntime
 use Rattle.rv_world.specs.Operations.{address_in}
-use Rattle.rv_place.specs.Addresses.{words_of_action, words_of_shift, words_of_line, words_of_lines, words_of_function, words_of_functions, branch_words, jump_words, entry_words, entries_from, slot_offset, frame_bias, IsBehind, label_address}
+use Rattle.rv_place.specs.Addresses.{words_of_action, words_of_shift, words_of_line, words_of_lines, words_of_function, words_of_functions, branch_words, jump_words, entry_words, entries_from, slot_offset, IsBehind, label_address}
 use Rattle.rv_place.specs.Lines.{Map, IsFromPointer, ShiftsStack, ActsAt, LineAt, LinesAt, FunctionAt, FunctionsAt, EntersAt, MovesBy, ReturnsFrom, registers_of, register_into}
 use Rattle.rv_place.specs.Registers.{zero_register, ra, sp, a0}
 use Rattle.rv_isa.specs.PlacedMachine.{only_slot}
@@ -114,11 +114,9 @@ pub record AreSymbols (runtime : ℕ) (labels : List (Symbol × ℕ)) (symbols :
 pub record Charts (chart : Chart) (map : Map) : Type 0 where
   pub jumps : chart.jumps ≡ map.jumps
   pub frame : chart.frame ≡ map.frame
-  pub bottom : chart.bottom ≡ map.bottom + frame_bias map.jumps
   pub entries : chart.entries.items ≡ map.entries
   pub entries_in : (f entry : ℕ) → slice_get map.entries f ≡ Some entry → IsInText map entry (entry_words map.jumps)
   pub symbols_in : (name : Symbol) (before : ℕ) → IsBehind name before map.labels → map.runtime + 4 * before ≤ map.constants.first
-  pub bottom_page : (map.bottom + frame_bias map.jumps) % 4096 ≡ 0
   pub first_word : map.runtime % 4 ≡ 0
   pub short : map.jumps ≡ Near → map.constants.first < map.runtime + 4 * jump_words
   pub below : map.constants.first < 2 ^ 32

@@ -33,9 +33,10 @@ constant_bytes map = length (all_bytes map.constants.texts)
 abbrev pub stack_end : Map → ℕ → ℕ
 stack_end map depth = map.bottom + depth * map.frame
 
--- The functions and the routines stand in the code, whose addresses are below 2^32. The frames of the stack are words that may be loaded and
--- stored; the cells lie below them, and the buffer of the prints below these. The constants may be loaded, and no store reaches them. Behind the
--- end of main the run comes to a stop. The routines and the stops stand in the runtime's own code, which is a part of the code, and within its words.
+-- The functions and the routines stand in the code, whose addresses are below 2^32. The frames of the stack are words that may be
+-- loaded and stored. The cells end where the lowest frame begins, and the buffer of the prints lies below the cells. The constants may be
+-- loaded, and no store reaches them. Behind the end of main the run comes to a stop. The routines and the stops stand in the runtime's
+-- own code, which is a part of the code, and within its words.
 pub record Ground (map : Map) (pool : Pool) (functions : List PlacedLines) (depth buffer stop : ℕ) (code : Code) (parts : List Part) : Type 0 where
   pub functions_at : FunctionsAt map code map.entries functions
   pub below : (at : ℕ) (i : Instr) → code at ≡ Some i → at + 4 < 2 ^ 32
@@ -47,7 +48,7 @@ pub record Ground (map : Map) (pool : Pool) (functions : List PlacedLines) (dept
   pub loads : (at : ℕ) → map.bottom ≤ at → at + 4 ≤ stack_end map depth → at % 4 ≡ 0 → can_load parts at 4 ≡ true
   pub stores : (at : ℕ) → map.bottom ≤ at → at + 4 ≤ stack_end map depth → at % 4 ≡ 0 → can_store parts at 4 ≡ true
   pub buffer_below : buffer + buffer_bytes ≤ pool.first
-  pub cells_below : end_of pool ≤ map.bottom
+  pub cells_below : end_of pool ≡ map.bottom
   pub buffer_loads : can_load parts buffer buffer_bytes ≡ true
   pub buffer_stores : can_store parts buffer buffer_bytes ≡ true
   pub byte_loads : can_load parts buffer 1 ≡ true

@@ -1,10 +1,9 @@
 -- Placed code as it stands in memory: the instructions of each line, from an address on.
 use Rattle.std.specs.Prelude.{◌≡◌, ℕ, ◌+◌, ◌-◌, ◌*◌, ◌^◌, ◌≤◌, List, [], ◌∷◌, Option, Some, None, slice_get}
 use Rattle.rv_isa.specs.declared.register.Register.{Register}
-use Rattle.rv_place.specs.Registers.{zero_register, ra, sp, t0, a0}
+use Rattle.rv_place.specs.Registers.{zero_register, ra, sp, t0, s3, a0}
 use Rattle.rv_isa.specs.declared.immediate.Immediate.{Immediate}
-use Rattle.rv_isa.specs.declared.immediate.UpperImmediate.{UpperImmediate}
-use Rattle.rv_isa.specs.declared.instr.Instr.TheVariants.{Addi, Jalr, Lui, Lw, Sw}
+use Rattle.rv_isa.specs.declared.instr.Instr.TheVariants.{Addi, Jalr, Lw, Sw}
 use Rattle.rv_isa.specs.declared.asm.Condition.{Condition}
 use Rattle.rv_isa.specs.declared.asm.Condition.TheVariants.{Equal}
 use Rattle.rv_isa.specs.declared.asm.Action.{Action}
@@ -22,7 +21,7 @@ use Rattle.rv_isa.specs.Arithmetic.{sum_word}
 use Rattle.rv_isa.specs.Standing.{Code, Has}
 use Rattle.rv_world.specs.Operations.{Constants}
 use Rattle.rv_place.specs.Instructions.{Zero, words_of_jump, JumpsTo, CallsTo, BranchesOn, UnholdsToken, Computes}
-use Rattle.rv_place.specs.Addresses.{words_of_line, words_of_shift, label_address, forms_of, entry_words, frame_bias, slot_offset, IsBehind}
+use Rattle.rv_place.specs.Addresses.{words_of_line, words_of_shift, words_to_frame, label_address, forms_of, entry_words, frame_bias, slot_offset, IsBehind}
 use Rattle.rv_place.specs.declared.reach.Forms.{Forms}
 use Rattle.rv_place.specs.declared.reach.Reach.{Reach}
 use Rattle.rv_place.specs.declared.reach.Reach.TheVariants.{Near, Far, Wide}
@@ -144,17 +143,28 @@ LinesAt map forms code start whole at (line ∷ lines) =
 
 -- ---- the functions
 
--- the entry: where the stack pointer is in the lowest frame, no frame is left, and the runtime's stop for a full stack comes; else a frame is
--- taken, and the way back saved in its first word
+-- the register that holds the address of the newest frame's first word
+abbrev pub frame_register : Reach → Register
+frame_register Near = sp
+frame_register Far = sp
+frame_register Wide = t0
+
+-- the address of the newest frame's first word comes to its register: where frames are wide, t0 is set to it
+abbrev pub FindsFrame : Reach → Code → ℕ → Type 0
+FindsFrame Near code at = Unit {0}
+FindsFrame Far code at = Unit {0}
+FindsFrame Wide code at = (down : Immediate) × (down.word ≡ 2 ^ 32 - 2048) × (code at ≡ Some (Addi t0 sp down))
+
+-- The entry: where the newest frame is the lowest, which begins at the end of the cells, no frame is left, and the runtime's stop for
+-- a full stack comes; else a frame is taken, and the way back saved in its first word.
 pub record EntersAt (map : Map) (code : Code) (at : ℕ) : Type 0 where
-  pub bottom : UpperImmediate
-  pub bottom_is : bottom.word ≡ map.bottom + frame_bias map.jumps
-  pub sets : code at ≡ Some (Lui t0 bottom)
-  pub full : (target : ℕ) → IsSymbolAt map symbol.StackFull target → BranchesOn map.jumps Far code (at + 4) Equal sp t0 target
-  pub takes : ShiftsStack map.jumps (2 ^ 32 - map.frame) code (at + 8 + 4 * words_of_jump map.jumps)
+  pub finds : FindsFrame map.jumps code at
+  pub full : (target : ℕ) → IsSymbolAt map symbol.StackFull target
+      → BranchesOn map.jumps Far code (at + 4 * words_to_frame map.jumps) Equal (frame_register map.jumps) s3 target
+  pub takes : ShiftsStack map.jumps (2 ^ 32 - map.frame) code (at + 4 * words_to_frame map.jumps + 4 + 4 * words_of_jump map.jumps)
   pub back : Immediate
   pub back_is : IsFromPointer map.jumps 0 back
-  pub saves : code (at + 8 + 4 * words_of_jump map.jumps + 4 * words_of_shift map.jumps) ≡ Some (Sw sp ra back)
+  pub saves : code (at + 4 * words_to_frame map.jumps + 4 + 4 * words_of_jump map.jumps + 4 * words_of_shift map.jumps) ≡ Some (Sw sp ra back)
 
 pub record FunctionAt (map : Map) (code : Code) (at : ℕ) (function : PlacedLines) : Type 0 where
   pub entry : EntersAt map code at

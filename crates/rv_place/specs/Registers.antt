@@ -22,6 +22,10 @@ s0 = record { number = 8; in_range = lit< tt }
 abbrev pub s1 : Register
 s1 = record { number = 9; in_range = lit< tt }
 
+-- a saved register: the end of the cells
+abbrev pub s3 : Register
+s3 = record { number = 19; in_range = lit< tt }
+
 -- the first register of arguments
 abbrev pub a0 : Register
 a0 = record { number = 10; in_range = lit< tt }

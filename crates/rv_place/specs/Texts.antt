@@ -1,5 +1,5 @@
 -- What a text is made of: the runtime's instructions, those of the functions behind them, and the constants behind these.
-use Rattle.std.specs.Prelude.{◌≡◌, ℕ, ◌+◌, ◌-◌, ◌*◌, ◌%◌, ◌≤◌, List, ◌++◌, length, cond, nat_lt}
+use Rattle.std.specs.Prelude.{◌≡◌, ℕ, ◌+◌, ◌-◌, ◌*◌, ◌≤◌, List, ◌++◌, length, cond, nat_lt}
 use Rattle.elf_image.specs.Program.{text_start, memory_start}
 use Rattle.rv_isa.specs.declared.instr.Instr.{Instr}
 use Rattle.rv_isa.specs.declared.placed.Placed.{Placed}
@@ -46,13 +46,12 @@ greatest_address = 2147483648
 abbrev pub greatest_bottom : ℕ
 greatest_bottom = 268435456
 
--- A runtime and a program that can be placed: the stack pointer is at a page in the lowest frame, so that one LUI gives it there;
--- frames are at most 4,088 bytes, so that each slot is within reach of the stack pointer; and the text is small enough for a text part.
+-- A runtime and a program that can be placed: frames are at most 4,088 bytes, so that each slot is within reach of the stack pointer;
+-- and the text is small enough for a text part.
 pub record ArePlaceable (runtime program : Placed) : Type 0 where
   pub lines : AreWithin greatest_reach runtime.natives.items
   pub runtime_size : words_of runtime.natives.items ≤ most_runtime_words
   pub bottom : runtime.memory.stack_bottom ≤ greatest_bottom
-  pub bottom_page : runtime.memory.stack_bottom % 4096 ≡ 0
   pub frames : frame_size (placed_functions program) ≤ 4088
   pub few_functions : length (placed_functions program) ≤ most_functions
   pub short : placed_functions_length (placed_functions program) ≤ most_text_length

@@ -13,8 +13,6 @@ pub struct Chart {
     pub jumps: Reach,
     /// The bytes of a frame.
     pub frame: u32,
-    /// Where the stack pointer stands in the lowest frame.
-    pub bottom: u32,
     /// The addresses of the functions.
     pub entries: Vec<u32>,
     pub symbols: Symbols,

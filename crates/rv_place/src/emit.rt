@@ -5,11 +5,11 @@ ghost use Rattle.rv_isa.specs.Arithmetic.{sum_word};
 ghost use Rattle.rv_isa.specs.PlacedCode.{from_of, to_of};
 ghost use Rattle.rv_isa.specs.declared.instr.Instr.TheVariants.{Addi};
 ghost use Rattle.rv_place.specs.declared.reach.Reach.TheVariants.{Near, Far, Wide};
-ghost use Rattle.rv_place.specs.Addresses.{slot_offset, slots_of_place, branch_words, jump_words, entry_words, frame_bias, greatest_frame, words_of_shift};
-ghost use Rattle.rv_place.specs.Registers.{zero_register, ra, sp, t0};
+ghost use Rattle.rv_place.specs.Addresses.{slot_offset, slots_of_place, branch_words, jump_words, entry_words, frame_bias, greatest_frame, words_of_shift, words_to_frame};
+ghost use Rattle.rv_place.specs.Registers.{zero_register, ra, sp};
 ghost use Rattle.rv_place.specs.Instructions.{LoadsWord, SetsWord, words_of_constant, words_of_jump, words_of_branch, JumpsBy, JumpsTo, CallsTo, BranchesOn, branch_instruction, opposite};
 ghost use Rattle.rv_place.specs.Texts.{greatest_address};
-ghost use Rattle.rv_place.specs.Lines.{IsFromPointer, ShiftsStack};
+ghost use Rattle.rv_place.specs.Lines.{IsFromPointer, ShiftsStack, FindsFrame, frame_register};
 ghost use Rattle.rv_place.specs.Emitted.{Grew, AreNear, JumpReaches, BranchReaches, TakesFrame, ReturnBy, EntryBy, MoveBy};
 
 use crate::chart::Chart;
@@ -391,34 +391,52 @@ fn emit_taking(code: &mut Vec<Instr>, jumps: Reach, frame: u32) -> Result<(), No
     Ok(())
 }
 
-/// The upper bits of the address of a page.
-fn page(address: u32) -> UpperImmediate
-    ensures { address % 4096 ≡ 0 → result.word ≡ address }
+/// The register that holds the address of the newest frame, once `emit_finding` has stood before.
+fn frame_register(jumps: Reach) -> Register
+    ensures { result.number ≡ (frame_register jumps).number }
 {
-    UpperImmediate::new(address - address % 0x1000)
+    match jumps {
+        Reach::Near | Reach::Far => Register::SP,
+        Reach::Wide => Register::T0,
+    }
 }
 
-/// The entry of a function, at the address `at`: where no frame is left, the stop for a full stack; else a frame is taken.
+/// Makes a register the address of the newest frame, where the stack pointer is not at its first word.
+fn emit_finding(code: &mut Vec<Instr>, jumps: Reach) -> Result<(), NoMemory>
+    ensures { OnOk result (Grew (words_to_frame jumps) (FindsFrame jumps) code.old.items code.new.items) }
+{
+    match jumps {
+        Reach::Near | Reach::Far => Ok(()),
+        Reach::Wide => {
+            let down = Immediate::new(0u32.wrapping_sub(2048));
+            emit(
+                code,
+                Instr::Addi {
+                    rd: Register::T0,
+                    rs1: Register::SP,
+                    imm: down,
+                },
+            )
+        }
+    }
+}
+
+/// The entry of a function, at the address `at`: where the newest frame is the lowest, at the end of the cells, the stop for a
+/// full stack; else a frame is taken.
 pub fn emit_entry(code: &mut Vec<Instr>, at: u32, chart: &Chart) -> Result<(), NoMemory>
     requires at { at + 4 ≤ greatest_address }
     requires some { 4 ≤ chart.now.frame }
     requires few { chart.now.frame ≤ greatest_frame chart.now.jumps }
     ensures { OnOk result (Grew (entry_words chart.now.jumps) (EntryBy chart.now at) code.old.items code.new.items) }
 {
-    emit(
-        code,
-        Instr::Lui {
-            rd: Register::T0,
-            imm: page(chart.bottom),
-        },
-    )?;
+    emit_finding(code, chart.jumps)?;
     emit_far_branch(
         code,
-        at + 4,
+        at + 4 * chart.jumps.words_to_frame(),
         chart.jumps,
         Condition::Equal,
-        Register::SP,
-        Register::T0,
+        frame_register(chart.jumps),
+        Register::S3,
         chart.symbols.stack_full,
     )?;
     emit_taking(code, chart.jumps, chart.frame)?;

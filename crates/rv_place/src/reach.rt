@@ -2,7 +2,7 @@
 
 ghost use Rattle.std.specs.Prelude.{◌≡◌, ◌≤◌};
 ghost use Rattle.rv_place.specs.Instructions.{words_of_jump, words_of_branch};
-ghost use Rattle.rv_place.specs.Addresses.{entry_words, frame_bias, reach_of, words_of_shift};
+ghost use Rattle.rv_place.specs.Addresses.{entry_words, frame_bias, reach_of, words_of_shift, words_to_frame};
 
 /// How far a jump or a branch leads; of the jumps of a text also whether its frames are wide.
 #[derive(Clone, Copy, PartialEq, Eq, Debug)]
@@ -68,12 +68,23 @@ impl Reach {
         }
     }
 
+    /// How many instructions give the address of the newest frame: none where the stack pointer is at its first word.
+    pub fn words_to_frame(self) -> u32
+        ensures words { result ≡ words_to_frame self }
+        ensures few { result ≤ 1 }
+    {
+        match self {
+            Reach::Near | Reach::Far => 0,
+            Reach::Wide => 1,
+        }
+    }
+
     /// How many instructions the entry of a function is.
     pub fn entry_words(self) -> u32
         ensures words { result ≡ entry_words self }
         ensures few { result ≤ 7 }
     {
-        3 + self.words_of_jump() + self.words_of_shift()
+        self.words_to_frame() + 2 + self.words_of_jump() + self.words_of_shift()
     }
 }
 

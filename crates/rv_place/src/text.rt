@@ -131,7 +131,6 @@ fn chart_of(alloc: Global, runtime: &Placed, program: &Placed) -> Result<Chart, 
     Ok(Chart {
         jumps,
         frame: frame_bytes(program),
-        bottom: memory_of(runtime, program) + runtime.memory.stack_bottom,
         entries,
         symbols: Symbols::of(&runtime.natives),
         constants,

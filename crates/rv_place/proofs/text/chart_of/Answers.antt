@@ -1,16 +1,14 @@
-use Rattle.std.proofs.Common.{◌≡◌, ℕ, ◌+◌, ◌-◌, ◌*◌, ◌%◌, List, Some, map, slice_get, sym, ap, ◌∙◌, subst, arith, refl}
+use Rattle.std.proofs.Common.{◌≡◌, ℕ, ◌+◌, ◌*◌, List, Some, map, slice_get, sym, ap, ◌∙◌, subst, arith, refl}
 use Rattle.elf_image.specs.Program.{text_start}
 use Rattle.rv_isa.specs.declared.placed.Native.{Native}
 use Rattle.rv_isa.specs.declared.placed.PlacedFunction.{PlacedFunction}
 use Rattle.rv_isa.specs.PlacedCode.{placed_lines_of, placed_functions, placed_constants}
 use Rattle.cell_runtime.specs.Lines.{words_of, labels_of}
-use Rattle.rv_place.specs.Addresses.{entries_from, frame_bias}
-use Rattle.rv_place.specs.Texts.{jumps_of, text_words, text_bytes, memory_of}
+use Rattle.rv_place.specs.Addresses.{entries_from}
+use Rattle.rv_place.specs.Texts.{jumps_of, text_words}
 use Rattle.rv_place.specs.Emitted.{AreSymbols, addresses_from}
 use Rattle.rv_place.proofs.Texting.{entries_among, short_text, addresses_get}
 use Rattle.rv_place.proofs.Symbolic.{symbols_within}
-use Rattle.rv_place.proofs.BootSizes.{memory_behind, memory_page}
-use Rattle.rv_place.proofs.Shifting.{bias_most}
 use Rattle.rv_place.specs.declared.reach.Reach.{Reach}
 use Rattle.rv_place.proofs.text.chart_of.Goals as goal
 
@@ -23,13 +21,9 @@ returns c =
     c.in_ok-constants.ensures
     ∙ ap (λ (words : ℕ). addresses_from (text_start + 4 * words) c.deref-2.result.now) c.text_words.ensures.words
     ∙ ap (addresses_from (text_start + 4 * text_words runtime program)) c.deref-2.ensures.value in
-    let bias : ℕ = frame_bias (jumps_of runtime program) in
-    let whole : ℕ = memory_of runtime program + runtime.memory.stack_bottom in
-    let lowest : whole - bias + bias ≡ whole = omega (arith, bias_most (jumps_of runtime program), memory_behind (text_bytes runtime program)) in
     record {
       jumps = c.jumps_of-jumps.ensures;
       frame = c.frame_bytes.ensures;
-      bottom = ap (λ (memory : ℕ). memory + runtime.memory.stack_bottom) c.memory_of.ensures.address ∙ sym lowest;
       entries =
           c.in_ok-entries.ensures
           ∙ ap (λ (jumps : Reach). entries_from jumps c.first_entry.result (map placed_lines_of c.deref.result.now)) c.jumps_of-jumps.ensures
@@ -39,7 +33,6 @@ returns c =
           let among = entries_among (jumps_of runtime program) first (placed_functions program) f entry there (omega arith) in
           record { word = among.word; low = omega (arith, among.low); high = omega (arith, among.high) };
       symbols_in = λ name before behind. let within = symbols_within name before 0 runtime.natives.items behind in omega (arith, within);
-      bottom_page = subst (λ (n : ℕ). n % 4096 ≡ 0) (sym lowest) (omega (arith, memory_page (text_bytes runtime program), c.requires.bottom_page));
       first_word = refl;
       short = λ near. short_text runtime program near;
       below = let words = c.text_words.ensures.words in let few = c.text_words.ensures.few in omega arith;
