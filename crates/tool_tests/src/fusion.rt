@@ -32,10 +32,7 @@ fn shape_of_one_function(alloc: Global) -> Result<Shape, NoMemory>
         has_cells: true,
         fields: vec![in alloc; false]?,
     };
-    Ok(Shape::new(
-        vec![in alloc; instance]?,
-        vec![in alloc; constructor]?,
-    ))
+    Ok(Shape::new(vec![in alloc; instance]?, vec![in alloc; constructor]?))
 }
 
 /// Spends a reference of an emitter that has failed.
