@@ -1,10 +1,11 @@
 // The words are those of the GNU assembler.
 
 ghost use Rattle.std.specs.Prelude.{◌≤◌};
+ghost use Rattle.kk_base.specs.Sizes.{greatest_cells};
 
 use cell_runtime::text;
 use elf_image::Image;
-use kk_base::Bytes;
+use kk_base::{Bytes, GREATEST_CELLS};
 use kk_memio::{MemSink, MemSource};
 use rv_isa::{Immediate, Instr, Native, Register, UpperImmediate, encode};
 use rv_sim::{Halt, Machine};
@@ -392,7 +393,7 @@ fn push_address(bytes: &mut Vec<u8>, rd: Register, offset: u32) -> Result<(), Fa
 
 /// The bytes of the text, and of its memory how many there are.
 fn program(alloc: Global, cells: u32, main: &[u32]) -> Result<(Vec<u8>, u32), Fail>
-    requires { cells ≤ 1048576 }
+    requires { cells ≤ greatest_cells }
 {
     let placed = text(alloc, cells, 1, 64)?;
     let mut bytes = Vec::new(alloc);
@@ -410,7 +411,7 @@ fn program(alloc: Global, cells: u32, main: &[u32]) -> Result<(Vec<u8>, u32), Fa
 }
 
 fn check(rt: &impl Abort, alloc: Global, row: &Row) -> Result<(), Fail> {
-    assert!(rt; row.cells <= 1_048_576);
+    assert!(rt; row.cells <= GREATEST_CELLS);
     let (bytes, memory) = program(alloc, row.cells, row.main)?;
     let size = bytes.len();
     assert!(rt; size > 0 && size < 0x1000);

@@ -1,11 +1,12 @@
 -- Where the runtime's data stand in the image's memory part: the buffer, the cells, and the frames of the stack.
 use Rattle.std.specs.Prelude.{ℕ, ◌+◌, ◌*◌, cond, nat_lt}
+use Rattle.rv_isa.specs.Sizes.{reach_down, narrow_frame}
 use Rattle.cell_runtime.specs.declared.layout.Layout.{Layout}
 
 -- How far the stack pointer stands above the first word of its frame. A load reaches 2,048 bytes down and almost as many up, so it
 -- stands at the first word where the frame is not larger than that, and else within the frame.
 abbrev pub below_pointer : ℕ → ℕ
-below_pointer frame_bytes = cond (nat_lt 2044 frame_bytes) 2048 0
+below_pointer frame_bytes = cond (nat_lt narrow_frame frame_bytes) reach_down 0
 
 -- The cells stand behind the buffer's 32 bytes, and the lowest frame at their end.
 abbrev pub layout_of : ℕ → ℕ → ℕ → Layout

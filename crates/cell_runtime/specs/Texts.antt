@@ -1,10 +1,12 @@
 -- The whole text of the runtime: which lines it has, and what the routines do wherever it stands.
 use Rattle.std.specs.Prelude.{◌≡◌, ℕ, ◌+◌, ◌*◌, List, [], ◌∷◌}
+use Rattle.kk_base.specs.Sizes.{greatest_depth}
 use Rattle.rv_isa.specs.declared.instr.Instr.{Instr}
 use Rattle.rv_isa.specs.declared.routine.Routine.TheVariants as routine
 use Rattle.rv_isa.specs.declared.placed.Symbol.{Symbol}
 use Rattle.rv_isa.specs.declared.placed.Symbol.TheVariants.{Start, Routine, Hold, Unhold, Stop, StackFull}
 use Rattle.rv_isa.specs.declared.placed.Placed.{Placed}
+use Rattle.rv_isa.specs.Sizes.{reach_down}
 use Rattle.rv_isa.specs.Standing.{Code, Has}
 use Rattle.cell_heap.specs.Pool.{Pool}
 use Rattle.cell_runtime.specs.declared.layout.Layout.{Layout}
@@ -41,9 +43,10 @@ runtime_labels =
     (Start, 0) ∷ (Stop, 9) ∷ (StackFull, 12) ∷ (Routine routine.Take, 15) ∷ (Routine routine.Drop, 32) ∷ (Hold, 60) ∷ (Unhold, 66)
     ∷ (Routine routine.PrintInt, 70) ∷ (Routine routine.PrintText, 94) ∷ (Routine routine.ReadByte, 100) ∷ []
 
--- how far from the memory's begin the runtime's addresses are at most
+-- how far from the memory's begin the runtime's addresses are at most: twice as far as all frames take, even where each has as many
+-- bytes as a load reaches
 abbrev pub greatest_reach : ℕ
-greatest_reach = 536870912
+greatest_reach = 2 * (greatest_depth * (2 * reach_down))
 
 -- the runtime alone, for so many cells and so many frames of so many bytes
 pub record IsText (cells depth frame_bytes : ℕ) (text : Placed) : Type 0 where

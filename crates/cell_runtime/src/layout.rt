@@ -1,9 +1,12 @@
 //! Where the runtime keeps its data.
 
 ghost use Rattle.std.specs.Prelude.{◌≡◌, ◌+◌, ◌*◌, ◌<◌, ◌≤◌};
+ghost use Rattle.kk_base.specs.Sizes.{greatest_cells, greatest_depth};
+ghost use Rattle.rv_isa.specs.Sizes.{reach_down};
 ghost use Rattle.cell_runtime.specs.Layouts.{below_pointer, layout_of};
 
 use rv_isa::environment::CELL_SIZE;
+use rv_isa::sizes::{NARROW_FRAME, REACH_DOWN};
 
 /// Bytes before the cells: the buffer, and what is missing to a multiple of a cell's.
 const BYTES_BEFORE_CELLS: u32 = 32;
@@ -22,16 +25,10 @@ pub struct Layout {
     pub stack_end: u32,
 }
 
-/// The most bytes of a frame that a load reaches from its first word.
-const NARROW_FRAME: u32 = 2044;
-
-/// How far a load reaches down.
-const REACH_DOWN: u32 = 2048;
-
 /// How far the stack pointer stands above the first word of its frame.
 fn below_pointer(frame_bytes: u32) -> u32
     ensures is { result ≡ below_pointer frame_bytes }
-    ensures few { result ≤ 2048 }
+    ensures few { result ≤ reach_down }
 {
     if frame_bytes > NARROW_FRAME {
         REACH_DOWN
@@ -43,9 +40,9 @@ fn below_pointer(frame_bytes: u32) -> u32
 impl Layout {
     /// The places for so many cells and for so many frames of so many bytes.
     pub fn new(cells: u32, depth: u32, frame_bytes: u32) -> Layout
-        requires cells { cells ≤ 1048576 }
-        requires depth { depth ≤ 65536 }
-        requires frame { frame_bytes ≤ 4096 }
+        requires cells { cells ≤ greatest_cells }
+        requires depth { depth ≤ greatest_depth }
+        requires frame { frame_bytes ≤ 2 * reach_down }
         ensures { result ≡ layout_of cells depth frame_bytes }
     {
         let cells_end = BYTES_BEFORE_CELLS + CELL_SIZE * cells;

@@ -1,6 +1,8 @@
 //! All routines together.
 
 ghost use Rattle.std.specs.Prelude.{◌≡◌, ◌*◌, ◌%◌, ◌+◌, ◌<◌, ◌≤◌, [], ◌∷◌, ◌++◌, IfOk, OnOk};
+ghost use Rattle.kk_base.specs.Sizes.{greatest_cells, greatest_depth};
+ghost use Rattle.rv_isa.specs.Sizes.{reach_down};
 ghost use Rattle.cell_runtime.specs.Texts.{IsText};
 
 use crate::drop::give_up;
@@ -19,10 +21,10 @@ use std::alloc::Global;
 /// The runtime of an image with so many cells and room for so many frames of so many bytes. It stands first in the text,
 /// and `main` right behind it.
 pub fn text(alloc: Global, cells: u32, depth: u32, frame_bytes: u32) -> Result<Placed, NoMemory>
-    requires cells { cells ≤ 1048576 }
+    requires cells { cells ≤ greatest_cells }
     requires some_depth { 1 ≤ depth }
-    requires depth { depth ≤ 65536 }
-    requires frame { frame_bytes ≤ 8 * 480 + 256 }
+    requires depth { depth ≤ greatest_depth }
+    requires frame { frame_bytes ≤ 2 * reach_down }
     requires aligned { frame_bytes % 4 ≡ 0 }
     ensures { IfOk result (IsText cells depth frame_bytes) }
 {

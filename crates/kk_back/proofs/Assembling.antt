@@ -20,6 +20,7 @@ use Rattle.rv_isa.specs.Processor.{Processor, Ending, can_fetch, start, goes}
 use Rattle.rv_isa.specs.Execution.{rv32im, run}
 use Rattle.rv_isa.specs.ProcessorMachine.{processor_machine}
 use Rattle.rv_isa.specs.Costs.{functions_length, placed_functions_length}
+use Rattle.rv_isa.specs.Sizes.{wide_frame}
 use Rattle.elf_image.specs.Parts.{memory_of}
 use Rattle.elf_image.specs.Program.{IsProgramImage, program_parts, text_start, memory_start}
 use Rattle.elf_image.specs.declared.part.Part.{Part}
@@ -43,7 +44,7 @@ use Rattle.rv_place.specs.Bytes.{IsTextOf}
 use Rattle.rv_place.specs.Images.{IsPlacedImage, EndsWithCells, first_processor, outside_lines}
 use Rattle.rv_place.specs.LineAddresses.{line_address}
 use Rattle.rv_place.specs.Running.{HasCells, NeverStuck}
-use Rattle.rv_place.specs.Texts.{ArePlaceable, ArePlacedWords, map_of, pool_in, constants_of, text_bytes, most_text_words, most_constant_bytes}
+use Rattle.rv_place.specs.Texts.{ArePlaceable, ArePlacedWords, map_of, pool_in, constants_of, text_bytes, most_text_length, most_functions, most_text_words, most_constant_bytes}
 use Rattle.rv_place.proofs.BootFits.{FitsImage, fits-image}
 use Rattle.rv_place.proofs.BootLoaded.{text-fetched}
 use Rattle.rv_place.proofs.BootSizes.{bytes_most}
@@ -62,12 +63,12 @@ placeable cells depth asm placed runtime made valid plain runtime_is sizes =
     let functions : List Lines = asm_functions asm in
     let placed_are : List PlacedLines = placed_functions placed in
     let same : length placed_are ≡ length functions = as_many functions placed_are valid.functions in
-    let frame : frame_size placed_are ≤ 4088 = frame_most placed_are plain.slots in
-    let few : length functions < 1025 = made.few in
-    let fits : functions_length functions ≤ 448000000 = made.fits.instructions in
+    let frame : frame_size placed_are ≤ wide_frame = frame_most placed_are plain.slots in
+    let few : length functions ≤ most_functions = made.few in
+    let fits : functions_length functions ≤ most_text_length = made.fits.instructions in
     let shorter : placed_functions_length placed_are ≤ functions_length functions = plain.short in
     let bytes : length (all_bytes (placed_constants placed)) ≡ length (all_bytes (asm_constants asm)) = ap (λ (texts : List (List ℕ)). length (all_bytes texts)) valid.constants in
-    let most : length (all_bytes (asm_constants asm)) ≤ 8388608 = made.fits.bytes in
+    let most : length (all_bytes (asm_constants asm)) ≤ most_constant_bytes = made.fits.bytes in
     let bottom_is : runtime.memory.stack_bottom ≡ 32 + 32 * cells + below_pointer (frame_size placed_are) = ap (λ (memory : DataSection). memory.stack_bottom) runtime_is.memory in
     record {
       lines = runtime_is.within;

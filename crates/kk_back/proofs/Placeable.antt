@@ -7,6 +7,7 @@ use Rattle.rv_isa.specs.declared.placed.Place.{Place}
 use Rattle.rv_isa.specs.declared.placed.Place.TheVariants.{Register as register, Slot as slot}
 use Rattle.rv_isa.specs.AsmCode.{Lines}
 use Rattle.rv_isa.specs.PlacedCode.{PlacedLine, does, moves, PlacedLines, from_of, to_of}
+use Rattle.rv_isa.specs.Sizes.{wide_frame}
 use Rattle.rv_isa.specs.WellFormed.{most_values}
 use Rattle.rv_regs.specs.Conditions.{ArePlacings}
 use Rattle.rv_regs.specs.Shape.{IsBelow, HasSlotsBelow, AllSlotsBelow}
@@ -45,8 +46,8 @@ slots_most (function ∷ functions) below =
     let rest = slots_most functions below.1 in
     omega (arith, first, rest)
 
--- a frame is at most 4,088 bytes
-pub frame_most : (functions : List PlacedLines) → AllByRecursion (λ (function : PlacedLines). AllSlotsBelow most_values function.code) functions → frame_size functions ≤ 4088
+-- a frame has a word for the way back and one for each slot
+pub frame_most : (functions : List PlacedLines) → AllByRecursion (λ (function : PlacedLines). AllSlotsBelow most_values function.code) functions → frame_size functions ≤ wide_frame
 frame_most functions below = let slots = slots_most functions below in omega (arith, slots)
 
 -- as many functions are placed as there are

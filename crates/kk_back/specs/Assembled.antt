@@ -18,6 +18,7 @@ use Rattle.rv_isa.specs.ProcessorMachine.{processor_machine}
 use Rattle.rv_isa.specs.WellFormed.{AreWellFormed}
 use Rattle.rv_place.specs.Images.{EndsWithCells, outside_lines}
 use Rattle.rv_place.specs.Running.{HasCells}
+use Rattle.rv_place.specs.Texts.{most_functions}
 use Rattle.rv_world.specs.Operations.{Constants, all_bytes}
 use Rattle.rv_world.specs.World.{World, first_world, primitives}
 use Rattle.kk_back.specs.Sizes.{FitsText}
@@ -26,7 +27,7 @@ use Rattle.kk_back.specs.Sizes.{FitsText}
 pub record IsPlaceable (functions : List Lines) (texts : List (List ℕ)) : Type 0 where
   pub formed : AreWellFormed functions
   pub fits : FitsText functions texts
-  pub few : length functions < 1025
+  pub few : length functions ≤ most_functions
   pub main : Lines
   pub main_is : slice_get functions 0 ≡ Some main
   pub main_params : main.params ≡ []

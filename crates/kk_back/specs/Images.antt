@@ -35,6 +35,7 @@ use Rattle.rv_isa.specs.Processor.{Processor, Ending, exited, Progress, can_fetc
 use Rattle.rv_isa.specs.ProcessorMachine.{ended, processor_machine}
 use Rattle.rv_place.specs.Images.{outside_lines}
 use Rattle.rv_place.specs.Running.{HasCells}
+use Rattle.rv_place.specs.Texts.{most_functions}
 use Rattle.kk_back.specs.FreeCells.{AreAllFree}
 
 -- a program in counted form on so many cells and with such a depth
@@ -49,7 +50,7 @@ pub record IsRunnable (shape : Shape) (code : TokenedProgram) (cells depth : ℕ
   pub lowerable : AreLowerable (table_of shape) (bare_program code).functions
   pub tokens : AreTokensLowerable code.functions
   pub spends : AreTokensSpent code
-  pub few : length code.functions ≤ 1024
+  pub few : length code.functions ≤ most_functions
   pub short : AreTokensShort code.functions
   pub narrow : IsNarrow (layout_in shape)
   pub falsity : (layout_in shape).tag 0 ≡ 0

@@ -1,7 +1,7 @@
 -- The counted form of an accepted program with its tokens can be run by an image.
 use Rattle.std.proofs.Common.{◌≡◌, ◌<◌, ◌≤◌, ℕ, zero, suc, Bool, List, [], ◌∷◌, All, Some, length, map, slice_get, refl, sym, ap, subst, ◌∙◌, arith}
 use Rattle.std.proofs.lemmas.List.{length-map}
-use Rattle.kk_base.specs.Sizes.{AreSizes}
+use Rattle.kk_base.specs.Sizes.{AreSizes, greatest_cells, greatest_depth}
 use Rattle.kk_syntax.specs.declared.ground.Ground.{Ground}
 use Rattle.kk_syntax.specs.declared.typed.Typed.{Typed}
 use Rattle.kk_syntax.specs.PositionsOf.{PositionTable}
@@ -39,7 +39,7 @@ AreFit =
     (weight : CountedState → ℕ) (input : List ℕ) (most : ℕ)
     → IsSpent positions setting.program → FitsAlways weight setting input → HasShapeAlways weight setting input
     → AreMarked marks holds setting.program → AllSpendAtMost setting.program most → most ≤ 65000
-    → ((c : ℕ) → length (field_marks marks c) ≤ 6) → 1 ≤ setting.depth → setting.depth ≤ 65536 → setting.cells ≤ 1048576
+    → ((c : ℕ) → length (field_marks marks c) ≤ 6) → 1 ≤ setting.depth → setting.depth ≤ greatest_depth → setting.cells ≤ greatest_cells
     → HasKindsAlways (AreTagged layout) (count_of_fields layout) weight setting input → AllHaveInt32 setting.program.functions
     → All (λ byte. byte < 256) input → (n : ℕ) → IsFit layout (counted_after weight setting input n)
 

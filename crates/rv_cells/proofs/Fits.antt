@@ -1,5 +1,6 @@
 -- Code that is judged and marked is fit in each state of a run, where its values are of the types that the code takes.
 use Rattle.std.proofs.Common.{ℕ, ◌<◌, ◌≤◌, Bool, List, ◌++◌, length, All, arith, mul-le-mul_right, mul-le-mul_left}
+use Rattle.kk_base.specs.Sizes.{greatest_cells, greatest_depth}
 use Rattle.kk_syntax.specs.PositionsOf.{PositionTable}
 use Rattle.kk_source.specs.State.{Value}
 use Rattle.kk_counted.specs.CountBounds.{AllSpendAtMost}
@@ -33,7 +34,7 @@ pub always_fits : (positions : PositionTable) (marks : CellMarks) (holds : ℕ �
     (weight : CountedState → ℕ) (input : List ℕ) (most : ℕ)
     → IsSpent positions setting.program → FitsAlways weight setting input → HasShapeAlways weight setting input
     → AreMarked marks holds setting.program → AllSpendAtMost setting.program most → most ≤ 65000
-    → ((c : ℕ) → length (field_marks marks c) ≤ 6) → 1 ≤ setting.depth → setting.depth ≤ 65536 → setting.cells ≤ 1048576
+    → ((c : ℕ) → length (field_marks marks c) ≤ 6) → 1 ≤ setting.depth → setting.depth ≤ greatest_depth → setting.cells ≤ greatest_cells
     → ((n : ℕ) → FitsControl layout (counted_after weight setting input n).heap (counted_after weight setting input n).control)
     → (n : ℕ) → IsFit layout (counted_after weight setting input n)
 always_fits positions marks holds setting layout weight input most spent fits shaped marked spends small few deep shallow cells
@@ -52,7 +53,7 @@ always_fits positions marks holds setting layout weight input most spent fits sh
                 here
                 name,
             mul-le-mul_right most shallow,
-            mul-le-mul_left 65536 small,
+            mul-le-mul_left greatest_depth small,
             cells,
           );
       fits = typed n;
@@ -64,7 +65,7 @@ pub typed_fits : (positions : PositionTable) (marks : CellMarks) (holds : ℕ �
     (weight : CountedState → ℕ) (input : List ℕ) (most : ℕ)
     → IsSpent positions setting.program → FitsAlways weight setting input → HasShapeAlways weight setting input
     → AreMarked marks holds setting.program → AllSpendAtMost setting.program most → most ≤ 65000
-    → ((c : ℕ) → length (field_marks marks c) ≤ 6) → 1 ≤ setting.depth → setting.depth ≤ 65536 → setting.cells ≤ 1048576
+    → ((c : ℕ) → length (field_marks marks c) ≤ 6) → 1 ≤ setting.depth → setting.depth ≤ greatest_depth → setting.cells ≤ greatest_cells
     → HasKindsAlways (AreTagged layout) (count_of_fields layout) weight setting input → AllHaveInt32 setting.program.functions
     → All (λ byte. byte < 256) input → (n : ℕ) → IsFit layout (counted_after weight setting input n)
 typed_fits positions marks holds setting layout weight input most spent fits shaped marked spends small few deep shallow cells

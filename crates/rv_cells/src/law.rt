@@ -1,5 +1,6 @@
 ghost use Rattle.std.specs.Prelude.{◌≡◌, ◌<◌, ◌≤◌, ℕ, suc, ◌+◌, ◌%◌, ◌^◌, ◌*◌, Bool, List, [], ◌∷◌, length};
 ghost use Rattle.std.specs.Prelude.{All, Option, Some, None, true, slice_get};
+ghost use Rattle.kk_base.specs.Sizes.{greatest_cells, greatest_depth};
 ghost use Rattle.cell_heap.specs.Pool.{Pool};
 ghost use Rattle.cell_heap.specs.Blocks.{Cells, own, with_block, with_word, request, unused_cells};
 ghost use Rattle.kk_source.specs.State.{Value, Cell};
@@ -196,7 +197,7 @@ pub fn judged_programs_are_fit()
         (weight : CountedState → ℕ) (input : List ℕ) (most : ℕ)
         → IsSpent positions setting.program → FitsAlways weight setting input → HasShapeAlways weight setting input
         → AreMarked marks holds setting.program → AllSpendAtMost setting.program most → most ≤ 65000
-        → ((c : ℕ) → length (field_marks marks c) ≤ 6) → 1 ≤ setting.depth → setting.depth ≤ 65536 → setting.cells ≤ 1048576
+        → ((c : ℕ) → length (field_marks marks c) ≤ 6) → 1 ≤ setting.depth → setting.depth ≤ greatest_depth → setting.cells ≤ greatest_cells
         → HasKindsAlways (AreTagged layout) (count_of_fields layout) weight setting input → AllHaveInt32 setting.program.functions
         → All (λ byte. byte < 256) input → (n : ℕ) → IsFit layout (counted_after weight setting input n) }
 {}

@@ -27,5 +27,6 @@ pub mod Frames
 pub mod Costs
 pub mod AsmMachine
 pub mod PlacedMachine
+pub mod Sizes
 pub mod WellFormed
 pub mod LinePlaces

@@ -3,6 +3,7 @@ use Rattle.std.specs.Prelude.{◌≡◌, ◌==◌, ◌||◌, ◌&&◌, ◌+◌, 
 use Rattle.rv_isa.specs.declared.asm.Action.{Action}
 use Rattle.rv_isa.specs.declared.asm.Action.TheVariants.{Compute, Label, Jump, Branch, Call, TailCall, Return, Routine, Hold, Unhold}
 use Rattle.rv_isa.specs.declared.asm.Operation.TheVariants.{Sw, Dup, Free}
+use Rattle.rv_isa.specs.declared.sizes.TheConstants.{MOST_VALUES}
 use Rattle.rv_isa.specs.AsmCode.{Line, Lines}
 use Rattle.rv_isa.specs.Routines.{taken_by, given_by}
 use Rattle.rv_isa.specs.Frames.{found, is_among}
@@ -40,9 +41,9 @@ is_alive_behind v action rest = is_alive_after action (is_alive v rest) (λ l. i
 
 -- ---- the conditions
 
--- there are so many values at most in a function; each is a number below this
+-- There are so many values at most in a function: a frame has a word for each. Each is a number below this.
 abbrev pub most_values : ℕ
-most_values = 1021
+most_values = MOST_VALUES
 
 -- a label stands once, and the label of a jump or a branch lies ahead
 abbrev pub AreLabelsAhead : Action → List Line → Type 0

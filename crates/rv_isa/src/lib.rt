@@ -15,6 +15,7 @@ mod meaning;
 mod placed;
 mod register;
 mod routine;
+pub mod sizes;
 
 pub use act::{Act, Effect};
 pub use agreement::{AgreedImage, agreed_image_agrees};

@@ -25,7 +25,7 @@ use Rattle.rv_isa.specs.Standing.{Code}
 use Rattle.rv_isa.proofs.Same.{same_register}
 use Rattle.rv_place.specs.Registers.{s3}
 use Rattle.rv_place.specs.Instructions.{words_of_jump, JumpsTo, CallsTo, BranchesOn, words_of_operation}
-use Rattle.rv_place.specs.Addresses.{slot_offset, words_of_shift, slots_of_place, slots_of_operands, words_of_action, words_of_line, words_of_lines, forms_of, words_to_frame, entry_words, entries_from, words_of_function, words_of_functions}
+use Rattle.rv_place.specs.Addresses.{branch_words, slot_offset, words_of_shift, slots_of_place, slots_of_operands, words_of_action, words_of_line, words_of_lines, forms_of, words_to_frame, entry_words, entries_from, words_of_function, words_of_functions}
 use Rattle.rv_place.specs.Lines.{Map, IsFromPointer, IsOffsetOf, IsSymbolAt, frame_register, EntersAt, LinesAt, FunctionsAt, BranchesTo}
 use Rattle.rv_place.specs.declared.reach.Forms.{Forms}
 use Rattle.rv_place.specs.declared.reach.Reach.{Reach}
@@ -222,7 +222,7 @@ whole_function entry lines forms jumps same forms_is inside =
     let behind = text_back (entry_words jumps) (words_of_lines forms lines) inside in record {
       jumps = ap (λ (f : Forms). f.jumps) forms_is ∙ same;
       text = behind;
-      short = subst (λ (f : Forms). f.branches ≡ Near → words_of_lines f lines < 1024) (sym forms_is) (short_function jumps lines);
+      short = subst (λ (f : Forms). f.branches ≡ Near → words_of_lines f lines < branch_words) (sym forms_is) (short_function jumps lines);
       word = behind.word;
       low = omega arith;
       high = omega arith;

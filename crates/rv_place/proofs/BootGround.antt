@@ -3,6 +3,7 @@ use Rattle.std.proofs.Common.{◌≡◌, ◌≤◌, ◌<◌, ℕ, ◌+◌, ◌*�
 use Rattle.std.proofs.lemmas.Option.{slice_get_within}
 use Rattle.rv_isa.specs.declared.placed.DataSection.{DataSection}
 use Rattle.rv_isa.specs.Standing.{Has}
+use Rattle.elf_image.specs.declared.image.TheConstants.{PAGE_SIZE}
 use Rattle.elf_image.specs.Program.{text_start}
 use Rattle.rv_isa.specs.declared.routine.Routine.TheVariants as routine
 use Rattle.rv_isa.specs.declared.instr.Instr.{Instr}
@@ -10,6 +11,7 @@ use Rattle.rv_isa.specs.declared.placed.Placed.{Placed}
 use Rattle.rv_isa.specs.declared.placed.Symbol.{Symbol}
 use Rattle.rv_isa.specs.declared.placed.Symbol.TheVariants as symbol
 use Rattle.rv_isa.specs.PlacedCode.{placed_functions}
+use Rattle.rv_isa.specs.Sizes.{wide_frame}
 use Rattle.rv_isa.specs.Standing.{Code, code_of}
 use Rattle.rv_isa.proofs.Standing.{Has-front, Has-get, code_of-Has, code_of-place}
 use Rattle.cell_runtime.specs.Layouts.{below_pointer, layout_of}
@@ -28,7 +30,7 @@ use Rattle.rv_place.specs.Images.{code_in}
 use Rattle.rv_place.specs.declared.words.Words.{Words}
 use Rattle.rv_place.specs.Addresses.{jump_words, words_of_functions, IsBehind, frame_size}
 use Rattle.rv_place.specs.declared.reach.Reach.TheVariants.{Near}
-use Rattle.rv_place.specs.Texts.{ArePlaceable, most_text_words, most_constant_bytes, text_bytes, memory_of, pool_in, map_of, ArePlacedWords}
+use Rattle.rv_place.specs.Texts.{ArePlaceable, most_text_words, most_constant_bytes, greatest_bottom, text_bytes, memory_of, pool_in, map_of, ArePlacedWords}
 use Rattle.rv_place.specs.Grounds.{HasRoutine, Ground}
 use Rattle.rv_place.proofs.BootLoaded.{two_parts, text-loaded, memory-loaded, memory-stored, stored-behind}
 use Rattle.rv_place.proofs.BootSizes.{memory_behind, memory_page, stack_most, words_most, bytes_most, memory_most}
@@ -70,12 +72,12 @@ behind_read_byte =
 pub record HasRoom (cells depth frame text memory bottom size : ℕ) : Type 0 where
   pub few_text : text ≤ 4 * most_text_words + most_constant_bytes
   pub behind : text_start + text ≤ memory
-  pub near : memory ≤ text_start + 4 * most_text_words + most_constant_bytes + 4095
-  pub memory_page : memory % 4096 ≡ 0
+  pub near : memory < text_start + 4 * most_text_words + most_constant_bytes + PAGE_SIZE
+  pub memory_page : memory % PAGE_SIZE ≡ 0
   pub some_cells : bottom ≡ 32 + 32 * cells + below_pointer frame
-  pub few_cells : bottom ≤ 33556512
+  pub few_cells : bottom ≤ greatest_bottom
   pub size_is : size ≡ bottom + depth * frame
-  pub few_frames : depth * frame ≤ 267911168
+  pub few_frames : depth * frame ≤ greatest_depth * wide_frame
 
 pub has-room : {cells depth : ℕ} {runtime program : Placed} → cells ≤ greatest_cells → depth ≤ greatest_depth → IsText cells depth (frame_size (placed_functions program)) runtime → ArePlaceable runtime program
     → HasRoom cells depth (frame_size (placed_functions program)) (text_bytes runtime program) (memory_of runtime program) runtime.memory.stack_bottom runtime.memory.size

@@ -1,12 +1,14 @@
 -- How large a text and the memory behind it are: their addresses are far below 2^32.
-use Rattle.std.proofs.Common.{◌≡◌, ◌≤◌, ℕ, ◌+◌, ◌*◌, ◌%◌, List, [], ◌∷◌, length, ap, ◌∙◌, arith}
+use Rattle.std.proofs.Common.{◌≡◌, ◌<◌, ◌≤◌, ℕ, ◌+◌, ◌*◌, ◌%◌, List, [], ◌∷◌, length, ap, ◌∙◌, arith}
 use Rattle.std.proofs.lemmas.Nat.{mul-le}
 use Rattle.kk_base.specs.Sizes.{greatest_depth}
+use Rattle.elf_image.specs.declared.image.TheConstants.{PAGE_SIZE}
 use Rattle.elf_image.specs.Program.{text_start, memory_start}
 use Rattle.rv_isa.specs.declared.asm.Action.{Action}
 use Rattle.rv_isa.specs.declared.asm.Action.TheVariants.{Compute, Label, Jump, Branch, Call, TailCall, Return, Routine, Hold, Unhold}
 use Rattle.rv_isa.specs.declared.placed.Placed.{Placed}
 use Rattle.rv_isa.specs.Costs.{action_length, placed_line_length, placed_code_length, placed_functions_length}
+use Rattle.rv_isa.specs.Sizes.{wide_frame}
 use Rattle.rv_isa.specs.PlacedCode.{PlacedLine, does, moves, PlacedLines, placed_functions, placed_constants}
 use Rattle.rv_world.specs.Operations.{all_bytes}
 use Rattle.rv_place.specs.declared.words.Words.{Words}
@@ -50,15 +52,15 @@ functions_most jumps (function ∷ functions) = omega (arith, jump_most jumps, s
 pub memory_behind : (n : ℕ) → text_start + n ≤ memory_start n
 memory_behind n = omega arith
 
-pub memory_near : (n : ℕ) → memory_start n ≤ text_start + n + 4095
+pub memory_near : (n : ℕ) → memory_start n < text_start + n + PAGE_SIZE
 memory_near n = omega arith
 
-pub memory_page : (n : ℕ) → memory_start n % 4096 ≡ 0
+pub memory_page : (n : ℕ) → memory_start n % PAGE_SIZE ≡ 0
 memory_page n = omega arith
 
 -- all frames
-pub stack_most : (depth frame : ℕ) → depth ≤ greatest_depth → frame ≤ 4088 → depth * frame ≤ 267911168
-stack_most depth frame few small = mul-le depth frame greatest_depth 4088 few small
+pub stack_most : (depth frame : ℕ) → depth ≤ greatest_depth → frame ≤ wide_frame → depth * frame ≤ greatest_depth * wide_frame
+stack_most depth frame few small = mul-le depth frame greatest_depth wide_frame few small
 
 -- ---- the text
 
@@ -70,7 +72,7 @@ module _ {runtime program : Placed} (placeable : ArePlaceable runtime program) w
   pub bytes_most : text_bytes runtime program ≤ 4 * most_text_words + most_constant_bytes
   bytes_most = omega (arith, words_most, placeable.few_bytes)
 
-  pub memory_most : memory_of runtime program ≤ text_start + 4 * most_text_words + most_constant_bytes + 4095
+  pub memory_most : memory_of runtime program < text_start + 4 * most_text_words + most_constant_bytes + PAGE_SIZE
   memory_most = omega (arith, bytes_most, memory_near (text_bytes runtime program))
 
 -- the bytes of a text are as many as its instructions and constants take

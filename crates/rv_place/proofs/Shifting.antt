@@ -4,6 +4,7 @@ use Rattle.rv_isa.specs.declared.register.Register.{Register}
 use Rattle.rv_isa.specs.declared.immediate.Immediate.{Immediate}
 use Rattle.rv_isa.specs.declared.instr.Instr.{Instr}
 use Rattle.rv_isa.specs.declared.instr.Instr.TheVariants.{Addi}
+use Rattle.rv_isa.specs.Sizes.{reach_down, narrow_frame}
 use Rattle.cell_runtime.specs.Layouts.{below_pointer}
 use Rattle.cell_runtime.proofs.SameLines.{same_addi}
 use Rattle.rv_place.specs.declared.reach.Reach.{Reach}
@@ -32,7 +33,7 @@ found_narrow {reach} {is} (inl near) = subst (λ (r : Reach). Grew (words_to_fra
 found_narrow {reach} {is} (inr far) = subst (λ (r : Reach). Grew (words_to_frame r) (FindsFrame r) is is) (sym far) (grew_nothing (FindsFrame Far) is (λ code at. tt))
 
 -- and that of a wide one comes to t0
-pub found_wide : {reach : Reach} {old new : List Instr} {rd rs : Register} → reach ≡ Wide → (down : Immediate) → down.word ≡ 2 ^ 32 - 2048 → rd.number ≡ 5 → rs.number ≡ 2
+pub found_wide : {reach : Reach} {old new : List Instr} {rd rs : Register} → reach ≡ Wide → (down : Immediate) → down.word ≡ 2 ^ 32 - reach_down → rd.number ≡ 5 → rs.number ≡ 2
     → Grew 1 (λ code at. code at ≡ Some (Addi rd rs down)) old new → Grew (words_to_frame reach) (FindsFrame reach) old new
 found_wide {reach} {old} {new} is down down_is rd_is rs_is grew =
     subst (λ (r : Reach). Grew (words_to_frame r) (FindsFrame r) old new) (sym is)
@@ -46,10 +47,10 @@ to_frame_most Wide = omega arith
 -- ---- where the stack pointer stands in a frame
 
 -- the stack pointer stands as far above a frame's first word as the runtime's data leave room for
-pub bias_below : (frame limit words : ℕ) → frame_bias (cond (nat_lt 2044 frame) Wide (reach_of limit words)) ≡ below_pointer frame
-bias_below frame limit words = by (nat_lt 2044 frame) (nat_lt words limit)
+pub bias_below : (frame limit words : ℕ) → frame_bias (cond (nat_lt narrow_frame frame) Wide (reach_of limit words)) ≡ below_pointer frame
+bias_below frame limit words = by (nat_lt narrow_frame frame) (nat_lt words limit)
   where
-    by : (wide near : Bool) → frame_bias (cond wide Wide (cond near Near Far)) ≡ cond wide 2048 0
+    by : (wide near : Bool) → frame_bias (cond wide Wide (cond near Near Far)) ≡ cond wide reach_down 0
     by true near = refl
     by false true = refl
     by false false = refl

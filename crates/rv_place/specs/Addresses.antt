@@ -9,6 +9,7 @@ use Rattle.rv_isa.specs.declared.placed.Operand.{Operand}
 use Rattle.rv_isa.specs.declared.placed.Symbol.{Symbol}
 use Rattle.rv_isa.specs.PlacedCode.{PlacedLine, does, moves, PlacedLines, from_of, to_of}
 use Rattle.rv_isa.specs.PlacedMachine.{is_label_line}
+use Rattle.rv_isa.specs.Sizes.{reach_down, narrow_frame, wide_frame}
 use Rattle.rv_place.specs.Instructions.{words_of_operation, words_of_jump, words_of_branch}
 use Rattle.rv_place.specs.declared.reach.Forms.{Forms}
 use Rattle.rv_place.specs.declared.reach.Reach.{Reach}
@@ -117,15 +118,15 @@ frame_size functions = 4 * slots_of_functions functions + 4
 
 -- the most bytes of a frame
 abbrev pub greatest_frame : Reach → ℕ
-greatest_frame Near = 2044
-greatest_frame Far = 2044
-greatest_frame Wide = 4088
+greatest_frame Near = narrow_frame
+greatest_frame Far = narrow_frame
+greatest_frame Wide = wide_frame
 
 -- how far above a frame's first word the stack pointer stands: a load reaches as far down as up
 abbrev pub frame_bias : Reach → ℕ
 frame_bias Near = 0
 frame_bias Far = 0
-frame_bias Wide = 2048
+frame_bias Wide = reach_down
 
 -- where a slot stands above the first word of its frame
 abbrev pub slot_offset : ℕ → ℕ

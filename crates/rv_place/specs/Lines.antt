@@ -18,6 +18,7 @@ use Rattle.rv_isa.specs.declared.placed.Way.TheVariants.{Copy, Load, Store}
 use Rattle.rv_isa.specs.PlacedCode.{PlacedLine, does, moves, PlacedLines}
 use Rattle.rv_isa.specs.PlacedMachine.{only_slot}
 use Rattle.rv_isa.specs.Arithmetic.{sum_word}
+use Rattle.rv_isa.specs.Sizes.{reach_down}
 use Rattle.rv_isa.specs.Standing.{Code, Has}
 use Rattle.rv_world.specs.Operations.{Constants}
 use Rattle.rv_place.specs.Instructions.{Zero, words_of_jump, JumpsTo, CallsTo, BranchesOn, UnholdsToken, Computes}
@@ -153,7 +154,7 @@ frame_register Wide = t0
 abbrev pub FindsFrame : Reach → Code → ℕ → Type 0
 FindsFrame Near code at = Unit {0}
 FindsFrame Far code at = Unit {0}
-FindsFrame Wide code at = (down : Immediate) × (down.word ≡ 2 ^ 32 - 2048) × (code at ≡ Some (Addi t0 sp down))
+FindsFrame Wide code at = (down : Immediate) × (down.word ≡ 2 ^ 32 - reach_down) × (code at ≡ Some (Addi t0 sp down))
 
 -- The entry: where the newest frame is the lowest, which begins at the end of the cells, no frame is left, and the runtime's stop for
 -- a full stack comes; else a frame is taken, and the way back saved in its first word.

@@ -1,10 +1,14 @@
 -- What a text is made of: the runtime's instructions, those of the functions behind them, and the constants behind these.
 use Rattle.std.specs.Prelude.{◌≡◌, ℕ, ◌+◌, ◌-◌, ◌*◌, ◌≤◌, List, ◌++◌, length, cond, nat_lt}
+use Rattle.kk_base.specs.declared.limit.LimitKind.TheVariants.{FunctionNodes, Instances, ProgramNodes}
+use Rattle.kk_base.specs.Limits.{greatest_of}
+use Rattle.kk_base.specs.Sizes.{greatest_cells}
 use Rattle.elf_image.specs.Program.{text_start, memory_start}
 use Rattle.rv_isa.specs.declared.instr.Instr.{Instr}
 use Rattle.rv_isa.specs.declared.placed.Placed.{Placed}
 use Rattle.rv_isa.specs.PlacedCode.{placed_functions, placed_constants}
 use Rattle.rv_isa.specs.Costs.{placed_functions_length}
+use Rattle.rv_isa.specs.Sizes.{reach_down, narrow_frame, wide_frame}
 use Rattle.rv_isa.specs.Standing.{code_of}
 use Rattle.cell_runtime.specs.Lines.{Spells, AreWithin, words_of, labels_of}
 use Rattle.cell_heap.specs.Pool.{Pool}
@@ -18,13 +22,14 @@ use Rattle.rv_place.specs.declared.words.Words.{Words}
 
 -- ---- what can be placed
 
--- the most instructions of the lines of all functions, each counted at its most and without the functions' entries
+-- The most instructions of the lines of all functions, each counted at its most and without the functions' entries: so many for
+-- each pair of a node of the program and a node of its greatest function.
 abbrev pub most_text_length : ℕ
-most_text_length = 448000000
+most_text_length = 128 * (greatest_of FunctionNodes * greatest_of ProgramNodes)
 
 -- the most functions of a program
 abbrev pub most_functions : ℕ
-most_functions = 1024
+most_functions = greatest_of Instances
 
 -- the most instructions of a runtime
 abbrev pub most_runtime_words : ℕ
@@ -34,25 +39,25 @@ most_runtime_words = 1024
 abbrev pub most_text_words : ℕ
 most_text_words = most_runtime_words + 7 * most_functions + most_text_length
 
--- the most constant bytes of a program
+-- the most constant bytes of a program: so many for each of its nodes
 abbrev pub most_constant_bytes : ℕ
-most_constant_bytes = 8388608
+most_constant_bytes = 1024 * greatest_of ProgramNodes
 
 -- no part of a text stands above this address, and memory begins below it
 abbrev pub greatest_address : ℕ
 greatest_address = 2147483648
 
--- how far behind the memory's begin the stack begins at most
+-- how far behind the memory's begin the stack begins at most: behind the buffer, the cells, and what a load reaches down
 abbrev pub greatest_bottom : ℕ
-greatest_bottom = 268435456
+greatest_bottom = 32 + 32 * greatest_cells + reach_down
 
--- A runtime and a program that can be placed: frames are at most 4,088 bytes, so that each slot is within reach of the stack pointer;
--- and the text is small enough for a text part.
+-- A runtime and a program that can be placed: frames are so small that each slot is within reach of the stack pointer, and the
+-- text is small enough for a text part.
 pub record ArePlaceable (runtime program : Placed) : Type 0 where
   pub lines : AreWithin greatest_reach runtime.natives.items
   pub runtime_size : words_of runtime.natives.items ≤ most_runtime_words
   pub bottom : runtime.memory.stack_bottom ≤ greatest_bottom
-  pub frames : frame_size (placed_functions program) ≤ 4088
+  pub frames : frame_size (placed_functions program) ≤ wide_frame
   pub few_functions : length (placed_functions program) ≤ most_functions
   pub short : placed_functions_length (placed_functions program) ≤ most_text_length
   pub few_bytes : length (all_bytes (placed_constants program)) ≤ most_constant_bytes
@@ -63,7 +68,7 @@ pub record ArePlaceable (runtime program : Placed) : Type 0 where
 -- few instructions with near jumps, they are near.
 abbrev pub jumps_of : Placed → Placed → Reach
 jumps_of runtime program =
-    cond (nat_lt 2044 (frame_size (placed_functions program))) Wide
+    cond (nat_lt narrow_frame (frame_size (placed_functions program))) Wide
     (reach_of jump_words (words_of runtime.natives.items + words_of_functions Near (placed_functions program)))
 
 -- how many instructions a text has

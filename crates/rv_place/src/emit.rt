@@ -3,6 +3,7 @@
 ghost use Rattle.std.specs.Prelude.{◌≡◌, ◌+◌, ◌-◌, ◌*◌, ◌%◌, ◌^◌, ◌≤◌, Some, OnOk, max};
 ghost use Rattle.rv_isa.specs.Arithmetic.{sum_word};
 ghost use Rattle.rv_isa.specs.PlacedCode.{from_of, to_of};
+ghost use Rattle.rv_isa.specs.Sizes.{narrow_frame};
 ghost use Rattle.rv_isa.specs.declared.instr.Instr.TheVariants.{Addi};
 ghost use Rattle.rv_place.specs.declared.reach.Reach.TheVariants.{Near, Far, Wide};
 ghost use Rattle.rv_place.specs.Addresses.{slot_offset, slots_of_place, branch_words, jump_words, entry_words, frame_bias, greatest_frame, words_of_shift, words_to_frame};
@@ -16,6 +17,7 @@ use crate::chart::Chart;
 use crate::constant::WordForm;
 use crate::reach::{Forms, Reach};
 use kk_base::NoMemory;
+use rv_isa::sizes::REACH_DOWN;
 use rv_isa::{
     BranchOffset, Condition, Immediate, Instr, JumpOffset, Register, UpperImmediate, Way,
 };
@@ -327,7 +329,7 @@ fn emit_raising(code: &mut Vec<Instr>, jumps: Reach, frame: u32) -> Result<(), N
 /// What takes so many bytes from the stack pointer.
 fn negative(number: u32) -> Immediate
     requires some { 1 ≤ number }
-    requires few { number ≤ 2044 }
+    requires few { number ≤ narrow_frame }
     ensures { result.word ≡ 2 ^ 32 - number }
 {
     Immediate::new(0u32.wrapping_sub(number))
@@ -408,7 +410,7 @@ fn emit_finding(code: &mut Vec<Instr>, jumps: Reach) -> Result<(), NoMemory>
     match jumps {
         Reach::Near | Reach::Far => Ok(()),
         Reach::Wide => {
-            let down = Immediate::new(0u32.wrapping_sub(2048));
+            let down = Immediate::new(0u32.wrapping_sub(REACH_DOWN));
             emit(
                 code,
                 Instr::Addi {

@@ -1,11 +1,12 @@
 // Lines and functions as instructions.
 
 ghost use Rattle.std.specs.Prelude.{◌≡◌, ℕ, ◌+◌, ◌*◌, ◌^◌, ◌<◌, ◌≤◌, Some, OnOk, length, map, slice_get};
+ghost use Rattle.elf_image.specs.Program.{text_start};
 ghost use Rattle.rv_isa.specs.Costs.{placed_code_length, placed_functions_length};
 ghost use Rattle.rv_isa.specs.PlacedCode.{placed_line_of, placed_lines_of};
 ghost use Rattle.rv_isa.specs.PlacedMachine.{is_label_line};
 ghost use Rattle.rv_place.specs.Addresses.{words_of_action, words_of_line, words_of_lines, words_of_function, words_of_functions, label_address, greatest_frame, slots_of_operands, slots_of_line, slots_of_lines, slots_of_functions};
-ghost use Rattle.rv_place.specs.Texts.{most_text_length, most_functions, greatest_address};
+ghost use Rattle.rv_place.specs.Texts.{most_text_length, most_functions, most_runtime_words, greatest_address};
 ghost use Rattle.rv_place.specs.Emitted.{Grew, ActionBy, LineBy, LinesBy, FunctionBy, FunctionsBy};
 
 use crate::cells::{emit_hold, emit_unhold};
@@ -139,7 +140,7 @@ pub fn emit_functions(
     entry: u32,
     functions: &[PlacedFunction],
 ) -> Result<(), NoMemory>
-    requires entry { entry ≤ 1048576 }
+    requires entry { entry ≤ text_start + 4 * most_runtime_words }
     requires few { length functions.now ≤ most_functions }
     requires short { placed_functions_length (map placed_lines_of functions.now) ≤ most_text_length }
     requires some_frame { 4 ≤ chart.now.frame }

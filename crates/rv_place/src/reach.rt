@@ -4,6 +4,8 @@ ghost use Rattle.std.specs.Prelude.{◌≡◌, ◌≤◌};
 ghost use Rattle.rv_place.specs.Instructions.{words_of_jump, words_of_branch};
 ghost use Rattle.rv_place.specs.Addresses.{entry_words, frame_bias, reach_of, words_of_shift, words_to_frame};
 
+use rv_isa::sizes::REACH_DOWN;
+
 /// How far a jump or a branch leads; of the jumps of a text also whether its frames are wide.
 #[derive(Clone, Copy, PartialEq, Eq, Debug)]
 pub enum Reach {
@@ -64,7 +66,7 @@ impl Reach {
     {
         match self {
             Reach::Near | Reach::Far => 0,
-            Reach::Wide => 2048,
+            Reach::Wide => REACH_DOWN,
         }
     }
 

@@ -3,6 +3,7 @@
 ghost use Rattle.std.specs.Prelude.{◌≡◌, ◌+◌, ◌*◌, ◌≤◌, length, map, max};
 ghost use Rattle.rv_isa.specs.Costs.{operation_instructions, action_length, placed_line_length, placed_code_length, placed_functions_length};
 ghost use Rattle.rv_isa.specs.PlacedCode.{placed_line_of, placed_lines_of, placed_functions, from_of, to_of};
+ghost use Rattle.rv_isa.specs.WellFormed.{most_values};
 ghost use Rattle.rv_world.specs.Operations.{all_bytes};
 ghost use Rattle.cell_runtime.specs.Lines.{words_of};
 ghost use Rattle.rv_place.specs.Instructions.{words_of_operation};
@@ -139,7 +140,7 @@ pub fn bytes_of_constants(constants: &[Text]) -> u32
 // ---- frames
 
 fn slots_of_place(place: Place) -> u32
-    requires { slots_of_place place ≤ 1024 }
+    requires { slots_of_place place ≤ most_values }
     ensures { result ≡ slots_of_place place }
 {
     match place {
@@ -149,7 +150,7 @@ fn slots_of_place(place: Place) -> u32
 }
 
 fn slots_of_operands(operands: &[Operand]) -> u32
-    requires { slots_of_operands operands.now ≤ 1024 }
+    requires { slots_of_operands operands.now ≤ most_values }
     ensures { result ≡ slots_of_operands operands.now }
 {
     let mut slots = 0;
@@ -160,7 +161,7 @@ fn slots_of_operands(operands: &[Operand]) -> u32
 }
 
 fn slots_of_way(way: Way) -> u32
-    requires { max (slots_of_place (from_of way)) (slots_of_place (to_of way)) ≤ 1024 }
+    requires { max (slots_of_place (from_of way)) (slots_of_place (to_of way)) ≤ most_values }
     ensures { result ≡ max (slots_of_place (from_of way)) (slots_of_place (to_of way)) }
 {
     match way {
@@ -171,7 +172,7 @@ fn slots_of_way(way: Way) -> u32
 }
 
 fn slots_of_item(item: &Item) -> u32
-    requires { slots_of_line (placed_line_of item.now) ≤ 1024 }
+    requires { slots_of_line (placed_line_of item.now) ≤ most_values }
     ensures { result ≡ slots_of_line (placed_line_of item.now) }
 {
     match item {
@@ -181,7 +182,7 @@ fn slots_of_item(item: &Item) -> u32
 }
 
 fn slots_of_items(items: &[Item]) -> u32
-    requires { slots_of_lines (map placed_line_of items.now) ≤ 1024 }
+    requires { slots_of_lines (map placed_line_of items.now) ≤ most_values }
     ensures { result ≡ slots_of_lines (map placed_line_of items.now) }
 {
     let mut slots = 0;
@@ -192,7 +193,7 @@ fn slots_of_items(items: &[Item]) -> u32
 }
 
 fn slots_of_functions(functions: &[PlacedFunction]) -> u32
-    requires { slots_of_functions (map placed_lines_of functions.now) ≤ 1024 }
+    requires { slots_of_functions (map placed_lines_of functions.now) ≤ most_values }
     ensures { result ≡ slots_of_functions (map placed_lines_of functions.now) }
 {
     let mut slots = 0;
@@ -205,7 +206,7 @@ fn slots_of_functions(functions: &[PlacedFunction]) -> u32
 /// The bytes of a frame of a program's functions: one word for the way back, and one for each slot up to the last that any
 /// of them uses. All functions have frames of one size.
 pub fn frame_bytes(program: &Placed) -> u32
-    requires { slots_of_functions (placed_functions program.now) ≤ 1024 }
+    requires { slots_of_functions (placed_functions program.now) ≤ most_values }
     ensures { result ≡ frame_size (placed_functions program.now) }
 {
     4 * slots_of_functions(&program.functions) + 4

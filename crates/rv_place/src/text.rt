@@ -24,11 +24,9 @@ use crate::symbols::Symbols;
 use crate::words::Words;
 use elf_image::{PAGE_SIZE, TEXT_START};
 use kk_base::{NoMemory, Text};
+use rv_isa::sizes::NARROW_FRAME;
 use rv_isa::{Instr, Native, Placed, PlacedFunction};
 use std::alloc::Global;
-
-/// The most bytes of a frame that a load reaches from its first word.
-const NARROW_FRAME: u32 = 2044;
 
 /// How far the jumps of the text lead: anywhere, where frames are wide; else where it is short with near jumps, they are near.
 fn jumps_of(runtime: &Placed, program: &Placed) -> Reach

@@ -11,12 +11,10 @@ ghost use Rattle.rv_regs.specs.Relation.{stores_behind, FunctionFewMoves};
 ghost use Rattle.rv_regs.specs.Shape.{IsBelow, IsResultBelow, HasSlotsBelow, AllSlotsBelow, IsModest};
 
 use crate::lines::{from, to};
+use rv_isa::sizes::MOST_VALUES;
 use rv_isa::{
     Action, AsmFunction, Item, Listed, Operand, Operation, Place, PlacedFunction, Statement,
 };
-
-/// So many values a function has at most.
-const MOST_VALUES: u32 = 1021;
 
 fn is_below(place: Place) -> bool
     ensures { IsTrue result → IsBelow most_values place }

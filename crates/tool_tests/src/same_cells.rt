@@ -5,7 +5,7 @@ ghost use Rattle.kk_base.specs.Sizes.{AreSizes};
 use crate::layers::{DEPTH, HELD, REVERSE, SHARED_PAIR};
 use crate::token_heap::{Heap, Value};
 use crate::token_machine::{End, TokenMachine};
-use kk_base::NoMemory;
+use kk_base::{GREATEST_CELLS, GREATEST_DEPTH, NoMemory};
 use kk_build::build;
 use kk_core::ConstructorShape;
 use kk_counted::Tokened;
@@ -17,11 +17,6 @@ use rv_sim::{Halt, Machine};
 use std::alloc::Global;
 use std::process::Abort;
 use std::test::Fail;
-
-/// The greatest sizes that an image may be built with.
-const MOST_CELLS: u32 = 1_048_576;
-
-const MOST_DEPTH: u32 = 65_536;
 
 /// The most steps of a run of the slow machine, and the most instructions of one of an image.
 const STEPS: u32 = 5_000_000;
@@ -432,7 +427,7 @@ fn check_same(
     cells: u32,
     depth: u32,
 ) -> Result<(End, usize), Fail> {
-    if cells > MOST_CELLS || depth == 0 || depth > MOST_DEPTH {
+    if cells > GREATEST_CELLS || depth == 0 || depth > GREATEST_DEPTH {
         return Err(Fail::new("no image has such sizes"));
     }
     let text = compiled.text;

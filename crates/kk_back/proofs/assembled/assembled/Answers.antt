@@ -1,6 +1,7 @@
 use Rattle.std.proofs.Common.{◌≡◌, ◌+◌, ◌≤◌, ℕ, List, length, sym, subst, ◌∙◌, ap, arith}
 use Rattle.rv_isa.specs.AsmCode.{Lines, asm_functions, asm_constants}
 use Rattle.rv_isa.specs.PlacedCode.{placed_functions}
+use Rattle.rv_isa.specs.Sizes.{wide_frame}
 use Rattle.elf_image.specs.Parts.{greatest_end}
 use Rattle.elf_image.specs.Program.{greatest_text, memory_start, program_parts}
 use Rattle.cell_runtime.specs.Texts.{IsText}
@@ -18,7 +19,7 @@ frame_bytes-requires c = let few = slots_most (placed_functions c.in_ok-program.
 
 pub text-requires-clause-frame : goal.text-requires-clause-frame
 text-requires-clause-frame c =
-    let small : frame_size (placed_functions c.in_ok-program.program) ≤ 4088 = frame_most (placed_functions c.in_ok-program.program) c.in_ok-program.ensures.shape.slots in
+    let small : frame_size (placed_functions c.in_ok-program.program) ≤ wide_frame = frame_most (placed_functions c.in_ok-program.program) c.in_ok-program.ensures.shape.slots in
     let is : c.frame_bytes.result ≡ frame_size (placed_functions c.in_ok-program.program) = c.frame_bytes.ensures in
     omega (arith, small, is)
 

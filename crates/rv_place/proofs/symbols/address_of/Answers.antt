@@ -1,5 +1,6 @@
 use Rattle.std.proofs.Common.{◌+◌, ◌*◌, List, refl, ap, subst, arith}
 use Rattle.cell_runtime.specs.Lines.{words_of, labels_of}
+use Rattle.elf_image.specs.Program.{text_start}
 use Rattle.rv_isa.specs.declared.placed.Native.{Native}
 use Rattle.rv_place.specs.Addresses.{IsBehind}
 use Rattle.rv_place.proofs.Rests.{rest_at, nothing_left}
@@ -9,7 +10,7 @@ use Rattle.rv_place.proofs.symbols.address_of.Goals as goal
 pub returns-then-is_label_of : goal.returns-then-is_label_of
 returns-then-is_label_of c count behind =
     let here = rest_at c.args.natives.now c.loop-line.line-index c.line-item.result c.loop-line-test.true c.line-item.is in
-    ap (λ before. 65536 + 4 * before)
+    ap (λ before. text_start + 4 * before)
     (found_here c.args.symbol count c.loop-line.before _ _ c.line-item.result here (c.if-is_label_of.ensures.0 refl) (c.loop-line.invariant.behind count behind))
 
 pub loop-line-preserved : goal.loop-line-preserved
