@@ -3,6 +3,7 @@ pub mod Changed
 pub mod Environments
 pub mod FreeVariables
 pub mod Listed
+pub mod Lists
 pub mod Marks
 pub mod Patterns
 pub mod Popped

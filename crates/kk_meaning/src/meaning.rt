@@ -15,7 +15,7 @@ use crate::machine::{Control, Machine};
 use crate::turn::Turn;
 use crate::value::Value;
 use kk_base::NoMemory;
-use kk_owned::owned_positions;
+use kk_borrow::owned;
 use kk_syntax::{Accepted, Program};
 use std::alloc::Global;
 
@@ -56,7 +56,7 @@ impl<'a> Meaning<'a> {
         ensures start { IfOk result (λ meaning.
             configuration_of meaning.machine ≡ start (setting_of meaning.machine)) }
     {
-        let positions = owned_positions(alloc, program)?;
+        let positions = owned(alloc, program)?;
         let mut frames = Vec::new(alloc);
         frames.push(Frame::Call {
             lent: Vec::new(alloc),

@@ -3,7 +3,7 @@ use Rattle.std.proofs.lemmas.List.{length-map}
 use Rattle.kk_source.specs.Live.{counted}
 use Rattle.kk_meaning.specs.View.{value_view, cell_view}
 use Rattle.kk_meaning.specs.Marks.{is_marked}
-use Rattle.kk_owned.proofs.Lists.{front_again}
+use Rattle.kk_meaning.proofs.Lists.{front_again}
 use Rattle.kk_meaning.proofs.Marks.{counted_live}
 use Rattle.kk_meaning.proofs.cell.live.Goals as goal
 
