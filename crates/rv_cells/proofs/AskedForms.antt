@@ -1,5 +1,5 @@
 -- The lines of forms on values, by whether a construction asks for its cell while other tokens are held.
-use Rattle.std.proofs.Common.{◌≡◌, ℕ, ◌+◌, ◌⊎◌, inl, inr, List, [], ◌∷◌, refl}
+use Rattle.std.proofs.Common.{◌≡◌, ℕ, ◌+◌, ◌⊎◌, inl, inr, false, List, [], ◌∷◌, refl}
 use Rattle.kk_syntax.specs.declared.program.Form.{Form}
 use Rattle.kk_syntax.specs.declared.program.Form.TheVariants.{Number, Unit as Nothing, ReadByte, PrintText, Unary, Binary, Print}
 use Rattle.kk_syntax.specs.declared.program.Form.TheVariants.{Construct, Call}
@@ -19,7 +19,8 @@ pub record Asks (setting : Setting) (variables low x : ℕ) (form : Form) (argum
   pub form_is : form ≡ Construct made_by
   pub arguments_are : arguments ≡ first ∷ later
   pub fill : List Line
-  pub fills : FillLines setting.base x x (values_of_slots variables others) low (header_of setting.layout made_by) arguments [] fill
+  pub fills : FillLines setting.base x x (values_of_slots variables others) low (header_of setting.layout made_by) arguments []
+      false false fill
   pub own_is : own ≡ sets 0 x ∷ fill
   pub middle_is : low + 1 ≡ middle
 

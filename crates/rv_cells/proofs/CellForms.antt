@@ -58,7 +58,7 @@ use Rattle.rv_lower.proofs.Formed.{
 }
 use Rattle.rv_lower.proofs.Operations.{Leads, leads_then, leads_weaker, next_temporary, only_bound}
 use Rattle.rv_cells.specs.CellLines.{Loads, Stores, AllLoads, AllStores, StoresIf, SomeStores, is_kept, dup_lines, drop_lines, dups_lines, drops_lines}
-use Rattle.rv_cells.specs.CellLines.{ConstructLines, FillingLines}
+use Rattle.rv_cells.specs.CellLines.{SetIf, SomeWords, ConstructLines}
 
 -- an operation that gives no value
 good_effect : (B : ℕ → Type 0) (operation : Operation) (args : List ℕ) (rest : List Line) → length args ≤ 2 → Each B args
@@ -291,14 +291,34 @@ module _ (base : ℕ) where
       build_with bound x header arguments head count stores room here heads
       (stores_lead bound (base + 1) x 2 arguments stores room (omega arith) here are all_stores) counts
 
-  -- those of some fields alone
-  pub filling_leads : (bound : List ℕ) (x header : ℕ) (arguments kept : List ℕ) (lines : List Line) → HasRoom base bound
-      → is_bound bound x ≡ true → AreBound bound arguments → FillingLines base x header arguments kept lines
+  -- a word is stored by a temporary, or none is
+  set_leads : (bound : List ℕ) (b : Bool) (x i word : ℕ) (lines : List Line) → HasRoom base bound → is_bound bound x ≡ true
+      → SetIf b base x i word lines → Leads (Bound bound) (Bound bound) 2 lines
+  set_leads bound true x i word lines room here own =
+      subst (Leads (Bound bound) (Bound bound) 2) (sym own.2)
+      (leads_then (Bound bound) (Readable base (base + 1) bound) (Bound bound) 1 1 (sets word base ∷ []) (own.0 ∷ [])
+      (next_temporary base bound room base (Op.Li word) [] (omega arith) refl (omega arith) tt)
+      (leads_weaker (Readable base (base + 1) bound) (Readable base (base + 1) bound) (Readable base (base + 1) bound) (Bound bound)
+      1 1 (own.0 ∷ []) (λ v is. is) (λ v is. readable_more base base (base + 1) bound (omega arith) v is) (omega arith)
+      (one_store bound (base + 1) x i base own.0 room (omega arith) (inl here) (inr (omega arith, omega arith)) own.1)))
+  set_leads bound false x i word lines room here own =
+      subst (Leads (Bound bound) (Bound bound) 2) (sym own)
+      (record { no_label = λ l. tt; few = omega arith; good = λ rest good. good })
+
+  -- some words of a construction
+  pub words_lead : (bound : List ℕ) (head count : Bool) (takes : ℕ → Bool) (x header : ℕ) (arguments : List ℕ) (lines : List Line)
+      → HasRoom base bound → is_bound bound x ≡ true → AreBound bound arguments
+      → SomeWords head count takes base x header arguments lines
       → Leads (Bound bound) (Bound bound) (4 + length arguments) lines
-  filling_leads bound x header arguments kept lines room here are own =
+  words_lead bound head count takes x header arguments lines room here are own =
       subst (Leads (Bound bound) (Bound bound) (4 + length arguments)) (sym own.6)
-      (build_with bound x header arguments own.0 own.2 own.1 room here own.3
-      (some_lead (is_kept false kept) bound (base + 1) x 2 0 arguments own.1 room (omega arith) here are own.4) own.5)
+      (leads_weaker (Bound bound) (Bound bound) (Bound bound) (Bound bound) (2 + (length arguments + 2)) (4 + length arguments)
+      (own.0 ++ (own.1 ++ own.2)) (λ v is. is) (λ v is. is) (omega arith)
+      (leads_then (Bound bound) (Bound bound) (Bound bound) 2 (length arguments + 2) own.0 (own.1 ++ own.2)
+      (set_leads bound head x 1 header own.0 room here own.3)
+      (leads_then (Bound bound) (Bound bound) (Bound bound) (length arguments) 2 own.1 own.2
+      (some_lead takes bound base x 2 0 arguments own.1 room (omega arith) here are own.4)
+      (set_leads bound count x 0 1 own.2 room here own.5))))
 
   pub bound_later : (bound : List ℕ) (x : ℕ) (xs : List ℕ) → AreBound bound xs → AreBound (x ∷ bound) xs
   bound_later bound x [] are = tt

@@ -131,6 +131,7 @@ module _ (layout : Layout) (marks : CellMarks) (code : TokenedProgram) (constant
         holds = shape.holds;
         base = shape.variables + shape.slots;
         texts = record { literals = code.texts; constants = constants };
+        standing = shape.standing;
       }) shape.variables at.does.goal p.low tokens_code p.own p.high p.lines in
       let acts_so : is_act (bare tokens_code) ≡ true = ap is_act same ∙ does in
       let own : is_own_act tokens_code ≡ true = ap (λ b. not b && is_act (bare tokens_code)) loud ∙ acts_so in

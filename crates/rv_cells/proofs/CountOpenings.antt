@@ -25,7 +25,7 @@ use Rattle.rv_isa.specs.Frames.{Frame, found}
 use Rattle.cell_heap.specs.Blocks.{Cells, own, with_block, with_word}
 use Rattle.rv_world.specs.World.{World, with_cells}
 use Rattle.rv_lower.specs.Lines.{computes, sets, acts}
-use Rattle.rv_cells.specs.Layout.{word_in, words_in}
+use Rattle.rv_cells.specs.Layout.{word_in, words_in, header_of}
 use Rattle.rv_cells.specs.Follows.{AreFrom, Owner, cell_of, in_hand, IsCellOf, with_owner, is_aside}
 use Rattle.rv_cells.specs.CellLines.{CountLines, dups_lines, drops_lines}
 use Rattle.rv_cells.proofs.Held.{some-is, held_other, held_count}
@@ -304,17 +304,26 @@ module _ (known : Known) (o : CountOpening known) where
           (sym (set_length named.at 0 s.heap)) read.here.values;
     }
 
+    same_held : stands.held ≡ made.held
+    same_held = some-is (sym stands.there ∙ made.there)
+
+    header_there : stands.words 1 ≡ Some (header_of known.layout c)
+    header_there =
+        stands.shows.header
+        ∙ ap (λ k. Some (header_of known.layout k)) (ap (λ (h : Held). h.cell.made_by) same_held ∙ made.made)
+
     fields_there : AreFrom stands.words 2 (words_in known.layout s.address named.fields)
     fields_there =
-        let same : stands.held ≡ made.held = some-is (sym stands.there ∙ made.there) in
         subst (λ vs. AreFrom stands.words 2 (words_in known.layout s.address vs))
-        (ap (λ (h : Held). h.cell.fields) same ∙ made.fields) stands.shows.fields
+        (ap (λ (h : Held). h.cell.fields) same_held ∙ made.fields) stands.shows.fields
 
     pub record Emptied (frame : Frame Line) (owners : ℕ → Owner) (cells : Cells) : Type 0 where
       pub comes : Comes (3 * most_moves + 7 + row_cost fields (most_moves + 2)
           + row_cost (others_of used fields) (2 * most_moves + 16)) (lasts ++ (for_shared ++ ending)) s.frame.cells frame owners cells
       pub words : ℕ → Option ℕ
       pub hand : owners at ≡ in_hand words
+      pub count_is : words 0 ≡ Some 1
+      pub header_is : words 1 ≡ Some (header_of known.layout c)
       pub fields_are : AreFrom words 2 (words_in known.layout s.address named.fields)
       pub aside : (y : ℕ) → y ≢ at → is_aside (s.owners y) ≡ true → owners y ≡ s.owners y
       pub was : (y : ℕ) → y ≢ at → is_aside (owners y) ≡ true → owners y ≡ s.owners y
@@ -381,6 +390,8 @@ module _ (known : Known) (o : CountOpening known) where
             };
             words = stands.words;
             hand = did.aside at (ap is_aside here_at) ∙ here_at;
+            count_is = count_there ∙ ap Some once;
+            header_is = header_there;
             fields_are = fields_there;
             aside = λ y differ is.
                 let same = chosen_other y at (in_hand stands.words) s.owners differ in

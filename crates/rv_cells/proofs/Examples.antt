@@ -30,7 +30,9 @@ use Rattle.rv_isa.specs.AsmCode.{Line, Lines}
 use Rattle.rv_lower.specs.Lines.{computes, sets, copies_to, acts}
 use Rattle.rv_lower.specs.Lowered.{returns}
 use Rattle.rv_cells.specs.Layout.{Layout}
-use Rattle.rv_cells.specs.CellLines.{SomeStores, is_kept, ConstructLines, FillingLines, FillLines, AllLoads, TokenUniqueLines}
+use Rattle.rv_cells.specs.declared.standing.Standing.TheVariants.{Nothing}
+use Rattle.rv_cells.specs.CellLines.{SomeWords, is_kept, ConstructLines, FillLines, AllLoads, TokenUniqueLines}
+use Rattle.rv_cells.proofs.Standings.{nothing_kept}
 use Rattle.rv_cells.specs.CountedLines.{Setting}
 use Rattle.rv_cells.specs.Meaning.{setting_on}
 use Rattle.rv_cells.specs.TokenedLines.{CodeLines, HasSlots, IsFunctionOf, AreFunctionsOf}
@@ -128,8 +130,8 @@ opening_lines =
 -- the new cell is that of the token, or one that is taken where the token is null
 abbrev filling_lines : List Line
 filling_lines =
-    copies_to 7 6 ∷ copies_to 6 8 ∷ acts (Branch NotEqual 7) (8 ∷ [])
-    ∷ record { action = Calls Take; args = []; into = Some 6 } ∷ acts (Label 7) [] ∷ stores_cons 8 6 4 5
+    copies_to 7 6 ∷ acts (Branch NotEqual 7) (6 ∷ []) ∷ record { action = Calls Take; args = []; into = Some 6 }
+    ∷ acts (Label 7) [] ∷ stores_cons 8 6 4 5
 
 abbrev fills_and_returns : List Line
 fills_and_returns = filling_lines ++ acts Return (6 ∷ []) ∷ []
@@ -151,7 +153,13 @@ inc_lines = record {
 }
 
 abbrev setting : (ℕ → Bool) → ℕ → Setting
-setting holds base = record { layout = layout; holds = holds; base = base; texts = record { literals = []; constants = [] } }
+setting holds base = record {
+  layout = layout;
+  holds = holds;
+  base = base;
+  texts = record { literals = []; constants = [] };
+  standing = Nothing;
+}
 
 abbrev inc_holds : ℕ → Bool
 inc_holds x = is_among (0 ∷ 2 ∷ 5 ∷ 6 ∷ []) x
@@ -201,13 +209,14 @@ opens = (
   refl,
 )
 
--- the words of a Cons but those of kept fields: of none, and of the second one
-stores_all : (base x head rest : ℕ) → FillingLines base x 513 (head ∷ rest ∷ []) [] (stores_cons base x head rest)
+-- all words of a Cons, and those but its second field
+stores_all : (base x head rest : ℕ)
+    → SomeWords true true (is_kept false []) base x 513 (head ∷ rest ∷ []) (stores_cons base x head rest)
 stores_all base x head rest = (
-  stores immediate_4 x base,
+  sets 513 base ∷ stores immediate_4 x base ∷ [],
   stores immediate_8 x head ∷ stores immediate_12 x rest ∷ [],
-  stores immediate_0 x base,
-  (immediate_4, refl, refl),
+  sets 1 base ∷ stores immediate_0 x base ∷ [],
+  (stores immediate_4 x base, (immediate_4, refl, refl), refl),
   (
     stores immediate_8 x head ∷ [],
     stores immediate_12 x rest ∷ [],
@@ -221,48 +230,62 @@ stores_all base x head rest = (
     ),
     refl,
   ),
-  (immediate_0, refl, refl),
+  (stores immediate_0 x base, (immediate_0, refl, refl), refl),
   refl,
 )
 
-none_kept : (x head rest : ℕ) → SomeStores (is_kept true []) x 2 0 (head ∷ rest ∷ []) []
-none_kept x head rest = ([], [], refl, ([], [], refl, refl, refl), refl)
+none_kept : (base x head rest : ℕ) → SomeWords false false (is_kept true []) base x 513 (head ∷ rest ∷ []) []
+none_kept base x head rest = ([], [], [], refl, ([], [], refl, ([], [], refl, refl, refl), refl), refl, refl)
 
-fills : FillLines 8 6 7 [] 7 513 (4 ∷ 5 ∷ []) [] filling_lines
-fills = ([], stores_cons 8 6 4 5, none_kept 6 4 5, stores_all 8 6 4 5, refl)
+fills : FillLines 8 6 7 [] 7 513 (4 ∷ 5 ∷ []) [] false false filling_lines
+fills = ([], stores_cons 8 6 4 5, none_kept 8 6 4 5, stores_all 8 6 4 5, refl)
 
--- the second field is stored where the token is null
-fills_rest : FillLines 8 6 7 [] 7 513 (4 ∷ 5 ∷ []) (1 ∷ [])
-    (copies_to 7 6 ∷ copies_to 6 8 ∷ acts (Branch NotEqual 7) (8 ∷ [])
-    ∷ record { action = Calls Take; args = []; into = Some 6 } ∷ stores immediate_12 6 5 ∷ acts (Label 7) []
-    ∷ sets 513 8 ∷ stores immediate_4 6 8 ∷ stores immediate_8 6 4 ∷ sets 1 8 ∷ stores immediate_0 6 8 ∷ [])
+-- the second field, the header and the count are stored where the token is null
+fills_rest : FillLines 8 6 7 [] 7 513 (4 ∷ 5 ∷ []) (1 ∷ []) true true
+    (copies_to 7 6 ∷ acts (Branch NotEqual 7) (6 ∷ []) ∷ record { action = Calls Take; args = []; into = Some 6 }
+    ∷ sets 513 8 ∷ stores immediate_4 6 8 ∷ stores immediate_12 6 5 ∷ sets 1 8 ∷ stores immediate_0 6 8 ∷ acts (Label 7) []
+    ∷ stores immediate_8 6 4 ∷ [])
 fills_rest = (
-  stores immediate_12 6 5 ∷ [],
-  sets 513 8 ∷ stores immediate_4 6 8 ∷ stores immediate_8 6 4 ∷ sets 1 8 ∷ stores immediate_0 6 8 ∷ [],
+  sets 513 8 ∷ stores immediate_4 6 8 ∷ stores immediate_12 6 5 ∷ sets 1 8 ∷ stores immediate_0 6 8 ∷ [],
+  stores immediate_8 6 4 ∷ [],
   (
-    [],
+    sets 513 8 ∷ stores immediate_4 6 8 ∷ [],
     stores immediate_12 6 5 ∷ [],
-    refl,
-    (stores immediate_12 6 5 ∷ [], [], (stores immediate_12 6 5, (immediate_12, refl, refl), refl), refl, refl),
+    sets 1 8 ∷ stores immediate_0 6 8 ∷ [],
+    (stores immediate_4 6 8, (immediate_4, refl, refl), refl),
+    (
+      [],
+      stores immediate_12 6 5 ∷ [],
+      refl,
+      (stores immediate_12 6 5 ∷ [], [], (stores immediate_12 6 5, (immediate_12, refl, refl), refl), refl, refl),
+      refl,
+    ),
+    (stores immediate_0 6 8, (immediate_0, refl, refl), refl),
     refl,
   ),
   (
-    stores immediate_4 6 8,
+    [],
     stores immediate_8 6 4 ∷ [],
-    stores immediate_0 6 8,
-    (immediate_4, refl, refl),
-    (stores immediate_8 6 4 ∷ [], [], (stores immediate_8 6 4, (immediate_8, refl, refl), refl), ([], [], refl, refl, refl), refl),
-    (immediate_0, refl, refl),
+    [],
+    refl,
+    (
+      stores immediate_8 6 4 ∷ [],
+      [],
+      (stores immediate_8 6 4, (immediate_8, refl, refl), refl),
+      ([], [], refl, refl, refl),
+      refl,
+    ),
+    refl,
     refl,
   ),
   refl,
 )
 
 -- the same of a construction around whose request the token of value 4 is held
-fills_held : FillLines 8 6 7 (4 ∷ []) 7 513 (1 ∷ 2 ∷ []) []
-    (copies_to 7 6 ∷ copies_to 6 8 ∷ acts (Branch NotEqual 7) (8 ∷ []) ∷ acts Hold (4 ∷ [])
+fills_held : FillLines 8 6 7 (4 ∷ []) 7 513 (1 ∷ 2 ∷ []) [] false false
+    (copies_to 7 6 ∷ acts (Branch NotEqual 7) (6 ∷ []) ∷ acts Hold (4 ∷ [])
     ∷ record { action = Calls Take; args = []; into = Some 6 } ∷ acts Unhold (4 ∷ []) ∷ acts (Label 7) [] ∷ stores_cons 8 6 1 2)
-fills_held = ([], stores_cons 8 6 1 2, none_kept 6 1 2, stores_all 8 6 1 2, refl)
+fills_held = ([], stores_cons 8 6 1 2, none_kept 8 6 1 2, stores_all 8 6 1 2, refl)
 
 -- from the call on
 calls : CodeLines (setting inc_holds 8) 7 returns 7
@@ -340,7 +363,16 @@ inc_slots = (tt, ((lit< tt, (tt, (tt, (lit< tt, (tt, (lit< tt, (lit< tt, (tt, tt
 
 pub inc_lowered : IsFunctionOf layout (record { literals = []; constants = [] }) marks 0 inc inc_lines
 inc_lowered = record {
-  lowered = record { holds = inc_holds; variables = 7; slots = 1; params = refl; labels = 8; code = inc_code };
+  lowered = record {
+    holds = inc_holds;
+    variables = 7;
+    slots = 1;
+    params = refl;
+    labels = 8;
+    standing = Nothing;
+    keeps = nothing_kept inc.body;
+    code = inc_code;
+  };
   marked = record {
     parameters_marked = (refl, tt);
     body_marked = (
@@ -479,7 +511,16 @@ main_code = (
 
 pub main_lowered : IsFunctionOf layout (record { literals = []; constants = [] }) marks 1 main main_lines
 main_lowered = record {
-  lowered = record { holds = main_holds; variables = 7; slots = 0; params = refl; labels = 0; code = main_code };
+  lowered = record {
+    holds = main_holds;
+    variables = 7;
+    slots = 0;
+    params = refl;
+    labels = 0;
+    standing = Nothing;
+    keeps = nothing_kept main.body;
+    code = main_code;
+  };
   marked = record {
     parameters_marked = tt;
     body_marked = (

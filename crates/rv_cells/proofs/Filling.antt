@@ -28,20 +28,10 @@ use Rattle.rv_cells.proofs.Spots.{Spot, Known, Here}
 use Rattle.rv_cells.proofs.LineCosts.{most_moves, row_cost, row_more}
 use Rattle.rv_cells.proofs.Values.{HasValues, among_none, has_temporary}
 use Rattle.rv_cells.proofs.Constructing.{IsMaking, made_spot, construct_cost, Hands, twice_owner, stored, store_hand, args_words, below_words, few_arguments, names_made, counts_made}
-use Rattle.rv_cells.proofs.KeptStores.{picked, picked_all, with_some, AreSome, some_below, some_later, some_written, all_written, some_run}
+use Rattle.rv_cells.proofs.FormWords.{has_same}
+use Rattle.rv_cells.proofs.KeptStores.{picked, picked_all, word_if, with_some}
+use Rattle.rv_cells.proofs.WordStores.{HasWords, has_stored, words_behind, count_behind, header_behind, fields_behind, put_if, words_same, set_cost, set_steps, both_set, words_spare, words_run}
 use Rattle.rv_cells.proofs.TokenOpenings.{Leads}
-
--- a value that is written again, before another one
-pub put_before : (x y at word old : ℕ) (values : ℕ → Option ℕ) → x ≢ y
-    → put x (Some at) (put y (Some word) (put x (Some old) values)) ≡ put y (Some word) (put x (Some at) values)
-put_before x y at word old values differ = fun_ext (λ z. by z (z == x) refl (z == y) refl)
-  where
-    by : (z : ℕ) (b : Bool) → (z == x) ≡ b → (c : Bool) → (z == y) ≡ c
-        → cond b (Some at) (cond c (Some word) (cond b (Some old) (values z))) ≡ cond c (Some word) (cond b (Some at) (values z))
-    by z true is true also = absurd (differ (sym (eqb-true z x is) ∙ eqb-true z y also))
-    by z true is false also = refl
-    by z false is true also = refl
-    by z false is false also = refl
 
 abbrev takes_into : ℕ → Line
 takes_into x = record { action = Calls Take; args = []; into = Some x }
@@ -52,8 +42,9 @@ fill_cost known others arguments =
     3 * most_moves + 6 + row_cost others (most_moves + 9) + row_cost others (most_moves + 7) + construct_cost known arguments
 
 module _ (known : Known) (rest : List Line) (fs : List (Frame Line)) (s : Spot) (x token c : ℕ) (others : List ℕ) (filled : ℕ)
-    (arguments kept : List ℕ) (lines : List Line) (here : Here known s) (making : IsMaking known s x c arguments)
-    (are : FillLines known.base x token others filled (header_of known.layout c) arguments kept lines) where
+    (arguments kept : List ℕ) (head count : Bool) (lines : List Line) (here : Here known s)
+    (making : IsMaking known s x c arguments)
+    (are : FillLines known.base x token others filled (header_of known.layout c) arguments kept head count lines) where
   abbrev pub takes : Line
   takes = record { action = Calls Take; args = []; into = Some x }
 
@@ -67,198 +58,75 @@ module _ (known : Known) (rest : List Line) (fs : List (Frame Line)) (s : Spot) 
   abbrev pub from_holds : List Line
   from_holds = hold_lines others ++ (takes ∷ (unhold_lines others ++ from_kept))
 
-  abbrev pub ws : List ℕ
-  ws = words_in known.layout s.address (values_of s.environment arguments)
-
-  abbrev pub HandsOf : ℕ → (ℕ → Option ℕ) → Cells → Type 0
-  HandsOf at words cells = Hands known.target.pool known.layout s.address s.owners s.heap at words cells
-
-  pub whole_lines : lines ++ rest ≡ copies_to token x ∷ copies_to x known.base ∷ acts (Branch NotEqual filled) (known.base ∷ [])
-      ∷ from_holds
+  pub whole_lines : lines ++ rest ≡ copies_to token x ∷ acts (Branch NotEqual filled) (x ∷ []) ∷ from_holds
   whole_lines =
       let own = acts (Label filled) [] ∷ are.1 in
       ap (λ ls. ls ++ rest) are.4
-      ∙ ap (λ ls. copies_to token x ∷ copies_to x known.base ∷ acts (Branch NotEqual filled) (known.base ∷ []) ∷ ls)
+      ∙ ap (λ ls. copies_to token x ∷ acts (Branch NotEqual filled) (x ∷ []) ∷ ls)
       (append_assoc (hold_lines others) (takes ∷ (unhold_lines others ++ (are.0 ++ own))) rest
       ∙ ap (λ ls. hold_lines others ++ (takes ∷ ls))
       (append_assoc (unhold_lines others) (are.0 ++ own) rest
       ∙ ap (λ ls. unhold_lines others ++ ls) (append_assoc are.0 own rest)))
 
-  -- the arguments at the positions that are kept, and the others
-  abbrev pub kept_ones : List ℕ
-  kept_ones = picked (is_kept true kept) 0 arguments
-
-  abbrev pub other_ones : List ℕ
-  other_ones = picked (is_kept false kept) 0 arguments
-
-  -- ---- from the label on, where x names a cell in hand
-
-  abbrev pub header : ℕ
-  header = header_of known.layout c
-
-  -- the words of the whole cell, from those that were known
-  abbrev pub last_words : (ℕ → Option ℕ) → ℕ → Option ℕ
-  last_words words = with_word 0 1 (with_some (is_kept false kept) 2 0 ws (with_word 1 header words))
-
-  pub whole_words : (words : ℕ → Option ℕ) → AreSome (is_kept true kept) words 2 0 ws
-      → IsBlockOf known.layout s.address
-      (record { count = 1; cell = record { made_by = c; fields = values_of s.environment arguments } }) (last_words words)
-  whole_words words known_ones =
-      let head = with_word 1 header words in
-      let all = with_some (is_kept false kept) 2 0 ws head in
-      record {
-        count = refl;
-        header = chosen_other 1 0 (Some 1) all (λ e. cc)
-            ∙ some_below (is_kept false kept) 2 0 1 ws head (omega arith);
-        fields = from_later 0 1 2 all ws (omega arith)
-            (all_written kept 2 0 ws head (some_later (is_kept true kept) 1 header 2 0 words ws (omega arith) known_ones));
-        fits = making.fits;
-      }
-
-  abbrev pub store_steps : ℕ
-  store_steps = 1 + (1 + (1 + (length other_ones + (1 + 1))))
-
-  abbrev pub store_cost : ℕ
-  store_cost = 0 + ((most_moves + 2) + ((most_moves + 3) + (row_cost other_ones (most_moves + 3) + ((most_moves + 2) +
-      (most_moves + 3)))))
-
-  abbrev pub ended_frame : Frame Line → Frame Line
-  ended_frame f = put_in known.base 1 (put_in known.base header f)
-
-  pub stores_all : (f : Frame Line) (gs : List (Frame Line)) (at : ℕ) (words : ℕ → Option ℕ) (world : World)
-      → f.cells x ≡ Some at → HaveWords f.cells arguments ws → HandsOf at words world.cells
-      → (cells : Cells) × Runs known.target store_cost store_steps (turn_of from_label f gs world)
-      (turn_of rest (ended_frame f) gs (with_cells world cells))
-      × HandsOf at (last_words words) cells
-  stores_all f gs at words world names have holds =
-      let target = known.target in
-      let low = making.below in
-      let most = few_arguments known s x c arguments making in
-      let head = are.3.0 in
-      let fields = are.3.1 in
-      let count = are.3.2 in
-      let f2 = put_in known.base header f in
-      let f3 = ended_frame f in
-      let tail : List Line = sets 1 known.base ∷ count ∷ [] in
-      let names_cell : f2.cells x ≡ Some at = put_other known.base x header f.cells (λ e. omega arith) ∙ names in
-      let still_names : f3.cells x ≡ Some at = put_other known.base x 1 f2.cells (λ e. omega arith) ∙ names_cell in
-      let row = row_cost other_ones (most_moves + 3) in
-      let many = length other_ones in
-      let first = label_exact target (are.1 ++ rest) f gs world filled in
-      let second = sets_runs target (head ∷ ((fields ++ tail) ++ rest)) f gs world header known.base in
-      let c1 = with_block at (own (with_word 1 header words)) world.cells in
-      let third = store_hand target known.layout s.address s.owners s.heap gs f2 x at names_cell
-      ((fields ++ tail) ++ rest) world 1 known.base header words head are.3.3 (put_same known.base header f.cells) (omega arith)
-      holds in
-      let w1 = with_cells world c1 in
-      let hold1 = stored target known.layout s.address s.owners s.heap gs f2 x at names_cell 1 header words world.cells holds in
-      let fourth = some_run target known.layout s.address s.owners s.heap gs f2 x at names_cell (is_kept false kept) (tail ++ rest)
-      arguments ws 2 0 fields (with_word 1 header words) w1 are.3.4
-      (below_words known s here header f.cells arguments ws making.bound have) (omega (arith, most)) hold1 in
-      let w2 = with_cells w1 fourth.0 in
-      let fifth = sets_runs target (count ∷ rest) f2 gs w2 1 known.base in
-      let written = with_some (is_kept false kept) 2 0 ws (with_word 1 header words) in
-      let sixth = store_hand target known.layout s.address s.owners s.heap gs f3 x at still_names rest w2 0 known.base 1 written
-      count are.3.5 (put_same known.base 1 f2.cells) (omega arith) fourth.2 in
-      let c3 = with_block at (own (with_word 0 1 written)) fourth.0 in
-      let hold3 = stored target known.layout s.address s.owners s.heap gs f3 x at still_names 0 1 written fourth.0 fourth.2 in
-      let t0 = turn_of from_label f gs world in
-      let t1 = turn_of (are.1 ++ rest) f gs world in
-      let t2 = turn_of (head ∷ ((fields ++ tail) ++ rest)) f2 gs world in
-      let t3 = turn_of (fields ++ (tail ++ rest)) f2 gs w1 in
-      let t4 = turn_of (tail ++ rest) f2 gs w2 in
-      let t5 = turn_of (count ∷ rest) f3 gs w2 in
-      let t6 = turn_of rest f3 gs (with_cells w2 c3) in
-      let two = (most_moves + 2) + (most_moves + 3) in
-      let last_two : Runs target two (1 + 1) t4 t6 = runs_then target (most_moves + 2) (most_moves + 3) 1 1 t4 t5 t6 fifth sixth in
-      let from_fields : Runs target (row + two) (many + (1 + 1)) t3 t6 = runs_then target row two many (1 + 1) t3 t4 t6 fourth.1
-      last_two in
-      let to_fields : Runs target (most_moves + 3) 1 t2 t3 = subst (λ ls. Runs target (most_moves + 3) 1 t2 (turn_of ls f2 gs w1))
-      (append_assoc fields tail rest) third in
-      let from_head : Runs target ((most_moves + 3) + (row + two)) (1 + (many + (1 + 1))) t2 t6 =
-      runs_then target (most_moves + 3) (row + two) 1 (many + (1 + 1)) t2 t3 t6 to_fields from_fields in
-      let to_head : Runs target (most_moves + 2) 1 t1 t2 = subst (λ ls. Runs target (most_moves + 2) 1 (turn_of ls f gs world) t2)
-      (sym (ap (λ ls. ls ++ rest) are.3.6)) second in
-      let storing : Runs target ((most_moves + 2) + ((most_moves + 3) + (row + two))) (1 + (1 + (many + (1 + 1)))) t1 t6 =
-      runs_then target (most_moves + 2) ((most_moves + 3) + (row + two)) 1 (1 + (many + (1 + 1))) t1 t2 t6 to_head from_head in (
-        c3,
-        runs_then target 0 ((most_moves + 2) + ((most_moves + 3) + (row + two))) 1 (1 + (1 + (many + (1 + 1)))) t0 t1 t6 first
-            storing,
-        hold3,
-      )
-
   -- ---- the token's word is tested
 
   abbrev pub tested : ℕ → Frame Line
-  tested word = put_in known.base word (put_in x word s.frame)
-
-  copies : (word : ℕ) → s.frame.cells token ≡ Some word → (there : List Line)
-      → Runs known.target ((most_moves + 2) + (most_moves + 2)) (1 + 1)
-      (turn_of (copies_to token x ∷ copies_to x known.base ∷ there) s.frame fs s.world) (turn_of there (tested word) fs s.world)
-  copies word is there =
-      runs_then known.target (most_moves + 2) (most_moves + 2) 1 1
-      (turn_of (copies_to token x ∷ copies_to x known.base ∷ there) s.frame fs s.world)
-      (turn_of (copies_to x known.base ∷ there) (put_in x word s.frame) fs s.world) (turn_of there (tested word) fs s.world)
-      (copy_runs known.target (copies_to x known.base ∷ there) s.frame fs s.world token x word is)
-      (copy_runs known.target there (put_in x word s.frame) fs s.world x known.base word (put_same x word s.frame.cells))
+  tested word = put_in x word s.frame
 
   abbrev pub test_cost : ℕ
-  test_cost = ((most_moves + 2) + (most_moves + 2)) + (most_moves + 2)
+  test_cost = (most_moves + 2) + (most_moves + 2)
 
   abbrev branches : Line
-  branches = acts (Branch NotEqual filled) (known.base ∷ [])
+  branches = acts (Branch NotEqual filled) (x ∷ [])
 
   -- it is null
-  pub tests_null : s.frame.cells token ≡ Some 0 → Runs known.target test_cost ((1 + 1) + 1)
+  pub tests_null : s.frame.cells token ≡ Some 0 → Runs known.target test_cost (1 + 1)
       (turn_of (lines ++ rest) s.frame fs s.world) (turn_of from_holds (tested 0) fs s.world)
   tests_null is =
-      subst (λ ls. Runs known.target test_cost ((1 + 1) + 1) (turn_of ls s.frame fs s.world)
+      subst (λ ls. Runs known.target test_cost (1 + 1) (turn_of ls s.frame fs s.world)
       (turn_of from_holds (tested 0) fs s.world)) (sym whole_lines)
-      (runs_then known.target ((most_moves + 2) + (most_moves + 2)) (most_moves + 2) (1 + 1) 1
-      (turn_of (copies_to token x ∷ copies_to x known.base ∷ branches ∷ from_holds) s.frame fs s.world)
+      (runs_then known.target (most_moves + 2) (most_moves + 2) 1 1
+      (turn_of (copies_to token x ∷ branches ∷ from_holds) s.frame fs s.world)
       (turn_of (branches ∷ from_holds) (tested 0) fs s.world) (turn_of from_holds (tested 0) fs s.world)
-      (copies 0 is (branches ∷ from_holds))
-      (falls_one_exact known.target from_holds (tested 0) fs s.world NotEqual filled known.base 0
-      (put_same known.base 0 (put_in x 0 s.frame).cells) refl))
+      (copy_runs known.target (branches ∷ from_holds) s.frame fs s.world token x 0 is)
+      (falls_one_exact known.target from_holds (tested 0) fs s.world NotEqual filled x 0 (put_same x 0 s.frame.cells) refl))
 
   -- it is a cell's
   pub tests_cell : (at : ℕ) → s.frame.cells token ≡ Some at → at ≢ 0
       → found (λ line. is_label filled line.action) s.frame.whole ≡ Some from_label
-      → Runs known.target test_cost ((1 + 1) + 1) (turn_of (lines ++ rest) s.frame fs s.world)
+      → Runs known.target test_cost (1 + 1) (turn_of (lines ++ rest) s.frame fs s.world)
       (turn_of from_label (tested at) fs s.world)
   tests_cell at is some finds =
       let test : nat_eq at 0 ≡ false = grind (arith, nat_tests) in
-      subst (λ ls. Runs known.target test_cost ((1 + 1) + 1) (turn_of ls s.frame fs s.world)
+      subst (λ ls. Runs known.target test_cost (1 + 1) (turn_of ls s.frame fs s.world)
       (turn_of from_label (tested at) fs s.world)) (sym whole_lines)
-      (runs_then known.target ((most_moves + 2) + (most_moves + 2)) (most_moves + 2) (1 + 1) 1
-      (turn_of (copies_to token x ∷ copies_to x known.base ∷ branches ∷ from_holds) s.frame fs s.world)
+      (runs_then known.target (most_moves + 2) (most_moves + 2) 1 1
+      (turn_of (copies_to token x ∷ branches ∷ from_holds) s.frame fs s.world)
       (turn_of (branches ∷ from_holds) (tested at) fs s.world) (turn_of from_label (tested at) fs s.world)
-      (copies at is (branches ∷ from_holds))
-      (branch_one_exact known.target from_holds (tested at) fs s.world NotEqual filled known.base at from_label
-      (put_same known.base at (put_in x at s.frame).cells) (ap not test) finds))
+      (copy_runs known.target (branches ∷ from_holds) s.frame fs s.world token x at is)
+      (branch_one_exact known.target from_holds (tested at) fs s.world NotEqual filled x at from_label
+      (put_same x at s.frame.cells) (ap not test) finds))
 
 -- ---- the whole of it
 
 module _ (known : Known) (rest : List Line) (fs : List (Frame Line)) (s : Spot) (x token c : ℕ) (others : List ℕ) (filled : ℕ)
-    (arguments kept : List ℕ) (lines : List Line) (here : Here known s) (making : IsMaking known s x c arguments)
-    (are : FillLines known.base x token others filled (header_of known.layout c) arguments kept lines) where
-  -- the frame with these values, in which x names a cell, and the temporary has a word
-  abbrev pub named : (ℕ → Option ℕ) → ℕ → ℕ → ℕ → Option ℕ
-  named values word at = put known.base (Some word) (put x (Some at) values)
+    (arguments kept : List ℕ) (head count : Bool) (lines : List Line) (here : Here known s)
+    (making : IsMaking known s x c arguments)
+    (are : FillLines known.base x token others filled (header_of known.layout c) arguments kept head count lines) where
+  -- the values, where x names a cell
+  abbrev pub named : (ℕ → Option ℕ) → ℕ → ℕ → Option ℕ
+  named values at = put x (Some at) values
 
   abbrev pub with_values : (ℕ → Option ℕ) → Frame Line
   with_values values = record s.frame { cells = values }
 
-  abbrev pub last_frame : Frame Line → Frame Line
-  last_frame f = put_in known.base 1 (put_in known.base (header_of known.layout c) f)
-
-  -- The cell at an address is made: from older frames to others, with these owners and values before it is counted, and this word
-  -- in the temporary.
-  abbrev pub Fills : List (Frame Line) → (ℕ → Owner) → (ℕ → Option ℕ) → ℕ → ℕ → Type 0
-  Fills gs owners values word at =
-      (cells : Cells) × Leads known (fill_cost known others arguments) lines rest fs gs s
-      (made_spot (record s { owners = owners }) x c (values_of s.environment arguments) at
-      (last_frame (with_values (named values word at))) cells) (token ∷ others)
+  -- The cell at an address is made: from older frames to others, with these owners and values before it is counted. Values of
+  -- other variables are these in its frame.
+  abbrev pub Fills : List (Frame Line) → (ℕ → Owner) → (ℕ → Option ℕ) → ℕ → Type 0
+  Fills gs owners values at =
+      (frame : Frame Line) × (cells : Cells) × Leads known (fill_cost known others arguments) lines rest fs gs s
+      (made_spot (record s { owners = owners }) x c (values_of s.environment arguments) at frame cells) (token ∷ others)
+      × ((z : ℕ) → z < known.base → z ≢ x → frame.cells z ≡ values z)
 
   -- other values than those of tokens, of variables and temporaries
   abbrev pub AreSpared : (ℕ → Option ℕ) → Type 0
@@ -267,15 +135,15 @@ module _ (known : Known) (rest : List Line) (fs : List (Frame Line)) (s : Spot) 
   abbrev pub most_before : ℕ
   most_before = (3 * most_moves + 6) + (most_moves + 10) + row_cost others (most_moves + 9) + row_cost others (most_moves + 7)
 
-  -- the cost of the stores of the kept fields
+  -- the cost of the stores of the words that a token's cell has
   abbrev pub kept_cost : ℕ
-  kept_cost = row_cost (picked (is_kept true kept) 0 arguments) (most_moves + 3)
+  kept_cost = set_cost head + (row_cost (picked (is_kept true kept) 0 arguments) (most_moves + 3) + set_cost count)
 
   abbrev label : List Line
-  label = from_label known rest fs s x token c others filled arguments kept lines here making are
+  label = from_label known rest fs s x token c others filled arguments kept head count lines here making are
 
   abbrev behind_holds : List Line
-  behind_holds = from_kept known rest fs s x token c others filled arguments kept lines here making are
+  behind_holds = from_kept known rest fs s x token c others filled arguments kept head count lines here making are
 
   abbrev words_are : List ℕ
   words_are = words_in known.layout s.address (values_of s.environment arguments)
@@ -301,66 +169,94 @@ module _ (known : Known) (rest : List Line) (fs : List (Frame Line)) (s : Spot) 
   }
 
   -- variable x has the address, and the arguments have their words
-  names_cell : (values : ℕ → Option ℕ) (word at : ℕ) → named values word at x ≡ Some at
-  names_cell values word at =
-      let low = making.below in
-      put_other known.base x word (put x (Some at) values) (λ e. omega arith) ∙ put_same x at values
+  names_cell : (values : ℕ → Option ℕ) (at : ℕ) → named values at x ≡ Some at
+  names_cell values at = put_same x at values
 
-  have_words : (owners : ℕ → Owner) (values : ℕ → Option ℕ) (word at : ℕ) (words : ℕ → Option ℕ) (next : Cells)
-      → Here known (there owners values at words next) → HaveWords (named values word at) arguments words_are
-  have_words owners values word at words next here_there =
-      below_words known (there owners values at words next) here_there word (put x (Some at) values) arguments words_are
-      making.bound
-      (args_words known (there owners values at words next) here_there x at arguments making.bound making.apart)
+  have_words : (owners : ℕ → Owner) (values : ℕ → Option ℕ) (at : ℕ) (words : ℕ → Option ℕ) (next : Cells)
+      → Here known (there owners values at words next) → HaveWords (named values at) arguments words_are
+  have_words owners values at words next here_there =
+      args_words known (there owners values at words next) here_there x at arguments making.bound making.apart
+
+  abbrev header : ℕ
+  header = header_of known.layout c
+
+  few : length arguments ≤ 6
+  few = few_arguments known s x c arguments making
 
   -- from the label on
-  pub ends : (gs : List (Frame Line)) (owners : ℕ → Owner) (values : ℕ → Option ℕ) (word at cost steps : ℕ)
-      (words : ℕ → Option ℕ) (next : Cells)
+  pub ends : (gs : List (Frame Line)) (owners : ℕ → Owner) (values : ℕ → Option ℕ) (at cost steps : ℕ)
+      (words : ℕ → Option ℕ) (next : Cells) (cells : ℕ → Option ℕ)
       → Runs known.target cost steps (turn_of (lines ++ rest) s.frame fs s.world)
-      (turn_of label (with_values (named values word at)) gs (with_cells s.world next))
+      (turn_of label (with_values cells) gs (with_cells s.world next))
+      → ((z : ℕ) → z < known.base → cells z ≡ named values at z)
       → cost ≤ most_before + kept_cost → Hands known.target.pool known.layout s.address owners s.heap at words next
-      → AreSome (is_kept true kept) words 2 0 words_are
+      → HasWords head count kept (header_of known.layout c) words_are words
       → HasValues known.layout s.address known.holds known.base (length s.heap) s.bound s.environment values → AreSpared values
-      → Fills gs owners values word at
-  ends gs owners values word at cost steps words next runs cheap hands known_ones has spared =
+      → Fills gs owners values at
+  ends gs owners values at cost steps words next cells runs beside cheap hands known_ones has spared =
       let low = making.below in
-      let f = with_values (named values word at) in
+      let f = with_values cells in
       let world = with_cells s.world next in
       let to : Spot = there owners values at words next in
       let here_there : Here known to = record { follows = hands; values = has } in
       let is_making = making_there owners values at words next in
       let holds = subst (λ o. Follows known.target.pool known.layout s.address o s.heap next)
       (sym (twice_owner at (in_hand words) (in_hand words) owners)) hands in
-      let done = stores_all known rest fs to x token c others filled arguments kept lines here_there is_making are f gs at words
-      world (names_cell values word at) (have_words owners values word at words next here_there) holds in
-      let last = last_words known rest fs s x token c others filled arguments kept lines here making are words in
-      let many = few_arguments known s x c arguments making in
+      let stores = are.1 in
+      let takes = is_kept false kept in
+      let done = words_run known to here_there (not head) (not count) takes x header arguments words_are stores making.below few
+      making.bound are.3 rest f gs to.owners at words world (beside x making.below ∙ names_cell values at)
+      (words_same known to here_there (named values at) cells arguments words_are making.bound beside
+      (have_words owners values at words next here_there)) holds in
+      let storing = set_cost (not head) + (row_cost (picked takes 0 arguments) (most_moves + 3) + set_cost (not count)) in
+      let storing_steps = set_steps (not head) + (length (picked takes 0 arguments) + set_steps (not count)) in
+      let later_values = put_if (not count) known.base 1 (put_if (not head) known.base header cells) in
+      let kept_below : (z : ℕ) → z < known.base → later_values z ≡ named values at z
+      = λ z below. words_spare known to here_there (not head) (not count) takes x header arguments words_are stores making.below few
+      making.bound are.3 cells z below ∙ beside z below in
+      let g = with_values later_values in
+      let shows : IsBlockOf known.layout s.address
+      (record { count = 1; cell = record { made_by = c; fields = values_of s.environment arguments } })
+      (words_behind head count kept header words_are words)
+      = record {
+        count = count_behind head count kept header words_are words known_ones;
+        header = header_behind head count kept header words_are words known_ones;
+        fields = fields_behind head count kept header words_are words known_ones;
+        fits = making.fits;
+      } in
+      let made = names_made known to x c arguments here_there is_making at in
+      let counted = counts_made known to x c arguments here_there is_making (with_values (named values at)) at
+      (words_behind head count kept header words_are words) done.0 done.2 shows made in
+      let first = label_exact known.target (stores ++ rest) f gs world filled in
+      let many = few in
       let long : length (values_of s.environment arguments) ≡ length arguments = length-map arguments (value_of s.environment) in
-      let storing = store_cost known rest fs s x token c others filled arguments kept lines here making are in
-      let storing_steps = store_steps known rest fs s x token c others filled arguments kept lines here making are in
-      let counted = counts_made known to x c arguments here_there is_making f at last done.0 done.2
-      (whole_words known rest fs s x token c others filled arguments kept lines here making are words known_ones)
-      (has_temporary (names_made known to x c arguments here_there is_making at) known.base word (omega arith)) in
       let later = assign (length s.heap) at s.address in
       let heap = record { count = 1; cell = record { made_by = c; fields = values_of s.environment arguments } } ∷ s.heap in (
+        g,
         done.0,
         record {
-          cost = cost + storing;
-          steps = steps + storing_steps;
-          within = omega (arith, row_more arguments (most_moves + 2), many, picked_all kept 0 arguments (most_moves + 3));
-          runs = runs_then known.target cost storing steps storing_steps (turn_of (lines ++ rest) s.frame fs s.world)
-              (turn_of label f gs world) (turn_of rest (last_frame f) gs (with_cells s.world done.0)) runs done.1;
+          cost = cost + (0 + storing);
+          steps = steps + (1 + storing_steps);
+          within = omega (
+            arith,
+            row_more arguments (most_moves + 2),
+            many,
+            picked_all kept 0 arguments (most_moves + 3),
+            both_set head,
+            both_set count,
+          );
+          runs = runs_then known.target cost (0 + storing) steps (1 + storing_steps) (turn_of (lines ++ rest) s.frame fs s.world)
+              (turn_of label f gs world) (turn_of rest g gs (with_cells s.world done.0)) runs
+              (runs_then known.target 0 storing 1 storing_steps (turn_of label f gs world) (turn_of (stores ++ rest) f gs world)
+              (turn_of rest g gs (with_cells s.world done.0)) first done.1);
           here = record {
             follows = subst (λ o. Follows known.target.pool known.layout later o heap done.0)
                 (twice_owner at (in_hand words) (cell_of (length s.heap)) owners) counted.follows;
-            values = counted.values;
+            values = has_same made later_values (λ z among. kept_below z (made.below z among));
           };
           grown = λ z none. (among_none x s.bound z none).1;
           spared = λ z below apart none.
-              put_other known.base z 1 (put_in known.base (header_of known.layout c) f).cells (λ e. omega (arith, e, below))
-              ∙ put_other known.base z (header_of known.layout c) f.cells (λ e. omega (arith, e, below))
-              ∙ put_other known.base z word (put x (Some at) values) (λ e. omega (arith, e, below))
-              ∙ put_other x z at values (among_none x s.bound z none).0 ∙ spared z below apart;
+              kept_below z below ∙ put_other x z at values (among_none x s.bound z none).0 ∙ spared z below apart;
           left = refl {a = s.world.left};
           trace = refl {a = s.world.trace};
           whole = refl;
@@ -368,42 +264,52 @@ module _ (known : Known) (rest : List Line) (fs : List (Frame Line)) (s : Spot) 
           held = refl;
           into = refl;
         },
+        λ z below differ. kept_below z below ∙ put_other x z at values differ,
       )
 
   -- from behind the request on, which has taken the cell
-  pub ends_taken : (gs : List (Frame Line)) (owners : ℕ → Owner) (values : ℕ → Option ℕ) (word at cost steps : ℕ)
+  pub ends_taken : (gs : List (Frame Line)) (owners : ℕ → Owner) (values : ℕ → Option ℕ) (at cost steps : ℕ)
       (words : ℕ → Option ℕ) (next : Cells)
       → Runs known.target cost steps (turn_of (lines ++ rest) s.frame fs s.world)
-      (turn_of behind_holds (with_values (named values word at)) gs (with_cells s.world next))
+      (turn_of behind_holds (with_values (named values at)) gs (with_cells s.world next))
       → cost ≤ most_before → Follows known.target.pool known.layout s.address owners s.heap next → owners at ≡ in_hand words
       → HasValues known.layout s.address known.holds known.base (length s.heap) s.bound s.environment values → AreSpared values
-      → Fills gs owners values word at
-  ends_taken gs owners values word at cost steps words next runs cheap follows hand has spared =
-      let f = with_values (named values word at) in
+      → Fills gs owners values at
+  ends_taken gs owners values at cost steps words next runs cheap follows hand has spared =
+      let f = with_values (named values at) in
       let world = with_cells s.world next in
-      let most = few_arguments known s x c arguments making in
+      let to : Spot = there owners values at words next in
       let hands = subst (λ o. Follows known.target.pool known.layout s.address o s.heap next)
       (sym (same_owner at (in_hand words) owners hand)) follows in
-      let run = some_run known.target known.layout s.address owners s.heap gs f x at (names_cell values word at) (is_kept true kept)
-      label arguments words_are 2 0 are.0 words world are.2
-      (have_words owners values word at words next (record { follows = hands; values = has })) (omega (arith, most)) hands in
-      let many = length (picked (is_kept true kept) 0 arguments) in
-      ends gs owners values word at (cost + kept_cost) (steps + many) (with_some (is_kept true kept) 2 0 words_are words) run.0
+      let here_there : Here known to = record { follows = hands; values = has } in
+      let takes = is_kept true kept in
+      let run = words_run known to here_there head count takes x header arguments words_are are.0 making.below few making.bound
+      are.2 label f gs owners at words world (names_cell values at) (have_words owners values at words next here_there) hands in
+      let many = set_steps head + (length (picked takes 0 arguments) + set_steps count) in
+      ends gs owners values at (cost + kept_cost) (steps + many)
+      (word_if count 0 1 (with_some takes 2 0 words_are (word_if head 1 header words))) run.0
+      (put_if count known.base 1 (put_if head known.base header (named values at)))
       (runs_then known.target cost kept_cost steps many (turn_of (lines ++ rest) s.frame fs s.world)
-      (turn_of behind_holds f gs world) (turn_of label f gs (with_cells s.world run.0)) runs run.1)
-      (omega (arith, cheap)) run.2 (some_written (is_kept true kept) 2 0 words_are words) has spared
+      (turn_of behind_holds f gs world)
+      (turn_of label (with_values (put_if count known.base 1 (put_if head known.base header (named values at)))) gs
+      (with_cells s.world run.0)) runs run.1)
+      (λ z below. words_spare known to here_there head count takes x header arguments words_are are.0 making.below few making.bound
+      are.2 (named values at) z below)
+      (omega (arith, cheap)) run.2 (has_stored head count kept header words_are words) has spared
 
-  -- in the token's own cell, which has the kept fields
+  -- in the token's own cell, which has these words
   pub fills_own : (at : ℕ) (words : ℕ → Option ℕ) → s.frame.cells token ≡ Some at → s.owners at ≡ in_hand words
-      → AreSome (is_kept true kept) words 2 0 words_are
+      → HasWords head count kept (header_of known.layout c) words_are words
       → 0 < known.target.pool.first → found (λ line. is_label filled line.action) s.frame.whole ≡ Some label
-      → Fills fs s.owners s.frame.cells at at
+      → Fills fs s.owners s.frame.cells at
   fills_own at words is hand known_ones some finds =
       let behind = (hand_owned here.follows at words hand).0.behind in
-      ends fs s.owners s.frame.cells at at
-      (test_cost known rest fs s x token c others filled arguments kept lines here making are) ((1 + 1) + 1) words s.world.cells
-      (tests_cell known rest fs s x token c others filled arguments kept lines here making are at is (λ e. omega arith) finds)
-      (omega arith)
+      ends fs s.owners s.frame.cells at
+      (test_cost known rest fs s x token c others filled arguments kept head count lines here making are) (1 + 1) words
+      s.world.cells (named s.frame.cells at)
+      (tests_cell known rest fs s x token c others filled arguments kept head count lines here making are at is (λ e. omega arith)
+      finds)
+      (λ z below. refl) (omega arith)
       (subst (λ o. Follows known.target.pool known.layout s.address o s.heap s.world.cells)
       (sym (same_owner at (in_hand words) s.owners hand)) here.follows)
       known_ones here.values (λ z below apart. refl)

@@ -28,7 +28,7 @@ use Rattle.rv_cells.proofs.Spots.{Spot, Known, Here}
 use Rattle.rv_cells.proofs.LineCosts.{most_moves, row_cost}
 use Rattle.rv_cells.proofs.Values.{HasValues, among_none, has_other}
 use Rattle.rv_cells.proofs.Constructing.{IsMaking}
-use Rattle.rv_cells.proofs.Filling.{put_before, takes, from_kept, test_cost, tests_null, named, with_values, Fills, AreSpared, ends_taken}
+use Rattle.rv_cells.proofs.Filling.{takes, from_kept, test_cost, tests_null, named, with_values, Fills, AreSpared, ends_taken}
 
 -- ---- tokens under other values
 
@@ -248,20 +248,22 @@ newest_of owners values (z ∷ zs) y more are is = by are.0 (λ later. newest_of
         let parts = list_parts (sym (live_cell (values z) cell.0 z (live values zs) cell.2 cell.3) ∙ is) in
         by_cell cell.0 cell.1 cell.2 cell.3 cell.4 parts.0 parts.1
 
--- three values that are written in another order
-put_round : (x y t at : ℕ) (values : ℕ → Option ℕ) → x ≢ y → x ≢ t
-    → put x (Some at) (put y (Some 0) (put t (Some 0) (put x (Some 0) values))) ≡ put t (Some 0)
-    (put x (Some at) (put y (Some 0) values))
-put_round x y t at values one two = fun_ext (λ z. by z (z == x) refl (z == y) refl (z == t) refl)
+-- a value that is written again, also where another one was written in between
+put_again : (x at old : ℕ) (values : ℕ → Option ℕ) → put x (Some at) (put x (Some old) values) ≡ put x (Some at) values
+put_again x at old values = fun_ext (λ z. by z (z == x))
   where
-    by : (z : ℕ) (b : Bool) → (z == x) ≡ b → (c : Bool) → (z == y) ≡ c → (d : Bool) → (z == t) ≡ d
-        → cond b (Some at) (cond c (Some 0) (cond d (Some 0) (cond b (Some 0) (values z))))
-        ≡ cond d (Some 0) (cond b (Some at) (cond c (Some 0) (values z)))
-    by z true is c also true last = absurd (two (sym (eqb-true z x is) ∙ eqb-true z t last))
-    by z true is c also false last = refl
-    by z false is true also true last = refl
-    by z false is true also false last = refl
-    by z false is false also d last = refl
+    by : (z : ℕ) (b : Bool) → cond b (Some at) (cond b (Some old) (values z)) ≡ cond b (Some at) (values z)
+    by z true = refl
+    by z false = refl
+
+put_round : (x y at word old : ℕ) (values : ℕ → Option ℕ)
+    → put x (Some at) (put y (Some word) (put x (Some old) values)) ≡ put x (Some at) (put y (Some word) values)
+put_round x y at word old values = fun_ext (λ z. by z (z == x) (z == y))
+  where
+    by : (z : ℕ) (b c : Bool)
+        → cond b (Some at) (cond c (Some word) (cond b (Some old) (values z))) ≡ cond b (Some at) (cond c (Some word) (values z))
+    by z true c = refl
+    by z false c = refl
 
 -- ---- constructions
 
@@ -269,31 +271,31 @@ put_round x y t at values one two = fun_ext (λ z. by z (z == x) refl (z == y) r
 abbrev pub AreApartFrom : ℕ → ℕ → List ℕ → Type 0
 AreApartFrom base x zs = AllAre (λ z. (z < base) × (z ≢ x)) zs
 
-pub puts_same : (base x word other : ℕ) (values : ℕ → Option ℕ) (zs : List ℕ) → AreApartFrom base x zs
-    → AllSame values (put base (Some word) (put x (Some other) values)) zs
-puts_same base x word other values [] apart = tt
-puts_same base x word other values (z ∷ zs) apart = (
-  put_other base z word (put x (Some other) values) (λ e. let low = apart.0.0 in omega (arith, e, low))
-      ∙ put_other x z other values apart.0.1,
-  puts_same base x word other values zs apart.1,
+pub puts_same : (base x other : ℕ) (values : ℕ → Option ℕ) (zs : List ℕ) → AreApartFrom base x zs
+    → AllSame values (put x (Some other) values) zs
+puts_same base x other values [] apart = tt
+puts_same base x other values (z ∷ zs) apart = (
+  put_other x z other values apart.0.1,
+  puts_same base x other values zs apart.1,
 )
 
 module _ (known : Known) (rest : List Line) (fs : List (Frame Line)) (s : Spot) (x token c : ℕ) (others : List ℕ) (filled : ℕ)
-    (arguments kept : List ℕ) (lines : List Line) (here : Here known s) (making : IsMaking known s x c arguments)
-    (are : FillLines known.base x token others filled (header_of known.layout c) arguments kept lines)
+    (arguments kept : List ℕ) (head count : Bool) (lines : List Line) (here : Here known s)
+    (making : IsMaking known s x c arguments)
+    (are : FillLines known.base x token others filled (header_of known.layout c) arguments kept head count lines)
     (null : s.frame.cells token ≡ Some 0) (tokens : AreTokensIn in_hand s.owners s.frame.cells others)
     (out : AllOut s.frame.held others) (apart : AreApartFrom known.base x others) (some : 0 < known.target.pool.first) where
   abbrev label : List Line
-  label = from_kept known rest fs s x token c others filled arguments kept lines here making are
+  label = from_kept known rest fs s x token c others filled arguments kept head count lines here making are
 
   abbrev back_lines : List Line
   back_lines = unhold_lines others ++ label
 
   abbrev take : Line
-  take = takes known rest fs s x token c others filled arguments kept lines here making are
+  take = takes known rest fs s x token c others filled arguments kept head count lines here making are
 
   abbrev pub values1 : ℕ → Option ℕ
-  values1 = named known rest fs s x token c others filled arguments kept lines here making are s.frame.cells 0 0
+  values1 = named known rest fs s x token c others filled arguments kept head count lines here making are s.frame.cells 0
 
   abbrev pub owners1 : ℕ → Owner
   owners1 = all_held values1 others s.owners
@@ -305,17 +307,17 @@ module _ (known : Known) (rest : List Line) (fs : List (Frame Line)) (s : Spot) 
   held1 = live values1 others ++ s.frame.held
 
   pub same1 : AllSame s.frame.cells values1 others
-  same1 = puts_same known.base x 0 0 s.frame.cells others apart
+  same1 = puts_same known.base x 0 s.frame.cells others apart
 
   pub tokens1 : AreTokensIn in_hand s.owners values1 others
   tokens1 = tokens_moved in_hand s.owners s.frame.cells values1 others same1 tokens
 
   abbrev pub names : (ℕ → Option ℕ) → ℕ → ℕ → Option ℕ
-  names values at = named known rest fs s x token c others filled arguments kept lines here making are values 0 at
+  names values at = named known rest fs s x token c others filled arguments kept head count lines here making are values at
 
   abbrev pub Makes : List (Frame Line) → (ℕ → Owner) → (ℕ → Option ℕ) → ℕ → Type 0
   Makes gs owners values at =
-      Fills known rest fs s x token c others filled arguments kept lines here making are gs owners values 0 at
+      Fills known rest fs s x token c others filled arguments kept head count lines here making are gs owners values at
 
   -- the tokens are held
   pub row : (cells : Cells) × Runs known.target (row_cost others (most_moves + 9)) (length others)
@@ -326,17 +328,17 @@ module _ (known : Known) (rest : List Line) (fs : List (Frame Line)) (s : Spot) 
       s.world here.follows tokens1 out
 
   abbrev before : ℕ
-  before = test_cost known rest fs s x token c others filled arguments kept lines here making are
+  before = test_cost known rest fs s x token c others filled arguments kept head count lines here making are
 
-  to_take : Runs known.target (before + row_cost others (most_moves + 9)) (((1 + 1) + 1) + length others)
+  to_take : Runs known.target (before + row_cost others (most_moves + 9)) ((1 + 1) + length others)
       (turn_of (lines ++ rest) s.frame fs s.world)
       (turn_of (take ∷ back_lines) (with_all values1 held1) fs (with_cells s.world row.0))
   to_take =
-      runs_then known.target before (row_cost others (most_moves + 9)) ((1 + 1) + 1) (length others)
+      runs_then known.target before (row_cost others (most_moves + 9)) (1 + 1) (length others)
       (turn_of (lines ++ rest) s.frame fs s.world)
       (turn_of (hold_lines others ++ (take ∷ back_lines)) (with_all values1 s.frame.held) fs s.world)
       (turn_of (take ∷ back_lines) (with_all values1 held1) fs (with_cells s.world row.0))
-      (tests_null known rest fs s x token c others filled arguments kept lines here making are null) row.1
+      (tests_null known rest fs s x token c others filled arguments kept head count lines here making are null) row.1
 
   -- from the request on: the tokens are taken back, and the cell is made
   after_take : (gs : List (Frame Line)) (values : ℕ → Option ℕ) (owners : ℕ → Owner) (next : Cells) (at : ℕ)
@@ -346,11 +348,12 @@ module _ (known : Known) (rest : List Line) (fs : List (Frame Line)) (s : Spot) 
       → Follows known.target.pool known.layout s.address owners s.heap next
       → AreTokensIn kept_aside owners (names values at) others → NoneHas (names values at) at others → owners at ≡ in_hand words
       → HasValues known.layout s.address known.holds known.base (length s.heap) s.bound s.environment values
-      → AreSpared known rest fs s x token c others filled arguments kept lines here making are values
+      → AreSpared known rest fs s x token c others filled arguments kept head count lines here making are values
       → Makes gs (all_back (names values at) others owners) values at
   after_take gs values owners next at words took follows tokens2 none hand has spared =
       let f = with_all (names values at) (live (names values at) others ++ s.frame.held) in
-      let last = with_values known rest fs s x token c others filled arguments kept lines here making are (names values at) in
+      let last = with_values known rest fs s x token c others filled arguments kept head count lines here making are
+      (names values at) in
       let holds = row_cost others (most_moves + 9) in
       let unholds = row_cost others (most_moves + 7) in
       let back = unhold_row known.target known.layout s.address s.heap gs others label f s.frame.held owners
@@ -360,11 +363,11 @@ module _ (known : Known) (rest : List Line) (fs : List (Frame Line)) (s : Spot) 
       let t2 = turn_of back_lines f gs (with_cells s.world next) in
       let t3 = turn_of label last gs (with_cells s.world back.0) in
       let behind = runs_then known.target (most_moves + 10) unholds 1 (length others) t1 t2 t3 took back.1 in
-      ends_taken known rest fs s x token c others filled arguments kept lines here making are gs
+      ends_taken known rest fs s x token c others filled arguments kept head count lines here making are gs
       (all_back (names values at) others owners)
-      values 0 at ((before + holds) + ((most_moves + 10) + unholds))
-      ((((1 + 1) + 1) + length others) + (1 + length others)) words back.0
-      (runs_then known.target (before + holds) ((most_moves + 10) + unholds) (((1 + 1) + 1) + length others) (1 + length others)
+      values at ((before + holds) + ((most_moves + 10) + unholds))
+      (((1 + 1) + length others) + (1 + length others)) words back.0
+      (runs_then known.target (before + holds) ((most_moves + 10) + unholds) ((1 + 1) + length others) (1 + length others)
       t0 t1 t3 to_take behind)
       (omega arith) back.2 (back_others (names values at) others at owners none ∙ hand) has spared
 
@@ -383,13 +386,13 @@ module _ (known : Known) (rest : List Line) (fs : List (Frame Line)) (s : Spot) 
       let hand = chosen_same at at (in_hand nothing) owners1 refl in
       let far = (hand_owned follows at nothing hand).0.behind in
       let values2 = names s.frame.cells at in
-      let same2 = puts_same known.base x 0 at s.frame.cells others apart in
+      let same2 = puts_same known.base x at s.frame.cells others apart in
       let moved = both_same s.frame.cells values1 values2 others same1 same2 in
       let held = tokens_held s.owners values1 others tokens1 in
       let none = others_have (λ e. omega arith) in
       let tokens2 = tokens_moved kept_aside owners2 values1 values2 others moved
       (tokens_still kept_aside values1 others at (in_hand nothing) owners1 none held) in
-      let values_are : put x (Some at) values1 ≡ values2 = put_before x known.base at 0 0 s.frame.cells (λ e. omega arith) in
+      let values_are : put x (Some at) values1 ≡ values2 = put_again x at 0 s.frame.cells in
       let held_is : held1 ≡ live values2 others ++ s.frame.held =
       ap (λ l. l ++ s.frame.held) (sym (live_moved values1 values2 others moved)) in
       let t1 = turn_of (take ∷ back_lines) (with_all values1 held1) fs (with_cells s.world row.0) in
@@ -435,12 +438,11 @@ module _ (known : Known) (rest : List Line) (fs : List (Frame Line)) (s : Spot) 
       let before = put y (Some 0) values1 in
       let behind = names values3 at in
       let moved = both_same values3 before behind others (put_alike s.frame.cells values1 y 0 others same1)
-      (puts_same known.base x 0 at values3 others apart) in
+      (puts_same known.base x at values3 others apart) in
       let held_is : held1 ≡ y ∷ (more ++ s.frame.held) = ap (λ l. l ++ s.frame.held) first in
       let taking = take_own_runs known.target back_lines (with_all values1 held1) fs (with_cells s.world row.0) x at y
       (more ++ s.frame.held) took.next held_is one.value took.is in
-      let values_are : put x (Some at) before ≡ behind = put_round x y known.base at s.frame.cells (λ e. placed.1 (sym e))
-      (λ e. omega arith) in
+      let values_are : put x (Some at) before ≡ behind = put_round x y at 0 0 s.frame.cells in
       let left : more ++ s.frame.held ≡ live behind others ++ s.frame.held =
       ap (λ l. l ++ s.frame.held) (sym (live_moved before behind others moved ∙ one.left)) in
       let t1 = turn_of (take ∷ back_lines) (with_all values1 held1) fs (with_cells s.world row.0) in
@@ -479,12 +481,12 @@ module _ (known : Known) (rest : List Line) (fs : List (Frame Line)) (s : Spot) 
   pub fills_none : live values1 others ≡ [] → s.frame.held ≡ [] → top fs ≡ None
       → known.target.pool.cells ≤ busy s.heap + set_aside known.target.pool s.owners
       → Runs known.target ((before + row_cost others (most_moves + 9)) + (most_moves + 10))
-      ((((1 + 1) + 1) + length others) + 1) (turn_of (lines ++ rest) s.frame fs s.world)
+      (((1 + 1) + length others) + 1) (turn_of (lines ++ rest) s.frame fs s.world)
       (ended (exited (number_of OfEnding.HeapFull)) (with_cells s.world row.0))
   fills_none dead none no_token full =
       let same = same_room in
       let held_is : held1 ≡ [] = ap (λ l. l ++ s.frame.held) dead ∙ none in
-      runs_then known.target (before + row_cost others (most_moves + 9)) (most_moves + 10) (((1 + 1) + 1) + length others) 1
+      runs_then known.target (before + row_cost others (most_moves + 9)) (most_moves + 10) ((1 + 1) + length others) 1
       (turn_of (lines ++ rest) s.frame fs s.world)
       (turn_of (take ∷ back_lines) (with_all values1 held1) fs (with_cells s.world row.0))
       (ended (exited (number_of OfEnding.HeapFull)) (with_cells s.world row.0)) to_take

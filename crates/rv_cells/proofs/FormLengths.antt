@@ -27,7 +27,7 @@ use Rattle.rv_lower.specs.Lowered.{Goal, returns, joins, goal_lines, tail_lines}
 use Rattle.rv_lower.specs.Lines.{MakesTruth, Compares, ComparesWithOne, BinaryLines, PrintLines, AppliedLines}
 use Rattle.rv_cells.specs.Layout.{header_of}
 use Rattle.rv_cells.specs.CellLines.{Loads, Stores, AllLoads, AllStores, dup_lines, drop_lines, dups_lines, drops_lines}
-use Rattle.rv_cells.specs.CellLines.{StoresIf, SomeStores, is_kept, ConstructLines, FillLines, TokenUniqueLines, CountLines}
+use Rattle.rv_cells.specs.CellLines.{StoresIf, SomeStores, SetIf, is_kept, ConstructLines, FillLines, TokenUniqueLines, CountLines}
 use Rattle.rv_cells.specs.CellLines.{hold_lines, unhold_lines}
 use Rattle.rv_cells.specs.CountedLines.{Setting, ComputeLines}
 use Rattle.rv_cells.specs.Written.{end_lines}
@@ -206,10 +206,22 @@ both_length cell kept i position (x ∷ xs) left fields one two =
         let store = store_length cell i x is.0 is.1 in
         let none = ap code_length empty in omega (arith, whole, store, none)
 
-pub fill_length : (base x token : ℕ) (others : List ℕ) (filled header : ℕ) (arguments kept : List ℕ) (lines : List Line)
-    → FillLines base x token others filled header arguments kept lines → length arguments ≤ 6
+-- a word is stored on one way or on the other
+set_length : (b : Bool) (base x i word : ℕ) (one two : List Line) → SetIf b base x i word one → SetIf (not b) base x i word two
+    → code_length one + code_length two ≤ 11
+set_length true base x i word one two is empty =
+    let whole = ap code_length is.2 in
+    let store = store_length x i base is.0 is.1 in
+    let none = ap code_length empty in omega (arith, whole, store, none)
+set_length false base x i word one two empty is =
+    let whole = ap code_length is.2 in
+    let store = store_length x i base is.0 is.1 in
+    let none = ap code_length empty in omega (arith, whole, store, none)
+
+pub fill_length : (base x token : ℕ) (others : List ℕ) (filled header : ℕ) (arguments kept : List ℕ) (head count : Bool)
+    (lines : List Line) → FillLines base x token others filled header arguments kept head count lines → length arguments ≤ 6
     → code_length lines ≤ 80 + 8 * length others
-fill_length base x token others filled header arguments kept lines is few =
+fill_length base x token others filled header arguments kept head count lines is few =
     let taken : Line = record { action = Calls Take; args = []; into = Some x } in
     let built : List Line = acts (Label filled) [] ∷ is.1 in
     let asked : List Line = taken ∷ (unhold_lines others ++ (is.0 ++ built)) in
@@ -219,12 +231,34 @@ fill_length base x token others filled header arguments kept lines is few =
     let behind = lines_append is.0 built in
     let held = holds_length others in
     let taken_back = unholds_length others in
+    let left = ap code_length is.2.6 in
+    let left_first = lines_append is.2.0 (is.2.1 ++ is.2.2) in
+    let left_last = lines_append is.2.1 is.2.2 in
     let stores = ap code_length is.3.6 in
-    let fields = lines_append is.3.1 (sets 1 base ∷ is.3.2 ∷ []) in
-    let head = store_length x 1 base is.3.0 is.3.3 in
-    let count = store_length x 0 base is.3.2 is.3.5 in
-    let both = both_length x kept 2 0 arguments is.0 is.3.1 is.2 is.3.4 in
-    omega (arith, whole, apart, back, behind, held, taken_back, stores, fields, head, count, both, few)
+    let stores_first = lines_append is.3.0 (is.3.1 ++ is.3.2) in
+    let stores_last = lines_append is.3.1 is.3.2 in
+    let headers = set_length head base x 1 header is.2.0 is.3.0 is.2.3 is.3.3 in
+    let counts = set_length count base x 0 1 is.2.2 is.3.2 is.2.5 is.3.5 in
+    let both = both_length x kept 2 0 arguments is.2.1 is.3.1 is.2.4 is.3.4 in
+    omega (
+      arith,
+      whole,
+      apart,
+      back,
+      behind,
+      held,
+      taken_back,
+      left,
+      left_first,
+      left_last,
+      stores,
+      stores_first,
+      stores_last,
+      headers,
+      counts,
+      both,
+      few,
+    )
 
 -- ---- operators
 

@@ -102,10 +102,9 @@ module _ (setting : Setting) (variables : ℕ) where
     parts_in goal low (Tokened.unhold y rest) own high lines =
         part [] (acts Unhold ((variables + y) ∷ []) ∷ []) (tree rest lines.0 (parts_in goal low rest lines.0 high lines.1)) no_part
     parts_in goal low (Tokened.if_token y there absent) own high lines =
-        part [] (copies_to (variables + y) setting.base ∷ acts (Branch Equal low) (setting.base ∷ []) ∷ [])
+        part [] (acts (Branch Equal low) ((variables + y) ∷ []) ∷ [])
         (tree there lines.0 (parts_in goal (low + 1) there lines.0 lines.2 lines.3))
-        (part [] (((copies_to (variables + y) setting.base ∷ acts (Branch Equal low) (setting.base ∷ []) ∷ []) ++ lines.0)
-        ++ (acts (Label low) [] ∷ []))
+        (part [] (((acts (Branch Equal low) ((variables + y) ∷ []) ∷ []) ++ lines.0) ++ (acts (Label low) [] ∷ []))
         (tree absent lines.1 (parts_in goal lines.2 absent lines.1 high lines.4)) no_part)
 
     -- the arms, from a row on, which stand behind some lines

@@ -42,6 +42,7 @@ module _ (layout : Layout) (marks : CellMarks) (texts : Texts) (functions : List
         holds = of.lowered.holds;
         base = of.lowered.variables + of.lowered.slots;
         texts = texts;
+        standing = of.lowered.standing;
       }) of.lowered.variables returns 0 function.body lines.code of.lowered.labels of.lowered.code
 
   -- Of the function of a number, which is found, whatever proof tells that it is there.
@@ -104,6 +105,7 @@ module _ (layout : Layout) (marks : CellMarks) (code : TokenedProgram) (constant
         holds = of.lowered.holds;
         base = of.lowered.variables + of.lowered.slots;
         texts = program_texts;
+        standing = of.lowered.standing;
       }) of.lowered.variables returns 0 function.body (lowered.each f function is).0.code of.lowered.labels of.lowered.code
       (fit_arities function.body [] [] [] (lowered.spends f function is)
       (lowerable f (bare_function function) (bare_at code.functions f function is)).arities)
@@ -147,6 +149,7 @@ module _ (layout : Layout) (marks : CellMarks) (code : TokenedProgram) (constant
         holds = of.lowered.holds;
         base = of.lowered.variables + of.lowered.slots;
         texts = program_texts;
+        standing = of.lowered.standing;
       }) of.lowered.variables returns 0 function.body (lowered.each f function is).0.code of.lowered.labels of.lowered.code way act
       (ap (λ (g : CountedFunction). code_at g.body way) bare_is ∙ at.code_is) at.acts in
       let number : 0 + lines_before reaches.steps ≡ lines_before reaches.steps = omega arith in (

@@ -18,7 +18,7 @@ use Rattle.rv_lower.proofs.AbsentLabels.{HasNo, has_no_append, found_here, alive
 use Rattle.rv_lower.proofs.Codes.{Ahead, Fits, good_label, goal_up, goal_later}
 use Rattle.rv_cells.specs.Layout.{Layout}
 use Rattle.rv_cells.specs.CountedLines.{label_of, ways_of, NodesLines}
-use Rattle.rv_cells.proofs.FormedTests.{StandsAhead, stands_past}
+use Rattle.rv_lower.proofs.Codes.{StandsAhead, stands_past}
 use Rattle.rv_cells.proofs.FormedNodes.{NameLater, HaveLabels, nodes_none, nodes_good}
 
 -- a case that has an arm has some

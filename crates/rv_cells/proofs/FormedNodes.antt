@@ -14,7 +14,8 @@ use Rattle.rv_lower.proofs.AbsentLabels.{HasNo, has_no_append, found_here, alive
 use Rattle.rv_lower.proofs.Codes.{good_label}
 use Rattle.rv_cells.specs.Layout.{Layout}
 use Rattle.rv_cells.specs.CountedLines.{Ways, label_of, TestLines, first_lines, NodeLines, NodesLines}
-use Rattle.rv_cells.proofs.FormedTests.{StandsAhead, stands_past, EdgesAhead, OtherAhead, first_none, test_none, jump_good, test_good}
+use Rattle.rv_lower.proofs.Codes.{StandsAhead, stands_past}
+use Rattle.rv_cells.proofs.FormedTests.{EdgesAhead, OtherAhead, first_none, test_none, jump_good, test_good}
 
 module _ (base : ℕ) (bound : List ℕ) (has : HasRoom base bound) (nodes : ℕ) (layout : Layout) (arms rows x : ℕ)
     (is_x : is_bound bound x ≡ true) (within : arms + rows ≤ nodes) (ways : Ways)

@@ -19,49 +19,11 @@ use Rattle.rv_lower.proofs.Formed.{Each, Readable, formed_more, Good, HasRoom, w
 use Rattle.rv_lower.proofs.Formed.{alive_line, good_computes, readable_small, readable_more, to_temporary, none_some}
 use Rattle.rv_lower.proofs.AbsentLabels.{HasNo, has_no_append, found_past, alive_at_past}
 use Rattle.rv_lower.proofs.Labels.{found_label}
-use Rattle.rv_lower.proofs.Codes.{good_alone}
+use Rattle.rv_lower.proofs.Codes.{good_alone, StandsAhead, stands_past, good_branch}
 use Rattle.rv_cells.specs.Layout.{Layout}
 use Rattle.rv_cells.specs.CellLines.{Loads, Walks, walked, spare, jump_lines}
 use Rattle.rv_cells.specs.CountedLines.{is_plain, answer_word, answer_tag, Ways, number_tests, last_lines, ChoiceLines}
 use Rattle.rv_cells.specs.CountedLines.{OddLines, DecideLines, AreTried, TestLines, first_lines}
-
--- a label stands in code, and only such values are alive there
-abbrev pub StandsAhead : (ℕ → Type 0) → ℕ → List Line → Type 0
-StandsAhead B label code = IsSome (found_label label code) × ((v : ℕ) → is_alive_at label v code ≡ true → B v)
-
-pub stands_past : (B : ℕ → Type 0) (label : ℕ) (lines more : List Line) → HasNo label lines → StandsAhead B label more
-    → StandsAhead B label (lines ++ more)
-stands_past B label lines more none ahead = (
-  subst IsSome (sym (found_past label lines more none)) ahead.0,
-  λ v is. ahead.1 v (sym
-      (alive_at_past label v lines more none) ∙ is),
-)
-
--- a branch on values
-good_branch : (B C : ℕ → Type 0) (condition : Condition) (label : ℕ) (args : List ℕ) (rest : List Line) → length args ≤ 2
-    → Each B args → ((v : ℕ) → C v → B v) → ((v : ℕ) → B v → v < most_values)
-    → StandsAhead C label rest → Good C rest → Good B (acts (Branch condition label) args ∷ rest)
-good_branch B C condition label args rest few each into small ahead good = record {
-  formed = formed_more (acts (Branch condition label) args) rest
-      (record {
-        labels = ahead.0;
-        few = few;
-        gives = λ is. absurd (false≢true is);
-        distinct = λ is. absurd (false≢true is);
-        spent = λ is. absurd (false≢true is);
-        args_small = all_each B (λ v. v < most_values) args small each;
-        into_small = λ v is. absurd (none_some is);
-      })
-      tt good.formed;
-  alive = alive_line B (acts (Branch condition label) args) rest each (λ v other is. into v (behind v is));
-}
-  where
-    either : (v : ℕ) → (is_alive v rest ≡ true) ⊎ (is_alive_at label v rest ≡ true) → C v
-    either v (inl is) = good.alive v is
-    either v (inr is) = ahead.1 v is
-
-    behind : (v : ℕ) → is_alive_behind v (Branch condition label) rest ≡ true → C v
-    behind v is = either v (or_cases (is_alive v rest) (is_alive_at label v rest) is)
 
 -- ---- no label stands in these lines
 

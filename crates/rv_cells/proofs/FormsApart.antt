@@ -251,7 +251,7 @@ module _ (setting : Setting) (variables : ℕ) where
       ),
     )
     orderly goal low (Tokened.if_token y there absent) own high lines a =
-        let test : List Line = copies_to (variables + y) setting.base ∷ acts (Branch Equal low) (setting.base ∷ []) ∷ [] in
+        let test : List Line = acts (Branch Equal low) ((variables + y) ∷ []) ∷ [] in
         let label = acts (Label low) [] in (
           omega arith,
           (

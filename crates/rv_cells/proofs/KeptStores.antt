@@ -71,7 +71,7 @@ AreSome takes words i position [] = Unit {0}
 AreSome takes words i position (w ∷ ws) =
     (takes position ≡ true → words i ≡ Some w) × AreSome takes words (suc i) (suc position) ws
 
-word_other : (b : Bool) (i w j : ℕ) (words : ℕ → Option ℕ) → j ≢ i → word_if b i w words j ≡ words j
+pub word_other : (b : Bool) (i w j : ℕ) (words : ℕ → Option ℕ) → j ≢ i → word_if b i w words j ≡ words j
 word_other true i w j words differ = chosen_other j i (Some w) words differ
 word_other false i w j words differ = refl
 

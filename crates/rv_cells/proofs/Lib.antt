@@ -21,6 +21,7 @@ pub mod CountOpenings
 pub mod TokenOpenings
 pub mod TokenForms
 pub mod KeptStores
+pub mod WordStores
 pub mod Filling
 pub mod FillingHeld
 pub mod Walking
@@ -64,6 +65,7 @@ pub mod TokenFrames
 pub mod TokenTaken
 pub mod TokenCells
 pub mod TokenFields
+pub mod TokenStands
 pub mod TokenLanding
 pub mod TokenGiving
 pub mod TokenEntering
@@ -89,5 +91,6 @@ pub mod FormRoots
 pub mod TokenMeaning
 pub mod ComingToLines
 pub mod TokenMarks
+pub mod Standings
 pub mod TokenGrown
 pub mod TokenLowered

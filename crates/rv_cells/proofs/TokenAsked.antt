@@ -1,6 +1,6 @@
 -- The lines of a construction with fields do the step of the machine with tokens, also where it names the tokens of its function.
 use Rattle.std.proofs.Common.{◌≡◌, ℕ, ◌+◌, inl, List, [], ◌∷◌, ◌++◌, length, Some, refl, sym, ◌∙◌}
-use Rattle.std.proofs.Common.{ap, subst, arith}
+use Rattle.std.proofs.Common.{false, ap, subst, arith}
 use Rattle.std.proofs.lemmas.List.{length-map}
 use Rattle.kk_syntax.specs.declared.program.Form.TheVariants.{Construct}
 use Rattle.kk_source.specs.State.{Value}
@@ -67,6 +67,8 @@ at_asked program x c a more other others rest idle inner frames tokens input s f
       marked = p.marked.1.1;
       numbered = p.numbered.1.1;
       has = p.has.1;
+      keeps = p.keeps.1.1;
+      holds = p.keeps.1.0;
       none_held = none_holds;
       unspent = at.lists.unspent;
       lists_after = λ next is. is;
@@ -85,6 +87,7 @@ at_asked program x c a more other others rest idle inner frames tokens input s f
       apart = at.judged.spends.0.1.0;
       low = p.has.0;
       among = λ z is. sym (at.judged.spends.0.1.1 z) ∙ is;
+      all_are = λ z is. at.judged.spends.0.1.1 z ∙ is;
       values = values;
       making = record {
         below = omega (arith, below);
@@ -101,6 +104,8 @@ at_asked program x c a more other others rest idle inner frames tokens input s f
       test = x;
       test_is = put_same x 0 s.frame.cells;
       label = p.low;
+      head = false;
+      count = false;
       fill = ask.0;
       fills = ask.1;
       cost = most_moves + 2;

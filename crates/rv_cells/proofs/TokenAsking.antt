@@ -35,7 +35,7 @@ use Rattle.rv_lower.proofs.Performing.{put_other}
 use Rattle.rv_cells.specs.Layout.{header_of}
 use Rattle.rv_cells.specs.Follows.{Owner, cell_of, in_hand, is_aside, with_owner, assign}
 use Rattle.rv_cells.specs.CellLines.{FillLines}
-use Rattle.rv_cells.specs.TokenedLines.{values_of_slots, CodeLines, HasSlots}
+use Rattle.rv_cells.specs.TokenedLines.{values_of_slots, CodeLines, HasSlots, HoldsNone, Keeps}
 use Rattle.rv_cells.proofs.Bound.{within_itself, within_one}
 use Rattle.rv_cells.proofs.Constructing.{IsMaking, made_spot}
 use Rattle.rv_cells.proofs.Filling.{fill_cost, Fills}
@@ -61,6 +61,7 @@ use Rattle.rv_cells.proofs.TokenRequests.{live_slots, Requested, by_free, by_own
 use Rattle.rv_cells.proofs.TokenStanding.{SlotIs, IsTokenCell, token_words, HaveSlotValues, HaveTokenCells, held_values, Lowering}
 use Rattle.rv_cells.proofs.TokenStanding.{target, setting, upper, lines_setting, known_of, AllWait, At, IsFitFrom, Follows_step}
 use Rattle.rv_cells.proofs.TokenStanding.{by_lines}
+use Rattle.rv_cells.proofs.TokenStands.{none_stands}
 use Rattle.rv_cells.proofs.TokenTaken.{taken_from, none_held}
 use Rattle.rv_cells.proofs.TokenUniques.{another}
 
@@ -86,6 +87,8 @@ module _ (program : Lowering) (code : Tokened) (x c first : ℕ) (arguments kept
     pub marked : HasMark program.marks at.shape.holds at.shape.result (x ∷ s.bound) at.does.given (bare rest)
     pub numbered : AreNumbered at.shape.variables (x ∷ s.bound) (bare rest)
     pub has : HasSlots at.shape.slots rest
+    pub keeps : Keeps at.shape.standing rest
+    pub holds : HoldsNone at.shape.standing others
     pub none_held : at.lists.held ≡ []
     pub unspent : List ℕ
     pub lists_after : (next : Lists) → ListsAfter code inner at.lists next → next ≡ record at.lists { unspent = unspent }
@@ -102,6 +105,7 @@ module _ (program : Lowering) (code : Tokened) (x c first : ℕ) (arguments kept
     pub apart : AreApart others
     pub low : AreBelow at.shape.slots others
     pub among : (z : ℕ) → is_among others z ≡ true → is_among unspent z ≡ true
+    pub all_are : (z : ℕ) → is_among unspent z ≡ true → is_among others z ≡ true
     pub values : ℕ → Option ℕ
     pub making : IsMaking (known_of program at.shape) (tested_at values) x c (first ∷ arguments)
     pub has_values : HasValues program.layout s.address at.shape.holds (at.shape.variables + at.shape.slots) (length s.heap) s.bound
@@ -110,9 +114,11 @@ module _ (program : Lowering) (code : Tokened) (x c first : ℕ) (arguments kept
     pub test : ℕ
     pub test_is : values test ≡ Some 0
     pub label : ℕ
+    pub head : Bool
+    pub count : Bool
     pub fill : List Line
     pub fills : FillLines (at.shape.variables + at.shape.slots) x test (values_of_slots at.shape.variables others) label
-        (header_of program.layout c) (first ∷ arguments) kept_at fill
+        (header_of program.layout c) (first ∷ arguments) kept_at head count fill
     pub cost : ℕ
     pub steps : ℕ
     pub started : Runs (target program) cost steps (turn_of (own ++ (more ++ at.does.placed.after)) s.frame fs s.world)
@@ -200,10 +206,10 @@ module _ (program : Lowering) (code : Tokened) (x c first : ℕ) (arguments kept
 
   -- the values while the request is made, and behind it
   abbrev asked_values : ℕ → Option ℕ
-  asked_values = put base (Some 0) (put x (Some 0) a.values)
+  asked_values = put x (Some 0) a.values
 
   abbrev named_values : (ℕ → Option ℕ) → ℕ → ℕ → Option ℕ
-  named_values values one = put base (Some 0) (put x (Some one) values)
+  named_values values one = put x (Some one) values
 
   -- the owners once the other tokens are taken back, and once the cell is counted
   abbrev owners_back : (ℕ → Option ℕ) → ℕ → ℕ → Owner
@@ -215,8 +221,9 @@ module _ (program : Lowering) (code : Tokened) (x c first : ℕ) (arguments kept
 
   abbrev MadeBy : List (Frame Line) → (ℕ → Owner) → (ℕ → Option ℕ) → ℕ → Type 0
   MadeBy gs owners values one =
-      Fills known rest_lines fs tested x a.test c zs a.label (first ∷ arguments) kept_at a.fill here a.making a.fills gs owners
-      values 0 one
+      Fills known rest_lines fs tested x a.test c zs a.label (first ∷ arguments) kept_at a.head a.count
+      a.fill here a.making a.fills gs owners
+      values one
 
   abbrev later : ℕ → ℕ → ℕ
   later one = assign size one s.address
@@ -239,10 +246,8 @@ module _ (program : Lowering) (code : Tokened) (x c first : ℕ) (arguments kept
       → AllWait program s.address size after.slots at.lists.older frames gs at.shape.result → Steps_on
   goes_there gs owners values one after made served cells slots_there waiting =
       let p = at.does.placed in
-      let f : Frame Line = record s.frame {
-        cells = put base (Some 1) (put base (Some (header_of program.layout c)) (put base (Some 0) (put x (Some one) values)));
-      } in
-      let to : Spot = made_spot (record tested { owners = owners }) x c vs one f made.0 in
+      let f : Frame Line = made.0 in
+      let to : Spot = made_spot (record tested { owners = owners }) x c vs one f made.1 in
       let step : token_code_step (setting program) code s.environment inner from
       ≡ builds (busy s.heap) (machine_at program rest to.environment inner frames to.heap after)
       = a.asked (has_room after) served in
@@ -256,20 +261,20 @@ module _ (program : Lowering) (code : Tokened) (x c first : ℕ) (arguments kept
       judged.are.pooled g z r is in
       let few = p.short in
       let forms_are = a.forms_are in
-      let cheap = made.1.within in
+      let cheap = made.2.within in
       goes_on program code inner frames tokens input s fs left at idle fit rest a.own a.more to gs after (x ∷ s.bound)
       (record at.lists { unspent = a.unspent })
       (a.cost + fill_cost known zs (first ∷ arguments)) (builds (busy s.heap))
       (record {
-        cost = a.cost + made.1.cost;
-        steps = a.steps + made.1.steps;
+        cost = a.cost + made.2.cost;
+        steps = a.steps + made.2.steps;
         within = omega (arith, cheap);
-        runs = runs_then (target program) a.cost made.1.cost a.steps made.1.steps (turn_of (a.own ++ rest_lines) s.frame fs s.world)
-            (turn_of (a.fill ++ rest_lines) tested.frame fs s.world) (turn_of rest_lines f gs to.world) a.started made.1.runs;
-        here = made.1.here;
-        left = made.1.left;
-        whole = made.1.whole;
-        function = made.1.function;
+        runs = runs_then (target program) a.cost made.2.cost a.steps made.2.steps (turn_of (a.own ++ rest_lines) s.frame fs s.world)
+            (turn_of (a.fill ++ rest_lines) tested.frame fs s.world) (turn_of rest_lines f gs to.world) a.started made.2.runs;
+        here = made.2.here;
+        left = made.2.left;
+        whole = made.2.whole;
+        function = made.2.function;
       })
       (record {
         parts = a.parts;
@@ -285,35 +290,27 @@ module _ (program : Lowering) (code : Tokened) (x c first : ℕ) (arguments kept
         marked = a.marked;
         numbered = a.numbered;
         has = a.has;
+        keeps = a.keeps;
         judged = judged;
         cells = cells;
+        stand = none_stands program.layout at.shape.standing to.address to.owners (after.slots n) others a.unspent a.holds
+            judged.slots_are a.all_are;
         slots_are = slots_moved {later = later one} {others = f.cells} slots_there (λ z r is. stays one r (old n z r is))
-            (λ z low unspent.
-            put_other base (v + z) 1 (put base (Some (header_of program.layout c)) (named_values values one))
-            (λ e. omega (arith, e, low))
-            ∙ put_other base (v + z) (header_of program.layout c) (named_values values one) (λ e. omega (arith, e, low))
-            ∙ named_spare values one z low);
-        held_is = holds_none ∙ sym (ap (held_values (after.slots n) v) a.none_held);
+            (λ z low unspent. made.3 (v + z) (omega (arith, low)) (λ e. let under = a.variable in omega (arith, e, under)));
+        held_is = made.2.held ∙ holds_none ∙ sym (ap (held_values (after.slots n) v) a.none_held);
         waits = all_carried program s.address size (later one) (suc size) after.slots at.lists.older frames gs at.shape.result
             (λ holds most bound environment values_too has. carries_cell has one)
             (λ g z r is. stays one r (old g z r is)) waiting;
       })
       (silent_builds program (busy s.heap)) a.cheap
       (ap (λ action. seen_action program action input) step) (omega (arith, idle_is, forms_are)) (omega (arith, few, forms_are))
-    where
-      named_spare : (values : ℕ → Option ℕ) (one z : ℕ) → z < at.shape.slots → named_values values one (v + z) ≡ values (v + z)
-      named_spare values one z low =
-          let under = a.variable in
-          put_other base (v + z) 0 (put x (Some one) values) (λ e. omega (arith, e, low))
-          ∙ put_other x (v + z) one values (λ e. omega (arith, e, under))
 
   -- the slots while the request is made
   slots_asked : HaveSlotValues s.address (asking.slots n) v at.shape.slots asked_values
   slots_asked =
       slots_moved a.slots_are (λ z p is. refl)
       (λ z low unspent. let under = a.variable in
-      put_other base (v + z) 0 (put x (Some 0) a.values) (λ e. omega (arith, e, low))
-      ∙ put_other x (v + z) 0 a.values (λ e. omega (arith, e, under)))
+      put_other x (v + z) 0 a.values (λ e. omega (arith, e, under)))
 
   abbrev words_of : ℕ → List ℕ
   words_of p = token_words program.layout s.address s.heap p
@@ -328,11 +325,12 @@ module _ (program : Lowering) (code : Tokened) (x c first : ℕ) (arguments kept
 
   tokens_asked : AreTokensIn in_hand s.owners asked_values zs
   tokens_asked =
-      tokens1 known rest_lines fs tested x a.test c zs a.label (first ∷ arguments) kept_at a.fill here a.making a.fills a.test_is
+      tokens1 known rest_lines fs tested x a.test c zs a.label (first ∷ arguments) kept_at a.head a.count
+      a.fill here a.making a.fills a.test_is
       tokens_are out apart program.some
 
   same_asked : AllSame a.values asked_values zs
-  same_asked = puts_same base x 0 0 a.values zs apart
+  same_asked = puts_same base x 0 a.values zs apart
 
   all_apart : AllApart at.lists.older
   all_apart = frames_apart tokens.slots at.lists.older frames at.judged.waiting
@@ -359,7 +357,7 @@ module _ (program : Lowering) (code : Tokened) (x c first : ℕ) (arguments kept
   same_values one =
       same_kept one asked_values (named_values a.values one) zs
       (both_same a.values asked_values (named_values a.values one) zs same_asked
-      (puts_same base x 0 one a.values zs apart))
+      (puts_same base x one a.values zs apart))
 
   -- ---- the four ways
 
@@ -367,7 +365,8 @@ module _ (program : Lowering) (code : Tokened) (x c first : ℕ) (arguments kept
   steps_free : busy s.heap + marked asking.marks size < program.pool.cells → Serves (has_room asking) → Steps_on
   steps_free room served =
       let number = a.cells.number in
-      let done = fills_free known rest_lines fs tested x a.test c zs a.label (first ∷ arguments) kept_at a.fill here a.making
+      let done = fills_free known rest_lines fs tested x a.test c zs a.label (first ∷ arguments) kept_at a.head a.count
+      a.fill here a.making
       a.fills a.test_is tokens_are out apart program.some (omega (arith, room, number)) in
       let one = done.0 in
       goes_there fs (owners_back a.values one) a.values one asking done.2 served
@@ -410,14 +409,15 @@ module _ (program : Lowering) (code : Tokened) (x c first : ℕ) (arguments kept
       let values = put (v + z) (Some 0) a.values in
       let there : asked_values (v + z) ≡ Some place = subst (λ slot. SlotIs s.address slot (asked_values (v + z))) has
       (slots_asked.are z) in
-      let done = fills_newest known rest_lines fs tested x a.test c zs a.label (first ∷ arguments) kept_at a.fill here a.making
+      let done = fills_newest known rest_lines fs tested x a.test c zs a.label (first ∷ arguments) kept_at a.head a.count
+      a.fill here a.making
       a.fills a.test_is tokens_are out apart program.some (v + z) more (live_is ∙ front)
       (slots_unbound v s.bound others at.has.below) (omega (arith, full, number)) in
       let same : done.0 ≡ place = some-is (sym done.1 ∙ there) in
       let made : MadeBy fs (owners_back values place) values place =
       subst (λ one. MadeBy fs (owners_back values one) values one) same done.2 in
       let kept = null_kept (v + z) place a.values asked_values (named_values values place) zs there same_asked
-      (puts_same base x 0 place values zs apart) in
+      (puts_same base x place values zs apart) in
       goes_there fs (owners_back values place) values place after made served
       (cell_goes a.cells program.aligned n z p (later place) (owners_made values place) heap_made after
       (hand_owned at.follows place hand.0 hand.1).0 below mark refl
@@ -452,7 +452,8 @@ module _ (program : Lowering) (code : Tokened) (x c first : ℕ) (arguments kept
       let kept = subst (λ b. IsTokenCell b (words_of p) (s.owners place)) linked (a.cells.are link.frame link.slot p mark) in
       let taken = taken_from program s.address size asking.slots at.lists.older frames fs at.shape.result a.waits all_apart link
       links chain_is p has in
-      let made = fills_held known rest_lines fs tested x a.test c zs a.label (first ∷ arguments) kept_at a.fill here a.making
+      let made = fills_held known rest_lines fs tested x a.test c zs a.label (first ∷ arguments) kept_at a.head a.count
+      a.fill here a.making
       a.fills a.test_is tokens_are out apart program.some taken.gs place kept.0 (live_is ∙ dead) holds_none
       taken.newest taken.taken kept.1 (omega (arith, full, number)) in
       let values = a.values in
@@ -480,15 +481,17 @@ module _ (program : Lowering) (code : Tokened) (x c first : ℕ) (arguments kept
       let next : TokenState = record { machine = token_at_end heap_full from; input = input } in
       let no_token = none_held program s.address size asking.slots at.lists.older frames fs at.shape.result a.waits all_apart
       (sym a.now.are.chain ∙ chain) in
-      let ran = fills_none known rest_lines fs tested x a.test c zs a.label (first ∷ arguments) kept_at a.fill here a.making
+      let ran = fills_none known rest_lines fs tested x a.test c zs a.label (first ∷ arguments) kept_at a.head a.count
+      a.fill here a.making
       a.fills a.test_is tokens_are out apart program.some (live_is ∙ dead) holds_none no_token (omega (arith, full, number)) in
-      let held = row known rest_lines fs tested x a.test c zs a.label (first ∷ arguments) kept_at a.fill here a.making a.fills
+      let held = row known rest_lines fs tested x a.test c zs a.label (first ∷ arguments) kept_at a.head a.count
+      a.fill here a.making a.fills
       a.test_is tokens_are out apart program.some in
       let world : World = with_cells s.world held.0 in
       let forms_are = a.forms_are in
       let cheap = a.cheap in
-      let cost = (12 + row_cost zs (most_moves + 9)) + (most_moves + 10) in
-      let steps = (((1 + 1) + 1) + length zs) + 1 in
+      let cost = (8 + row_cost zs (most_moves + 9)) + (most_moves + 10) in
+      let steps = ((1 + 1) + length zs) + 1 in
       let t0 = turn_of left s.frame fs s.world in
       let t1 : AsmTurn World Ending = ended (exited (number_of OfEnding.HeapFull)) world in
       let is : left ≡ a.own ++ rest_lines

@@ -88,6 +88,7 @@ module _ (program : Lowering) where
             };
             follows = at.follows;
             cells = at.cells;
+            stand = at.stand;
             has = record {
               values = has_same at.has.values values (λ z among. same z (at.has.values.below z among));
               below = at.has.below;
@@ -110,8 +111,8 @@ module _ (program : Lowering) where
       (at : At program (Tokened.if_token y present absent) inner frames tokens input s fs left)
       (fit : IsFitFrom program
       (token_at program (Tokened.if_token y present absent) s.environment inner frames s.heap tokens input)) where
-    abbrev temporary : ℕ
-    temporary = at.shape.variables + at.shape.slots
+    abbrev slot_value : ℕ
+    slot_value = at.shape.variables + y
 
     abbrev first : List Line
     first = at.does.placed.lines.0
@@ -123,14 +124,10 @@ module _ (program : Lowering) where
     mark = acts (Label at.does.placed.low) []
 
     abbrev tests : List Line
-    tests = copies_to (at.shape.variables + y) (at.shape.variables + at.shape.slots)
-        ∷ acts (Branch Equal at.does.placed.low) ((at.shape.variables + at.shape.slots) ∷ []) ∷ []
+    tests = acts (Branch Equal at.does.placed.low) ((at.shape.variables + y) ∷ []) ∷ []
 
     abbrev ways : List Line
     ways = (at.does.placed.lines.0 ++ (acts (Label at.does.placed.low) [] ∷ at.does.placed.lines.1)) ++ at.does.placed.after
-
-    abbrev copied_in : ℕ → Frame Line
-    copied_in at_word = put_in (at.shape.variables + at.shape.slots) at_word s.frame
 
     parts : left ≡ (tests ++ (first ++ (mark ∷ second))) ++ at.does.placed.after
     parts = at.does.placed.left_is ∙ ap (λ own. own ++ at.does.placed.after) at.does.placed.lines.5
@@ -142,20 +139,17 @@ module _ (program : Lowering) where
     mark_at : s.frame.whole ≡ ((at.does.placed.before ++ tests) ++ first) ++ (mark ∷ (second ++ at.does.placed.after))
     mark_at = split_at s.frame.whole (at.does.placed.before ++ tests) ways first (mark ∷ second) at.does.placed.after ways_at refl
 
-    -- the code of one way, where the value of the slot is this word
-    way : (slot : Slot) → tokens.slots (length at.lists.older) y ≡ slot → (at_word : ℕ)
-        → s.frame.cells (at.shape.variables + y) ≡ Some at_word → (there : List Line) (n cost : ℕ)
+    -- the code of one way
+    way : (slot : Slot) → tokens.slots (length at.lists.older) y ≡ slot → (there : List Line) (n cost : ℕ)
         → Placed program at.shape at.does.goal at.does.given s.bound s.frame.whole
         (if is_token slot then present else absent) there
         → Runs (target program) cost n
-        (turn_of (acts (Branch Equal at.does.placed.low) (temporary ∷ []) ∷ ways) (copied_in at_word) fs s.world)
-        (turn_of there (copied_in at_word) fs s.world)
+        (turn_of (tests ++ ways) s.frame fs s.world) (turn_of there s.frame fs s.world)
         → cost ≤ 8 → suc (forms (if is_token slot then present else absent)) ≤ idle
         → Follows_step program idle
         (token_at program (Tokened.if_token y present absent) s.environment inner frames s.heap tokens input)
         (turn_of left s.frame fs s.world)
-    way slot slot_is at_word value there n cost placed runs cheap few =
-        let m = most_moves in
+    way slot slot_is there n cost placed runs cheap few =
         let code = Tokened.if_token y present absent in
         let next = if is_token slot then present else absent in
         let many = frames_many tokens.slots at.lists.older frames at.judged.waiting in
@@ -168,19 +162,12 @@ module _ (program : Lowering) where
         slot_is in
         let kept = kept_quiet program code inner frames tokens input s fs left at
         (machine_at program next s.environment inner frames s.heap tokens) step refl in
-        let branching = acts (Branch Equal at.does.placed.low) (temporary ∷ []) ∷ ways in
         let lines_are : left ≡ tests ++ ways = parts ∙ append_assoc tests (first ++ (mark ∷ second)) at.does.placed.after in
-        let t0 = turn_of (tests ++ ways) s.frame fs s.world in
-        let t1 = turn_of branching (copied_in at_word) fs s.world in
-        let t2 = turn_of there (copied_in at_word) fs s.world in
-        let all : Runs (target program) ((m + 2) + cost) (1 + n) t0 t2
-        = runs_then (target program) (m + 2) cost 1 n t0 t1 t2
-        (copy_runs (target program) branching s.frame fs s.world (at.shape.variables + y) temporary at_word value) runs in
-        turns_to code inner frames tokens input s fs left at idle fit next there (copied_in at_word).cells (1 + n) ((m + 2) + cost)
-        (λ z less. put_other temporary z at_word s.frame.cells (λ e. omega (arith, e, less))) placed
+        let end = turn_of there s.frame fs s.world in
+        turns_to code inner frames tokens input s fs left at idle fit next there s.frame.cells n cost (λ z less. refl) placed
         (subst (λ (l : Lists). IsJudged program.pool.cells l.left l.unspent l.held l.older next inner frames s.heap tokens)
         kept.1.0 kept.1.1)
-        (subst (λ ls. Runs (target program) ((m + 2) + cost) (1 + n) (turn_of ls s.frame fs s.world) t2) (sym lines_are) all)
+        (subst (λ ls. Runs (target program) cost n (turn_of ls s.frame fs s.world) end) (sym lines_are) runs)
         (omega (arith, cheap)) few (ap (λ action. seen_action program action input) step)
 
     by_slot : Has (tokens.slots (length at.lists.older) y)
@@ -199,7 +186,7 @@ module _ (program : Lowering) where
         let behind = cell.behind in
         let some = program.some in
         let differ : address ≢ 0 = λ e. omega (arith, e, behind, some) in
-        way (Slot.token q) has address value ways 1 (most_moves + 3)
+        way (Slot.token q) has ways 1 (most_moves + 3)
         (record {
           before = p.before ++ tests;
           own = first;
@@ -213,10 +200,10 @@ module _ (program : Lowering) where
           marked = p.marked;
           numbered = p.numbered;
           has = p.has.1.0;
+          keeps = p.keeps.0;
           short = omega arith;
         })
-        (falls_one_runs (target program) ways (copied_in address) fs s.world Equal p.low temporary address
-        (put_same temporary address s.frame.cells) (ne_eqb address 0 differ))
+        (falls_one_runs (target program) ways s.frame fs s.world Equal p.low slot_value address value (ne_eqb address 0 differ))
         (omega arith) (omega (arith, idle_is))
     by_slot (is_null empty) =
         let m = most_moves in
@@ -226,12 +213,10 @@ module _ (program : Lowering) where
         let there = second ++ p.after in
         let value : s.frame.cells (at.shape.variables + y) ≡ Some 0
         = subst (λ slot. SlotIs s.address slot (s.frame.cells (at.shape.variables + y))) empty (at.has.tokens.are y) in
-        let branching = acts (Branch Equal p.low) (temporary ∷ []) ∷ ways in
-        let f = copied_in 0 in
-        let jumps = branch_one_runs (target program) ways f fs s.world Equal p.low temporary 0 (mark ∷ there)
-        (put_same temporary 0 s.frame.cells) refl
+        let f = s.frame in
+        let jumps = branch_one_runs (target program) ways f fs s.world Equal p.low slot_value 0 (mark ∷ there) value refl
         (finds p.low s.frame.whole ((p.before ++ tests) ++ first) there at.has.formed mark_at) in
-        way Slot.null empty 0 value there (1 + 1) ((m + 3) + (m + 0))
+        way Slot.null empty there (1 + 1) ((m + 3) + (m + 0))
         (record {
           before = ((p.before ++ tests) ++ first) ++ (mark ∷ []);
           own = second;
@@ -246,9 +231,10 @@ module _ (program : Lowering) where
           marked = subst (HasMark program.marks at.shape.holds at.shape.result s.bound at.does.given) alike p.marked;
           numbered = subst (AreNumbered at.shape.variables s.bound) alike p.numbered;
           has = p.has.1.1;
+          keeps = p.keeps.1;
           short = omega arith;
         })
-        (runs_then (target program) (m + 3) (m + 0) 1 1 (turn_of branching f fs s.world) (turn_of (mark ∷ there) f fs s.world)
+        (runs_then (target program) (m + 3) (m + 0) 1 1 (turn_of (tests ++ ways) f fs s.world) (turn_of (mark ∷ there) f fs s.world)
         (turn_of there f fs s.world) jumps (label_runs (target program) there f fs s.world p.low))
         (omega arith) (omega (arith, idle_is))
 

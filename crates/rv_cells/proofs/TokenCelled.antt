@@ -14,12 +14,12 @@ use Rattle.kk_counted.specs.TokenMachine.{token_code_step, at_code, to_heap}
 use Rattle.kk_counted.specs.TokenRuns.{AllLead}
 use Rattle.kk_counted.specs.TokenStates.{TokenJoin, TokenFrame, TokenConfiguration, bare_join, bare_configuration}
 use Rattle.kk_counted.specs.TokenedCodes.{Tokened}
-use Rattle.kk_counted.specs.Tokens.{Tokens, marked}
+use Rattle.kk_counted.specs.Tokens.{Tokens, is_linked, marked}
 use Rattle.rv_isa.specs.AsmCode.{Line}
 use Rattle.rv_isa.specs.Frames.{Frame}
 use Rattle.rv_world.specs.World.{with_cells}
 use Rattle.rv_cells.specs.CellLines.{dup_lines, drop_lines}
-use Rattle.rv_cells.specs.TokenedLines.{CodeLines, HasSlots}
+use Rattle.rv_cells.specs.TokenedLines.{CodeLines, HasSlots, Keeps}
 use Rattle.rv_cells.proofs.Bound.{AreWithin, within_itself}
 use Rattle.rv_cells.proofs.LineCosts.{most_moves}
 use Rattle.rv_cells.proofs.Runs.{turn_of}
@@ -29,7 +29,9 @@ use Rattle.rv_cells.proofs.TokenCells.{token_aside, cells_stay}
 use Rattle.rv_cells.proofs.TokenFields.{recounted_words, dup_cells, drop_cells}
 use Rattle.rv_cells.proofs.TokenFrames.{none_behind, slots_moved, all_carried}
 use Rattle.rv_cells.proofs.TokenLineCosts.{forms}
+use Rattle.rv_cells.proofs.TokenStanding.{lines_setting}
 use Rattle.rv_cells.proofs.TokenStanding.{IsTokenCell, token_words, Lowering, texts, setting, upper, known_of, At, IsFitFrom, Follows_step}
+use Rattle.rv_cells.proofs.TokenStands.{stand_moved}
 use Rattle.rv_cells.proofs.TokenLanding.{lands_did, token_at, machine_at, CodeSteps, IsSilent, silent_goes, seen_action, GoesTo, goes_on, kept_after}
 
 heap_there : (o : Option Heap) (from to : TokenConfiguration) → NotStuck (bare_configuration (to_heap o from to)).control
@@ -46,13 +48,13 @@ module _ (program : Lowering) where
         (tells : TokenConfiguration → Action TokenConfiguration)
         → (did : Did (known_of program at.shape) most own (more ++ at.does.placed.after) fs s to) → s.address ≡ to.address
         → length to.heap ≡ length s.heap → cells_of to.heap ≡ cells_of s.heap → at.does.placed.own ≡ own ++ more → (low : ℕ)
-        → (lines : CodeLines (record { layout = program.layout; holds = at.shape.holds; base = at.shape.variables + at.shape.slots; texts = texts program })
+        → (lines : CodeLines (lines_setting program at.shape)
         at.shape.variables at.does.goal low rest more at.does.placed.high)
         → GoesTo program code inner frames tokens input s fs left at rest own more low lines
         → AreWithin later to.bound → AreWithin s.bound later
         → ((x : ℕ) → is_among to.bound x ≡ true → x < at.shape.variables)
         → HasMark program.marks at.shape.holds at.shape.result later at.does.given (bare rest)
-        → AreNumbered at.shape.variables later (bare rest) → HasSlots at.shape.slots rest
+        → AreNumbered at.shape.variables later (bare rest) → HasSlots at.shape.slots rest → Keeps at.shape.standing rest
         → IsJudged program.pool.cells at.lists.left at.lists.unspent at.lists.held at.lists.older rest inner frames to.heap tokens
         → IsSilent program tells
         → most ≤ (upper program).weight (token_at program code s.environment inner frames s.heap tokens input)
@@ -62,7 +64,7 @@ module _ (program : Lowering) where
         → Follows_step program idle (token_at program code s.environment inner frames s.heap tokens input)
         (turn_of left s.frame fs s.world)
     goes_did idle fit rest own more to later most tells did address_is long recounted parts low lines part_is within older below marked_is
-        numbered has judged silent cheap is less short =
+        numbered has keeps judged silent cheap is less short =
         let v = at.shape.variables in
         let same : (p : ℕ) → to.address p ≡ s.address p = λ p. ap (λ (g : ℕ → ℕ). g p) (sym address_is) in
         let carries : Carries program.layout s.address (length s.heap) to.address (length to.heap)
@@ -81,12 +83,23 @@ module _ (program : Lowering) where
           marked = marked_is;
           numbered = numbered;
           has = has;
+          keeps = keeps;
           judged = judged;
           cells = cells_stay at.cells to.address to.owners to.heap (λ f y p is. same p)
               (λ f y p is. ap (λ (g : ℕ → ℕ). token_words program.layout g to.heap p) (sym address_is)
               ∙ recounted_words program.layout s.address s.heap to.heap p recounted)
               (λ z linked ws is. subst (IsTokenCell linked ws) (sym (did.aside z (token_aside linked ws (s.owners z) is))) is)
               (λ z. did_aside did z) (ap (marked tokens.marks) long);
+          stand = stand_moved program.layout at.shape.standing s.address to.address s.owners to.owners
+              (tokens.slots (length at.lists.older)) (tokens.slots (length at.lists.older))
+              (λ y p is. (
+                is,
+                ap to.owners (same p)
+                    ∙ did.aside (s.address p) (token_aside (is_linked (length at.lists.older) y tokens.chain)
+                    (token_words program.layout s.address s.heap p) (s.owners (s.address p))
+                    (at.cells.are (length at.lists.older) y p
+                    (at.judged.are.pooled.marks (length at.lists.older) y p is))),
+              )) at.stand;
           slots_are = slots_moved at.has.tokens (λ y p is. same p)
               (λ y few unspent. did.spared (v + y) (omega (arith, few)) (none_behind to.bound v y below));
           held_is = did.held ∙ at.has.held_is;
@@ -115,7 +128,7 @@ module _ (program : Lowering) where
       (record s { heap = next.0; owners = done.0; world = with_cells s.world done.1 }) s.bound (most_moves + 5) goes done.2 refl
       (dup_length (value_of s.environment x) s.heap next.0 next.1) (dup_cells (value_of s.environment x) s.heap next.0 next.1)
       p.lines.2 p.low p.lines.1 (record { way = 0 ∷ []; is_part = inl refl; code_is = refl }) (within_itself s.bound)
-      (within_itself s.bound) at.has.below p.marked.1 p.numbered p.has
+      (within_itself s.bound) at.has.below p.marked.1 p.numbered p.has p.keeps
       (subst (λ (l : Lists). IsJudged program.pool.cells l.left l.unspent l.held l.older rest inner frames next.0 tokens) kept.1.0
       kept.1.1)
       (silent_goes program) (omega arith) (ap (λ action. seen_action program action input) step) (omega (arith, idle_is))
@@ -140,7 +153,7 @@ module _ (program : Lowering) where
       goes done.3 refl
       (drop_length (value_of s.environment x) s.heap next.0 next.1) (drop_cells (value_of s.environment x) s.heap next.0 next.1)
       p.lines.2 p.low p.lines.1 (record { way = 0 ∷ []; is_part = inl refl; code_is = refl }) (within_itself s.bound)
-      (within_itself s.bound) at.has.below p.marked.1 p.numbered p.has
+      (within_itself s.bound) at.has.below p.marked.1 p.numbered p.has p.keeps
       (subst (λ (l : Lists). IsJudged program.pool.cells l.left l.unspent l.held l.older rest inner frames next.0 tokens) kept.1.0
       kept.1.1)
       (silent_goes program) (omega arith) (ap (λ action. seen_action program action input) step) (omega (arith, idle_is))

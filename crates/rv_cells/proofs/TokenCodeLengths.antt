@@ -1,5 +1,5 @@
 -- The assembler code of code with tokens is short: it is no longer than that code tells.
-use Rattle.std.proofs.Common.{◌≡◌, ℕ, suc, ◌+◌, ◌*◌, ◌≤◌, inl, inr, Bool, List, [], ◌∷◌, ◌++◌, length, Some, refl, sym, ap}
+use Rattle.std.proofs.Common.{◌≡◌, ℕ, suc, ◌+◌, ◌*◌, ◌≤◌, inl, inr, Bool, false, List, [], ◌∷◌, ◌++◌, length, Some, refl, sym, ap}
 use Rattle.std.proofs.Common.{subst, arith}
 use Rattle.std.specs.Prelude.{slice_get}
 use Rattle.kk_counted.specs.BareForms.{bare, bare_arms, bare_function, bare_program}
@@ -27,7 +27,7 @@ use Rattle.rv_cells.specs.CellLines.{dup_lines, drop_lines}
 use Rattle.rv_cells.specs.CountedLines.{Setting, ways_of}
 use Rattle.rv_cells.specs.Layout.{Layout, IsNarrow, header_of}
 use Rattle.rv_cells.specs.Tables.{table_of, layout_in}
-use Rattle.rv_cells.specs.TokenedLines.{values_of_slots, AskLines, CodeLines, ArmsLines, IsFunctionOf}
+use Rattle.rv_cells.specs.TokenedLines.{values_of_slots, header_stands, count_stands, AskLines, CodeLines, ArmsLines, IsFunctionOf}
 use Rattle.rv_cells.specs.TokenedLowered.{IsTokenedForm}
 use Rattle.rv_cells.proofs.FormLengths.{lines_append, loads_length, dup_length, drop_length, token_unique_length, fill_length}
 use Rattle.rv_cells.proofs.FormLengths.{goal_length, tail_length, marks_many, form_short}
@@ -70,7 +70,7 @@ module _ (setting : Setting) (variables : ℕ) (table : CellMarks) (narrow : (c 
             let values = values_many variables others in
             let few = few_fields asks.made_by arguments marks in
             let fill = fill_length setting.base x x (values_of_slots variables others) low (header_of setting.layout asks.made_by)
-            arguments [] asks.fill asks.fills few in
+            arguments [] false false asks.fill asks.fills few in
             omega (arith, whole, values, fill)
             )
       ]
@@ -153,7 +153,8 @@ module _ (setting : Setting) (variables : ℕ) (table : CellMarks) (narrow : (c 
         let few = narrow c in
         let values = values_many variables others in
         let own = fill_length setting.base x (variables + y) (values_of_slots variables others) low (header_of setting.layout c)
-        (first ∷ arguments) kept is.0 is.2 (omega (arith, many, few)) in
+        (first ∷ arguments) kept (header_stands setting.standing c) (count_stands setting.standing) is.0 is.2
+        (omega (arith, many, few)) in
         let more = code_short rest (x ∷ bound) given goal (low + 1) high is.1 left (without (y ∷ []) unspent) [] marked.1.1 arities.1
         spends.1.1.1.1 is.3 in
         omega (arith, whole, apart, values, own, more)
@@ -209,7 +210,8 @@ function_short : (layout : Layout) (texts : Texts) (table : CellMarks) → ((c :
     → length lines.params + code_length lines.code ≤ form_length + tokened_length function.body
 function_short layout texts table narrow f function lines may spends is =
     let base : ℕ = is.lowered.variables + is.lowered.slots in
-    let setting : Setting = record { layout = layout; holds = is.lowered.holds; base = base; texts = texts } in
+    let setting : Setting
+    = record { layout = layout; holds = is.lowered.holds; base = base; texts = texts; standing = is.lowered.standing } in
     let params = ap (λ (xs : List ℕ). length xs) is.lowered.params in
     let many = from_to_length 0 function.parameters in
     let few = may.few_parameters in

@@ -203,6 +203,7 @@ module _ (program : Lowering) where
                 marked = p.marked.1.1;
                 numbered = p.numbered.1.1;
                 has = p.has.1;
+                keeps = p.keeps.1.1;
                 short = omega arith;
               };
               continues = continues_more program at.shape s.frame.whole inner at.does.goal at.does.given s.bound (x ∷ s.bound)
@@ -210,6 +211,7 @@ module _ (program : Lowering) where
             };
             follows = subst (λ c. Follows program.pool program.layout s.address s.owners s.heap c) (sym cells_are) at.follows;
             cells = at.cells;
+            stand = at.stand;
             has = record {
               values = values;
               below = λ z among. elim (among_by x s.bound z among) [

@@ -54,6 +54,7 @@ use Rattle.rv_cells.proofs.TokenLanding.{Lands, lands_did, lands_leads, token_at
 use Rattle.rv_cells.proofs.TokenOpenings.{Leads}
 use Rattle.rv_cells.proofs.TokenRequests.{Requested, by_free, by_own, by_older, by_none, requested}
 use Rattle.rv_cells.proofs.TokenStanding.{IsTokenCell, token_words, HaveSlotValues, HaveTokenCells, held_values, Lowering, target, setting, upper, known_of, AllWait, At, IsFitFrom, Follows_step, by_lines}
+use Rattle.rv_cells.proofs.TokenStands.{none_stands}
 use Rattle.rv_cells.proofs.TokenTaken.{taken_from, none_held}
 use Rattle.rv_cells.proofs.TokenUniques.{row_times}
 
@@ -247,8 +248,11 @@ module _ (program : Lowering) (x c a : ℕ) (more : List ℕ) (rest : Tokened) (
         marked = p.marked.1.1;
         numbered = p.numbered.1.1;
         has = p.has.1;
+        keeps = p.keeps.1.1;
         judged = judged;
         cells = cells_are;
+        stand = none_stands program.layout at.shape.standing to.address to.owners (after.slots n) [] at.lists.unspent tt
+            judged.slots_are (λ z is. at.judged.spends.0.1.1 z ∙ is);
         slots_are = slots_moved {later = later one} {others = frame.cells} slots_are (λ z r is. stays one r (old n z r is))
             (λ z low unspent. spared z low);
         held_is = held_same ∙ holds_none ∙ sym (ap (held_values (after.slots n) v) none_holds);

@@ -30,11 +30,12 @@ use Rattle.rv_isa.specs.Frames.{Frame}
 use Rattle.rv_lower.specs.Lines.{acts}
 use Rattle.rv_lower.specs.Lowered.{Goal}
 use Rattle.rv_lower.proofs.Labels.{found_label}
+use Rattle.rv_cells.specs.declared.standing.Standing.{Standing}
 use Rattle.rv_cells.specs.Layout.{Layout, word_in}
 use Rattle.rv_cells.specs.CountedLines.{Setting, Ways, label_of, first_label, ways_of, TestLines, NodeLines, NodesLines}
 use Rattle.rv_cells.specs.CellLines.{jump_lines}
 use Rattle.rv_cells.specs.Fitting.{AllAlike, ShowsIts, FitsNode, FitsFrom}
-use Rattle.rv_cells.specs.TokenedLines.{HasSlots, HaveSlots, CodeLines, ArmsLines}
+use Rattle.rv_cells.specs.TokenedLines.{HasSlots, HaveSlots, Keeps, AllKeep, CodeLines, ArmsLines}
 use Rattle.rv_cells.proofs.Held.{some-is}
 use Rattle.rv_cells.proofs.Acting.{label_runs}
 use Rattle.rv_cells.proofs.FormPlaces.{Tree, Step, IsPart, arms_in, tree_in, stands_behind_three}
@@ -46,6 +47,7 @@ use Rattle.rv_cells.proofs.Testing.{Leads, Comes, leads_then, leads_more, jump_l
 use Rattle.rv_cells.proofs.TokenBlocks.{turns_to}
 use Rattle.rv_cells.proofs.TokenLineCosts.{forms, arms_forms}
 use Rattle.rv_cells.proofs.TokenLanding.{token_at, machine_at, CodeSteps, seen_action, kept_after}
+use Rattle.rv_cells.proofs.TokenStanding.{lines_setting}
 use Rattle.rv_cells.proofs.TokenStanding.{Lowering, target, texts, setting, known_of, At, IsFitFrom, finds, Follows_step}
 
 -- ---- where nodes and arms stand
@@ -258,6 +260,13 @@ arm_slots slots (TokenedArms.arm one more) zero body is have =
     let same : one ≡ body = cc is in subst (HasSlots slots) same have.0
 arm_slots slots (TokenedArms.arm one more) (suc row) body is have = arm_slots slots more row body is have.1
 
+arm_keeps : (standing : Standing) (arms : TokenedArms) (row : ℕ) (body : Tokened) → tokened_arm_at arms row ≡ Some body
+    → AllKeep standing arms → Keeps standing body
+arm_keeps standing TokenedArms.no_arm row body is keep = cc
+arm_keeps standing (TokenedArms.arm one more) zero body is keep =
+    let same : one ≡ body = cc is in subst (Keeps standing) same keep.0
+arm_keeps standing (TokenedArms.arm one more) (suc row) body is keep = arm_keeps standing more row body is keep.1
+
 case_there : (o : Option Tokened) (environment : Environment) (inner : List TokenJoin) (from : TokenConfiguration)
     (input : List ℕ) → NotStuck (bare_configuration (performed (token_case_step o environment inner from) input).1.machine).control
     → (body : Tokened) × (o ≡ Some body)
@@ -400,7 +409,7 @@ module _ (program : Lowering) (x : ℕ) (decisions : List NodeTree) (arms : Toke
         by : ((rest ≡ []) × (label ≡ at.does.placed.low)) ⊎ ((more : List Line) × (rest ≡ acts (Label label) [] ∷ more))
             → Comes known s fs here label behind
         by (inl none) =
-            let first = arms_begin (record { layout = program.layout; holds = at.shape.holds; base = base; texts = texts program })
+            let first = arms_begin (lines_setting program at.shape)
             at.shape.variables at.does.goal low (nodes + length decisions) at.does.placed.high row arms at.does.placed.lines.1 body
             at.does.placed.lines.5 some in
             begun (first.0 ++ at.does.placed.after)
@@ -603,10 +612,9 @@ module _ (program : Lowering) (x : ℕ) (decisions : List NodeTree) (arms : Toke
       let body = there.0 in
       let choose = then_some (chosen (cell_at s.heap) v decisions) (tokened_arm_at arms) body there.1 in
       let row = choose.0 in
-      let stands = arm_stands (record { layout = program.layout; holds = at.shape.holds; base = base; texts = texts program })
+      let stands = arm_stands (lines_setting program at.shape)
       at.shape.variables at.does.goal low (nodes + length decisions) p.high row arms p.lines.1 body p.lines.5 choose.2 in
-      let lines_of : Setting
-      = record { layout = program.layout; holds = at.shape.holds; base = base; texts = texts program } in
+      let lines_of : Setting = lines_setting program at.shape in
       let inner_tree : Tree
       = tree_in lines_of at.shape.variables at.does.goal stands.low body stands.first stands.high stands.code in
       let number : 0 + row ≡ row = omega arith in
@@ -664,6 +672,7 @@ module _ (program : Lowering) (x : ℕ) (decisions : List NodeTree) (arms : Toke
         marked = arm_marked program.marks at.shape.holds at.shape.result at.does.given s.bound arms row body choose.2 p.marked.1;
         numbered = arm_numbered at.shape.variables s.bound arms row body choose.2 p.numbered;
         has = arm_slots at.shape.slots arms row body choose.2 p.has;
+        keeps = arm_keeps at.shape.standing arms row body choose.2 p.keeps;
         short = omega (arith, short, few);
       })
       (subst (λ (l : Lists). IsJudged program.pool.cells l.left l.unspent l.held l.older body inner frames s.heap tokens)

@@ -16,7 +16,7 @@ use Rattle.kk_counted.specs.TokenKeeping.{Lists, IsJudged, ListsAfter, AreKeptBy
 use Rattle.kk_counted.specs.TokenMachine.{token_at_end, in_body, token_tail_step, token_call_step, token_code_step}
 use Rattle.kk_counted.specs.TokenRuns.{AllLead}
 use Rattle.kk_counted.specs.TokenStates.{TokenFrame, TokenConfiguration, TokenState, bare_configuration}
-use Rattle.kk_counted.specs.Tokens.{Slot, spent, is_unspent, Tokens}
+use Rattle.kk_counted.specs.Tokens.{Slot, spent, token, is_unspent, Tokens}
 use Rattle.kk_counted.proofs.TokenForms.{not_unspent}
 use Rattle.kk_counted.specs.Keeping.{values_of}
 use Rattle.kk_counted.specs.Marks.{parameter_marks, result_mark, HaveMarks}
@@ -233,6 +233,7 @@ module _ (program : Lowering) where
             variables = of.lowered.variables;
             slots = of.lowered.slots;
             result = result_mark program.marks f;
+            standing = of.lowered.standing;
           };
           lists = record { left = []; unspent = []; held = []; older = helds };
           judged = judged;
@@ -252,12 +253,14 @@ module _ (program : Lowering) where
               marked = of.marked.body_marked;
               numbered = of.numbered;
               has = of.has;
+              keeps = of.lowered.keeps;
               short = program.short f function function_is;
             };
             continues = refl;
           };
           follows = stands;
           cells = cells;
+          stand = λ y p has. let both : spent ≡ token p = sym (none y) ∙ has in cc both;
           has = record {
             values = entry.has_values;
             below = λ z is. (let low = among_from 0 function.parameters z is in let few = of.few in omega arith);
@@ -329,6 +332,7 @@ module _ (program : Lowering) where
               into = refl;
               below = p.numbered.0;
               kind = p.marked.1.0.1;
+              nothing = p.keeps.0;
               does = record {
                 goal = at.does.goal;
                 given = at.does.given;
@@ -345,6 +349,7 @@ module _ (program : Lowering) where
                   marked = p.marked.1.1;
                   numbered = p.numbered.1.1;
                   has = p.has.1;
+                  keeps = p.keeps.1.1;
                   short = omega arith;
                 };
                 continues = continues_more program at.shape s.frame.whole inner at.does.goal at.does.given s.bound (x ∷ s.bound)

@@ -16,6 +16,7 @@ use Rattle.kk_counted.proofs.TokenForms.{Has, is_null, has_cell, unspent_has, sp
 use Rattle.rv_isa.specs.AsmCode.{Line}
 use Rattle.rv_isa.specs.Frames.{Frame}
 use Rattle.rv_cells.proofs.Runs.{turn_of, runs_none}
+use Rattle.rv_cells.specs.TokenedLines.{header_stands, count_stands}
 use Rattle.rv_cells.proofs.Spots.{Spot}
 use Rattle.rv_cells.proofs.TokenAsking.{steps_asking}
 use Rattle.rv_cells.proofs.TokenFills.{making, Fill_steps, fill_cheap, fills_token}
@@ -62,6 +63,8 @@ fills_null program x y c first arguments kept_at others rest idle inner frames t
       marked = p.marked.1.1;
       numbered = p.numbered.1.1;
       has = p.has.1.1;
+      keeps = p.keeps.1;
+      holds = p.keeps.0;
       none_held = none_holds;
       unspent = without (y ∷ []) at.lists.unspent;
       lists_after = λ next is. is;
@@ -89,6 +92,7 @@ fills_null program x y c first arguments kept_at others rest idle inner frames t
       apart = at.judged.spends.1.1.0;
       low = p.has.1.0;
       among = λ z is. sym (at.judged.spends.1.1.1.0 z) ∙ is;
+      all_are = λ z is. at.judged.spends.1.1.1.0 z ∙ is;
       values = s.frame.cells;
       making = making program x y c first arguments kept_at others rest idle inner frames tokens input s fs left idle_is at fit;
       has_values = at.has.values;
@@ -97,6 +101,8 @@ fills_null program x y c first arguments kept_at others rest idle inner frames t
       test = v + y;
       test_is = subst (λ slot. SlotIs s.address slot (s.frame.cells (v + y))) empty (at.has.tokens.are y);
       label = p.low;
+      head = header_stands at.shape.standing c;
+      count = count_stands at.shape.standing;
       fill = p.lines.0;
       fills = p.lines.2;
       cost = 0;

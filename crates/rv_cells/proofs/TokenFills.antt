@@ -23,7 +23,7 @@ use Rattle.rv_isa.specs.AsmCode.{Line}
 use Rattle.rv_isa.specs.Frames.{Frame, put}
 use Rattle.rv_lower.specs.Lines.{copies_to, acts}
 use Rattle.rv_lower.proofs.Performing.{put_other}
-use Rattle.rv_cells.specs.Layout.{FitFields, header_of}
+use Rattle.rv_cells.specs.Layout.{FitFields, words_in, header_of}
 use Rattle.rv_cells.specs.Follows.{cell_of, is_aside, with_owner, assign}
 use Rattle.rv_cells.specs.CellLines.{hold_lines, unhold_lines}
 use Rattle.rv_cells.proofs.Bound.{within_itself, within_one, all_among, apart_above}
@@ -36,7 +36,9 @@ use Rattle.rv_cells.proofs.Runs.{turn_of}
 use Rattle.rv_cells.proofs.Spots.{Spot, Here}
 use Rattle.rv_cells.proofs.Values.{has_cell, among_by}
 use Rattle.rv_cells.proofs.Words.{hand_owned}
-use Rattle.rv_cells.specs.TokenedLines.{values_of_slots}
+use Rattle.rv_cells.specs.TokenedLines.{values_of_slots, header_stands, count_stands}
+use Rattle.rv_cells.proofs.TokenStands.{none_stands, standing_words}
+use Rattle.rv_cells.proofs.WordStores.{HasWords}
 use Rattle.rv_cells.proofs.TokenCells.{cell_goes}
 use Rattle.rv_cells.proofs.TokenEntering.{arguments_fit}
 use Rattle.rv_cells.proofs.TokenFields.{grown_words}
@@ -50,13 +52,12 @@ abbrev takes_into : ℕ → Line
 takes_into x = record { action = Calls Take; args = []; into = Some x }
 
 -- a label behind the row of tokens that are held and taken back, and behind stores
-label_split : (before hs us stores label : List Line) (a b c t : Line)
-    → before ++ (a ∷ b ∷ c ∷ (hs ++ (t ∷ (us ++ (stores ++ label)))))
-    ≡ (before ++ (a ∷ b ∷ c ∷ (hs ++ (t ∷ (us ++ stores))))) ++ label
-label_split before hs us stores label a b c t =
-    ap (λ ls. before ++ (a ∷ b ∷ c ∷ (hs ++ (t ∷ ls)))) (sym (append_assoc us stores label))
-    ∙ ap (λ ls. before ++ (a ∷ b ∷ c ∷ ls)) (sym (append_assoc hs (t ∷ (us ++ stores)) label))
-    ∙ sym (append_assoc before (a ∷ b ∷ c ∷ (hs ++ (t ∷ (us ++ stores)))) label)
+label_split : (before hs us stores label : List Line) (a b t : Line)
+    → before ++ (a ∷ b ∷ (hs ++ (t ∷ (us ++ (stores ++ label))))) ≡ (before ++ (a ∷ b ∷ (hs ++ (t ∷ (us ++ stores))))) ++ label
+label_split before hs us stores label a b t =
+    ap (λ ls. before ++ (a ∷ b ∷ (hs ++ (t ∷ ls)))) (sym (append_assoc us stores label))
+    ∙ ap (λ ls. before ++ (a ∷ b ∷ ls)) (sym (append_assoc hs (t ∷ (us ++ stores)) label))
+    ∙ sym (append_assoc before (a ∷ b ∷ (hs ++ (t ∷ (us ++ stores)))) label)
 
 -- the next name is no token's
 pub beyond_plain : (cells : ℕ) (heap : Heap) (tokens : Tokens) → ArePooled cells heap tokens → tokens.marks (length heap) ≡ plain
@@ -114,6 +115,8 @@ module _ (program : Lowering) (x y c first : ℕ) (arguments kept_at others : Li
       → Fill_steps
   fills_token q has =
       let p = at.does.placed in
+      let head = header_stands at.shape.standing c in
+      let count = count_stands at.shape.standing in
       let code = Tokened.fill x y c first arguments kept_at others rest in
       let known = known_of program at.shape in
       let v = at.shape.variables in
@@ -126,7 +129,8 @@ module _ (program : Lowering) (x y c first : ℕ) (arguments kept_at others : Li
       let here : Here known s = record { follows = at.follows; values = at.has.values } in
       let values_are = values_of_slots v others in
       let rest_lines = p.lines.1 ++ p.after in
-      let whole_is = whole_lines known rest_lines fs s x (v + y) c values_are p.low (first ∷ arguments) kept_at p.lines.0 here
+      let whole_is = whole_lines known rest_lines fs s x (v + y) c values_are p.low (first ∷ arguments) kept_at head count
+      p.lines.0 here
       making p.lines.2 in
       let mark = pooled.marks n y q has in
       let nothing = at.judged.spends.0 in
@@ -139,24 +143,29 @@ module _ (program : Lowering) (x y c first : ℕ) (arguments kept_at others : Li
       let vs = values_of s.environment (first ∷ arguments) in
       let after : Tokens = released n y q spent tokens in
       let found_at = finds p.low s.frame.whole
-      (p.before ++ (copies_to (v + y) x ∷ copies_to x base ∷ acts (Branch NotEqual p.low) (base ∷ [])
+      (p.before ++ (copies_to (v + y) x ∷ acts (Branch NotEqual p.low) (x ∷ [])
       ∷ (hold_lines values_are ++ (takes_into x ∷ (unhold_lines values_are ++ p.lines.2.0)))))
       (p.lines.2.1 ++ rest_lines) at.has.formed
       (p.place ∙ ap (λ ls. p.before ++ ls) (p.left_is ∙ ap (λ own. own ++ p.after) p.lines.4
       ∙ append_assoc p.lines.0 p.lines.1 p.after ∙ whole_is)
       ∙ label_split p.before (hold_lines values_are) (unhold_lines values_are) p.lines.2.0
-      (from_label known rest_lines fs s x (v + y) c values_are p.low (first ∷ arguments) kept_at p.lines.0 here making p.lines.2)
-      (copies_to (v + y) x) (copies_to x base) (acts (Branch NotEqual p.low) (base ∷ [])) (takes_into x)) in
+      (from_label known rest_lines fs s x (v + y) c values_are p.low (first ∷ arguments) kept_at head count
+      p.lines.0 here making p.lines.2)
+      (copies_to (v + y) x) (acts (Branch NotEqual p.low) (x ∷ [])) (takes_into x)) in
       let keeps = (fit 0).keeps q (subst (λ m. tokens.slots m y ≡ token q) (sym many) has) in
-      let known_ones = kept_words program.layout s.address kept_at hand.0 2 0 (fields_held s.heap q) vs keeps hand.2 in
-      let done = fills_own known rest_lines fs s x (v + y) c values_are p.low (first ∷ arguments) kept_at p.lines.0 here making
+      let standing = standing_words program.layout at.shape.standing c (s.owners address) hand.0 hand.1 (at.stand y q has) in
+      let known_ones : HasWords head count kept_at (header_of program.layout c) (words_in program.layout s.address vs) hand.0
+      = record {
+        header_is = standing.0;
+        count_is = standing.1;
+        fields = kept_words program.layout s.address kept_at hand.0 2 0 (fields_held s.heap q) vs keeps hand.2;
+      } in
+      let done = fills_own known rest_lines fs s x (v + y) c values_are p.low (first ∷ arguments) kept_at head count
+      p.lines.0 here making
       p.lines.2 address hand.0 value hand.1 known_ones program.some found_at in
       let later = assign size address s.address in
-      let f : Frame Line = record s.frame {
-        cells = put base (Some 1) (put base (Some (header_of program.layout c))
-            (put base (Some address) (put x (Some address) s.frame.cells)));
-      } in
-      let to : Spot = made_spot s x c vs address f done.0 in
+      let f : Frame Line = done.0 in
+      let to : Spot = made_spot s x c vs address f done.1 in
       let from = machine_at program code s.environment inner frames s.heap tokens in
       let puts : Value → TokenConfiguration = λ w. bound_to x w rest s.environment inner from in
       let step : token_code_step (setting program) code s.environment inner from
@@ -172,6 +181,10 @@ module _ (program : Lowering) (x y c first : ℕ) (arguments kept_at others : Li
       ∙ ap (λ fields. make_step (has_room after) c fields puts from) (kept_left 0 kept_at (fields_held s.heap q) vs keeps) in
       let kept = subst (AllLead (AreKeptBy program.pool.cells (ListsAfter code inner at.lists))) step
       (kept_after program code inner frames tokens input s fs left at (fit 0).keeps refl) in
+      let judged : IsJudged program.pool.cells at.lists.left (without (y ∷ []) at.lists.unspent) at.lists.held at.lists.older rest
+      inner frames to.heap after
+      = subst (λ (l : Lists). IsJudged program.pool.cells l.left l.unspent l.held l.older rest inner frames to.heap after)
+      kept.1.0 kept.1.1 in
       let stays : (r : ℕ) → r < size → later r ≡ s.address r
       = λ r less. chosen_other r size address s.address (λ e. omega (arith, e, less)) in
       let below = pooled.there n y q mark in
@@ -180,17 +193,11 @@ module _ (program : Lowering) (x y c first : ℕ) (arguments kept_at others : Li
       ∙ beyond_plain program.pool.cells s.heap tokens pooled) in
       let moved = slots_moved {later = later} {others = f.cells} at.has.tokens
       (λ z r is. stays r (pooled.there n z r (pooled.marks n z r is)))
-      (λ z few unspent. put_other base (v + z) 1
-      (put base (Some (header_of program.layout c)) (put base (Some address) (put x (Some address) s.frame.cells)))
-      (λ e. omega (arith, e, few))
-      ∙ put_other base (v + z) (header_of program.layout c) (put base (Some address) (put x (Some address) s.frame.cells))
-      (λ e. omega (arith, e, few))
-      ∙ put_other base (v + z) address (put x (Some address) s.frame.cells) (λ e. omega (arith, e, few))
-      ∙ put_other x (v + z) address s.frame.cells (λ e. let low = p.numbered.0 in omega (arith, e, low))) in
+      (λ z few unspent. done.3 (v + z) (omega (arith, few)) (λ e. let low = p.numbered.0 in omega (arith, e, low))) in
       let few = p.short in
       goes_on program code inner frames tokens input s fs left at idle fit rest p.lines.0 p.lines.1 to fs after (x ∷ s.bound)
       (record at.lists { unspent = without (y ∷ []) at.lists.unspent })
-      (fill_cost known values_are (first ∷ arguments)) (builds (busy s.heap)) (lands_leads done.1)
+      (fill_cost known values_are (first ∷ arguments)) (builds (busy s.heap)) (lands_leads done.2)
       (record {
         parts = p.lines.4;
         low = p.low + 1;
@@ -205,8 +212,10 @@ module _ (program : Lowering) (x y c first : ℕ) (arguments kept_at others : Li
         marked = p.marked.1.1;
         numbered = p.numbered.1.1;
         has = p.has.1.1;
-        judged = subst (λ (l : Lists). IsJudged program.pool.cells l.left l.unspent l.held l.older rest inner frames to.heap after)
-            kept.1.0 kept.1.1;
+        keeps = p.keeps.1;
+        judged = judged;
+        stand = none_stands program.layout at.shape.standing to.address to.owners (after.slots n) others
+            (without (y ∷ []) at.lists.unspent) p.keeps.0 judged.slots_are (λ z is. at.judged.spends.1.1.1.0 z ∙ is);
         cells = cell_goes at.cells program.aligned n y q later (with_owner address (cell_of size) s.owners) to.heap after
             (hand_owned at.follows address hand.0 hand.1).0 below mark refl
             (λ g z r differ is. stays r (pooled.there g z r is))
@@ -220,7 +229,7 @@ module _ (program : Lowering) (x y c first : ℕ) (arguments kept_at others : Li
             (ap (λ k. k + marked after.marks size) fresh ∙ none_more (marked after.marks size));
         slots_are = slots_set moved y spent p.has.0 (slot_here n y spent tokens.slots) tt
             (λ z differ. slot_there n y n z spent tokens.slots (another n y z differ)) (λ z differ low. refl);
-        held_is = at.has.held_is ∙ ap (held_values (tokens.slots n) v) nothing
+        held_is = done.2.held ∙ at.has.held_is ∙ ap (held_values (tokens.slots n) v) nothing
             ∙ sym (ap (held_values (after.slots n) v) nothing);
         waits = all_wait_at program later (suc size) tokens.slots after.slots at.lists.older frames fs at.shape.result
             (equal_one n n y spent tokens.slots (omega arith))

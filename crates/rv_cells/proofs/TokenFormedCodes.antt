@@ -28,11 +28,12 @@ use Rattle.rv_isa.specs.WellFormed.{most_values, may_give}
 use Rattle.rv_lower.specs.Lines.{Texts, computes, copies_to, sets, acts}
 use Rattle.rv_lower.specs.Lowered.{Goal, joins, goal_lines, tail_lines}
 use Rattle.rv_lower.proofs.Formed.{Each, Readable, HasRoom, IsWithin, within_more, room_more, to_variable}
+use Rattle.rv_cells.specs.declared.standing.Standing.{Standing}
 use Rattle.rv_lower.proofs.Operations.{Leads, next_temporary}
 use Rattle.rv_lower.proofs.Codes.{Fits, fits_weaker, fits_give, fits_tail_call, fits_inside, fits_split}
 use Rattle.rv_cells.specs.Layout.{Layout, header_of}
 use Rattle.rv_cells.specs.CountedLines.{Setting, ComputeLines}
-use Rattle.rv_cells.specs.TokenedLines.{values_of_slots, HasSlots, HaveSlots, CodeLines, ArmsLines}
+use Rattle.rv_cells.specs.TokenedLines.{values_of_slots, HasSlots, HaveSlots, header_stands, count_stands, CodeLines, ArmsLines}
 use Rattle.rv_cells.proofs.AskedForms.{Asks, ask_either}
 use Rattle.rv_cells.proofs.CellForms.{effect, kept_list, bound_later}
 use Rattle.rv_cells.proofs.FormedCases.{some_arm, ArmsFit, arms_none, arms_more, fits_case}
@@ -99,10 +100,10 @@ held_behind held x (Print how) arguments others rest is = subst (λ (h : List �
 held_behind held x (Construct c) arguments others rest is = subst (λ (h : List ℕ). HoldsAtCalls h rest) (sym is.0) is.1
 held_behind held x (Call f) arguments others rest is = is
 
-module _ (layout : Layout) (holds : ℕ → Bool) (texts : Texts) (marks : CellMarks) (result : Bool) (variables slots : ℕ)
-    (room : (variables + slots) + 8 ≤ most_values) where
+module _ (layout : Layout) (holds : ℕ → Bool) (texts : Texts) (standing : Standing) (marks : CellMarks) (result : Bool)
+    (variables slots : ℕ) (room : (variables + slots) + 8 ≤ most_values) where
   abbrev setting : Setting
-  setting = record { layout = layout; holds = holds; base = variables + slots; texts = texts }
+  setting = record { layout = layout; holds = holds; base = variables + slots; texts = texts; standing = standing }
 
   -- the variables that are bound, and the values of the unspent slots
   abbrev reads : List ℕ → List ℕ → List ℕ
@@ -265,7 +266,7 @@ module _ (layout : Layout) (holds : ℕ → Bool) (texts : Texts) (marks : CellM
         arguments
         (bound_later base (reads unspent bound) x arguments
         (bound_within bound (reads unspent bound) arguments (variable_there variables slots unspent bound) are)) goal low high []
-        asks.fill more asks.fills
+        false false asks.fill more asks.fills
         (fits_weaker base inside (x ∷ inside) outer goal (low + 1) high more
         (λ v there. or_right (x == v) (is_among inside v) there) behind))))
 
@@ -416,7 +417,7 @@ module _ (layout : Layout) (holds : ℕ → Bool) (texts : Texts) (marks : CellM
         (values_apart variables others spends.1.1.0) (values_differ variables x others numbered.0) (header_of layout c)
         (first ∷ arguments)
         (bound_within bound (reads unspent bound) (first ∷ arguments) (variable_there variables slots unspent bound) marked.0) goal
-        low high kept is.0 is.1 is.2
+        low high kept (header_stands standing c) (count_stands standing) is.0 is.1 is.2
         (fits_weaker (variables + slots) (reads (without (y ∷ []) unspent) (x ∷ bound)) (x ∷ reads unspent bound) (reads left outer)
         goal (low + 1) high is.1
         (λ v there. bound_behind_value x unspent bound v (slot_spent y unspent (x ∷ bound) v there))
@@ -493,10 +494,7 @@ module _ (layout : Layout) (holds : ℕ → Bool) (texts : Texts) (marks : CellM
         none_held held (reads unspent bound) (reads left outer) goal low high lines at.0
         (subst (FitsCode (reads unspent bound) (reads left outer) goal low high) (sym is.5)
         (fits_split (variables + slots) (reads unspent bound) (reads left outer) (has_room unspent bound has) Equal
-        ((variables + y) ∷ []) (omega arith) 1 (copies_to (variables + y) (variables + slots) ∷ [])
-        (next_temporary (variables + slots) (reads unspent bound) (has_room unspent bound has) (variables + slots) Op.Mv
-        ((variables + y) ∷ []) (omega arith) refl (omega arith)
-        (inl (slot_there variables slots unspent bound y few.0 spends.0), tt))
+        ((variables + y) ∷ []) (omega arith) (inl (slot_there variables slots unspent bound y few.0 spends.0), tt)
         goal low is.2 high is.0 is.1
         (fits_held (variables + slots) (reads unspent bound) (reads left outer) goal (low + 1) is.2 is.0
         (code_fits there bound outer unspent left [] given goal (low + 1) is.2 is.0 has within marked numbered arms some arities

@@ -1,5 +1,5 @@
 -- The lines of a construction in the cell of a token, before those of the code that follows it.
-use Rattle.std.proofs.Common.{◌≡◌, ℕ, ◌+◌, ◌<◌, ◌≤◌, ◌==◌, ◌⊎◌, inl, inr, true, false, List, [], ◌∷◌, ◌++◌, length}
+use Rattle.std.proofs.Common.{◌≡◌, ℕ, ◌+◌, ◌<◌, ◌≤◌, ◌==◌, ◌⊎◌, inl, inr, Bool, true, false, not, List, [], ◌∷◌, ◌++◌, length}
 use Rattle.std.proofs.Common.{Some, None, IsSome, refl, sym, ap, subst, ◌∙◌, arith, append_assoc}
 use Rattle.std.specs.List.{AllByRecursion}
 use Rattle.std.proofs.lemmas.Bool.{false≢true, or_cases, or_left, or_right, eq-eqb}
@@ -18,9 +18,9 @@ use Rattle.rv_lower.proofs.Formed.{Each, Readable, Good, HasRoom, room_more, to_
 use Rattle.rv_lower.proofs.Formed.{none_some, readable_small, readable_bound}
 use Rattle.rv_lower.proofs.AbsentLabels.{HasNo, has_no_append, found_past, found_here, alive_at_past, alive_at_here, other_label}
 use Rattle.rv_lower.proofs.Operations.{Leads, only_bound}
-use Rattle.rv_lower.proofs.Codes.{Ahead, Fits, good_label, goal_up}
-use Rattle.rv_cells.specs.CellLines.{SomeStores, is_kept, FillingLines, FillLines, hold_lines, unhold_lines}
-use Rattle.rv_cells.proofs.CellForms.{filling_leads, some_lead, bound_later}
+use Rattle.rv_lower.proofs.Codes.{Ahead, Fits, good_label, goal_up, stands_past, stands_here, good_branch}
+use Rattle.rv_cells.specs.CellLines.{SomeWords, is_kept, FillLines, hold_lines, unhold_lines}
+use Rattle.rv_cells.proofs.CellForms.{words_lead, bound_later}
 use Rattle.rv_cells.proofs.TokenFormedHeld.{holding_none, good_none, holding_weaker, holding_row, back_row, holding_take}
 use Rattle.rv_cells.proofs.TokenFormedHeld.{hold_none, unhold_none}
 
@@ -50,20 +50,14 @@ module _ (base : ℕ) (bound outer : List ℕ) (has : HasRoom base bound) (x : �
       by [] are = tt
       by (y ∷ others) are = (inl (or_right (x == y) (is_bound bound y) are.0), by others are.1)
 
-  -- the words are stored, but for the kept fields, and these are
-  stores_lead_on : (kept : List ℕ) (stores : List Line) → FillingLines base x header arguments kept stores
-      → Leads With With (4 + length arguments) stores
-  stores_lead_on kept stores own =
-      filling_leads base (x ∷ bound) x header arguments kept stores room here (bound_later base bound x arguments are) own
-
-  kept_lead_on : (kept : List ℕ) (left : List Line) → SomeStores (is_kept true kept) x 2 0 arguments left
-      → Leads With With (length arguments) left
-  kept_lead_on kept left own =
-      some_lead base (is_kept true kept) (x ∷ bound) base x 2 0 arguments left room (omega arith) here
-      (bound_later base bound x arguments are) own
+  -- words are stored
+  stores_lead_on : (head count : Bool) (takes : ℕ → Bool) (stores : List Line)
+      → SomeWords head count takes base x header arguments stores → Leads With With (4 + length arguments) stores
+  stores_lead_on head count takes stores own =
+      words_lead base (x ∷ bound) head count takes x header arguments stores room here (bound_later base bound x arguments are) own
 
   module _ (goal : Goal) (low high : ℕ) (more : List Line) (fits : Fits base (x ∷ bound) outer goal (low + 1) high more)
-      (left stores : List Line) (left_stored : Leads With With (length arguments) left)
+      (left stores : List Line) (left_stored : Leads With With (4 + length arguments) left)
       (stored : Leads With With (4 + length arguments) stores) where
     -- a cell is taken while the other tokens are held, and the kept fields are stored
     abbrev asks : List Line
@@ -113,20 +107,10 @@ module _ (base : ℕ) (bound outer : List ℕ) (has : HasRoom base bound) (x : �
       asked_good : Good With (asks ++ labelled)
       asked_good = subst (Good With) (sym (asks_then labelled)) asked
 
-      either : (v : ℕ) → (is_alive v (asks ++ labelled) ≡ true) ⊎ (is_alive_at low v (asks ++ labelled) ≡ true) → With v
-      either v (inl alive) = asked_good.alive v alive
-      either v (inr alive) = built_good.alive v
-          (sym (alive_at_past low v asks labelled (asks_none low) ∙ alive_at_here low v built) ∙ alive)
-
-      fill_good : Good Before (copies_to token x ∷ copies_to x base ∷ acts (Branch NotEqual low) (base ∷ []) ∷ (asks ++ labelled))
+      fill_good : Good Before (copies_to token x ∷ acts (Branch NotEqual low) (x ∷ []) ∷ (asks ++ labelled))
       fill_good = to_variable base base bound Op.Mv (token ∷ []) x _ has (omega arith) refl (omega arith) (inl is_token, tt) less
-          (to_temporary base base (x ∷ bound) Op.Mv (x ∷ []) _ room (omega arith) refl (omega arith) (inl here, tt)
-          (good_hands base (x ∷ bound) (x ∷ []) (Branch NotEqual low) None (asks ++ labelled) room
-          (subst IsSome (sym (found_past low asks labelled (asks_none low) ∙ found_here low built)) refl) tt (omega arith)
-          (omega arith) (λ is. absurd (false≢true is)) (λ v is. absurd (none_some is))
-          (λ v other is. only_bound base (x ∷ bound) room v (either v
-          (or_cases (is_alive v (asks ++ labelled)) (is_alive_at low v (asks ++ labelled)) is)))
-          asked_good.formed))
+          (good_branch With With NotEqual low (x ∷ []) (asks ++ labelled) (omega arith) (inl here, tt) (λ v is. is) small
+          (stands_past With low asks labelled (asks_none low) (stands_here With low built labelled_good)) asked_good)
 
     fill_none : (l : ℕ) → (l < low) ⊎ (high ≤ l) → HasNo l ((asks ++ (acts (Label low) [] ∷ stores)) ++ more)
     fill_none l far = has_no_append l (asks ++ (acts (Label low) [] ∷ stores)) more
@@ -150,25 +134,25 @@ module _ (base : ℕ) (bound outer : List ℕ) (has : HasRoom base bound) (x : �
         ∙ ap (λ (code : List Line). asks ++ (acts (Label low) [] ∷ code)) refl
 
     fill_fits : Fits base bound outer goal low high
-        ((copies_to token x ∷ copies_to x base ∷ acts (Branch NotEqual low) (base ∷ []) ∷ (asks ++ (acts (Label low) [] ∷ stores)))
+        ((copies_to token x ∷ acts (Branch NotEqual low) (x ∷ []) ∷ (asks ++ (acts (Label low) [] ∷ stores)))
         ++ more)
     fill_fits = record {
       up = let up = fits.up in omega (arith, up);
-      none = λ l far. (refl, (refl, (refl, fill_none l far)));
+      none = λ l far. (refl, (refl, fill_none l far));
       good = λ tail ahead. subst
           (λ (code : List Line). Good Before
-          (copies_to token x ∷ copies_to x base ∷ acts (Branch NotEqual low) (base ∷ []) ∷ code))
+          (copies_to token x ∷ acts (Branch NotEqual low) (x ∷ []) ∷ code))
           (sym (whole tail)) (fill_good tail ahead);
     }
 
   -- a construction in the cell of a token: its label is the one from `low` on
-  pub fits_fill : (goal : Goal) (low high : ℕ) (kept : List ℕ) (own more : List Line)
-      → FillLines base x token others low header arguments kept own
+  pub fits_fill : (goal : Goal) (low high : ℕ) (kept : List ℕ) (head count : Bool) (own more : List Line)
+      → FillLines base x token others low header arguments kept head count own
       → Fits base (x ∷ bound) outer goal (low + 1) high more → Fits base bound outer goal low high (own ++ more)
-  fits_fill goal low high kept own more is fits =
-      let left_stored = kept_lead_on kept is.0 is.2 in
-      let stored = stores_lead_on kept is.1 is.3 in
+  fits_fill goal low high kept head count own more is fits =
+      let left_stored = stores_lead_on head count (is_kept true kept) is.0 is.2 in
+      let stored = stores_lead_on (not head) (not count) (is_kept false kept) is.1 is.3 in
       subst (λ (lines : List Line). Fits base bound outer goal low high (lines ++ more))
-      (sym (is.4 ∙ ap (λ (code : List Line). copies_to token x ∷ copies_to x base ∷ acts (Branch NotEqual low) (base ∷ []) ∷ code)
+      (sym (is.4 ∙ ap (λ (code : List Line). copies_to token x ∷ acts (Branch NotEqual low) (x ∷ []) ∷ code)
       (sym (asks_then goal low high more fits is.0 is.1 left_stored stored (acts (Label low) [] ∷ is.1)))))
       (fill_fits goal low high more fits is.0 is.1 left_stored stored)

@@ -65,8 +65,8 @@ module _ (layout : Layout) (texts : Texts) (table : CellMarks) (f : ℕ) (functi
 
   fits : Fits base reads reads returns 0 is.lowered.labels lines.code
   fits = fits_held base reads reads returns 0 is.lowered.labels lines.code
-      (code_fits layout is.lowered.holds texts table (result_mark table f) variables is.lowered.slots room function.body parameters
-      parameters [] [] [] (result_mark table f) returns 0 is.lowered.labels lines.code has (λ v there. there) is.marked.body_marked
+      (code_fits layout is.lowered.holds texts is.lowered.standing table (result_mark table f) variables is.lowered.slots room
+      function.body parameters parameters [] [] [] (result_mark table f) returns 0 is.lowered.labels lines.code has (λ v there. there) is.marked.body_marked
       is.numbered may.arms may.some_arm may.arities is.has tokens.straight spends tt tt is.lowered.code)
 
   good : Good (Readable base base reads) lines.code

@@ -150,6 +150,7 @@ module _ (program : Lowering) where
     into = w.into;
     below = w.below;
     kind = w.kind;
+    nothing = w.nothing;
     does = w.does;
     has = subst (λ sl. HasFrame program w.shape address next sl held w.bound waiting.environment f) (fun_ext equal) w.has;
   }
@@ -185,6 +186,7 @@ module _ (program : Lowering) where
           into = w.into;
           below = w.below;
           kind = w.kind;
+          nothing = w.nothing;
           does = w.does;
           has = record {
             values = carries w.shape.holds (w.shape.variables + w.shape.slots) w.bound waiting.environment f.cells w.has.values;

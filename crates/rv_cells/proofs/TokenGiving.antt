@@ -31,8 +31,9 @@ use Rattle.rv_cells.proofs.Calling.{return_runs, last_return_runs}
 use Rattle.rv_cells.proofs.Spots.{Spot, saved}
 use Rattle.rv_cells.proofs.Bound.{AreWithin, has_fewer}
 use Rattle.rv_cells.proofs.TokenCells.{none_by_number}
+use Rattle.rv_cells.proofs.TokenStands.{nothing_stands}
 use Rattle.rv_cells.proofs.TokenFrames.{slots_moved}
-use Rattle.rv_cells.proofs.TokenStanding.{HaveTokenCells, held_values, Shape, Lowering, target, setting, upper, Placed, Continues, HasFrame, Waits, AllWait, IsFitFrom, by_lines, finds, Follows_step}
+use Rattle.rv_cells.proofs.TokenStanding.{HaveTokenCells, AllStand, held_values, Shape, Lowering, target, setting, upper, Placed, Continues, HasFrame, Waits, AllWait, IsFitFrom, by_lines, finds, Follows_step}
 use Rattle.rv_cells.proofs.TokenLanding.{token_at, machine_at, CodeSteps}
 
 module _ (program : Lowering) where
@@ -156,6 +157,7 @@ module _ (program : Lowering) where
             does = w.does;
             follows = stands;
             cells = cells;
+            stand = nothing_stands program.layout w.shape.standing s.address s.owners (tokens.slots (length helds)) w.nothing;
             has = has_put w.shape s.address (length s.heap) (tokens.slots (length helds)) newest w.bound waiting.environment f
                 w.has waiting.variable value w.below fits (has.values.older x bound);
             waits = waits;
@@ -175,8 +177,9 @@ module _ (program : Lowering) where
         (frames : List TokenFrame) (fs : List (Frame Line)) → Judged left unspent held older (join ∷ outer) frames
         → Has held (length older) → Placed program shape (joins y l) given s.bound s.frame.whole (Tokened.give x) left_lines
         → Continues program shape s.frame.whole (join ∷ outer) (joins y l) given s.bound
-        → AllWait program s.address (length s.heap) tokens.slots older frames fs shape.result → Steps (join ∷ outer) frames fs
-    joined y l join outer left unspent held older frames fs judged has placed goes_to waits fit =
+        → AllWait program s.address (length s.heap) tokens.slots older frames fs shape.result
+        → AllStand program.layout shape.standing s.address s.owners (tokens.slots (length older)) → Steps (join ∷ outer) frames fs
+    joined y l join outer left unspent held older frames fs judged has placed goes_to waits stand fit =
         let m = most_moves in
         let j = goes_to.0 in
         let bound = placed.marked.0 in
@@ -230,6 +233,7 @@ module _ (program : Lowering) where
             does = record { goal = j.goal; given = j.mark; placed = j.placed; continues = goes_to.1 };
             follows = stands;
             cells = cells;
+            stand = stand;
             has = has_put shape s.address (length s.heap) (tokens.slots (length older)) held j.older s.environment s.frame
                 (has_less shape s.address (length s.heap) (tokens.slots (length older)) held s.bound j.older s.environment s.frame
                 has j.within) y value j.below fits (has.values.older x bound);
@@ -290,21 +294,22 @@ module _ (program : Lowering) where
         (fs : List (Frame Line)) → Judged left unspent held older inner frames → Has held (length older)
         → Placed program shape goal given s.bound s.frame.whole (Tokened.give x) left_lines
         → Continues program shape s.frame.whole inner goal given s.bound
-        → AllWait program s.address (length s.heap) tokens.slots older frames fs shape.result → Steps inner frames fs
-    by_goal returns (join ∷ outer) left unspent held older frames fs judged has placed goes_to waits = absurd goes_to
-    by_goal (joins y l) [] left unspent held older frames fs judged has placed goes_to waits = absurd goes_to
-    by_goal (joins y l) (join ∷ outer) left unspent held older frames fs judged has placed goes_to waits =
-        joined y l join outer left unspent held older frames fs judged has placed goes_to waits
-    by_goal returns [] left unspent held [] [] [] judged has placed goes_to waits = ends left unspent held judged has placed
-    by_goal returns [] left unspent held [] [] (f ∷ fs) judged has placed goes_to waits = absurd waits
-    by_goal returns [] left unspent held [] (waiting ∷ frames) fs judged has placed goes_to waits = absurd waits
-    by_goal returns [] left unspent held (newest ∷ helds) [] fs judged has placed goes_to waits = absurd waits
-    by_goal returns [] left unspent held (newest ∷ helds) (waiting ∷ frames) [] judged has placed goes_to waits = absurd waits
-    by_goal returns [] left unspent held (newest ∷ helds) (waiting ∷ frames) (f ∷ fs) judged has placed goes_to waits =
+        → AllWait program s.address (length s.heap) tokens.slots older frames fs shape.result
+        → AllStand program.layout shape.standing s.address s.owners (tokens.slots (length older)) → Steps inner frames fs
+    by_goal returns (join ∷ outer) left unspent held older frames fs judged has placed goes_to waits stand = absurd goes_to
+    by_goal (joins y l) [] left unspent held older frames fs judged has placed goes_to waits stand = absurd goes_to
+    by_goal (joins y l) (join ∷ outer) left unspent held older frames fs judged has placed goes_to waits stand =
+        joined y l join outer left unspent held older frames fs judged has placed goes_to waits stand
+    by_goal returns [] left unspent held [] [] [] judged has placed goes_to waits stand = ends left unspent held judged has placed
+    by_goal returns [] left unspent held [] [] (f ∷ fs) judged has placed goes_to waits stand = absurd waits
+    by_goal returns [] left unspent held [] (waiting ∷ frames) fs judged has placed goes_to waits stand = absurd waits
+    by_goal returns [] left unspent held (newest ∷ helds) [] fs judged has placed goes_to waits stand = absurd waits
+    by_goal returns [] left unspent held (newest ∷ helds) (waiting ∷ frames) [] judged has placed goes_to waits stand = absurd waits
+    by_goal returns [] left unspent held (newest ∷ helds) (waiting ∷ frames) (f ∷ fs) judged has placed goes_to waits stand =
         returned left unspent held newest helds waiting frames f fs judged has placed goes_to waits.0 waits.1
 
   pub at_give : (x : ℕ) → CodeSteps program (Tokened.give x)
   at_give x idle inner frames tokens input s fs left idle_is at fit =
       by_goal x idle s at.shape at.does.given left tokens input (omega (arith, idle_is)) at.bytes at.input_is at.follows at.cells
       at.does.goal inner at.lists.left at.lists.unspent at.lists.held at.lists.older frames fs at.judged at.has at.does.placed
-      at.does.continues at.waits fit
+      at.does.continues at.waits at.stand fit

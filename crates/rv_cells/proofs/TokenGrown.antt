@@ -1,5 +1,5 @@
 -- Code with tokens that grows: the lines and the texts of parts make those of the whole.
-use Rattle.std.proofs.Common.{◌≡◌, ◌⊎◌, inl, inr, ℕ, suc, ◌+◌, ◌<◌, List, [], ◌∷◌, ◌++◌, length, map, take, get_or, refl, sym, ap}
+use Rattle.std.proofs.Common.{◌≡◌, ◌⊎◌, inl, inr, Bool, false, ℕ, suc, ◌+◌, ◌<◌, List, [], ◌∷◌, ◌++◌, length, map, take, get_or, refl, sym, ap}
 use Rattle.std.proofs.Common.{subst, ◌∙◌, arith, append_assoc, append-nil}
 use Rattle.std.proofs.lemmas.List.{length-map, map-append, take_more}
 use Rattle.kk_syntax.specs.declared.program.Form.{Form}
@@ -33,7 +33,7 @@ use Rattle.rv_cells.specs.declared.decide.Targets.{Targets}
 use Rattle.rv_cells.specs.Layout.{header_of}
 use Rattle.rv_cells.specs.CellLines.{FillLines, ReadLines, dup_lines, drop_lines}
 use Rattle.rv_cells.specs.CountedLines.{Setting, ways_of, NodesLines}
-use Rattle.rv_cells.specs.TokenedLines.{CodeLines, ArmsLines, values_of_slots}
+use Rattle.rv_cells.specs.TokenedLines.{CodeLines, ArmsLines, values_of_slots, header_stands, count_stands}
 use Rattle.rv_cells.specs.TokenedWritten.{token_test_lines, WroteFill, WroteAsk, WroteTokened, WroteTokenedArms, WroteTokenedSteps}
 use Rattle.rv_cells.specs.Written.{Facts, setting_in, TookTargets, WroteCountOpening, WroteValue}
 
@@ -193,20 +193,26 @@ step_drops {a} facts variables x wrote =
     (λ later goal rest more high is. (more, code_same facts variables goal rest more high refl refl wrote.label is, refl))
 
 pub step_fills : {a b : Lowering} (facts : Facts) (variables x y c first : ℕ) (arguments kept others : List ℕ)
-    → WroteFill x (variables + y) (values_of_slots variables others) (header_of facts.layout c) (first ∷ arguments) kept a b
+    → WroteFill x (variables + y) (values_of_slots variables others) (header_of facts.layout c) (first ∷ arguments) kept
+    (header_stands facts.standing c) (count_stands facts.standing) a b
     → WroteTokenedSteps facts variables (TokenedMove.fills x y c first arguments kept others ∷ []) a b
 step_fills facts variables x y c first arguments kept others wrote =
     step_alone facts variables (TokenedMove.fills x y c first arguments kept others) wrote.lines wrote.grows (λ rest. refl)
     (λ later goal rest more high is.
     (wrote.lines, more, wrote.are, code_same facts variables goal rest more high refl refl wrote.label is, refl))
 
--- a construction in the cell of the same token, of the same arguments
-pub fill_is : {x token token_too header : ℕ} {others arguments arguments_too kept : List ℕ} {a b : Lowering} → token ≡ token_too
-    → arguments ≡ arguments_too → WroteFill x token others header arguments kept a b
-    → WroteFill x token_too others header arguments_too kept a b
-fill_is {x} {token} {token_too} {header} {others} {arguments} {arguments_too} {kept} {a} {b} same same_too wrote =
-    subst (λ y. WroteFill x y others header arguments_too kept a b) same
-    (subst (λ ys. WroteFill x token others header ys kept a b) same_too wrote)
+-- a construction in the cell of the same token, of the same words
+pub fill_is : {x token token_too header header_too : ℕ} {others arguments arguments_too kept : List ℕ}
+    {head head_too count count_too : Bool} {a b : Lowering} → token ≡ token_too → header ≡ header_too → arguments ≡ arguments_too
+    → head ≡ head_too → count ≡ count_too → WroteFill x token others header arguments kept head count a b
+    → WroteFill x token_too others header_too arguments_too kept head_too count_too a b
+fill_is {x} {token} {token_too} {header} {header_too} {others} {arguments} {arguments_too} {kept} {head} {head_too} {count}
+    {count_too} {a} {b} same same_header same_arguments same_head same_count wrote =
+    subst (λ y. WroteFill x y others header_too arguments_too kept head_too count_too a b) same
+    (subst (λ word. WroteFill x token others word arguments_too kept head_too count_too a b) same_header
+    (subst (λ ys. WroteFill x token others header ys kept head_too count_too a b) same_arguments
+    (subst (λ one. WroteFill x token others header arguments kept one count_too a b) same_head
+    (subst (λ one. WroteFill x token others header arguments kept head one a b) same_count wrote))))
 
 pub step_frees : {a b : Lowering} (facts : Facts) (variables y : ℕ) → Wrote (acts (Compute Free) ((variables + y) ∷ []) ∷ []) a b
     → WroteTokenedSteps facts variables (TokenedMove.frees y ∷ []) a b
@@ -290,13 +296,13 @@ asks_alone {a} {b} facts variables x c form arguments others is none wrote =
 -- a construction that names other tokens fills the cell of a null one
 pub asks_held : {a b d : Lowering} (facts : Facts) (variables x c : ℕ) (form : Form) (arguments others : List ℕ)
     → form ≡ Construct c → (arguments ≡ [] → ⊥) → (others ≡ [] → ⊥) → Wrote (sets 0 x ∷ []) a b
-    → WroteFill x x (values_of_slots variables others) (header_of facts.layout c) arguments [] b d
+    → WroteFill x x (values_of_slots variables others) (header_of facts.layout c) arguments [] false false b d
     → WroteAsk facts variables x form arguments others a d
 asks_held {a} {b} {d} facts variables x c form arguments others is some some_too null fill =
     subst (λ f. WroteAsk facts variables x f arguments others a d) (sym is) (by arguments others some some_too fill)
   where
     by : (arguments others : List ℕ) → (arguments ≡ [] → ⊥) → (others ≡ [] → ⊥)
-        → WroteFill x x (values_of_slots variables others) (header_of facts.layout c) arguments [] b d
+        → WroteFill x x (values_of_slots variables others) (header_of facts.layout c) arguments [] false false b d
         → WroteAsk facts variables x (Construct c) arguments others a d
     by [] others some some_too fill = absurd (some refl)
     by (first ∷ arguments) [] some some_too fill = absurd (some_too refl)
@@ -306,9 +312,9 @@ asks_held {a} {b} {d} facts variables x c form arguments others is some some_too
       are = λ later. (
         fill.lines,
         subst (λ n. FillLines n x x (values_of_slots variables (other ∷ others)) a.next_label (header_of facts.layout c)
-            (first ∷ arguments) [] fill.lines) null.base
+            (first ∷ arguments) [] false false fill.lines) null.base
             (subst (λ n. FillLines b.base x x (values_of_slots variables (other ∷ others)) n (header_of facts.layout c)
-            (first ∷ arguments) [] fill.lines) null.label fill.are),
+            (first ∷ arguments) [] false false fill.lines) null.label fill.are),
         refl,
         ap (λ n. n + 1) (sym null.label) ∙ sym fill.label,
       );
@@ -343,7 +349,7 @@ module _ {facts : Facts} {variables : ℕ} {goal : Goal} {label : ℕ} {positive
 
 pub code_if_tokens : {facts : Facts} {variables : ℕ} {goal : Goal} {y label : ℕ} {there absent : Tokened}
     {a b c d e f : Lowering}
-    → TookLabel label a b → Wrote (token_test_lines b.base (variables + y) label) b c
+    → TookLabel label a b → Wrote (token_test_lines (variables + y) label) b c
     → WroteTokened facts variables goal there c d → Wrote (acts (Label label) [] ∷ []) d e
     → WroteTokened facts variables goal absent e f → WroteTokened facts variables goal (Tokened.if_token y there absent) a f
 code_if_tokens {facts} {variables} {goal} {y} {label} {there} {absent} {a} {b} {c} {d} {e} {f} took test first labelled
@@ -357,8 +363,7 @@ code_if_tokens {facts} {variables} {goal} {y} {label} {there} {absent} {a} {b} {
             d.next_label,
             first_way took test first labelled second later,
             second_way took test first labelled second later,
-            ap (λ (base : ℕ). token_test_lines base (variables + y) label ++
-                (first.lines ++ (acts (Label label) [] ∷ second.lines))) took.base,
+            refl,
           );
     }
 

@@ -26,6 +26,7 @@ use Rattle.rv_cells.proofs.Bound.{within_itself}
 use Rattle.rv_cells.proofs.TokenCells.{cell_turns}
 use Rattle.rv_cells.proofs.TokenFields.{past_from}
 use Rattle.rv_cells.proofs.TokenStanding.{SlotIs, IsTokenCell, token_words, HaveSlotValues, held_values, Lowering, AllWait, target, setting, Follows_step}
+use Rattle.rv_cells.proofs.TokenStands.{nothing_stands}
 use Rattle.rv_cells.proofs.TokenLanding.{token_at, machine_at, CodeSteps, silent_goes, seen_action, goes_on, kept_quiet}
 
 -- a slot that is not among the held ones has a value that is not held
@@ -123,9 +124,11 @@ module _ (program : Lowering) (y : ℕ) (rest : Tokened) where
             marked = p.marked;
             numbered = p.numbered;
             has = p.has.1;
+            keeps = p.keeps.1;
             judged = subst (λ (l : Lists). IsJudged program.pool.cells l.left l.unspent l.held l.older rest inner frames s.heap tokens)
                 kept.1.0 kept.1.1;
             cells = at.cells;
+            stand = nothing_stands program.layout at.shape.standing s.address s.owners (tokens.slots n) p.keeps.0;
             slots_are = at.has.tokens;
             held_is = at.has.held_is
                 ∙ sym (ap (λ slot. if is_token slot then (v + y) ∷ held_values slots v at.lists.held else
@@ -196,8 +199,10 @@ module _ (program : Lowering) (y : ℕ) (rest : Tokened) where
             marked = p.marked;
             numbered = p.numbered;
             has = p.has.1;
+            keeps = p.keeps.1;
             judged = subst (λ (l : Lists). IsJudged program.pool.cells l.left l.unspent l.held l.older rest inner frames s.heap after)
                 kept.1.0 kept.1.1;
+            stand = nothing_stands program.layout at.shape.standing s.address to.owners (after.slots n) p.keeps.0;
             cells = cell_turns at.cells program.aligned n y q (kept_aside hand.0) links cell mark
                 (subst (λ b. IsTokenCell b ws (kept_aside hand.0)) (sym (linked_here n y tokens.chain)) (hand.0, refl, hand.2))
                 (λ g z r differ is. linked_other n y g z tokens.chain (λ e e2. differ (cell_same (sym (pooled.slots g z r is)
@@ -269,8 +274,10 @@ module _ (program : Lowering) (y : ℕ) (rest : Tokened) where
             marked = p.marked;
             numbered = p.numbered;
             has = p.has.1;
+            keeps = p.keeps.1;
             judged = kept.1.1;
             cells = at.cells;
+            stand = nothing_stands program.layout at.shape.standing s.address s.owners (tokens.slots (length next.older)) p.keeps.0;
             slots_are = subst (λ (o : List (List ℕ)). HaveSlotValues s.address (tokens.slots (length o)) v at.shape.slots s.frame.cells)
                 parts.1 at.has.tokens;
             held_is = subst (λ (o : List (List ℕ)). s.frame.held ≡ held_values (tokens.slots (length o)) v next.held) parts.1
@@ -353,7 +360,9 @@ module _ (program : Lowering) (y : ℕ) (rest : Tokened) where
             marked = p.marked;
             numbered = p.numbered;
             has = p.has.1;
+            keeps = p.keeps.1;
             judged = kept.1.1;
+            stand = nothing_stands program.layout at.shape.standing s.address to.owners (after.slots (length next.older)) p.keeps.0;
             cells = cell_turns at.cells program.aligned n y q owner links cell mark
                 (subst (λ b. IsTokenCell b ws owner) (sym (not_linked tokens.slots older_held at.lists.older y fresh))
                 (past_links aside.0, refl, past_from aside.0 2 ws (omega arith) aside.2))

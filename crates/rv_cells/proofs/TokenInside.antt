@@ -82,6 +82,7 @@ module _ (program : Lowering) where
               marked = p.marked.0;
               numbered = p.numbered.1.0;
               has = p.has.0;
+              keeps = p.keeps.0;
               short = omega arith;
             };
             continues = (
@@ -110,6 +111,7 @@ module _ (program : Lowering) where
                   marked = p.marked.1;
                   numbered = p.numbered.1.1;
                   has = p.has.1;
+                  keeps = p.keeps.1;
                   short = omega arith;
                 };
               },
@@ -119,6 +121,7 @@ module _ (program : Lowering) where
           };
           follows = at.follows;
           cells = at.cells;
+          stand = at.stand;
           has = at.has;
           waits = at.waits;
           input_is = at.input_is;
@@ -156,7 +159,7 @@ module _ (program : Lowering) where
       (row_cost fields (most_moves + 2)) goes
       (read_did known (p.lines.1 ++ p.after) fs s x c fields p.lines.0 named.0 here reads p.lines.2) refl refl refl p.lines.4 p.low
       p.lines.3 (record { way = 0 ∷ []; is_part = inl refl; code_is = refl }) (within_fields fields s.bound) (within_front fields s.bound)
-      (below_list v fields s.bound p.numbered.0.0 at.has.below) p.marked.1 p.numbered.1 p.has
+      (below_list v fields s.bound p.numbered.0.0 at.has.below) p.marked.1 p.numbered.1 p.has p.keeps
       (subst (λ (l : Lists). IsJudged program.pool.cells l.left l.unspent l.held l.older rest inner frames s.heap tokens) kept.1.0
       kept.1.1)
       (silent_goes program) (omega arith) (ap (λ action. seen_action program action input) step) (omega (arith, idle_is))

@@ -25,14 +25,15 @@ use Rattle.rv_isa.specs.Processor.{Ending}
 use Rattle.rv_isa.specs.WellFormed.{AreLinesFormed}
 use Rattle.rv_world.specs.World.{World}
 use Rattle.rv_lower.proofs.Orders.{split_at}
-use Rattle.rv_cells.specs.TokenedLines.{CodeLines, HasSlots}
+use Rattle.rv_cells.specs.TokenedLines.{CodeLines, HasSlots, Keeps}
 use Rattle.rv_cells.proofs.Runs.{turn_of, Runs}
 use Rattle.rv_cells.proofs.Spots.{Spot, Known, Here, Did, saved}
 use Rattle.rv_cells.proofs.TokenOpenings.{Leads}
 use Rattle.rv_cells.proofs.Bound.{AreWithin, has_fewer}
 use Rattle.rv_cells.proofs.FormPlaces.{tree_in, Next, stands_behind}
 use Rattle.rv_cells.proofs.TokenLineCosts.{forms}
-use Rattle.rv_cells.proofs.TokenStanding.{HaveSlotValues, HaveTokenCells, held_values, Lowering, target, texts, setting, upper, known_of, Placed, Continues, continues_more, AllWait, At, IsFitFrom, Follow, by_lines, Follows_step}
+use Rattle.rv_cells.proofs.TokenStanding.{lines_setting}
+use Rattle.rv_cells.proofs.TokenStanding.{HaveSlotValues, HaveTokenCells, AllStand, held_values, Lowering, target, texts, setting, upper, known_of, Placed, Continues, continues_more, AllWait, At, IsFitFrom, Follow, by_lines, Follows_step}
 
 -- ---- lines
 
@@ -146,13 +147,13 @@ module _ (program : Lowering) where
 
     -- the rest of the code stands behind its own lines
     abbrev pub GoesTo : (rest : Tokened) (own more : List Line) (low : ℕ)
-        → CodeLines (record { layout = program.layout; holds = at.shape.holds; base = at.shape.variables + at.shape.slots; texts = texts program })
+        → CodeLines (lines_setting program at.shape)
         at.shape.variables at.does.goal low rest more at.does.placed.high → Type 0
     GoesTo rest own more low lines =
-        Next (tree_in (record { layout = program.layout; holds = at.shape.holds; base = at.shape.variables + at.shape.slots; texts = texts program })
+        Next (tree_in (lines_setting program at.shape)
         at.shape.variables at.does.goal at.does.placed.low code at.does.placed.own at.does.placed.high at.does.placed.lines)
         own
-        (tree_in (record { layout = program.layout; holds = at.shape.holds; base = at.shape.variables + at.shape.slots; texts = texts program })
+        (tree_in (lines_setting program at.shape)
         at.shape.variables at.does.goal low rest more at.does.placed.high lines)
 
     -- What is to be shown of a spot, with older frames, tokens and lists, for a code to go on there behind some own lines.
@@ -160,7 +161,7 @@ module _ (program : Lowering) where
         (next : Lists) : Type 0 where
       pub parts : at.does.placed.own ≡ own ++ more
       pub low : ℕ
-      pub lines : CodeLines (record { layout = program.layout; holds = at.shape.holds; base = at.shape.variables + at.shape.slots; texts = texts program })
+      pub lines : CodeLines (lines_setting program at.shape)
           at.shape.variables at.does.goal low rest more at.does.placed.high
       pub part_is : GoesTo rest own more low lines
       pub within : AreWithin later to.bound
@@ -169,8 +170,10 @@ module _ (program : Lowering) where
       pub marked : HasMark program.marks at.shape.holds at.shape.result later at.does.given (bare rest)
       pub numbered : AreNumbered at.shape.variables later (bare rest)
       pub has : HasSlots at.shape.slots rest
+      pub keeps : Keeps at.shape.standing rest
       pub judged : IsJudged program.pool.cells next.left next.unspent next.held next.older rest inner frames to.heap after
       pub cells : HaveTokenCells program.pool program.layout to.address to.owners to.heap after
+      pub stand : AllStand program.layout at.shape.standing to.address to.owners (after.slots (length next.older))
       pub slots_are : HaveSlotValues to.address (after.slots (length next.older)) at.shape.variables at.shape.slots to.frame.cells
       pub held_is : to.frame.held ≡ held_values (after.slots (length next.older)) at.shape.variables next.held
       pub waits : AllWait program to.address (length to.heap) after.slots next.older frames gs at.shape.result
@@ -212,6 +215,7 @@ module _ (program : Lowering) where
           marked = on.marked;
           numbered = on.numbered;
           has = on.has;
+          keeps = on.keeps;
           short = short;
         } in
         let cheap_run = lands.within in
@@ -239,6 +243,7 @@ module _ (program : Lowering) where
             };
             follows = lands.here.follows;
             cells = on.cells;
+            stand = on.stand;
             has = record {
               values = has_fewer lands.here.values later on.within;
               below = on.below;

@@ -22,7 +22,8 @@ use Rattle.rv_cells.specs.Layout.{layout_of}
 use Rattle.rv_cells.specs.Marking.{function_marks}
 use Rattle.rv_cells.specs.Tables.{table_of, layout_in}
 use Rattle.rv_cells.specs.TokenedFunctions.{facts_for, variables_for, IsTokenedWritten, LoweredTokened, LoweredTokenedFunctions}
-use Rattle.rv_cells.specs.TokenedLines.{CodeLines}
+use Rattle.rv_cells.specs.declared.standing.Standing.{Standing}
+use Rattle.rv_cells.specs.TokenedLines.{Keeps, CodeLines}
 use Rattle.rv_cells.specs.TokenedLowered.{IsTokenedForm}
 use Rattle.rv_cells.specs.TokenedWritten.{WroteTokened}
 use Rattle.rv_cells.specs.Written.{holds_in, setting_in}
@@ -32,14 +33,16 @@ use Rattle.rv_cells.proofs.TokenMarks.{has_slots}
 
 pub tokened_written : {a b : Lowering} (shape : Shape) (literals : List (List ℕ)) (f : ℕ) (function : TokenedFunction)
     (constructors : List ConstructorShape) (body : Tokened) (params : List ℕ) (count slots : ℕ) (marks : List Bool)
-    → WroteTokened (record { literals = literals; layout = layout_of constructors; holds = holds_in marks }) (length marks) returns
-    body a b
+    (standing : Standing)
+    → WroteTokened (record { literals = literals; layout = layout_of constructors; holds = holds_in marks; standing = standing })
+    (length marks) returns body a b → Keeps standing body
     → constructors ≡ shape.constructors.items → marks ≡ function_marks (table_of shape) f (bare_function function)
     → body ≡ function.body → lines_written a ≡ [] → a.next_label ≡ 0 → slots ≡ slots_in body
     → a.base ≡ length marks + slots → params ≡ from_to 0 count → count ≡ function.parameters
     → LoweredTokened shape literals f function (record { params = params; code = lines_written b }) (texts_written a)
     (texts_written b)
-tokened_written {a} {b} shape literals f function constructors body params count slots marks wrote constructors_are marks_are
+tokened_written {a} {b} shape literals f function constructors body params count slots marks standing wrote keeps
+    constructors_are marks_are
     body_is empty first slots_are at params_are count_is = record {
       more = there.grows.more;
       texts = there.grows.texts;
@@ -47,13 +50,15 @@ tokened_written {a} {b} shape literals f function constructors body params count
       is = λ later. record {
         params = params_are ∙ ap (from_to 0) count_is;
         labels = b.next_label;
+        standing = standing;
+        keeps = subst (Keeps standing) body_is keeps;
         code =
-            subst (λ n. CodeLines (setting_in (facts_for shape literals f (bare_function function)) n (texts_written b ++ later))
+            subst (λ n. CodeLines (setting_in (facts_for shape literals f (bare_function function) standing) n (texts_written b ++ later))
             (variables_for shape f function) returns 0 function.body (lines_written b) b.next_label) base_is
-            (subst (λ n. CodeLines (setting_in (facts_for shape literals f (bare_function function)) a.base
+            (subst (λ n. CodeLines (setting_in (facts_for shape literals f (bare_function function) standing) a.base
             (texts_written b ++ later)) (variables_for shape f function) returns n function.body (lines_written b) b.next_label)
             first
-            (subst (λ (lines : List Line). CodeLines (setting_in (facts_for shape literals f (bare_function function)) a.base
+            (subst (λ (lines : List Line). CodeLines (setting_in (facts_for shape literals f (bare_function function) standing) a.base
             (texts_written b ++ later)) (variables_for shape f function) returns a.next_label function.body lines b.next_label)
             (sym (there.grows.code ∙ ap (λ (lines : List Line). lines ++ there.lines) empty)) (there.are later)));
       };
@@ -63,14 +68,14 @@ tokened_written {a} {b} shape literals f function constructors body params count
     base_is = at ∙ ap (λ (ms : List Bool). length ms + slots) marks_are
         ∙ ap (λ (n : ℕ). variables_for shape f function + n) (slots_are ∙ ap slots_in body_is)
 
-    there : WroteTokened (facts_for shape literals f (bare_function function)) (variables_for shape f function) returns
+    there : WroteTokened (facts_for shape literals f (bare_function function) standing) (variables_for shape f function) returns
         function.body a b
     there =
-        subst (λ (ms : List Bool). WroteTokened (record { literals = literals; layout = layout_in shape; holds = holds_in ms })
+        subst (λ (ms : List Bool). WroteTokened (record { literals = literals; layout = layout_in shape; holds = holds_in ms; standing = standing })
         (length ms) returns function.body a b) marks_are
-        (subst (λ cs. WroteTokened (record { literals = literals; layout = layout_of cs; holds = holds_in marks }) (length marks)
+        (subst (λ cs. WroteTokened (record { literals = literals; layout = layout_of cs; holds = holds_in marks; standing = standing }) (length marks)
         returns function.body a b) constructors_are
-        (subst (λ code. WroteTokened (record { literals = literals; layout = layout_of constructors; holds = holds_in marks })
+        (subst (λ code. WroteTokened (record { literals = literals; layout = layout_of constructors; holds = holds_in marks; standing = standing })
         (length marks) returns code a b) body_is wrote))
 
 -- ---- functions
@@ -158,6 +163,8 @@ tokened_form shape literals functions each texts lowerable tokens are = record {
             slots = slots_in function.body;
             params = written.params;
             labels = written.labels;
+            standing = written.standing;
+            keeps = written.keeps;
             code = written.code;
           };
           marked = found.marked;

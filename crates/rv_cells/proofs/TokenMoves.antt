@@ -25,6 +25,7 @@ use Rattle.rv_cells.proofs.TokenForms.{moves_token}
 use Rattle.rv_cells.proofs.TokenFrames.{none_behind, slots_put, all_wait_at}
 use Rattle.rv_cells.proofs.TokenLineCosts.{forms}
 use Rattle.rv_cells.proofs.TokenStanding.{SlotIs, IsTokenCell, token_words, HaveTokenCells, HaveSlotValues, held_values, Lowering, AllWait, setting, known_of, At, IsFitFrom, Follows_step}
+use Rattle.rv_cells.proofs.TokenStands.{nothing_stands}
 use Rattle.rv_cells.proofs.TokenLanding.{lands_leads, token_at, machine_at, CodeSteps, silent_goes, seen_action, goes_on, kept_quiet}
 use Rattle.rv_cells.proofs.TokenUniques.{slots_set, another}
 
@@ -126,9 +127,11 @@ module _ (program : Lowering) (to of : ℕ) (rest : Tokened) where
           marked = p.marked;
           numbered = p.numbered;
           has = p.has.1.1;
+          keeps = p.keeps.1;
           judged = subst (λ (l : Lists). IsJudged program.pool.cells l.left l.unspent l.held l.older rest inner frames s.heap after)
               kept.1.0 kept.1.1;
           cells = cells;
+          stand = nothing_stands program.layout at.shape.standing s.address s.owners (after.slots n) p.keeps.0;
           slots_are = subst (λ (sl : ℕ → ℕ → Slot). HaveSlotValues s.address (sl n) v at.shape.slots
               (put_in (v + to) word s.frame).cells) slots_is second;
           held_is = at.has.held_is ∙ ap (held_values (tokens.slots n) v) nothing

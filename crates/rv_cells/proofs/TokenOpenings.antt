@@ -14,7 +14,7 @@ use Rattle.cell_heap.specs.Blocks.{Cells}
 use Rattle.rv_world.specs.World.{with_cells}
 use Rattle.rv_lower.specs.Lines.{sets, copies_to, acts}
 use Rattle.rv_lower.proofs.Performing.{put_same, put_other}
-use Rattle.rv_cells.specs.Layout.{words_in}
+use Rattle.rv_cells.specs.Layout.{words_in, header_of}
 use Rattle.rv_cells.specs.Follows.{AreFrom, Owner, in_hand, is_aside}
 use Rattle.rv_cells.specs.CellLines.{TokenUniqueLines}
 use Rattle.rv_cells.proofs.Runs.{turn_of, Runs, runs_then}
@@ -28,11 +28,14 @@ use Rattle.rv_cells.proofs.CountOpenings as Opens
 
 -- ---- what is left in the value of a token
 
--- the address of a cell, which is in hand, with words of which these are from the third on; no other cell is set aside or taken
-pub record HasCell (s t : Spot) (token at : ℕ) (fields : List ℕ) : Type 0 where
+-- The address of a cell, which is in hand, with the count 1, a header and the words of its fields; no other cell is set aside or
+-- taken.
+pub record HasCell (s t : Spot) (token at : ℕ) (fields : List ℕ) (header : ℕ) : Type 0 where
   pub value : t.frame.cells token ≡ Some at
   pub words : ℕ → Option ℕ
   pub hand : t.owners at ≡ in_hand words
+  pub count_is : words 0 ≡ Some 1
+  pub header_is : words 1 ≡ Some header
   pub fields_are : AreFrom words 2 fields
   pub aside : (y : ℕ) → y ≢ at → is_aside (s.owners y) ≡ true → t.owners y ≡ s.owners y
   pub was : (y : ℕ) → y ≢ at → is_aside (t.owners y) ≡ true → t.owners y ≡ s.owners y
@@ -44,10 +47,10 @@ pub record IsNull (s t : Spot) (token : ℕ) : Type 0 where
   pub was : (y : ℕ) → is_aside (t.owners y) ≡ true → t.owners y ≡ s.owners y
 
 -- by the count of the cell before it was opened
-abbrev pub TokenIs : ℕ → Spot → Spot → ℕ → ℕ → List ℕ → Type 0
-TokenIs zero s t token at fields = ⊥
-TokenIs (suc zero) s t token at fields = HasCell s t token at fields
-TokenIs (suc (suc n)) s t token at fields = IsNull s t token
+abbrev pub TokenIs : ℕ → Spot → Spot → ℕ → ℕ → List ℕ → ℕ → Type 0
+TokenIs zero s t token at fields header = ⊥
+TokenIs (suc zero) s t token at fields header = HasCell s t token at fields header
+TokenIs (suc (suc n)) s t token at fields header = IsNull s t token
 
 -- Lines lead from a spot to another, at this cost beyond what was saved, and from older frames to other ones. They may write the
 -- values of tokens. Of the frame only values change: these, those of variables that become bound, and temporaries.
@@ -136,7 +139,7 @@ module _ (known : Known) (rest : List Line) (fs : List (Frame Line)) (s : Spot) 
   gains : count_at s.heap named.at ≡ 1
       → drop_all (other_values used fields named.fields) (set_count named.at 0 s.heap) ≡ Some next
       → found (λ line. is_label behind line.action) s.frame.whole ≡ Some ending
-      → Leaves (λ t. HasCell s t token at fields_words)
+      → Leaves (λ t. HasCell s t token at fields_words (header_of known.layout c))
   gains once given finds =
       let moves = most_moves in
       let target = known.target in
@@ -181,6 +184,8 @@ module _ (known : Known) (rest : List Line) (fs : List (Frame Line)) (s : Spot) 
           value = put_same token at frame.cells;
           words = left.words;
           hand = left.hand;
+          count_is = left.count_is;
+          header_is = left.header_is;
           fields_are = left.fields_are;
           aside = left.aside;
           was = left.was;
@@ -233,12 +238,12 @@ module _ (known : Known) (rest : List Line) (fs : List (Frame Line)) (s : Spot) 
       → AreSmall (length (filter (is_among used) fields)) s.heap
       → found (λ line. is_label shared line.action) s.frame.whole ≡ Some (for_shared ++ ending)
       → found (λ line. is_label behind line.action) s.frame.whole ≡ Some ending
-      → Leaves (λ t. TokenIs (count_at s.heap named.at) s t token at fields_words)
+      → Leaves (λ t. TokenIs (count_at s.heap named.at) s t token at fields_words (header_of known.layout c))
   opens_to_token given small finds_shared finds_behind = by (count_at s.heap named.at) refl given
     where
       by : (count : ℕ) → count_at s.heap named.at ≡ count
           → unique_heap count named.at (used_values used fields named.fields) (other_values used fields named.fields) s.heap
-          ≡ Some next → Leaves (λ t. TokenIs count s t token at fields_words)
+          ≡ Some next → Leaves (λ t. TokenIs count s t token at fields_words (header_of known.layout c))
       by zero counts given = cc
       by (suc zero) counts given = gains counts given finds_behind
       by (suc (suc n)) counts given = blanks n counts given small finds_shared

@@ -14,7 +14,7 @@ use Rattle.kk_counted.specs.Marks.{result_mark}
 use Rattle.kk_counted.specs.Spending.{numbers_from}
 use Rattle.kk_counted.specs.TokenStates.{TokenJoin, TokenFrame, TokenControl, TokenConfiguration, TokenState, no_tokened, token_first_state}
 use Rattle.kk_counted.specs.TokenedCodes.{Tokened, TokenedFunction}
-use Rattle.kk_counted.specs.Tokens.{Tokens, no_tokens}
+use Rattle.kk_counted.specs.Tokens.{spent, token, Tokens, no_tokens}
 use Rattle.kk_counted.proofs.Pooling.{plain_is_none}
 use Rattle.kk_counted.proofs.TokenRuns.{judged_at_start}
 use Rattle.rv_isa.specs.Processor.{Ending, exited}
@@ -218,6 +218,7 @@ module _ (program : Lowering) (main : TokenedFunction) (main_is : slice_get prog
           variables = of.lowered.variables;
           slots = of.lowered.slots;
           result = result_mark program.marks program.code.main;
+          standing = of.lowered.standing;
         };
         lists = record { left = []; unspent = []; held = []; older = [] };
         judged = judged_at_start program.pool.cells main.body (program.spends program.code.main main main_is);
@@ -237,12 +238,14 @@ module _ (program : Lowering) (main : TokenedFunction) (main_is : slice_get prog
             marked = of.marked.body_marked;
             numbered = of.numbered;
             has = of.has;
+            keeps = of.lowered.keeps;
             short = program.short program.code.main main main_is;
           };
           continues = refl;
         };
         follows = begins program.pool program.layout (λ name. 0) program.aligned;
         cells = no_token_cells;
+        stand = λ y p has. absurd (spent_is_none p has);
         has = record {
           values = subst (λ n. HasValues program.layout (λ name. 0) of.lowered.holds (of.lowered.variables + of.lowered.slots) 0
               (numbers_from 0 n) [] empty)
@@ -263,6 +266,9 @@ module _ (program : Lowering) (main : TokenedFunction) (main_is : slice_get prog
         bytes = bytes;
       }
     where
+      spent_is_none : (p : ℕ) → spent ≡ token p → ⊥
+      spent_is_none p e = cc e
+
       lines_same : {a b : Lines} → Some a ≡ Some b → a ≡ b
       lines_same e = cc
 

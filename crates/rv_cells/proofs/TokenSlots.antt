@@ -5,7 +5,7 @@ use Rattle.kk_source.specs.Actions.{goes}
 use Rattle.kk_counted.specs.TokenKeeping.{Lists, IsJudged}
 use Rattle.kk_counted.specs.TokenMachine.{token_code_step, at_code, to_tokens}
 use Rattle.kk_counted.specs.TokenedCodes.{Tokened}
-use Rattle.kk_counted.specs.Tokens.{spent, null, Tokens, is_linked, blanked, released, freed}
+use Rattle.kk_counted.specs.Tokens.{spent, null, token, token_of, Tokens, is_linked, blanked, released, freed}
 use Rattle.kk_counted.proofs.Chaining.{equal_one, frames_many, not_linked}
 use Rattle.kk_counted.proofs.Pooling.{slot_here, slot_there, by_null, by_cell}
 use Rattle.kk_counted.proofs.TokenForms.{Has, is_null, has_cell, unspent_has}
@@ -24,8 +24,13 @@ use Rattle.rv_cells.proofs.Words.{hand_owned}
 use Rattle.rv_cells.proofs.TokenCells.{cell_goes}
 use Rattle.rv_cells.proofs.TokenFrames.{none_behind, slots_put, all_wait_at}
 use Rattle.rv_cells.proofs.TokenStanding.{SlotIs, IsTokenCell, token_words, held_values, Lowering, setting, known_of, Follows_step}
+use Rattle.rv_cells.proofs.TokenStands.{stand_set}
 use Rattle.rv_cells.proofs.TokenLanding.{lands_leads, token_at, machine_at, CodeSteps, silent_goes, seen_action, goes_on, kept_quiet}
 use Rattle.rv_cells.proofs.TokenUniques.{slots_set, another}
+
+-- a mark tells its slot
+same_slot : {f g y z : ℕ} → token_of f y ≡ token_of g z → y ≡ z
+same_slot e = cc e
 
 module _ (program : Lowering) (y : ℕ) (rest : Tokened) where
   pub at_null : CodeSteps program (Tokened.null y rest)
@@ -60,9 +65,13 @@ module _ (program : Lowering) (y : ℕ) (rest : Tokened) where
         marked = p.marked;
         numbered = p.numbered;
         has = p.has.1;
+        keeps = p.keeps;
         judged = subst (λ (l : Lists). IsJudged program.pool.cells l.left l.unspent l.held l.older rest inner frames s.heap after)
             kept.1.0 kept.1.1;
         cells = record { are = at.cells.are; apart = at.cells.apart; number = at.cells.number };
+        stand = stand_set program.layout at.shape.standing s.address s.owners s.owners (tokens.slots n) (after.slots n) y
+            (λ q has. let both : null ≡ token q = sym (slot_here n y null tokens.slots) ∙ has in cc both)
+            (λ z differ. slot_there n y n z null tokens.slots (another n y z differ)) (λ z q differ has. refl) at.stand;
         slots_are = slots_put at.has.tokens y 0 null p.has.0 (slot_here n y null tokens.slots) refl
             (λ z differ. slot_there n y n z null tokens.slots (another n y z differ));
         held_is = at.has.held_is ∙ ap (held_values (tokens.slots n) v) nothing
@@ -114,9 +123,13 @@ module _ (program : Lowering) (y : ℕ) (rest : Tokened) where
             marked = p.marked;
             numbered = p.numbered;
             has = p.has.1;
+            keeps = p.keeps;
             judged = subst (λ (l : Lists). IsJudged program.pool.cells l.left l.unspent l.held l.older rest inner frames s.heap after)
                 kept.1.0 kept.1.1;
             cells = record { are = at.cells.are; apart = at.cells.apart; number = at.cells.number };
+            stand = stand_set program.layout at.shape.standing s.address s.owners s.owners (tokens.slots n) (after.slots n) y
+                (λ q has. let both : spent ≡ token q = sym (slot_here n y spent tokens.slots) ∙ has in cc both)
+                (λ z differ. slot_there n y n z spent tokens.slots (another n y z differ)) (λ z q differ has. refl) at.stand;
             slots_are = slots_set at.has.tokens y spent p.has.0 (slot_here n y spent tokens.slots) tt
                 (λ z differ. slot_there n y n z spent tokens.slots (another n y z differ)) (λ z differ low. refl);
             held_is = at.has.held_is ∙ ap (held_values (tokens.slots n) v) nothing
@@ -170,6 +183,7 @@ module _ (program : Lowering) (y : ℕ) (rest : Tokened) where
             marked = p.marked;
             numbered = p.numbered;
             has = p.has.1;
+            keeps = p.keeps;
             judged = subst (λ (l : Lists). IsJudged program.pool.cells l.left l.unspent l.held l.older rest inner frames s.heap after)
                 kept.1.0 kept.1.1;
             cells = cell_goes at.cells program.aligned n y q s.address (with_owner (s.address q) nobody s.owners) s.heap after
@@ -179,6 +193,12 @@ module _ (program : Lowering) (y : ℕ) (rest : Tokened) where
                 (sym (chosen_other one (s.address q) nobody s.owners differ)) is)
                 (ap is_aside (chosen_same (s.address q) (s.address q) nobody s.owners refl))
                 (λ one differ. ap is_aside (chosen_other one (s.address q) nobody s.owners differ)) refl;
+            stand = stand_set program.layout at.shape.standing s.address s.owners to.owners (tokens.slots n) (after.slots n) y
+                (λ r is. let both : spent ≡ token r = sym (slot_here n y spent tokens.slots) ∙ is in cc both)
+                (λ z differ. slot_there n y n z spent tokens.slots (another n y z differ))
+                (λ z r differ is. chosen_other (s.address r) (s.address q) nobody s.owners
+                (λ e. differ (same_slot (sym (pooled.marks n z r is)
+                ∙ ap tokens.marks (at.cells.apart n z r n y q (pooled.marks n z r is) mark e) ∙ mark)))) at.stand;
             slots_are = slots_set at.has.tokens y spent p.has.0 (slot_here n y spent tokens.slots) tt
                 (λ z differ. slot_there n y n z spent tokens.slots (another n y z differ)) (λ z differ low. refl);
             held_is = at.has.held_is ∙ ap (held_values (tokens.slots n) v) nothing

@@ -32,10 +32,12 @@ use Rattle.rv_world.specs.World.{World}
 use Rattle.rv_lower.specs.Lines.{Texts, acts}
 use Rattle.rv_lower.specs.Lowered.{Goal, returns, joins}
 use Rattle.rv_lower.proofs.Labels.{found_label, label_found}
-use Rattle.rv_cells.specs.Layout.{Layout, IsNarrow, words_in}
+use Rattle.rv_cells.specs.declared.standing.Standing.{Standing}
+use Rattle.rv_cells.specs.declared.standing.Standing.TheVariants.{Nothing, Count, Cell}
+use Rattle.rv_cells.specs.Layout.{Layout, IsNarrow, words_in, header_of}
 use Rattle.rv_cells.specs.Follows.{AreFrom, Owner, in_hand, kept_aside, Follows, NoneAside, set_aside}
 use Rattle.rv_cells.specs.CountedLines.{Setting}
-use Rattle.rv_cells.specs.TokenedLines.{CodeLines, HasSlots, IsFunctionOf, AreFunctionsOf}
+use Rattle.rv_cells.specs.TokenedLines.{CodeLines, HasSlots, Keeps, IsFunctionOf, AreFunctionsOf}
 use Rattle.rv_cells.specs.Fitting.{IsFit}
 use Rattle.rv_cells.proofs.Bound.{AreWithin}
 use Rattle.rv_cells.proofs.FormPlaces.{Tree, own_of, tree_in, StandsAt}
@@ -103,10 +105,22 @@ pub record HaveTokenCells (pool : Pool) (layout : Layout) (address : ℕ → ℕ
   pub apart : (f y p g z q : ℕ) → tokens.marks p ≡ token_of f y → tokens.marks q ≡ token_of g z → address p ≡ address q → p ≡ q
   pub number : set_aside pool owners ≡ marked tokens.marks (length heap)
 
+-- What stands in the cell of a token: nothing is known of it, or it is in hand with the count 1, or with the header of a constructor
+-- too.
+abbrev pub StandsIn : Layout → Standing → Owner → Type 0
+StandsIn layout Nothing owner = Unit {0}
+StandsIn layout Count owner = (words : ℕ → Option ℕ) × (owner ≡ in_hand words) × (words 0 ≡ Some 1)
+StandsIn layout (Cell c) owner =
+    (words : ℕ → Option ℕ) × (owner ≡ in_hand words) × (words 0 ≡ Some 1) × (words 1 ≡ Some (header_of layout c))
+
+-- it does in the cells of all tokens of a frame
+abbrev pub AllStand : Layout → Standing → (ℕ → ℕ) → (ℕ → Owner) → (ℕ → Slot) → Type 0
+AllStand layout standing address owners slots = (y p : ℕ) → slots y ≡ token p → StandsIn layout standing (owners (address p))
+
 -- ---- functions
 
 -- What is known of a function: its number, where the parts of its code stand among its lines, which of its variables are of types
--- with cells, how many variables and slots it has, and the mark of its result.
+-- with cells, how many variables and slots it has, the mark of its result, and what stands in the cells of its tokens.
 pub record Shape : Type 0 where
   pub function : ℕ
   pub root : Tree
@@ -114,6 +128,7 @@ pub record Shape : Type 0 where
   pub variables : ℕ
   pub slots : ℕ
   pub result : Bool
+  pub standing : Standing
 
 -- where its temporaries begin
 abbrev pub base_of : Shape → ℕ
@@ -160,7 +175,13 @@ module _ (program : Lowering) where
       }
 
   abbrev pub lines_setting : Shape → Setting
-  lines_setting shape = record { layout = program.layout; holds = shape.holds; base = base_of shape; texts = texts }
+  lines_setting shape = record {
+    layout = program.layout;
+    holds = shape.holds;
+    base = base_of shape;
+    texts = texts;
+    standing = shape.standing;
+  }
 
   -- where the parts of a function's code stand among its lines
   abbrev pub root_in : (f : ℕ) (function : TokenedFunction) (lines : Lines)
@@ -172,6 +193,7 @@ module _ (program : Lowering) where
         holds = of.lowered.holds;
         base = of.lowered.variables + of.lowered.slots;
         texts = texts;
+        standing = of.lowered.standing;
       }) of.lowered.variables returns 0 function.body lines.code of.lowered.labels of.lowered.code
 
   -- they stand so in the function of a number
@@ -189,16 +211,17 @@ module _ (program : Lowering) where
       pub after : List Line
       pub low : ℕ
       pub high : ℕ
-      pub lines : CodeLines (record { layout = program.layout; holds = shape.holds; base = shape.variables + shape.slots; texts = texts })
+      pub lines : CodeLines (lines_setting shape)
           shape.variables goal low code own high
       pub left_is : left ≡ own ++ after
       pub place : whole ≡ before ++ left
       pub stands : StandsAt shape.root before
-          (tree_in (record { layout = program.layout; holds = shape.holds; base = shape.variables + shape.slots; texts = texts })
+          (tree_in (lines_setting shape)
           shape.variables goal low code own high lines)
       pub marked : HasMark program.marks shape.holds shape.result bound given (bare code)
       pub numbered : AreNumbered shape.variables bound (bare code)
       pub has : HasSlots shape.slots code
+      pub keeps : Keeps shape.standing code
       pub short : forms code ≤ program.most
 
     -- a block inside, whose value a variable takes, and behind its label the code goes on
@@ -272,7 +295,7 @@ module _ (program : Lowering) where
 
   -- ---- frames
 
-  -- A frame waits for a value of a mark, with these slots and these of them held.
+  -- A frame waits for a value of a mark, with these slots and these of them held. Nothing stands in its tokens' cells.
   pub record Waits (address : ℕ → ℕ) (next : ℕ) (slots : ℕ → Slot) (held : List ℕ) (waiting : TokenFrame) (f : Frame Line)
       (awaited : Bool) : Type 0 where
     pub shape : Shape
@@ -280,6 +303,7 @@ module _ (program : Lowering) where
     pub into : f.into ≡ Some waiting.variable
     pub below : waiting.variable < shape.variables
     pub kind : shape.holds waiting.variable ≡ awaited
+    pub nothing : shape.standing ≡ Nothing
     pub does : Does shape (waiting.variable ∷ bound) f.whole waiting.rest waiting.joins f.code
     pub has : HasFrame shape address next slots held bound waiting.environment f
 
@@ -302,6 +326,7 @@ module _ (program : Lowering) where
     pub does : Does shape s.bound s.frame.whole code inner left
     pub follows : Follows program.pool program.layout s.address s.owners s.heap s.world.cells
     pub cells : HaveTokenCells program.pool program.layout s.address s.owners s.heap tokens
+    pub stand : AllStand program.layout shape.standing s.address s.owners (tokens.slots (length lists.older))
     pub has : HasFrame shape s.address (length s.heap) (tokens.slots (length lists.older)) lists.held s.bound s.environment s.frame
     pub waits : AllWait s.address (length s.heap) tokens.slots lists.older frames fs shape.result
     pub input_is : s.world.left ≡ input

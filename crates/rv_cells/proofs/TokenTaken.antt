@@ -49,6 +49,7 @@ module _ (program : Lowering) (address : ℕ → ℕ) (next : ℕ) (slots : ℕ 
             into = w.into;
             below = w.below;
             kind = w.kind;
+            nothing = w.nothing;
             does = w.does;
             has = record {
               values = has_other w.has.values (v + y) 0 (none_behind w.bound v y w.has.below);

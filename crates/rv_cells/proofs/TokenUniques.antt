@@ -34,9 +34,9 @@ use Rattle.rv_isa.specs.Frames.{Frame}
 use Rattle.cell_heap.specs.Blocks.{Cells}
 use Rattle.rv_lower.specs.Lines.{acts}
 use Rattle.rv_cells.specs.CellLines.{TokenUniqueLines}
-use Rattle.rv_cells.specs.Layout.{words_in}
+use Rattle.rv_cells.specs.Layout.{words_in, header_of}
 use Rattle.rv_cells.specs.Follows.{AreFrom, Owner, cell_of, in_hand, is_aside}
-use Rattle.rv_cells.specs.TokenedLines.{CodeLines, HasSlots}
+use Rattle.rv_cells.specs.TokenedLines.{CodeLines, HasSlots, IsOf, Keeps}
 use Rattle.rv_cells.proofs.Held.{some-is}
 use Rattle.rv_cells.proofs.Bound.{AreWithin, marks_are}
 use Rattle.rv_cells.proofs.Rooms.{named_cell}
@@ -52,8 +52,9 @@ use Rattle.rv_cells.proofs.TokenCells.{token_aside, cells_stay, cell_comes}
 use Rattle.rv_cells.proofs.TokenFields.{recounted_words, eased_cells, cell_is, named_fields}
 use Rattle.rv_cells.proofs.TokenFrames.{none_behind, all_wait_at}
 use Rattle.rv_cells.proofs.TokenLineCosts.{forms}
-use Rattle.rv_cells.proofs.TokenStanding.{SlotIs, IsTokenCell, token_words, HaveSlotValues, HaveTokenCells, finds, held_values}
+use Rattle.rv_cells.proofs.TokenStanding.{SlotIs, IsTokenCell, token_words, HaveSlotValues, HaveTokenCells, StandsIn, AllStand, finds, held_values}
 use Rattle.rv_cells.proofs.TokenStanding.{Lowering, setting, upper, lines_setting, known_of, AllWait, At, IsFitFrom, Follows_step}
+use Rattle.rv_cells.proofs.TokenStands.{stand_set, opened_stands}
 use Rattle.rv_cells.proofs.TokenLanding.{lands_leads, token_at, machine_at, CodeSteps, seen_action, silent_goes, GoesTo, goes_on}
 use Rattle.rv_cells.proofs.TokenLanding.{kept_after}
 
@@ -257,6 +258,8 @@ module _ (program : Lowering) (code : Tokened) (x c : ℕ) (fields used : List �
     pub numbered : AreNumbered at.shape.variables (fields ++ s.bound) (bare rest)
     pub slot : y < at.shape.slots
     pub has : HasSlots at.shape.slots rest
+    pub is_of : IsOf at.shape.standing c
+    pub keeps : Keeps at.shape.standing rest
     pub none_held : at.lists.held ≡ []
     pub lists_after : (next : Lists) → ListsAfter code inner at.lists next
         → next ≡ record at.lists { unspent = y ∷ at.lists.unspent }
@@ -314,14 +317,21 @@ module _ (program : Lowering) (code : Tokened) (x c : ℕ) (fields used : List �
       (eased_unique (count_at s.heap a.named.at) a.named.at (used_values used fields a.named.fields)
       (other_values used fields a.named.fields) s.heap refl)
 
+  -- the cells of tokens are set aside
+  token_is_aside : (z q : ℕ) → tokens.slots n z ≡ token q → is_aside (s.owners (s.address q)) ≡ true
+  token_is_aside z q is =
+      token_aside (is_linked n z tokens.chain) (token_words program.layout s.address s.heap q) (s.owners (s.address q))
+      (at.cells.are n z q (at.judged.are.pooled.marks n z q is))
+
   -- the slot has its token, and the code goes on
   finish : (frame : Frame Line) (owners : ℕ → Owner) (cells : Cells) → Leads_to frame owners cells → (after : Tokens) (slot : Slot)
       → token_code_step (setting program) code s.environment inner
       (machine_at program code s.environment inner frames s.heap tokens)
       ≡ goes (machine_at program rest (bind_fields fields a.named.fields s.environment) inner frames a.next after)
       → slots_with n y slot tokens.slots ≡ after.slots → SlotIs s.address slot (frame.cells (v + y))
-      → HaveTokenCells program.pool program.layout s.address owners a.next after → Steps_on
-  finish frame owners cells leads after slot step slots_is value token_cells =
+      → HaveTokenCells program.pool program.layout s.address owners a.next after
+      → AllStand program.layout at.shape.standing s.address owners (after.slots n) → Steps_on
+  finish frame owners cells leads after slot step slots_is value token_cells stand =
       let p = at.does.placed in
       let to = opened_to frame owners cells in
       let kept = subst (AllLead (AreKeptBy program.pool.cells (ListsAfter code inner at.lists))) step
@@ -347,9 +357,11 @@ module _ (program : Lowering) (code : Tokened) (x c : ℕ) (fields used : List �
         marked = a.marked;
         numbered = a.numbered;
         has = a.has;
+        keeps = a.keeps;
         judged = subst (λ (l : Lists). IsJudged program.pool.cells l.left l.unspent l.held l.older rest inner frames a.next after)
             (a.lists_after kept.0 kept.1.0) kept.1.1;
         cells = token_cells;
+        stand = stand;
         slots_are = slots_set at.has.tokens y slot a.slot
             (ap (λ (sl : ℕ → ℕ → Slot). sl n y) (sym slots_is) ∙ slot_here n y slot tokens.slots) value
             (λ z differ. ap (λ (sl : ℕ → ℕ → Slot). sl n z) (sym slots_is) ∙ slot_there n y n z slot tokens.slots (another n y z differ))
@@ -366,7 +378,8 @@ module _ (program : Lowering) (code : Tokened) (x c : ℕ) (fields used : List �
 
   -- a cell of one reference: it is the slot's token
   gains : (frame : Frame Line) (owners : ℕ → Owner) (cells : Cells) → Leads_to frame owners cells → count_at s.heap a.named.at ≡ 1
-      → HasCell s (opened_to frame owners cells) (v + y) at_name (words_in program.layout s.address a.named.fields) → Steps_on
+      → HasCell s (opened_to frame owners cells) (v + y) at_name (words_in program.layout s.address a.named.fields)
+      (header_of program.layout c) → Steps_on
   gains frame owners cells leads once has = by (count_at a.next a.named.at) refl
     where
       owns : s.owners at_name ≡ cell_of a.named.at
@@ -374,6 +387,14 @@ module _ (program : Lowering) (code : Tokened) (x c : ℕ) (fields used : List �
 
       fields_are : fields_held s.heap a.named.at ≡ a.named.fields
       fields_are = named_fields c (length fields) s.heap (value_of s.environment x) a.named a.named_is
+
+      token_same : {q r : ℕ} → token q ≡ token r → q ≡ r
+      token_same e = cc e
+
+      aside_apart : (z q : ℕ) → tokens.slots n z ≡ token q → s.address q ≢ at_name
+      aside_apart z q is e =
+          let both : true ≡ false = sym (token_is_aside z q is) ∙ ap (λ (place : ℕ). is_aside (s.owners place)) e
+          ∙ ap is_aside owns in cc both
 
       plain_mark : (mark : Mark) → tokens.marks a.named.at ≡ mark → tokens.marks a.named.at ≡ plain
       plain_mark plain is = is
@@ -408,6 +429,13 @@ module _ (program : Lowering) (code : Tokened) (x c : ℕ) (fields used : List �
           (sym (has.aside z differ (token_aside linked ws (s.owners z) is))) is)
           (λ z differ. same_bools (is_aside (owners z)) (is_aside (s.owners z))
           (λ is. sym (ap is_aside (has.was z differ is)) ∙ is) (λ is. ap is_aside (has.aside z differ is) ∙ is)))
+          (stand_set program.layout at.shape.standing s.address s.owners owners (tokens.slots n)
+          (slots_with n y (token a.named.at) tokens.slots n) y
+          (λ q is. let same : a.named.at ≡ q = token_same (sym (slot_here n y (token a.named.at) tokens.slots) ∙ is) in
+          subst (λ r. StandsIn program.layout at.shape.standing (owners (s.address r))) same
+          (opened_stands program.layout at.shape.standing c (owners at_name) has.words a.is_of has.hand has.count_is has.header_is))
+          (λ z differ. slot_there n y n z (token a.named.at) tokens.slots (another n y z differ))
+          (λ z q differ is. has.aside (s.address q) (aside_apart z q is) (token_is_aside z q is)) at.stand)
       by (suc k) counts =
           let both : in_hand has.words ≡ cell_of a.named.at = sym has.hand
           ∙ leads.here.follows.named a.named.at (omega (arith, counts)) in cc
@@ -433,6 +461,11 @@ module _ (program : Lowering) (code : Tokened) (x c : ℕ) (fields used : List �
           ∙ ap (λ f. goes (machine_at program rest (bind_fields fields a.named.fields s.environment) inner frames a.next
           (blanked f y null tokens))) many)
           refl has.value (record { are = stay.are; apart = stay.apart; number = stay.number })
+          (stand_set program.layout at.shape.standing s.address s.owners owners (tokens.slots n)
+          (slots_with n y null tokens.slots n) y
+          (λ q is. let both : null ≡ token q = sym (slot_here n y null tokens.slots) ∙ is in cc both)
+          (λ z differ. slot_there n y n z null tokens.slots (another n y z differ))
+          (λ z q differ is. has.aside (s.address q) (token_is_aside z q is)) at.stand)
 
   pub steps_opening : Steps_on
   steps_opening =
@@ -488,7 +521,7 @@ module _ (program : Lowering) (code : Tokened) (x c : ℕ) (fields used : List �
           → unique_heap count a.named.at (used_values used fields a.named.fields) (other_values used fields a.named.fields) s.heap
           ≡ Some a.next
           → TokenIs count s (opened_to frame owners cells) (v + y) at_name (words_in program.layout s.address a.named.fields)
-          → Steps_on
+          (header_of program.layout c) → Steps_on
       by frame owners cells leads zero counts given is = absurd is
       by frame owners cells leads (suc zero) counts given is = gains frame owners cells leads counts is
       by frame owners cells leads (suc (suc m)) counts given is =
@@ -525,6 +558,8 @@ at_unique program x c fields used y rest idle inner frames tokens input s fs lef
       numbered = p.numbered.1;
       slot = p.has.0;
       has = p.has.1;
+      is_of = p.keeps.0;
+      keeps = p.keeps.1;
       none_held = at.judged.spends.0;
       lists_after = λ next is. is;
       weighs = refl;
@@ -568,6 +603,8 @@ at_open program x c fields used y rest idle inner frames tokens input s fs left 
       numbered = p.numbered.1;
       slot = p.has.0;
       has = p.has.1;
+      is_of = p.keeps.0;
+      keeps = p.keeps.1;
       none_held = at.judged.spends.0;
       lists_after = λ next is. is;
       weighs = refl;

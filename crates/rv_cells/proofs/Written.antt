@@ -27,6 +27,7 @@ use Rattle.std.proofs.Common.{
   arith,
   append-nil,
   append_assoc,
+  false,
 }
 use Rattle.std.specs.Prelude.{filter, map, drop, slice_range, option_to_list}
 use Rattle.std.proofs.lemmas.List.{length-take-le, take_more, take_all, length-drop, drop-map}
@@ -43,12 +44,12 @@ use Rattle.rv_isa.specs.declared.immediate.Immediate.{Immediate}
 use Rattle.rv_isa.specs.AsmCode.{Line}
 use Rattle.rv_lower.specs.declared.lowering.Lowering.{Lowering}
 use Rattle.rv_lower.specs.Lines.{computes, sets, copies_to, acts}
-use Rattle.rv_lower.specs.Written.{Wrote, WroteLines, TookLabel}
+use Rattle.rv_lower.specs.Written.{lines_written, Wrote, WroteLines, TookLabel}
 use Rattle.rv_lower.proofs.Written.{wrote_then}
 use Rattle.rv_lower.proofs.Grown.{grows_of, grows_took, grows_then, grows_more}
 use Rattle.rv_cells.specs.Layout.{Layout}
 use Rattle.rv_cells.specs.CellLines.{Loads, Stores, AllLoads, AllStores, StoresIf, SomeStores, is_kept, Walks, walked, spare, dups_lines, drops_lines, CountLines, ConstructLines}
-use Rattle.rv_cells.specs.CellLines.{FillingLines, FillLines, hold_lines, unhold_lines}
+use Rattle.rv_cells.specs.CellLines.{SetIf, SomeWords, FillLines, hold_lines, unhold_lines}
 use Rattle.rv_cells.specs.CountedLines.{
   is_plain,
   answer_word,
@@ -284,35 +285,73 @@ construction_written {a} {b} {c} x header arguments takes stores = record {
 }
 
 -- a construction in the cell of a token
-pub fill_written : {x token header filled : ℕ} {others arguments kept : List ℕ} {a b c d e f g : Lowering} → TookLabel filled a b
-    → Wrote (copies_to token x ∷ copies_to x b.base ∷ acts (Branch NotEqual filled) (b.base ∷ []) ∷ []) b c
-    → Wrote (request_lines x others) c d → WroteLines (SomeStores (is_kept true kept) x 2 0 arguments) d e
-    → Wrote (acts (Label filled) [] ∷ []) e f
-    → WroteLines (FillingLines f.base x header arguments kept) f g → WroteFill x token others header arguments kept a g
-fill_written {x} {token} {header} {filled} {others} {arguments} {kept} {a} {b} {c} {d} {e} {f} {g} took test requests
-    left labelled stores = record {
-      lines = test_lines a.base ++ (request_lines x others ++ behind);
+pub fill_written : {x token header filled : ℕ} {others arguments kept : List ℕ} {head count : Bool} {a b c d e f g : Lowering}
+    → TookLabel filled a b
+    → Wrote (copies_to token x ∷ acts (Branch NotEqual filled) (x ∷ []) ∷ []) b c → Wrote (request_lines x others) c d
+    → WroteLines (SomeWords head count (is_kept true kept) d.base x header arguments) d e → Wrote (acts (Label filled) [] ∷ []) e f
+    → WroteLines (SomeWords (not head) (not count) (is_kept false kept) f.base x header arguments) f g
+    → WroteFill x token others header arguments kept head count a g
+fill_written {x} {token} {header} {filled} {others} {arguments} {kept} {head} {count} {a} {b} {c} {d} {e} {f} {g} took test
+    requests left labelled stores = record {
+      lines = test_lines ++ (request_lines x others ++ behind);
       grows = grows_more (omega arith) (grows_then (grows_took took) (grows_of
-          (wrote_then (subst (λ n. Wrote (test_lines n) b c) took.base test)
-          (wrote_then requests (wrote_then left.wrote (wrote_then labelled stores.wrote))))));
+          (wrote_then test (wrote_then requests (wrote_then left.wrote (wrote_then labelled stores.wrote))))));
       label = stores.wrote.label ∙ labelled.label ∙ left.wrote.label ∙ requests.label ∙ test.label ∙ took.next;
-      are = subst (λ n. FillLines a.base x token others n header arguments kept
-          (test_lines a.base ++ (request_lines x others ++ behind))) took.is (
+      are = subst (λ n. FillLines a.base x token others n header arguments kept head count
+          (test_lines ++ (request_lines x others ++ behind))) took.is (
             left.lines,
             stores.lines,
-            left.are,
-            subst (λ n. FillingLines n x header arguments kept stores.lines)
+            subst (λ n. SomeWords head count (is_kept true kept) n x header arguments left.lines)
+                (requests.base ∙ test.base ∙ took.base) left.are,
+            subst (λ n. SomeWords (not head) (not count) (is_kept false kept) n x header arguments stores.lines)
                 (labelled.base ∙ left.wrote.base ∙ requests.base ∙ test.base ∙ took.base) stores.are,
-            ap (λ (ls : List Line). test_lines a.base ++ ls)
+            ap (λ (ls : List Line). test_lines ++ ls)
                 (append_assoc (hold_lines others) (take_line x ∷ unhold_lines others) behind),
           );
     }
   where
-    test_lines : ℕ → List Line
-    test_lines base = copies_to token x ∷ copies_to x base ∷ acts (Branch NotEqual filled) (base ∷ []) ∷ []
+    test_lines : List Line
+    test_lines = copies_to token x ∷ acts (Branch NotEqual filled) (x ∷ []) ∷ []
 
     behind : List Line
     behind = left.lines ++ (acts (Label filled) [] ∷ stores.lines)
+
+-- a word of a cell, and none
+pub word_written : (cell i word : ℕ) {taken : Bool} {set_line store : Line} {a b : Lowering} → taken ≡ true
+    → set_line ≡ sets word a.base → Stores cell i a.base store → Wrote (set_line ∷ store ∷ []) a b
+    → WroteLines (SetIf taken a.base cell i word) a b
+word_written cell i word {taken} {set_line} {store} {a} {b} is set_is stores wrote =
+    subst (λ t. WroteLines (SetIf t a.base cell i word) a b) (sym is)
+    (record { lines = set_line ∷ store ∷ []; wrote = wrote; are = (store, stores, ap (λ (l : Line). l ∷ store ∷ []) set_is) })
+
+pub no_word_written : (a : Lowering) (cell i word : ℕ) {taken : Bool} → taken ≡ false
+    → WroteLines (SetIf taken a.base cell i word) a a
+no_word_written a cell i word {taken} is =
+    subst (λ t. WroteLines (SetIf t a.base cell i word) a a) (sym is)
+    (record {
+      lines = [];
+      wrote = record { code = sym (append-nil (lines_written a)); texts = refl; base = refl; label = refl };
+      are = refl;
+    })
+
+-- some words of a construction
+pub some_words_written : (x header : ℕ) (arguments : List ℕ) (head count : Bool) (takes : ℕ → Bool) {a b c d : Lowering}
+    (fields : List Line) → SomeStores takes x 2 0 arguments fields → WroteLines (SetIf head a.base x 1 header) a b
+    → Wrote fields b c → WroteLines (SetIf count c.base x 0 1) c d
+    → WroteLines (SomeWords head count takes a.base x header arguments) a d
+some_words_written x header arguments head count takes {a} {b} {c} {d} fields stores first middle last = record {
+  lines = first.lines ++ (fields ++ last.lines);
+  wrote = wrote_then first.wrote (wrote_then middle last.wrote);
+  are = (
+    first.lines,
+    fields,
+    last.lines,
+    first.are,
+    stores,
+    subst (λ n. SetIf count n x 0 1 last.lines) (middle.base ∙ first.wrote.base) last.are,
+    refl,
+  );
+}
 
 -- ---- tests
 

@@ -43,6 +43,11 @@ SomeStores takes cell i position (x ∷ xs) lines =
     (first : List Line) × (more : List Line) × StoresIf (takes position) cell i x first
     × SomeStores takes cell (suc i) (suc position) xs more × (lines ≡ first ++ more)
 
+-- a word is stored in a cell by a temporary, or no line is there
+abbrev pub SetIf : Bool → ℕ → ℕ → ℕ → ℕ → List Line → Type 0
+SetIf true base cell i word lines = (store : Line) × Stores cell i base store × (lines ≡ sets word base ∷ store ∷ [])
+SetIf false base cell i word lines = lines ≡ []
+
 -- the positions that are kept, and the others
 abbrev pub is_kept : Bool → List ℕ → ℕ → Bool
 is_kept true kept position = is_among kept position
@@ -84,21 +89,21 @@ abbrev pub unhold_lines : List ℕ → List Line
 unhold_lines [] = []
 unhold_lines (token ∷ tokens) = acts Unhold (token ∷ []) ∷ unhold_lines tokens
 
--- The words of a cell but those of its fields at the kept positions are stored, as in each construction.
-abbrev pub FillingLines : ℕ → ℕ → ℕ → List ℕ → List ℕ → List Line → Type 0
-FillingLines base x header arguments kept lines =
-    (head : Line) × (fields : List Line) × (count : Line) × Stores x 1 base head
-    × SomeStores (is_kept false kept) x 2 0 arguments fields × Stores x 0 base count
-    × (lines ≡ sets header base ∷ head ∷ (fields ++ sets 1 base ∷ count ∷ []))
+-- Words of a construction are stored: its header, the fields whose position is taken, and the count 1; the header and the count
+-- only where these truths say so.
+abbrev pub SomeWords : Bool → Bool → (ℕ → Bool) → ℕ → ℕ → ℕ → List ℕ → List Line → Type 0
+SomeWords head count takes base x header arguments lines =
+    (first : List Line) × (fields : List Line) × (last : List Line) × SetIf head base x 1 header first
+    × SomeStores takes x 2 0 arguments fields × SetIf count base x 0 1 last × (lines ≡ first ++ (fields ++ last))
 
 -- A construction in the cell of a token: variable x has the token's word. Where that is 0 a cell is taken, while the other tokens
--- are held, so that they are tried in their order, and the fields at the kept positions are stored. From label `filled` on the
--- other words are stored: the token's cell has the kept fields.
-abbrev pub FillLines : ℕ → ℕ → ℕ → List ℕ → ℕ → ℕ → List ℕ → List ℕ → List Line → Type 0
-FillLines base x token others filled header arguments kept lines =
-    (left : List Line) × (stores : List Line) × SomeStores (is_kept true kept) x 2 0 arguments left
-    × FillingLines base x header arguments kept stores
-    × (lines ≡ copies_to token x ∷ copies_to x base ∷ acts (Branch NotEqual filled) (base ∷ []) ∷
+-- are held, so that they are tried in their order, and the words are stored that the token's cell has already: the fields at the
+-- kept positions, and the header and the count where these truths say so. From label `filled` on the other words are stored.
+abbrev pub FillLines : ℕ → ℕ → ℕ → List ℕ → ℕ → ℕ → List ℕ → List ℕ → Bool → Bool → List Line → Type 0
+FillLines base x token others filled header arguments kept head count lines =
+    (left : List Line) × (stores : List Line) × SomeWords head count (is_kept true kept) base x header arguments left
+    × SomeWords (not head) (not count) (is_kept false kept) base x header arguments stores
+    × (lines ≡ copies_to token x ∷ acts (Branch NotEqual filled) (x ∷ []) ∷
     (hold_lines others ++ (record { action = Calls Take; args = []; into = Some x } ∷
     (unhold_lines others ++ (left ++ (acts (Label filled) [] ∷ stores))))))
 

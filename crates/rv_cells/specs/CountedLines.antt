@@ -14,6 +14,7 @@ use Rattle.rv_isa.specs.declared.asm.ImmediateOperation.TheVariants.{Andi}
 use Rattle.rv_isa.specs.declared.immediate.Immediate.{Immediate}
 use Rattle.rv_isa.specs.AsmCode.{Line}
 use Rattle.rv_lower.specs.Lines.{computes, sets, acts, Texts, FormLines}
+use Rattle.rv_cells.specs.declared.standing.Standing.{Standing}
 use Rattle.rv_cells.specs.Layout.{Layout, header_of}
 use Rattle.rv_cells.specs.CellLines.{Loads, ConstructLines, Walks, walked, spare, equal_lines, jump_lines, either_lines}
 
@@ -134,12 +135,14 @@ NodesLines layout base nodes ways x k (node ∷ more) lines =
 
 -- ---- forms on variables
 
--- which variables of a function are of types with cells, where its temporaries begin, how values look, and the texts
+-- Which variables of a function are of types with cells, where its temporaries begin, how values look, the texts, and what stands
+-- in the cells of its tokens.
 pub record Setting : Type 0 where
   pub layout : Layout
   pub holds : ℕ → Bool
   pub base : ℕ
   pub texts : Texts
+  pub standing : Standing
 
 -- the value of a form on variables; a constructor without fields is its word
 abbrev pub ComputeLines : Setting → ℕ → Form → List ℕ → List Line → Type 0

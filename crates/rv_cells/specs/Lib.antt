@@ -4,6 +4,7 @@ pub mod Steps
 pub mod CellLines
 pub mod CountedLines
 pub mod TokenedLines
+pub mod Standings
 pub mod Written
 pub mod Fitting
 pub mod Meaning

@@ -9,17 +9,19 @@ use Rattle.kk_counted.specs.declared.shape.Shape.{Shape}
 use Rattle.rv_isa.specs.AsmCode.{Lines}
 use Rattle.rv_lower.specs.Lowered.{returns, from_to}
 use Rattle.rv_world.specs.Operations.{all_bytes}
+use Rattle.rv_cells.specs.declared.standing.Standing.{Standing}
 use Rattle.rv_cells.specs.Marking.{function_marks}
 use Rattle.rv_cells.specs.Tables.{table_of, layout_in}
-use Rattle.rv_cells.specs.TokenedLines.{CodeLines}
+use Rattle.rv_cells.specs.TokenedLines.{Keeps, CodeLines}
 use Rattle.rv_cells.specs.Written.{Facts, setting_in, holds_in}
 
 -- what is known of a function of this number
-abbrev pub facts_for : Shape → List (List ℕ) → ℕ → CountedFunction → Facts
-facts_for shape literals f function = record {
+abbrev pub facts_for : Shape → List (List ℕ) → ℕ → CountedFunction → Standing → Facts
+facts_for shape literals f function standing = record {
   literals = literals;
   layout = layout_in shape;
   holds = holds_in (function_marks (table_of shape) f function);
+  standing = standing;
 }
 
 -- how many variables the function of a number has
@@ -32,9 +34,11 @@ pub record IsTokenedWritten (shape : Shape) (literals texts : List (List ℕ)) (
     : Type 0 where
   pub params : lines.params ≡ from_to 0 function.parameters
   pub labels : ℕ
+  pub standing : Standing
+  pub keeps : Keeps standing function.body
   pub code : CodeLines
-      (setting_in (facts_for shape literals f (bare_function function)) (variables_for shape f function + slots_in function.body)
-      texts)
+      (setting_in (facts_for shape literals f (bare_function function) standing)
+      (variables_for shape f function + slots_in function.body) texts)
       (variables_for shape f function) returns 0 function.body lines.code labels
 
 -- a function was lowered, and texts were added behind those that stood there

@@ -1,8 +1,8 @@
 -- The assembler code of a program in counted form with tokens. The value of slot y is that many behind the variables; the
 -- temporaries come behind the slots.
-use Rattle.std.specs.Prelude.{◌≡◌, ℕ, ◌+◌, ◌<◌, ◌≤◌, Bool, List, [], ◌∷◌, ◌++◌, map, length, Some, slice_get}
+use Rattle.std.specs.Prelude.{◌≡◌, ℕ, ◌+◌, ◌<◌, ◌≤◌, Bool, true, false, List, [], ◌∷◌, ◌++◌, map, length, Some, nat_eq, slice_get}
 use Rattle.kk_syntax.specs.declared.program.Form.{Form}
-use Rattle.kk_syntax.specs.declared.program.Form.TheVariants.{Construct}
+use Rattle.kk_syntax.specs.declared.program.Form.TheVariants.{Construct, Call}
 use Rattle.kk_core.specs.Sizes.{most_variables}
 use Rattle.kk_counted.specs.Arms.{arm_count}
 use Rattle.kk_counted.specs.BareForms.{bare, bare_arms, bare_function}
@@ -17,6 +17,8 @@ use Rattle.rv_isa.specs.declared.asm.Operation.TheVariants as Op
 use Rattle.rv_isa.specs.AsmCode.{Line, Lines}
 use Rattle.rv_lower.specs.Lines.{sets, copies_to, acts, copies, temporaries, Texts}
 use Rattle.rv_lower.specs.Lowered.{Goal, returns, joins, goal_lines, from_to}
+use Rattle.rv_cells.specs.declared.standing.Standing.{Standing}
+use Rattle.rv_cells.specs.declared.standing.Standing.TheVariants.{Nothing, Count, Cell}
 use Rattle.rv_cells.specs.Layout.{Layout, header_of}
 use Rattle.rv_cells.specs.CellLines.{FillLines, ReadLines, TokenUniqueLines, dup_lines, drop_lines}
 use Rattle.rv_cells.specs.CountedLines.{Setting, ComputeLines, ways_of, NodesLines}
@@ -53,6 +55,60 @@ module _ (slots : ℕ) where
     HaveSlots TokenedArms.no_arm = Unit {0}
     HaveSlots (TokenedArms.arm body rest) = HasSlots body × HaveSlots rest
 
+-- ---- what stands in the cells of tokens
+
+-- whether the header of a constructor stands in the cell of each token that is not held, and whether the count 1 does
+abbrev pub header_stands : Standing → ℕ → Bool
+header_stands Nothing c = false
+header_stands Count c = false
+header_stands (Cell k) c = nat_eq k c
+
+abbrev pub count_stands : Standing → Bool
+count_stands Nothing = false
+count_stands Count = true
+count_stands (Cell k) = true
+
+-- a cell of a constructor has what stands once it is opened
+abbrev pub IsOf : Standing → ℕ → Type 0
+IsOf Nothing c = Unit {0}
+IsOf Count c = Unit {0}
+IsOf (Cell k) c = k ≡ c
+
+-- Code keeps what stands in the cells of its tokens: where anything does, no token is held or moved, and each cell that is opened
+-- has it.
+module _ (standing : Standing) where
+  abbrev pub CallsNone : Form → Type 0
+  CallsNone (Call f) = standing ≡ Nothing
+  CallsNone form = Unit {0}
+
+  abbrev pub HoldsNone : List ℕ → Type 0
+  HoldsNone [] = Unit {0}
+  HoldsNone (other ∷ others) = standing ≡ Nothing
+
+  abbrev mutual
+    pub Keeps : Tokened → Type 0
+    Keeps (Tokened.give x) = Unit {0}
+    Keeps (Tokened.tail_call f arguments) = Unit {0}
+    Keeps (Tokened.case x decisions arms) = AllKeep arms
+    Keeps (Tokened.compute x form arguments others rest) = CallsNone form × (HoldsNone others × Keeps rest)
+    Keeps (Tokened.inside x block rest) = Keeps block × Keeps rest
+    Keeps (Tokened.read x c fields rest) = Keeps rest
+    Keeps (Tokened.open_cell x c fields used y rest) = IsOf standing c × Keeps rest
+    Keeps (Tokened.if_unique x c fields used y rest) = IsOf standing c × Keeps rest
+    Keeps (Tokened.dup x rest) = Keeps rest
+    Keeps (Tokened.drop x rest) = Keeps rest
+    Keeps (Tokened.fill x y c first arguments kept others rest) = HoldsNone others × Keeps rest
+    Keeps (Tokened.free y rest) = Keeps rest
+    Keeps (Tokened.null y rest) = Keeps rest
+    Keeps (Tokened.move to of rest) = (standing ≡ Nothing) × Keeps rest
+    Keeps (Tokened.hold y rest) = (standing ≡ Nothing) × Keeps rest
+    Keeps (Tokened.unhold y rest) = (standing ≡ Nothing) × Keeps rest
+    Keeps (Tokened.if_token y there absent) = Keeps there × Keeps absent
+
+    pub AllKeep : TokenedArms → Type 0
+    AllKeep TokenedArms.no_arm = Unit {0}
+    AllKeep (TokenedArms.arm body rest) = Keeps body × AllKeep rest
+
 -- ---- code
 
 -- The lines of a form on variables, with labels from one number to below another. A construction with fields that names other
@@ -60,7 +116,8 @@ module _ (slots : ℕ) where
 abbrev pub AskLines : Setting → ℕ → ℕ → ℕ → Form → List ℕ → List ℕ → List Line → ℕ → Type 0
 AskLines setting variables low x (Construct c) (a ∷ more) (other ∷ others) lines high =
     (own : List Line)
-    × FillLines setting.base x x (values_of_slots variables (other ∷ others)) low (header_of setting.layout c) (a ∷ more) [] own
+    × FillLines setting.base x x (values_of_slots variables (other ∷ others)) low (header_of setting.layout c) (a ∷ more) []
+    false false own
     × (lines ≡ sets 0 x ∷ own) × (low + 1 ≡ high)
 AskLines setting variables low x (Construct c) (a ∷ more) [] lines high =
     ComputeLines setting x (Construct c) (a ∷ more) lines × (low ≡ high)
@@ -69,7 +126,7 @@ AskLines setting variables low x (Construct c) [] others lines high =
 AskLines setting variables low x form arguments others lines high = ComputeLines setting x form arguments lines × (low ≡ high)
 
 -- The lines of a code whose value goes to a goal. Its labels are numbers from `low` on, below `high`. The fields that a
--- construction keeps are written only where its slot is null.
+-- construction keeps, and what stands in the cells of tokens, are written only where its slot is null.
 abbrev mutual
   pub CodeLines : Setting → ℕ → Goal → ℕ → Tokened → List Line → ℕ → Type 0
   CodeLines setting variables goal low (Tokened.give x) lines high = (lines ≡ goal_lines goal x) × (low ≡ high)
@@ -105,7 +162,7 @@ abbrev mutual
   CodeLines setting variables goal low (Tokened.fill x y c first arguments kept others rest) lines high =
       (own : List Line) × (more : List Line)
       × FillLines setting.base x (variables + y) (values_of_slots variables others) low (header_of setting.layout c)
-      (first ∷ arguments) kept own
+      (first ∷ arguments) kept (header_stands setting.standing c) (count_stands setting.standing) own
       × CodeLines setting variables goal (low + 1) rest more high × (lines ≡ own ++ more)
   CodeLines setting variables goal low (Tokened.free y rest) lines high =
       (more : List Line) × CodeLines setting variables goal low rest more high
@@ -124,8 +181,7 @@ abbrev mutual
   CodeLines setting variables goal low (Tokened.if_token y there absent) lines high =
       (yes : List Line) × (no : List Line) × (middle : ℕ) × CodeLines setting variables goal (low + 1) there yes middle
       × CodeLines setting variables goal middle absent no high
-      × (lines ≡ copies_to (variables + y) setting.base ∷ acts (Branch Equal low) (setting.base ∷ [])
-      ∷ (yes ++ (acts (Label low) [] ∷ no)))
+      × (lines ≡ acts (Branch Equal low) ((variables + y) ∷ []) ∷ (yes ++ (acts (Label low) [] ∷ no)))
 
   -- the arms, each behind its label
   pub ArmsLines : Setting → ℕ → Goal → ℕ → ℕ → TokenedArms → List Line → ℕ → Type 0
@@ -144,7 +200,10 @@ pub record IsFunctionLowered (layout : Layout) (texts : Texts) (function : Token
   pub slots : ℕ
   pub params : lines.params ≡ from_to 0 function.parameters
   pub labels : ℕ
-  pub code : CodeLines (record { layout = layout; holds = holds; base = variables + slots; texts = texts }) variables returns 0
+  pub standing : Standing
+  pub keeps : Keeps standing function.body
+  pub code : CodeLines
+      (record { layout = layout; holds = holds; base = variables + slots; texts = texts; standing = standing }) variables returns 0
       function.body lines.code labels
 
 -- The assembler code of a function of a number: its variables are of types with cells as marked, the values of its slots are above

@@ -1,5 +1,5 @@
 -- What was written of a function's assembler code, from its code with tokens.
-use Rattle.std.specs.Prelude.{◌≡◌, ℕ, ◌+◌, Bool, List, ◌++◌, ◌∷◌, [], Some, length}
+use Rattle.std.specs.Prelude.{◌≡◌, ℕ, ◌+◌, Bool, true, false, not, List, ◌++◌, ◌∷◌, [], Some, length}
 use Rattle.kk_syntax.specs.declared.program.Form.{Form}
 use Rattle.kk_counted.specs.TokenedCodes.{Tokened}
 use Rattle.kk_counted.specs.TokenedForms.{TokenedMove, plug_tokened, tokened_arms}
@@ -10,7 +10,7 @@ use Rattle.rv_isa.specs.AsmCode.{Line}
 use Rattle.rv_isa.specs.declared.asm.Action.TheVariants.{Routine as Calls, Branch}
 use Rattle.rv_isa.specs.declared.asm.Condition.TheVariants.{Equal}
 use Rattle.rv_isa.specs.declared.routine.Routine.TheVariants.{Take}
-use Rattle.rv_lower.specs.Lines.{copies_to, acts}
+use Rattle.rv_lower.specs.Lines.{acts}
 use Rattle.rv_lower.specs.declared.lowering.Lowering.{Lowering}
 use Rattle.rv_lower.specs.Lowered.{Goal}
 use Rattle.rv_lower.specs.Written.{texts_written, Grows}
@@ -35,20 +35,26 @@ StoreLines base x header arguments lines = ConstructLines base x header argument
 abbrev pub PushedStore : Bool → ℕ → ℕ → ℕ → List Line → List Line → Type 0
 PushedStore taken cell i from old new = (one : List Line) × StoresIf taken cell i from one × (new ≡ old ++ one)
 
+-- what the cell of a token has, or what it has not
+abbrev pub is_left : Bool → Bool → Bool
+is_left true has = has
+is_left false has = not has
+
 -- a cell is taken while tokens are held
 abbrev pub request_lines : ℕ → List ℕ → List Line
 request_lines x tokens = hold_lines tokens ++ (take_line x ∷ unhold_lines tokens)
 
 -- to a label where a token is null
-abbrev pub token_test_lines : ℕ → ℕ → ℕ → List Line
-token_test_lines base token label = copies_to token base ∷ acts (Branch Equal label) (base ∷ []) ∷ []
+abbrev pub token_test_lines : ℕ → ℕ → List Line
+token_test_lines token label = acts (Branch Equal label) (token ∷ []) ∷ []
 
 -- a construction in the cell of a token was written, with a label
-pub record WroteFill (x token : ℕ) (others : List ℕ) (header : ℕ) (arguments kept : List ℕ) (old new : Lowering) : Type 0 where
+pub record WroteFill (x token : ℕ) (others : List ℕ) (header : ℕ) (arguments kept : List ℕ) (head count : Bool) (old new : Lowering)
+    : Type 0 where
   pub lines : List Line
   pub grows : Grows 0 lines old new
   pub label : new.next_label ≡ old.next_label + 1
-  pub are : FillLines old.base x token others old.next_label header arguments kept lines
+  pub are : FillLines old.base x token others old.next_label header arguments kept head count lines
 
 -- The lines of a form on variables were written. They are its lines however many texts come later.
 pub record WroteAsk (facts : Facts) (variables x : ℕ) (form : Form) (arguments others : List ℕ) (old new : Lowering) : Type 0 where

@@ -13,6 +13,7 @@ use Rattle.rv_lower.specs.declared.lowering.Lowering.{Lowering}
 use Rattle.rv_lower.specs.Lines.{computes, sets, acts}
 use Rattle.rv_lower.specs.Written.{lines_written, texts_written, texts_of, Grows}
 use Rattle.rv_cells.specs.declared.known.Known.{Known}
+use Rattle.rv_cells.specs.declared.standing.Standing.{Standing}
 use Rattle.rv_cells.specs.declared.decide.Targets.{Targets}
 use Rattle.rv_cells.specs.declared.decide.CaseWays.{CaseWays}
 use Rattle.rv_cells.specs.declared.decide.Shown.{Shown}
@@ -42,14 +43,20 @@ abbrev pub number_shown : Shown → Layout → Answer → ℕ
 number_shown Word layout = answer_word layout
 number_shown Tag layout = answer_tag layout
 
--- the string literals, how values look, and which variables are of types with cells
+-- the string literals, how values look, which variables are of types with cells, and what stands in the cells of tokens
 pub record Facts : Type 0 where
   pub literals : List (List ℕ)
   pub layout : Layout
   pub holds : ℕ → Bool
+  pub standing : Standing
 
 abbrev pub facts_of : Known → Facts
-facts_of known = record { literals = known.literals.now; layout = layout_known known; holds = holds_known known }
+facts_of known = record {
+  literals = known.literals.now;
+  layout = layout_known known;
+  holds = holds_known known;
+  standing = known.standing;
+}
 
 -- where temporaries begin there, and these constant bytes stand
 abbrev pub setting_in : Facts → ℕ → List (List ℕ) → Setting
@@ -58,6 +65,7 @@ setting_in facts base texts = record {
   holds = facts.holds;
   base = base;
   texts = texts_of facts.literals texts;
+  standing = facts.standing;
 }
 
 -- ---- lines

@@ -4,8 +4,8 @@ ghost use Rattle.std.specs.Prelude.{◌≡◌, ◌*◌, true, map, not, filter, 
 ghost use Rattle.kk_syntax.specs.Shapes.{is_among};
 ghost use Rattle.rv_lower.specs.Written.{short_line, Wrote, WroteLines};
 ghost use Rattle.rv_cells.specs.CellLines.{Loads, Stores, AllLoads, AllStores, dup_lines, drop_lines, dups_lines, drops_lines};
-ghost use Rattle.rv_cells.specs.CellLines.{SomeStores, is_kept, ConstructLines, FillingLines, ReadLines};
-ghost use Rattle.rv_cells.specs.TokenedWritten.{StoreLines, PushedStore};
+ghost use Rattle.rv_cells.specs.CellLines.{SomeStores, SetIf, SomeWords, is_kept, ConstructLines, ReadLines};
+ghost use Rattle.rv_cells.specs.TokenedWritten.{StoreLines, PushedStore, is_left};
 ghost use Rattle.rv_cells.specs.Written.{holds_known, end_lines, TestsCount, LowersCount, WroteCountOpening};
 
 use crate::known::Known;
@@ -172,36 +172,60 @@ fn some_stores(
     Ok(lines)
 }
 
-/// Stores the fields at the kept positions in a cell.
-pub fn write_kept(
-    lowering: &mut Lowering,
-    into: u32,
-    arguments: &[u32],
-    kept: &[u32],
-) -> Result<(), NoMemory>
-    ensures { OnOk result (WroteLines (SomeStores (is_kept true kept.now) into 2 0 arguments.now) lowering.old lowering.new) }
-{
-    let fields = some_stores(lowering.alloc, into, arguments, kept, true)?;
-    lowering.write(&fields)
+/// A construction in the cell of a token, which has some of its words already.
+#[derive(Clone, Copy, Drop)]
+pub struct Filling<'a> {
+    pub header: u32,
+    pub arguments: &'a [u32],
+    /// The positions of the fields that the cell has.
+    pub kept: &'a [u32],
+    /// Whether the cell has the header.
+    pub head: bool,
+    /// Whether the cell has the count.
+    pub count: bool,
 }
 
-/// Stores the words of a construction in a cell that has the fields at the kept positions.
-pub fn write_filling(
+/// What the cell of a token has, or what it has not.
+fn is_left(left: bool, has: bool) -> bool
+    ensures { result ≡ is_left left has }
+{
+    if left { has } else { !has }
+}
+
+/// Stores a word in a cell, where it is to be stored.
+fn write_word(
+    lowering: &mut Lowering,
+    taken: bool,
+    cell: u32,
+    index: u32,
+    word: u32,
+) -> Result<(), NoMemory>
+    ensures { OnOk result (WroteLines (SetIf taken lowering.old.base cell index word) lowering.old lowering.new) }
+{
+    if taken {
+        let value = lowering.base;
+        let line = store(cell, index, value)?;
+        lowering.write(&[set(word, value), line])?;
+    }
+    Ok(())
+}
+
+/// Stores the words of a construction that the cell of its token has, or the others.
+pub fn write_words(
     lowering: &mut Lowering,
     into: u32,
-    header: u32,
-    arguments: &[u32],
-    kept: &[u32],
+    filling: &Filling<'_>,
+    left: bool,
 ) -> Result<(), NoMemory>
-    ensures { OnOk result (WroteLines (FillingLines lowering.old.base into header arguments.now kept.now) lowering.old
+    ensures { OnOk result (WroteLines (SomeWords (is_left left filling.now.head) (is_left left filling.now.count)
+        (is_kept left filling.now.kept.now) lowering.old.base into filling.now.header filling.now.arguments.now) lowering.old
         lowering.new) }
 {
-    let word = lowering.base;
-    let (head, count) = (store(into, HEADER, word)?, store(into, COUNT, word)?);
-    let fields = some_stores(lowering.alloc, into, arguments, kept, false)?;
-    lowering.write(&[set(header, word), head])?;
+    let fields = some_stores(lowering.alloc, into, filling.arguments, filling.kept, left)?;
+    let (head, count) = (is_left(left, filling.head), is_left(left, filling.count));
+    write_word(lowering, head, into, HEADER, filling.header)?;
     lowering.write(&fields)?;
-    lowering.write(&[set(1, word), count])
+    write_word(lowering, count, into, COUNT, 1)
 }
 
 /// A reference more of the value of a variable.

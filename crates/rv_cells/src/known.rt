@@ -7,6 +7,7 @@ ghost use Rattle.rv_cells.specs.TokenedLines.{values_of_slots};
 ghost use Rattle.rv_cells.specs.TokenedWritten.{variables_known};
 ghost use Rattle.rv_cells.specs.Written.{holds_known, layout_known};
 
+use crate::standing::Standing;
 use kk_base::NoMemory;
 use kk_core::{Answer, ConstructorShape};
 use kk_syntax::StringLiteral;
@@ -19,6 +20,8 @@ pub struct Known<'a> {
     pub constructors: &'a [ConstructorShape],
     /// By a variable's number, whether its type has cells. Behind the last it has none.
     pub marks: &'a [bool],
+    /// What stands in the cells of the function's tokens.
+    pub standing: Standing,
 }
 
 impl Known<'_> {

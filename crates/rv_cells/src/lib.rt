@@ -9,6 +9,7 @@ mod decide;
 mod known;
 mod law;
 mod mark;
+mod standing;
 mod token_block;
 mod token_cells;
 mod token_mark;

@@ -8,9 +8,10 @@ ghost use Rattle.rv_cells.specs.TokenedWritten.{WroteTokened, WroteTokenedArms, 
 ghost use Rattle.rv_cells.specs.Written.{facts_of};
 
 use crate::block::take_targets;
-use crate::cells::{write_drop, write_dup, write_reading};
+use crate::cells::{Filling, write_drop, write_dup, write_reading};
 use crate::decide::{CaseWays, write_nodes};
 use crate::known::Known;
+use crate::standing::{has_count, has_header};
 use crate::token_cells::{
     with_first, write_asking, write_fill, write_freed, write_hold, write_move, write_null,
     write_token_opening, write_token_test, write_unhold,
@@ -133,11 +134,17 @@ fn write_filled(
     else {
         return Ok(());
     };
-    let (token, made) = (known.slot(*slot)?, *constructor);
+    let token = known.slot(*slot)?;
+    let header = known.header(*constructor)?;
     let fields = with_first(lowering.alloc, *first, arguments)?;
-    write_fill(
-        lowering, known, *variable, token, made, &fields, kept, others,
-    )
+    let filling = Filling {
+        header,
+        arguments: &fields,
+        kept,
+        head: has_header(known.standing, *constructor),
+        count: has_count(known.standing),
+    };
+    write_fill(lowering, known, *variable, token, &filling, others)
 }
 
 /// The code of a block whose value a variable takes.

@@ -5,14 +5,13 @@ ghost use Rattle.rv_isa.specs.declared.asm.Action.TheVariants.{Compute, Hold, Un
 ghost use Rattle.rv_isa.specs.declared.asm.Operation.TheVariants.{Free};
 ghost use Rattle.rv_lower.specs.Lines.{sets, copies_to, acts};
 ghost use Rattle.rv_lower.specs.Written.{Wrote};
-ghost use Rattle.rv_cells.specs.Layout.{header_of};
 ghost use Rattle.rv_cells.specs.CellLines.{hold_lines, unhold_lines};
 ghost use Rattle.rv_cells.specs.TokenedLines.{values_of_slots};
 ghost use Rattle.rv_cells.specs.TokenedWritten.{variables_known, request_lines, token_test_lines, WroteFill, WroteAsk};
-ghost use Rattle.rv_cells.specs.Written.{facts_of, holds_known, layout_known, WroteCountOpening};
+ghost use Rattle.rv_cells.specs.Written.{facts_of, holds_known, WroteCountOpening};
 
 use crate::block::write_form;
-use crate::cells::{write_count_opening, write_filling, write_kept};
+use crate::cells::{Filling, write_count_opening, write_words};
 use crate::known::Known;
 use kk_base::NoMemory;
 use kk_syntax::Form;
@@ -76,37 +75,32 @@ fn write_request(lowering: &mut Lowering, into: u32, tokens: &[u32]) -> Result<(
     write_unholds(lowering, tokens)
 }
 
-/// A construction in the cell of a token, which has the fields at the kept positions. Where the token is null a cell is taken,
-/// while the tokens of the other slots are held, and these fields are stored too.
+/// A construction in the cell of a token, which has some of its words. Where the token is null a cell is taken, while the tokens of
+/// the other slots are held, and these words are stored too.
 pub fn write_fill(
     lowering: &mut Lowering,
     known: &Known<'_>,
     into: u32,
     token: u32,
-    constructor: u32,
-    arguments: &[u32],
-    kept: &[u32],
+    filling: &Filling<'_>,
     others: &[u32],
 ) -> Result<(), NoMemory>
-    ensures { OnOk result (WroteFill into token (values_of_slots (variables_known known.now) others.now)
-        (header_of (layout_known known.now) constructor) arguments.now kept.now lowering.old lowering.new) }
+    ensures { OnOk result (WroteFill into token (values_of_slots (variables_known known.now) others.now) filling.now.header
+        filling.now.arguments.now filling.now.kept.now filling.now.head filling.now.count lowering.old lowering.new) }
 {
     let filled = lowering.take_label()?;
-    let header = known.header(constructor)?;
     let tokens = known.slots(lowering.alloc, others)?;
-    let word = lowering.base;
     lowering.write(&[
         copy(token, into),
-        copy(into, word),
         act(
             Action::Branch(Condition::NotEqual, filled),
-            Reads::One(word),
+            Reads::One(into),
         ),
     ])?;
     write_request(lowering, into, &tokens)?;
-    write_kept(lowering, into, arguments, kept)?;
+    write_words(lowering, into, filling, true)?;
     write_label(lowering, filled)?;
-    write_filling(lowering, into, header, arguments, kept)
+    write_words(lowering, into, filling, false)
 }
 
 /// The lines of a form on variables, whose value a variable takes. A construction with fields holds the tokens of the other slots.
@@ -130,17 +124,16 @@ pub fn write_asking(
     if others.is_empty() {
         return write_form(lowering, known, into, form, arguments);
     }
-    lowering.write(&[set(0, into)])?;
-    write_fill(
-        lowering,
-        known,
-        into,
-        into,
-        constructor,
+    let header = known.header(constructor)?;
+    let filling = Filling {
+        header,
         arguments,
-        &[],
-        others,
-    )
+        kept: &[],
+        head: false,
+        count: false,
+    };
+    lowering.write(&[set(0, into)])?;
+    write_fill(lowering, known, into, into, &filling, others)
 }
 
 /// A branch to a label where the token of a slot is null.
@@ -150,15 +143,10 @@ pub fn write_token_test(
     slot: u32,
     label: u32,
 ) -> Result<(), NoMemory>
-    ensures { OnOk result (Wrote (token_test_lines lowering.old.base (variables_known known.now + slot) label) lowering.old
-        lowering.new) }
+    ensures { OnOk result (Wrote (token_test_lines (variables_known known.now + slot) label) lowering.old lowering.new) }
 {
     let token = known.slot(slot)?;
-    let word = lowering.base;
-    lowering.write(&[
-        copy(token, word),
-        act(Action::Branch(Condition::Equal, label), Reads::One(word)),
-    ])
+    lowering.write(&[act(Action::Branch(Condition::Equal, label), Reads::One(token))])
 }
 
 /// The cell of the token of a slot is free.

@@ -11,6 +11,7 @@ ghost use Rattle.rv_cells.specs.TokenedLowered.{IsTokenedForm};
 ghost use Rattle.rv_cells.specs.Tables.{table_of};
 
 use crate::known::Known;
+use crate::standing::standing_of;
 use crate::token_block::write_tokened;
 use crate::token_mark::tokened_marks_of;
 use crate::token_slots::slots_of_block;
@@ -39,6 +40,7 @@ fn lower_tokened_function(
         literals,
         constructors: shape.constructors(),
         marks: &marks,
+        standing: standing_of(&function.body),
     };
     let slots = slots_of_block(&function.body)?;
     let mut lowering = Lowering {

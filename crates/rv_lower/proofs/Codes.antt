@@ -13,8 +13,8 @@ use Rattle.rv_isa.specs.WellFormed.{is_alive, is_alive_at, most_values, IsSpent,
 use Rattle.rv_isa.proofs.TokensHeld.{HoldsNone}
 use Rattle.rv_lower.specs.Lines.{acts, copies, temporaries}
 use Rattle.rv_lower.specs.Lowered.{Goal, returns, joins, goal_lines}
-use Rattle.rv_lower.proofs.Formed.{AllBound, none_some, Readable, IsWithin, within_more, readable_within, AreFormed, formed_more}
-use Rattle.rv_lower.proofs.Formed.{Good, HasRoom, weaker, alive_line, to_variable, good_hands}
+use Rattle.rv_lower.proofs.Formed.{Each, all_each, AllBound, none_some, Readable, IsWithin, within_more, readable_within}
+use Rattle.rv_lower.proofs.Formed.{AreFormed, formed_more, Good, HasRoom, weaker, alive_line, to_variable, good_hands, readable_small}
 use Rattle.rv_lower.proofs.AbsentLabels.{HasNo, has_no_append, found_none, found_past, found_here, alive_at_past, alive_at_here, other_label}
 use Rattle.rv_lower.proofs.Labels.{found_label}
 use Rattle.rv_lower.proofs.Operations.{Leads, copied, only_bound}
@@ -164,12 +164,56 @@ module _ (base : ℕ) (bound : List ℕ) (has : HasRoom base bound) where
           (copies base arguments)
       lines = copied base bound has arguments few each
 
--- a branch on temporaries, which the lines before it set, before the code of both ways
+-- a label stands in code, and only such values are alive there
+abbrev pub StandsAhead : (ℕ → Type 0) → ℕ → List Line → Type 0
+StandsAhead B label code = IsSome (found_label label code) × ((v : ℕ) → is_alive_at label v code ≡ true → B v)
+
+pub stands_past : (B : ℕ → Type 0) (label : ℕ) (lines more : List Line) → HasNo label lines → StandsAhead B label more
+    → StandsAhead B label (lines ++ more)
+stands_past B label lines more none ahead = (
+  subst IsSome (sym (found_past label lines more none)) ahead.0,
+  λ v is. ahead.1 v (sym
+      (alive_at_past label v lines more none) ∙ is),
+)
+
+-- at the label itself what is alive behind it is so
+pub stands_here : (B : ℕ → Type 0) (label : ℕ) (code : List Line) → Good B (acts (Label label) [] ∷ code)
+    → StandsAhead B label (acts (Label label) [] ∷ code)
+stands_here B label code good = (
+  subst IsSome (sym (found_here label code)) refl,
+  λ v is. good.alive v (sym (alive_at_here label v code) ∙ is),
+)
+
+-- a branch on values
+pub good_branch : (B C : ℕ → Type 0) (condition : Condition) (label : ℕ) (args : List ℕ) (rest : List Line) → length args ≤ 2
+    → Each B args → ((v : ℕ) → C v → B v) → ((v : ℕ) → B v → v < most_values)
+    → StandsAhead C label rest → Good C rest → Good B (acts (Branch condition label) args ∷ rest)
+good_branch B C condition label args rest few each into small ahead good = record {
+  formed = formed_more (acts (Branch condition label) args) rest
+      (record {
+        labels = ahead.0;
+        few = few;
+        gives = λ is. absurd (false≢true is);
+        distinct = λ is. absurd (false≢true is);
+        spent = λ is. absurd (false≢true is);
+        args_small = all_each B (λ v. v < most_values) args small each;
+        into_small = λ v is. absurd (none_some is);
+      })
+      tt good.formed;
+  alive = alive_line B (acts (Branch condition label) args) rest each (λ v other is. into v (behind v is));
+}
+  where
+    either : (v : ℕ) → (is_alive v rest ≡ true) ⊎ (is_alive_at label v rest ≡ true) → C v
+    either v (inl is) = good.alive v is
+    either v (inr is) = ahead.1 v is
+
+    behind : (v : ℕ) → is_alive_behind v (Branch condition label) rest ≡ true → C v
+    behind v is = either v (or_cases (is_alive v rest) (is_alive_at label v rest) is)
+
+-- a branch on values, before the code of both ways
 module _ (base : ℕ) (bound outer : List ℕ) (has : HasRoom base bound) (condition : Condition) (xs : List ℕ) (few : length xs ≤ 2)
-    (count : ℕ) (before : List Line)
-    (leads : Leads (Readable base base bound) (Readable base (base + length xs) bound) count before) (goal : Goal)
-    (low middle high : ℕ) (positive negative : List Line) (first : Fits base bound outer goal (low + 1) middle positive)
-    (second : Fits base bound outer goal middle high negative) where
+    (each : Each (Readable base base bound) xs) (goal : Goal) (low middle high : ℕ) (positive negative : List Line)
+    (first : Fits base bound outer goal (low + 1) middle positive) (second : Fits base bound outer goal middle high negative) where
   abbrev Bound : ℕ → Type 0
   Bound = Readable base base bound
 
@@ -203,38 +247,19 @@ module _ (base : ℕ) (bound outer : List ℕ) (has : HasRoom base bound) (condi
     no_label : HasNo low positive
     no_label = first.none low (inl (omega arith))
 
-    alive_either : (v : ℕ) → (is_alive v (positive ++ behind) ≡ true) ⊎ (is_alive_at low v (positive ++ behind) ≡ true) → Bound v
-    alive_either v (inl alive) = positive_good.alive v alive
-    alive_either v (inr alive) = behind_good.alive v (is_alive_label (sym (alive_at_past low v positive behind no_label) ∙ alive))
-      where
-        is_alive_label : is_alive_at low v behind ≡ true → is_alive v behind ≡ true
-        is_alive_label alive = sym (alive_at_here low v (negative ++ tail)) ∙ alive
+    branches_good : Good Bound (acts (Branch condition low) xs ∷ (positive ++ behind))
+    branches_good = good_branch Bound Bound condition low xs (positive ++ behind) few each (λ v is. is)
+        (readable_small base base bound has (omega arith))
+        (stands_past Bound low positive behind no_label (stands_here Bound low (negative ++ tail) behind_good)) positive_good
 
-    branch_good : Good (Readable base (base + length xs) bound) (acts (Branch condition low) (temporaries base xs) ∷ (positive ++
-        behind))
-    branch_good = good_hands base bound xs (Branch condition low) None (positive ++ behind) has
-        (subst IsSome (sym (found_past low positive behind no_label ∙ found_here low (negative ++ tail))) refl) tt few
-        (omega (arith, few)) (λ is. absurd (false≢true is)) (λ v is. absurd (none_some is))
-        (λ v other is. only_bound base bound has v (alive_either v
-        (or_cases (is_alive v (positive ++ behind)) (is_alive_at low v (positive ++ behind)) is)))
-        positive_good.formed
-
-  pub fits_split : Fits base bound outer goal low high (before ++ (acts (Branch condition low) (temporaries base xs) ∷ (positive ++
-      (acts (Label low) [] ∷ negative))))
+  pub fits_split : Fits base bound outer goal low high (acts (Branch condition low) xs ∷ (positive ++ (acts (Label low) []
+      ∷ negative)))
   fits_split = record {
     up = let up = second.up in omega (arith, less, up);
-    none = λ l apart. has_no_append l before _ (leads.no_label l) (refl, branch_none l apart);
-    good = λ tail ahead. subst (Good Bound) (sym (whole tail)) (leads.good _ (branch_good tail ahead));
+    none = λ l apart. (refl, branch_none l apart);
+    good = λ tail ahead. subst (λ (code : List Line). Good Bound (acts (Branch condition low) xs ∷ code))
+        (sym (append_assoc positive (acts (Label low) [] ∷ negative) tail)) (branches_good tail ahead);
   }
-    where
-      whole : (tail : List Line)
-          → (before ++ (acts (Branch condition low) (temporaries base xs) ∷ (positive ++ (acts (Label low) [] ∷ negative)))) ++ tail
-          ≡ before ++ (acts (Branch condition low) (temporaries base xs) ∷ (positive ++ (acts (Label low) [] ∷ (negative ++ tail))))
-      whole tail =
-          append_assoc before (acts (Branch condition low) (temporaries base xs) ∷ (positive ++ (acts (Label low) [] ∷ negative)))
-          tail
-          ∙ ap (λ (code : List Line). before ++ (acts (Branch condition low) (temporaries base xs) ∷ code))
-          (append_assoc positive (acts (Label low) [] ∷ negative) tail)
 
 -- a block whose value a variable takes, before the code that follows: what is bound at the end of the block is so behind it
 module _ (base : ℕ) (bound between outer : List ℕ) (x : ℕ) (less_x : x < base) (goal : Goal) (low middle high : ℕ)

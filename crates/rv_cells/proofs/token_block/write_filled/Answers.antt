@@ -18,6 +18,7 @@ returns c =
     c.deref-3.ensures.value c.deref-4.ensures.value)
     (step_fills (facts_of c.args.known.now) (variables_known c.args.known.now) c.in-Fill.variable c.in-Fill.slot
     c.in-Fill.constructor c.in-Fill.first c.deref.result.now c.deref-3.result.now c.deref-4.result.now
-    (fill_is c.in_ok-token.ensures (c.deref-2.ensures.value ∙ c.in_ok-fields.ensures) wrote)) in
+    (fill_is c.in_ok-token.ensures c.in_ok-header.ensures (c.deref-2.ensures.value ∙ c.in_ok-fields.ensures)
+    c.has_header.ensures c.has_count.ensures wrote)) in
     λ x y k first arguments kept others is. whole)
     c.write_fill.ensures

@@ -1,11 +1,11 @@
-use Rattle.std.proofs.Common.{List, inl, inr, subst, arith}
+use Rattle.std.proofs.Common.{List, inl, inr, refl, subst, arith}
 use Rattle.std.proofs.lemmas.Result.{on_ok_weaker}
 use Rattle.rv_cells.specs.TokenedWritten.{variables_known}
 use Rattle.rv_cells.specs.Written.{facts_of}
 use Rattle.rv_lower.proofs.Written.{one_same}
 use Rattle.rv_isa.specs.AsmCode.{Line}
 use Rattle.rv_lower.specs.Written.{Wrote}
-use Rattle.rv_cells.proofs.TokenGrown.{asks_nothing, asks_alone, asks_held, none_there}
+use Rattle.rv_cells.proofs.TokenGrown.{asks_nothing, asks_alone, asks_held, none_there, fill_is}
 use Rattle.rv_cells.proofs.token_cells.write_asking.Goals as goal
 
 pub returns-in_default : goal.returns-in_default
@@ -40,5 +40,5 @@ returns c =
     (λ none. absurd (grind (arith, none, c.is_empty-2.ensures, c.if-is_empty-2.false)))
     (subst (λ (lines : List Line). Wrote lines c.args.lowering.now c.write.new.self) (one_same c.set.ensures)
     c.in_ok-write.ensures)
-    wrote)
+    (fill_is refl c.in_ok-header.ensures refl refl refl wrote))
     c.write_fill.ensures

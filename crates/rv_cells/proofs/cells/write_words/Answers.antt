@@ -1,0 +1,25 @@
+use Rattle.std.proofs.Common.{Bool, List, sym, subst}
+use Rattle.std.proofs.lemmas.Result.{on_ok_weaker}
+use Rattle.rv_isa.specs.AsmCode.{Line}
+use Rattle.rv_cells.specs.TokenedWritten.{is_left}
+use Rattle.rv_cells.specs.CellLines.{SetIf, SomeStores, SomeWords, is_kept}
+use Rattle.rv_lower.specs.Written.{Wrote, WroteLines, short_line}
+use Rattle.std.specs.Prelude.{map}
+use Rattle.rv_cells.proofs.Written.{some_words_written}
+use Rattle.rv_cells.proofs.cells.write_words.Goals as goal
+
+pub returns : goal.returns
+returns c =
+    on_ok_weaker c.write_word-2.result
+    (λ last. subst (λ (count : Bool). WroteLines (SomeWords (is_left c.args.left c.args.filling.now.head) count
+    (is_kept c.args.left c.args.filling.now.kept.now) c.args.lowering.now.base c.args.into c.args.filling.now.header
+    c.args.filling.now.arguments.now) c.args.lowering.now c.write_word-2.new.lowering) c.is_left-count.ensures
+    (subst (λ (head : Bool). WroteLines (SomeWords head c.is_left-count.result
+    (is_kept c.args.left c.args.filling.now.kept.now) c.args.lowering.now.base c.args.into c.args.filling.now.header
+    c.args.filling.now.arguments.now) c.args.lowering.now c.write_word-2.new.lowering) c.is_left-head.ensures
+    (some_words_written c.args.into c.args.filling.now.header c.args.filling.now.arguments.now c.is_left-head.result
+    c.is_left-count.result (is_kept c.args.left c.args.filling.now.kept.now) (map short_line c.deref.result.now)
+    (subst (λ fields. SomeStores (is_kept c.args.left c.args.filling.now.kept.now) c.args.into 2 0 c.args.filling.now.arguments.now
+    (map short_line fields)) (sym c.deref.ensures.value) c.in_ok-fields.ensures)
+    c.in_ok-write_word.ensures c.in_ok-write.ensures last)))
+    c.write_word-2.ensures
