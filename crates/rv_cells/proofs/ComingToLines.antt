@@ -1,9 +1,10 @@
 -- For each state at which the counted machine is at a form, the assembler's machine comes to one whose cells are those of the
 -- counted heap. Where the form is a call, a print or a construction with fields, that is at a line of the form's own.
-use Rattle.std.proofs.Common.{◌≡◌, ℕ, ◌+◌, ◌%◌, ◌<◌, ◌&&◌, not, true, false, List, [], ◌∷◌, length, drop, Some, All, refl, sym, ◌∙◌, ap, subst, arith, flat_map}
+use Rattle.std.proofs.Common.{◌≡◌, ◌≢◌, ℕ, ◌+◌, ◌%◌, ◌<◌, ◌≤◌, ◌&&◌, not, true, false, List, [], ◌∷◌, ◌++◌, length, drop, Some, All, refl, sym, ◌∙◌, ap, subst, arith, flat_map}
 use Rattle.std.proofs.Math.Seq.{drop-append_seam}
+use Rattle.std.proofs.lemmas.List.{append-nil, drop-drop}
 use Rattle.kk_base.specs.Machines.{state, trace}
-use Rattle.kk_base.proofs.Machines.{trace-mapped}
+use Rattle.kk_base.proofs.Machines.{state-add, trace-add, trace-mapped}
 use Rattle.kk_base.proofs.Simulations.{simulates_many}
 use Rattle.kk_syntax.specs.Shapes.{is_among}
 use Rattle.kk_source.specs.Ends.{exit_of}
@@ -30,7 +31,7 @@ use Rattle.rv_isa.specs.Processor.{Ending, exited}
 use Rattle.rv_isa.specs.AsmCode.{Lines}
 use Rattle.rv_isa.specs.AsmMachine.{AsmState, AsmTurn}
 use Rattle.rv_isa.specs.LinePlaces.{AsmIsAt}
-use Rattle.rv_isa.specs.Primitives.{go}
+use Rattle.rv_isa.specs.Primitives.{go, stuck}
 use Rattle.rv_world.specs.World.{World}
 use Rattle.rv_cells.specs.Fitting.{IsFit}
 use Rattle.rv_cells.specs.Follows.{Owner, Follows}
@@ -38,13 +39,14 @@ use Rattle.rv_cells.specs.FormLines.{ComesToItsLines, FollowsEachState}
 use Rattle.rv_cells.specs.Layout.{Layout}
 use Rattle.rv_cells.specs.Meaning.{setting_on}
 use Rattle.rv_cells.specs.TokenedMeaning.{roomy_outside, IsTokenedLowered}
-use Rattle.rv_cells.proofs.FormArities.{is_own_act}
+use Rattle.rv_cells.proofs.CopiesPassed.{past_copies}
+use Rattle.rv_cells.proofs.FormArities.{is_own_act, lead, lead_less}
 use Rattle.rv_cells.proofs.FormPlaces.{code_of, own_of, Leads, way_of, tree_in}
 use Rattle.rv_cells.proofs.FormRoots.{root_same, program_root, own_lines, among_own}
 use Rattle.rv_cells.proofs.OwnLines.{among_found}
 use Rattle.rv_cells.proofs.Runs.{left_at}
 use Rattle.rv_cells.proofs.TokenFormedFunctions.{bare_at}
-use Rattle.rv_cells.proofs.TokenMeaning.{lowering, idle, fills, seen_states, related, tokened, start, turn}
+use Rattle.rv_cells.proofs.TokenMeaning.{lowering, idle, fills, seen_states, related, tokened, start, turn, runs_the_same}
 use Rattle.rv_cells.proofs.TokenStanding.{Lowering, setting, upper, lower, pace, Passing, IsAt, StandsFor, Related}
 use Rattle.rv_cells.proofs.TokenSimulating.{simulates}
 
@@ -75,6 +77,11 @@ module _ (layout : Layout) (marks : CellMarks) (code : TokenedProgram) (constant
       (f : ℕ) × ((way : List ℕ) × (IsActAt (bare_program code) f way act × ((k : ℕ)
       × ((is_among ((own_lines layout marks code constants functions lowered lowerable).lines f way) k ≡ true)
       × ((world : World) × (AsmIsAt functions f k world at_turn × HasCellsOf heap world))))))
+
+  -- a turn comes to such a line, past the copies in front of it, and tells nothing
+  abbrev ComesToLine : Counted → Heap → AsmTurn World Ending → Type 0
+  ComesToLine act heap at_turn =
+      (n : ℕ) × (IsAtLine act heap (state (lower low) n at_turn) × (trace (lower low) n at_turn ≡ []))
 
   -- a turn that stands for a state has the cells of its heap
   has_cells : (tokens_code : Tokened) (environment : Environment) (inner : List TokenJoin) (c : TokenConfiguration)
@@ -108,8 +115,8 @@ module _ (layout : Layout) (marks : CellMarks) (code : TokenedProgram) (constant
       → IsAt (lowering layout marks code constants functions lowered room fits_room pool depth first input aligned some bytes fits)
       tokens_code environment inner c left_input at_turn
       → bare tokens_code ≡ act → is_quiet tokens_code ≡ false → is_act act ≡ true
-      → IsAtLine act c.heap at_turn
-  at_line act tokens_code environment inner c left_input at_turn is same loud does =
+      → ((m : ℕ) → state (lower low) m at_turn ≢ stuck) → ComesToLine act c.heap at_turn
+  at_line act tokens_code environment inner c left_input at_turn is same loud does never =
       let at = is.at in
       let p = at.does.placed in
       let shape = at.shape in
@@ -120,7 +127,8 @@ module _ (layout : Layout) (marks : CellMarks) (code : TokenedProgram) (constant
       let function = root_is.0 in
       let there = root_is.1.0 in
       let lines = (low.lowered f function there).0 in
-      let k = length p.before in
+      let n = lead p.own in
+      let k = length p.before + n in
       let way = way_of stands.steps in
       let root_eq : shape.root ≡ program_root layout marks code constants functions lowered lowerable f
       = root_is.1.1
@@ -136,7 +144,13 @@ module _ (layout : Layout) (marks : CellMarks) (code : TokenedProgram) (constant
       let acts_so : is_act (bare tokens_code) ≡ true = ap is_act same ∙ does in
       let own : is_own_act tokens_code ≡ true = ap (λ b. not b && is_act (bare tokens_code)) loud ∙ acts_so in
       let far = stands.behind in
-      let whole : is.spot.frame.whole ≡ lines.code = within.whole_is ∙ ap own_of root_is.1.1 in (
+      let whole : is.spot.frame.whole ≡ lines.code = within.whole_is ∙ ap own_of root_is.1.1 in
+      let past = past_copies (record { first = first; texts = constants }) pool depth functions n (left_at is.left is.spot.frame)
+      is.fs is.spot.world (subst (λ ls. n ≤ lead ls) (sym p.left_is) (lead_less p.own p.after))
+      (λ m. subst (λ turn. state (lower low) m turn ≢ stuck) is.turn_is (never m)) in
+      let before : is.left ≡ drop (length p.before) lines.code
+      = sym (drop-append_seam p.before is.left) ∙ ap (drop (length p.before)) (sym p.place ∙ whole) in
+      let it : IsAtLine act c.heap (state (lower low) n at_turn) = (
         f,
         (
           way,
@@ -156,21 +170,21 @@ module _ (layout : Layout) (marks : CellMarks) (code : TokenedProgram) (constant
                 (
                   is.spot.world,
                   (
-                    subst (AsmIsAt functions f k is.spot.world) (sym is.turn_is) (
+                    subst (AsmIsAt functions f k is.spot.world) (sym (ap (state (lower low) n) is.turn_is ∙ past.there)) (
                       lines,
                       (
                         (low.lowered f function there).1,
                         (
                           (
-                            left_at is.left is.spot.frame,
+                            past.frame,
                             (
                               is.fs,
                               (
                                 refl,
                                 record {
-                                  function = within.number main_first;
-                                  whole = whole;
-                                  left = sym (drop-append_seam p.before is.left) ∙ ap (drop k) (sym p.place ∙ whole);
+                                  function = past.function ∙ within.number main_first;
+                                  whole = past.whole ∙ whole;
+                                  left = past.code ∙ ap (drop n) before ∙ drop-drop n (length p.before) lines.code;
                                 },
                               ),
                             ),
@@ -187,6 +201,7 @@ module _ (layout : Layout) (marks : CellMarks) (code : TokenedProgram) (constant
           ),
         ),
       )
+      in (n, (it, ap (trace (lower low) n) is.turn_is ∙ past.silent))
 
   -- so each turn that stands for a state at such a form
   at_control : (act : Counted) (environment : Environment) (joins : List CountedJoin) (control : TokenControl)
@@ -194,13 +209,13 @@ module _ (layout : Layout) (marks : CellMarks) (code : TokenedProgram) (constant
       → StandsFor (lowering layout marks code constants functions lowered room fits_room pool depth first input aligned some bytes
       fits) control c left_input at_turn
       → bare_control control ≡ CountedControl.running act environment joins → is_quiet_at control ≡ false → is_act act ≡ true
-      → IsAtLine act c.heap at_turn
+      → ((m : ℕ) → state (lower low) m at_turn ≢ stuck) → ComesToLine act c.heap at_turn
   at_control act environment joins (TokenControl.running tokens_code own_environment inner) c left_input at_turn stands same loud
-      does =
+      does never =
       at_line act tokens_code own_environment inner c left_input at_turn stands
-      (code_same (bare tokens_code) act own_environment environment _ joins same) loud does
-  at_control act environment joins (TokenControl.stopped by) c left_input at_turn stands same loud does = cc same
-  at_control act environment joins TokenControl.stuck c left_input at_turn stands same loud does = absurd stands
+      (code_same (bare tokens_code) act own_environment environment _ joins same) loud does never
+  at_control act environment joins (TokenControl.stopped by) c left_input at_turn stands same loud does never = cc same
+  at_control act environment joins TokenControl.stuck c left_input at_turn stands same loud does never = absurd stands
 
   -- where the assembler's machine begins
   abbrev asm_begin : AsmTurn World Ending
@@ -273,12 +288,24 @@ module _ (layout : Layout) (marks : CellMarks) (code : TokenedProgram) (constant
   comes_to_its_lines n act environment joins control_is does =
       let there = arrives n in
       let s = there.state_is in
+      let begin : AsmTurn World Ending = state (lower low) there.steps asm_begin in
+      let runs = runs_the_same layout marks code constants functions lowered room fits_room pool depth first input aligned some bytes
+      fits in
+      let never : (m : ℕ) → state (lower low) m begin ≢ stuck
+      = λ m. subst (λ turn. turn ≢ stuck) (state-add (lower low) there.steps m asm_begin) (runs.never_stuck (there.steps + m)) in
+      let comes : ComesToLine act (counted_after (roomy_cost room) (setting_on (bare_program code) pool depth) input n).heap begin
+      = subst (λ heap. ComesToLine act heap begin) (ap (λ (c : CountedConfiguration). c.heap) there.same)
+      (at_control act environment joins s.machine.control s.machine s.input begin there.stands
+      (ap (λ (c : CountedConfiguration). c.control) there.same ∙ control_is) there.loud does never) in
+      let more = comes.0 in
       let it : IsAtLine act (counted_after (roomy_cost room) (setting_on (bare_program code) pool depth) input n).heap
-      (state (lower low) there.steps asm_begin)
-      = subst (λ heap. IsAtLine act heap (state (lower low) there.steps asm_begin))
-      (ap (λ (c : CountedConfiguration). c.heap) there.same)
-      (at_control act environment joins s.machine.control s.machine s.input (state (lower low) there.steps asm_begin) there.stands
-      (ap (λ (c : CountedConfiguration). c.control) there.same ∙ control_is) there.loud does)
+      (state (lower low) (there.steps + more) asm_begin)
+      = subst (IsAtLine act (counted_after (roomy_cost room) (setting_on (bare_program code) pool depth) input n).heap)
+      (sym (state-add (lower low) there.steps more asm_begin)) comes.1.0 in
+      let told : trace (lower low) (there.steps + more) asm_begin ≡ trace (lower low) there.steps asm_begin
+      = trace-add (lower low) there.steps more asm_begin
+      ∙ ap (λ events. trace (lower low) there.steps asm_begin ++ events) comes.1.1
+      ∙ append-nil (trace (lower low) there.steps asm_begin)
       in (
         it.0,
         (
@@ -289,7 +316,7 @@ module _ (layout : Layout) (marks : CellMarks) (code : TokenedProgram) (constant
               it.1.1.1.0,
               (
                 it.1.1.1.1.0,
-                (there.steps, (it.1.1.1.1.1.0, (it.1.1.1.1.1.1.0, (there.told, it.1.1.1.1.1.1.1)))),
+                (there.steps + more, (it.1.1.1.1.1.0, (it.1.1.1.1.1.1.0, (told ∙ there.told, it.1.1.1.1.1.1.1)))),
               ),
             ),
           ),

@@ -1,6 +1,7 @@
 -- Forms with tokens have as many arguments as they take, where their bare forms do; and a call, a print and a construction with
--- fields begins with a line that is no label.
-use Rattle.std.proofs.Common.{◌≡◌, ℕ, ◌≤◌, ◌&&◌, not, Bool, true, List, [], ◌∷◌, ◌++◌, length, refl, sym, ◌∙◌, ap, subst, arith}
+-- fields begins with copies, or with none, and behind them has a line that is always an instruction.
+use Rattle.std.proofs.Common.{◌≡◌, ℕ, zero, suc, ◌+◌, ◌≤◌, ◌<◌, ◌&&◌, not, Bool, true, false, cond, List, [], ◌∷◌, ◌++◌, length, Some, slice_get}
+use Rattle.std.proofs.Common.{refl, sym, ◌∙◌, ap, subst, arith}
 use Rattle.kk_syntax.specs.declared.program.Form.{Form}
 use Rattle.kk_syntax.specs.declared.program.Form.TheVariants.{Number, Unit as Nothing, ReadByte, PrintText, Unary, Binary, Print, Construct, Call}
 use Rattle.kk_syntax.specs.Programs.{text_at}
@@ -13,8 +14,8 @@ use Rattle.kk_counted.specs.TokenRuns.{is_quiet}
 use Rattle.kk_counted.specs.TokenSpending.{SpendsTokens, SpendAllTokens}
 use Rattle.kk_counted.specs.TokenedCodes.{Tokened, TokenedArms}
 use Rattle.rv_isa.specs.AsmCode.{Line}
-use Rattle.rv_isa.specs.LinePlaces.{is_no_label}
-use Rattle.rv_lower.specs.Lines.{copies, PrintLines}
+use Rattle.rv_isa.specs.LinePlaces.{is_copy, is_always_some}
+use Rattle.rv_lower.specs.Lines.{copies_to, copies, PrintLines}
 use Rattle.rv_lower.specs.Lowered.{Goal}
 use Rattle.rv_cells.specs.CountedLines.{Setting}
 use Rattle.rv_cells.specs.TokenedLines.{AskLines, CodeLines}
@@ -89,48 +90,102 @@ mutual
 abbrev pub is_own_act : Tokened → Bool
 is_own_act code = not (is_quiet code) && is_act (bare code)
 
--- lines begin with one that is no label
+-- how many copies lines begin with
+abbrev pub lead : List Line → ℕ
+lead [] = 0
+lead (line ∷ lines) = cond (is_copy line.action) (suc (lead lines)) 0
+
+-- behind them is a line that is always an instruction
 pub record Begins (lines : List Line) : Type 0 where
   pub line : Line
-  pub more : List Line
-  pub is : lines ≡ line ∷ more
-  pub no_label : is_no_label line.action ≡ true
+  pub is : slice_get lines (lead lines) ≡ Some line
+  pub some : is_always_some line.action ≡ true
 
 -- no part begins with the first of these lines
 abbrev pub StartsBehind : ℕ → Parts → Type 0
 StartsBehind first no_part = Unit {0}
 StartsBehind first (part way before inner more) = first ≤ length before
 
--- a code begins with a line of its own, which is no label
+-- a code begins with lines of its own, of which one is always an instruction
 pub record IsOwn (own : List Line) (parts : Parts) : Type 0 where
   pub begins : Begins own
-  pub apart : StartsBehind 1 parts
+  pub apart : StartsBehind (suc (lead own)) parts
 
-begins_at : (line : Line) (more : List Line) → is_no_label line.action ≡ true → Begins (line ∷ more)
-begins_at line more no_label = record { line = line; more = more; is = refl; no_label = no_label }
+begins_by : (lines these : List Line) → lines ≡ these → Begins these → Begins lines
+begins_by lines these is begins = subst Begins (sym is) begins
+
+begins_at : (line : Line) (more : List Line) → is_copy line.action ≡ false → is_always_some line.action ≡ true
+    → Begins (line ∷ more)
+begins_at line more no_copy some = record {
+  line = line;
+  is = ap (λ copy. slice_get (line ∷ more) (cond copy (suc (lead more)) 0)) no_copy;
+  some = some;
+}
+
+-- behind a copy
+begins_behind_copy : (x base : ℕ) (more : List Line) → Begins more → Begins (copies_to x base ∷ more)
+begins_behind_copy x base more begins = record { line = begins.line; is = begins.is; some = begins.some }
+
+-- a line that is there, in front of others too
+pub get_left : (xs ys : List Line) (k : ℕ) (line : Line) → slice_get xs k ≡ Some line → slice_get (xs ++ ys) k ≡ Some line
+get_left [] ys k line is = cc is
+get_left (x ∷ xs) ys zero line is = is
+get_left (x ∷ xs) ys (suc k) line is = get_left xs ys k line is
+
+pub get_below : (xs : List Line) (k : ℕ) (line : Line) → slice_get xs k ≡ Some line → k < length xs
+get_below [] k line is = cc is
+get_below (x ∷ xs) zero line is = omega arith
+get_below (x ∷ xs) (suc k) line is = let later = get_below xs k line is in omega (arith, later)
+
+-- the copies that lines begin with end at a line of theirs
+lead_ends : (copy : Bool) (first : Line) (front more : List Line) (line : Line)
+    → (slice_get front (lead front) ≡ Some line → lead (front ++ more) ≡ lead front)
+    → slice_get (first ∷ front) (cond copy (suc (lead front)) 0) ≡ Some line
+    → cond copy (suc (lead (front ++ more))) 0 ≡ cond copy (suc (lead front)) 0
+lead_ends true first front more line later is = ap suc (later is)
+lead_ends false first front more line later is = refl
+
+lead_front : (first more : List Line) (line : Line) → slice_get first (lead first) ≡ Some line
+    → lead (first ++ more) ≡ lead first
+lead_front [] more line is = cc is
+lead_front (line ∷ first) more there is =
+    lead_ends (is_copy line.action) line first more there (lead_front first more there) is
+
+-- with others behind them there are no less
+less_ends : (copy : Bool) (front whole : ℕ) → front ≤ whole → cond copy (suc front) 0 ≤ cond copy (suc whole) 0
+less_ends true front whole less = omega arith
+less_ends false front whole less = omega arith
+
+pub lead_less : (first more : List Line) → lead first ≤ lead (first ++ more)
+lead_less [] more = omega arith
+lead_less (line ∷ first) more =
+    less_ends (is_copy line.action) (lead first) (lead (first ++ more)) (lead_less first more)
 
 -- lines in front of others
 begins_more : (lines first more : List Line) → lines ≡ first ++ more → Begins first → Begins lines
-begins_more lines first more is begins = record {
-  line = begins.line;
-  more = begins.more ++ more;
-  is = is ∙ ap (λ ls. ls ++ more) begins.is;
-  no_label = begins.no_label;
-}
+begins_more lines first more is begins =
+    begins_by lines (first ++ more) is (record {
+      line = begins.line;
+      is = ap (slice_get (first ++ more)) (lead_front first more begins.line begins.is)
+          ∙ get_left first more (lead first) begins.line begins.is;
+      some = begins.some;
+    })
 
--- the copies of arguments, or what comes behind them
-copies_begin : (base : ℕ) (arguments : List ℕ) (last : Line) → is_no_label last.action ≡ true
+-- the copies of arguments, and what comes behind them
+copies_begin : (base : ℕ) (arguments : List ℕ) (last : Line) → is_copy last.action ≡ false → is_always_some last.action ≡ true
     → Begins (copies base arguments ++ (last ∷ []))
-copies_begin base [] last no_label = begins_at last [] no_label
-copies_begin base (x ∷ xs) last no_label = record { line = _; more = _; is = refl; no_label = refl }
+copies_begin base [] last no_copy some = begins_at last [] no_copy some
+copies_begin base (x ∷ xs) last no_copy some =
+    begins_behind_copy x base (copies (base + 1) xs ++ (last ∷ [])) (copies_begin (base + 1) xs last no_copy some)
 
 -- a print of constant bytes, or what comes behind it
 print_begins : (base : ℕ) (texts : List (List ℕ)) (bytes : List ℕ) (print : List Line) (last : Line)
-    → PrintLines base texts bytes print → is_no_label last.action ≡ true → Begins (print ++ (last ∷ []))
-print_begins base texts [] print last is no_label =
-    begins_more (print ++ (last ∷ [])) (last ∷ []) [] (ap (λ ls. ls ++ (last ∷ [])) is) (begins_at last [] no_label)
-print_begins base texts (byte ∷ bytes) print last is no_label =
-    record { line = _; more = _; is = ap (λ ls. ls ++ (last ∷ [])) is.2; no_label = refl }
+    → PrintLines base texts bytes print → is_copy last.action ≡ false → is_always_some last.action ≡ true
+    → Begins (print ++ (last ∷ []))
+print_begins base texts [] print last is no_copy some =
+    begins_by (print ++ (last ∷ [])) (last ∷ []) (ap (λ ls. ls ++ (last ∷ [])) is) (begins_at last [] no_copy some)
+print_begins base texts (byte ∷ bytes) print last is no_copy some =
+    begins_by (print ++ (last ∷ [])) _ (ap (λ ls. ls ++ (last ∷ [])) is.2) (begins_at _ _ refl refl)
 
 module _ (setting : Setting) (variables : ℕ) where
   -- the lines of a form on values
@@ -141,30 +196,31 @@ module _ (setting : Setting) (variables : ℕ) where
   form_begins low x Nothing arguments others rest own high lines arity act = cc act
   form_begins low x ReadByte arguments others rest own high lines arity act = cc act
   form_begins low x (PrintText how text) arguments others rest own high lines arity act =
-      let print = print_begins setting.base setting.texts.constants (piece_of how (text_at setting.texts.literals text))
-      lines.0.0 _ lines.0.1 refl in
-      record { line = print.line; more = print.more; is = lines.0.2 ∙ print.is; no_label = print.no_label }
+      begins_by own _ lines.0.2 (print_begins setting.base setting.texts.constants (piece_of how (text_at setting.texts.literals text))
+      lines.0.0 _ lines.0.1 refl refl)
   form_begins low x (Unary operator) arguments others rest own high lines arity act = cc act
   form_begins low x (Binary operator) arguments others rest own high lines arity act = cc act
   form_begins low x (Print how) [] others rest own high lines arity act = absurd (omega (arith, arity))
   form_begins low x (Print how) (a ∷ b ∷ more) others rest own high lines arity act = absurd (omega (arith, arity))
   form_begins low x (Print how) (a ∷ []) others rest own high lines arity act =
-      record { line = _; more = _; is = lines.0; no_label = refl }
+      begins_by own _ lines.0 (begins_behind_copy _ _ _ (begins_at _ _ refl refl))
   form_begins low x (Construct c) [] others rest own high lines arity act = cc act
   form_begins low x (Construct c) (a ∷ more) [] rest own high lines arity act =
-      record { line = _; more = _; is = lines.0.6; no_label = refl }
+      begins_by own _ lines.0.6 (begins_at _ _ refl refl)
   form_begins low x (Construct c) (a ∷ more) (other ∷ others) rest own high lines arity act =
-      record { line = _; more = _; is = lines.2; no_label = refl }
+      begins_by own _ lines.2 (begins_at _ _ refl refl)
   form_begins low x (Call f) arguments others rest own high lines arity act =
-      let call = copies_begin setting.base arguments _ refl in
-      record { line = call.line; more = call.more; is = lines.0 ∙ call.is; no_label = call.no_label }
+      begins_by own _ lines.0 (copies_begin setting.base arguments _ refl refl)
 
   -- an act whose own lines begin so, and whose other part comes behind them
   own_by : (own first more : List Line) (way : List ℕ) (inner : _) → own ≡ first ++ more → Begins first
       → IsOwn own (part way first inner no_part)
   own_by own first more way inner is begins = record {
     begins = begins_more own first more is begins;
-    apart = let long = ap length begins.is in omega arith;
+    apart =
+        let few = get_below first (lead first) begins.line begins.is in
+        let same = ap lead is ∙ lead_front first more begins.line begins.is in
+        omega (arith, few, same);
   }
 
   pub act_own : (goal : Goal) (low : ℕ) (code : Tokened) (own : List Line) (high : ℕ)
@@ -172,11 +228,7 @@ module _ (setting : Setting) (variables : ℕ) where
       → IsOwn own (parts_in setting variables goal low code own high lines)
   act_own goal low (Tokened.give x) own high lines arity act = cc act
   act_own goal low (Tokened.tail_call f arguments) own high lines arity act =
-      let call = copies_begin setting.base arguments _ refl in
-      record {
-        begins = record { line = call.line; more = call.more; is = lines.0 ∙ call.is; no_label = call.no_label };
-        apart = tt;
-      }
+      record { begins = begins_by own _ lines.0 (copies_begin setting.base arguments _ refl refl); apart = tt }
   act_own goal low (Tokened.case x decisions arms) own high lines arity act = cc act
   act_own goal low (Tokened.compute x form arguments others rest) own high lines arity act =
       own_by own lines.0 lines.1 _ _ lines.5
@@ -188,7 +240,7 @@ module _ (setting : Setting) (variables : ℕ) where
   act_own goal low (Tokened.dup x rest) own high lines arity act = cc act
   act_own goal low (Tokened.drop x rest) own high lines arity act = cc act
   act_own goal low (Tokened.fill x y c first arguments kept others rest) own high lines arity act =
-      own_by own lines.0 lines.1 _ _ lines.4 (record { line = _; more = _; is = lines.2.4; no_label = refl })
+      own_by own lines.0 lines.1 _ _ lines.4 (begins_by lines.0 _ lines.2.4 (begins_behind_copy _ _ _ (begins_behind_copy _ _ _ (begins_at _ _ refl refl))))
   act_own goal low (Tokened.free y rest) own high lines arity act = cc act
   act_own goal low (Tokened.null y rest) own high lines arity act = cc act
   act_own goal low (Tokened.move to of rest) own high lines arity act = cc act

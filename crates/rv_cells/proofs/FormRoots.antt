@@ -18,7 +18,7 @@ use Rattle.rv_cells.specs.FormLines.{HaveOwnLines}
 use Rattle.rv_cells.specs.Layout.{Layout}
 use Rattle.rv_cells.specs.TokenedLines.{IsFunctionOf, AreFunctionsOf}
 use Rattle.rv_cells.specs.TokenedMeaning.{IsTokenedLowered}
-use Rattle.rv_cells.proofs.FormArities.{fit_arities}
+use Rattle.rv_cells.proofs.FormArities.{lead, fit_arities}
 use Rattle.rv_cells.proofs.FormPlaces.{Tree, tree, no_part, own_of, lines_before, tree_in}
 use Rattle.rv_cells.proofs.FormsApart.{IsOrderly, tree_orderly, own_line, leads_within, line_there, one_way}
 use Rattle.rv_cells.proofs.Held.{some-is}
@@ -120,7 +120,7 @@ module _ (layout : Layout) (marks : CellMarks) (code : TokenedProgram) (constant
       let it = found_from way [] 0 k root among in
       let begins = (own_line it.inner (leads_within root it.steps it.inner orderly it.leads).1 it.acts).begins in
       let far = it.line_is in
-      let number : k ≡ lines_before it.steps + 0 = omega (arith, far) in (
+      let number : k ≡ lines_before it.steps + lead (own_of it.inner) = omega (arith, far) in (
         (lowered.each f function is).0,
         (
           (lowered.each f function is).1,
@@ -128,8 +128,8 @@ module _ (layout : Layout) (marks : CellMarks) (code : TokenedProgram) (constant
             begins.line,
             (
               ap (slice_get (own_of root)) number
-                  ∙ line_there root it.steps it.inner 0 begins.line orderly it.leads (ap (λ ls. slice_get ls 0) begins.is),
-              begins.no_label,
+                  ∙ line_there root it.steps it.inner (lead (own_of it.inner)) begins.line orderly it.leads begins.is,
+              begins.some,
             ),
           ),
         ),
@@ -152,9 +152,10 @@ module _ (layout : Layout) (marks : CellMarks) (code : TokenedProgram) (constant
         standing = of.lowered.standing;
       }) of.lowered.variables returns 0 function.body (lowered.each f function is).0.code of.lowered.labels of.lowered.code way act
       (ap (λ (g : CountedFunction). code_at g.body way) bare_is ∙ at.code_is) at.acts in
-      let number : 0 + lines_before reaches.steps ≡ lines_before reaches.steps = omega arith in (
-        lines_before reaches.steps,
-        among_found way [] 0 (lines_before reaches.steps) root reaches.steps reaches.inner reaches.leads reaches.acts
+      let line : ℕ = lines_before reaches.steps + lead (own_of reaches.inner) in
+      let number : 0 + lines_before reaches.steps + lead (own_of reaches.inner) ≡ line = omega arith in (
+        line,
+        among_found way [] 0 line root reaches.steps reaches.inner reaches.leads reaches.acts
             reaches.way_is number,
       )
 

@@ -12,7 +12,7 @@ use Rattle.rv_lower.specs.Lowered.{Goal, joins}
 use Rattle.rv_cells.specs.CellLines.{dup_lines, drop_lines}
 use Rattle.rv_cells.specs.CountedLines.{Setting}
 use Rattle.rv_cells.specs.TokenedLines.{CodeLines, ArmsLines}
-use Rattle.rv_cells.proofs.FormArities.{FitArities, FitAllArities, is_own_act, StartsBehind, IsOwn, act_own}
+use Rattle.rv_cells.proofs.FormArities.{FitArities, FitAllArities, is_own_act, lead, get_left, get_below, StartsBehind, IsOwn, act_own}
 use Rattle.rv_cells.proofs.FormPlaces.{Tree, tree, Parts, no_part, part, code_of, own_of, parts_of, Step, IsPart, Leads, way_of, lines_before, parts_in, arms_in, tree_in}
 
 -- ---- order
@@ -347,11 +347,6 @@ leads_within (tree code own parts) (step ∷ steps) inner are leads =
     let few = later.0 in
     (omega arith, later.1)
 
-get_left : (xs ys : List Line) (k : ℕ) (line : Line) → slice_get xs k ≡ Some line → slice_get (xs ++ ys) k ≡ Some line
-get_left [] ys k line is = cc is
-get_left (x ∷ xs) ys zero line is = is
-get_left (x ∷ xs) ys (suc k) line is = get_left xs ys k line is
-
 get_right : (xs ys : List Line) (k n : ℕ) → n ≡ length xs + k → slice_get (xs ++ ys) n ≡ slice_get ys k
 get_right [] ys k n is = let same : n ≡ k = omega (arith, is) in ap (slice_get ys) same
 get_right (x ∷ xs) ys k zero is = absurd (omega (arith, is))
@@ -400,9 +395,9 @@ same_part own first (part way before inner more) s r a b are (inr one) (inr two)
 pub own_line : (t : Tree) → IsOrderly t → is_own_act (code_of t) ≡ true → IsOwn (own_of t) (parts_of t)
 own_line (tree code own parts) are act = are.0 act
 
--- so it is not empty
-some_lines : (t : Tree) → IsOwn (own_of t) (parts_of t) → 0 < length (own_of t)
-some_lines t own = let long = ap length own.begins.is in omega arith
+-- behind its copies
+lead_within : (t : Tree) → IsOwn (own_of t) (parts_of t) → lead (own_of t) < length (own_of t)
+lead_within t own = get_below (own_of t) (lead (own_of t)) own.begins.line own.begins.is
 
 -- where no part begins before a line, none does
 starts_orderly : (own : List Line) (first : ℕ) (parts : Parts) → AreOrderly own 0 parts → StartsBehind first parts
@@ -410,24 +405,29 @@ starts_orderly : (own : List Line) (first : ℕ) (parts : Parts) → AreOrderly 
 starts_orderly own first no_part are starts = tt
 starts_orderly own first (part way before inner more) are starts = (starts, are.1)
 
--- no part begins where a form with a line of its own does
-begins_behind : (outer inner : Tree) (step : Step) (steps : List Step) → IsOrderly outer → outer ≡ inner
-    → IsOwn (own_of inner) (parts_of inner) → IsPart step (parts_of outer) → 0 ≡ lines_before (step ∷ steps) → ⊥
-begins_behind (tree code own parts) inner step steps are same is_own is none =
+-- no part begins before the line of a form with a line of its own, or there
+begins_behind : (outer inner : Tree) (step : Step) (steps : List Step) (more : ℕ) → IsOrderly outer → outer ≡ inner
+    → IsOwn (own_of inner) (parts_of inner) → IsPart step (parts_of outer)
+    → lead (own_of inner) ≡ lines_before (step ∷ steps) + more → ⊥
+begins_behind (tree code own parts) inner step steps more are same is_own is none =
     let here : IsOwn own parts = subst (λ t. IsOwn (own_of t) (parts_of t)) (sym same) is_own in
-    let there = part_there own 1 parts step (starts_orderly own 1 parts are.1 here.apart) is in
+    let there = part_there own (suc (lead own)) parts step (starts_orderly own (suc (lead own)) parts are.1 here.apart) is in
     let far = there.0 in
-    omega (arith, far, none)
+    let alike : lead own ≡ lead (own_of inner) = ap (λ t. lead (own_of t)) same in
+    omega (arith, far, none, alike)
 
--- forms whose own lines begin at one line are reached by one way
+-- forms that have one line behind the copies that they begin with are reached by one way
 pub one_way : (outer : Tree) (steps others : List Step) (u v : Tree) → IsOrderly outer → Leads outer steps u → Leads outer others v
-    → is_own_act (code_of u) ≡ true → is_own_act (code_of v) ≡ true → lines_before steps ≡ lines_before others
+    → is_own_act (code_of u) ≡ true → is_own_act (code_of v) ≡ true
+    → lines_before steps + lead (own_of u) ≡ lines_before others + lead (own_of v)
     → way_of steps ≡ way_of others
 one_way outer [] [] u v are one two act other is = refl
 one_way outer [] (r ∷ rs) u v are one two act other is =
-    absurd (begins_behind outer u r rs are one (own_line u (leads_within outer [] u are one).1 act) two.0 is)
+    absurd (begins_behind outer u r rs (lead (own_of v)) are one (own_line u (leads_within outer [] u are one).1 act) two.0
+    (omega (arith, is)))
 one_way outer (s ∷ ss) [] u v are one two act other is =
-    absurd (begins_behind outer v s ss are two (own_line v (leads_within outer [] v are two).1 other) one.0 (sym is))
+    absurd (begins_behind outer v s ss (lead (own_of u)) are two (own_line v (leads_within outer [] v are two).1 other) one.0
+    (omega (arith, is)))
 one_way (tree code own_lines parts) (s ∷ ss) (r ∷ rs) u v are one two act other is =
     let there = part_there own_lines 0 parts s are.1 one.0 in
     let there_too = part_there own_lines 0 parts r are.1 two.0 in
@@ -435,10 +435,10 @@ one_way (tree code own_lines parts) (s ∷ ss) (r ∷ rs) u v are one two act ot
     let few_too = leads_within r.inner rs v there_too.1.1 two.1 in
     let low = few.0 in
     let low_too = few_too.0 in
-    let some = some_lines u (own_line u few.1 act) in
-    let some_too = some_lines v (own_line v few_too.1 other) in
-    let same : s ≡ r = same_part own_lines 0 parts s r (lines_before ss) (lines_before rs) are.1 one.0 two.0
-    (omega (arith, low, some)) (omega (arith, low_too, some_too)) is in
+    let some = lead_within u (own_line u few.1 act) in
+    let some_too = lead_within v (own_line v few_too.1 other) in
+    let same : s ≡ r = same_part own_lines 0 parts s r (lines_before ss + lead (own_of u)) (lines_before rs + lead (own_of v))
+    are.1 one.0 two.0 (omega (arith, low, some)) (omega (arith, low_too, some_too)) (omega (arith, is)) in
     let behind = ap (λ (step : Step). length step.before) same in
     let later = one_way s.inner ss rs u v there.1.1 one.1 (subst (λ (step : Step). Leads step.inner rs v) (sym same) two.1) act other
     (omega (arith, behind, is)) in

@@ -89,6 +89,7 @@ pub mod FormWords
 pub mod TokenSimulating
 pub mod FormRoots
 pub mod TokenMeaning
+pub mod CopiesPassed
 pub mod ComingToLines
 pub mod TokenMarks
 pub mod Standings

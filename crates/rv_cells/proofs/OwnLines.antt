@@ -17,8 +17,8 @@ use Rattle.rv_lower.specs.Lines.{acts}
 use Rattle.rv_lower.specs.Lowered.{Goal, joins}
 use Rattle.rv_cells.specs.CountedLines.{Setting}
 use Rattle.rv_cells.specs.TokenedLines.{CodeLines, ArmsLines}
-use Rattle.rv_cells.proofs.FormArities.{is_own_act}
-use Rattle.rv_cells.proofs.FormPlaces.{Tree, tree, Parts, no_part, part, code_of, parts_of, Step, IsPart, Leads, way_of, lines_before, arms_in, tree_in}
+use Rattle.rv_cells.proofs.FormArities.{is_own_act, lead}
+use Rattle.rv_cells.proofs.FormPlaces.{Tree, tree, Parts, no_part, part, code_of, own_of, parts_of, Step, IsPart, Leads, way_of, lines_before, arms_in, tree_in}
 
 -- ---- numbers and lists
 
@@ -55,7 +55,7 @@ one_line false line = []
 abbrev mutual
   pub lines_from : List ℕ → List ℕ → ℕ → Tree → List ℕ
   lines_from sought way behind (tree code own parts) =
-      one_line (is_own_act code && are_same way sought) behind ++ lines_among sought way behind parts
+      one_line (is_own_act code && are_same way sought) (behind + lead own) ++ lines_among sought way behind parts
 
   pub lines_among : List ℕ → List ℕ → ℕ → Parts → List ℕ
   lines_among sought way behind no_part = []
@@ -72,7 +72,7 @@ pub record Found (sought way : List ℕ) (behind line : ℕ) (outer : Tree) : Ty
   pub inner : Tree
   pub leads : Leads outer steps inner
   pub way_is : way ++ way_of steps ≡ sought
-  pub line_is : behind + lines_before steps ≡ line
+  pub line_is : behind + lines_before steps + lead (own_of inner) ≡ line
   pub acts : is_own_act (code_of inner) ≡ true
 
 -- by a step more
@@ -101,9 +101,9 @@ mutual
   pub found_from : (sought way : List ℕ) (behind line : ℕ) (outer : Tree)
       → is_among (lines_from sought way behind outer) line ≡ true → Found sought way behind line outer
   found_from sought way behind line (tree code own parts) is =
-      elim (among_cases (one_line (is_own_act code && are_same way sought) behind) (lines_among sought way behind parts) line is) [
+      elim (among_cases (one_line (is_own_act code && are_same way sought) (behind + lead own)) (lines_among sought way behind parts) line is) [
         | inl here ↦
-            let one = one_is (is_own_act code && are_same way sought) behind line here in
+            let one = one_is (is_own_act code && are_same way sought) (behind + lead own) line here in
             let both = both_parts (is_own_act code) (are_same way sought) one.0 in
             let far = one.1 in
             record {
@@ -148,17 +148,18 @@ among_part sought way behind line (part more before inner parts) step (inr later
 -- the lines of all forms that steps lead to are found
 pub among_found : (sought way : List ℕ) (behind line : ℕ) (outer : Tree) (steps : List Step) (inner : Tree)
     → Leads outer steps inner → is_own_act (code_of inner) ≡ true → way ++ way_of steps ≡ sought
-    → behind + lines_before steps ≡ line → is_among (lines_from sought way behind outer) line ≡ true
+    → behind + lines_before steps + lead (own_of inner) ≡ line → is_among (lines_from sought way behind outer) line ≡ true
 among_found sought way behind line (tree code own parts) [] inner leads acts way_is line_is =
     let here : is_own_act code ≡ true = ap (λ t. is_own_act (code_of t)) leads ∙ acts in
     let same : are_same way sought ≡ true = ap (λ w. are_same w sought) (sym (append-nil way) ∙ way_is) ∙ same_itself sought in
     let both : (is_own_act code && are_same way sought) ≡ true = rw here same in
-    let far : behind ≡ line = omega (arith, line_is) in
+    let alike : lead own ≡ lead (own_of inner) = ap (λ t. lead (own_of t)) leads in
+    let far : behind + lead own ≡ line = omega (arith, line_is, alike) in
     let itself : (line == line) ≡ true = grind arith in
-    among_front (one_line (is_own_act code && are_same way sought) behind) (lines_among sought way behind parts) line
-    (ap (λ b. is_among (one_line b behind) line) both ∙ (ap (λ n. is_among (n ∷ []) line) far ∙ ap (λ b. b || false) itself))
+    among_front (one_line (is_own_act code && are_same way sought) (behind + lead own)) (lines_among sought way behind parts) line
+    (ap (λ b. is_among (one_line b (behind + lead own)) line) both ∙ (ap (λ n. is_among (n ∷ []) line) far ∙ ap (λ b. b || false) itself))
 among_found sought way behind line (tree code own parts) (step ∷ steps) inner leads acts way_is line_is =
-    among_behind (one_line (is_own_act code && are_same way sought) behind) (lines_among sought way behind parts) line
+    among_behind (one_line (is_own_act code && are_same way sought) (behind + lead own)) (lines_among sought way behind parts) line
     (among_part sought way behind line parts step leads.0
     (among_found sought (way ++ step.way) (behind + length step.before) line step.inner steps inner leads.1 acts
     (append_assoc way step.way (way_of steps) ∙ way_is) (omega (arith, line_is))))

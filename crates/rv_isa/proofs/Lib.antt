@@ -5,6 +5,7 @@ pub mod Acts
 pub mod Bits
 pub mod Bytes
 pub mod Cases
+pub mod Copies
 pub mod Fits
 pub mod Instructions
 pub mod Memory

@@ -8,8 +8,8 @@ use Rattle.rv_isa.specs.AsmCode.{Line, Lines}
 use Rattle.rv_isa.specs.PlacedCode.{PlacedLine, does, moves, PlacedLines}
 use Rattle.rv_isa.specs.Primitives.{Primitives}
 
--- A constant and an address are two instructions. A count is loaded, raised and stored, unless the reference names no cell; a token is
--- put before the free cells, unless it is null.
+-- A constant is two instructions at most, and an address two. A count is loaded, raised and stored, unless the reference names no cell;
+-- a token is put before the free cells, unless it is null. Each other operation is one, and a copy none where the value stands already.
 abbrev pub operation_instructions : Operation → ℕ
 operation_instructions (Li word) = 2
 operation_instructions (La constant) = 2
@@ -27,8 +27,9 @@ routine_instructions m (Routine routine) (Some words) held shared = m.lasts rout
 routine_instructions m _ _ held shared = 0
 
 -- A far jump is two instructions, and a branch to a far label one over a jump. A call has its callee's entry: it compares the
--- stack with its bottom, takes a frame and saves the return address. A return loads it and gives the frame back; a large frame is
--- taken and given back in two parts. A token is held or taken back by a call with the address of its slot.
+-- newest frame with the end of the cells, takes a frame and saves the return address. A return loads it and gives the frame back; a
+-- large frame is taken and given back in two parts. A token is held by a call with the address of its slot, and taken back by three
+-- instructions.
 abbrev pub action_instructions : Action → ℕ
 action_instructions (Compute operation) = operation_instructions operation
 action_instructions (Label l) = 0
@@ -41,8 +42,8 @@ action_instructions (Routine routine) = 2
 action_instructions Hold = 9
 action_instructions Unhold = 7
 
--- How many instructions an action is at most as it is written. A token is held or taken back by the address of its slot and a call,
--- and what is called stands elsewhere. All others are as many as they execute at most.
+-- How many instructions an action is at most as it is written. A token is held by the address of its slot and a call, and what is
+-- called stands elsewhere; it is taken back by three instructions. All others are as many as they execute at most.
 abbrev pub action_length : Action → ℕ
 action_length Hold = 3
 action_length Unhold = 3

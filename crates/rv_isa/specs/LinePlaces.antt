@@ -1,7 +1,8 @@
 -- Where a machine of assembler code or of placed code is in its program: in a function, behind so many of its lines.
-use Rattle.std.specs.Prelude.{◌≡◌, ℕ, Bool, true, false, List, ◌∷◌, Some, drop, slice_get}
+use Rattle.std.specs.Prelude.{◌≡◌, ℕ, Bool, true, false, ◌&&◌, not, List, ◌∷◌, Some, drop, slice_get}
 use Rattle.rv_isa.specs.declared.asm.Action.{Action}
-use Rattle.rv_isa.specs.declared.asm.Action.TheVariants.{Label}
+use Rattle.rv_isa.specs.declared.asm.Action.TheVariants.{Compute, Label}
+use Rattle.rv_isa.specs.declared.asm.Operation.TheVariants.{Mv}
 use Rattle.rv_isa.specs.AsmCode.{Line, Lines}
 use Rattle.rv_isa.specs.AsmMachine.{AsmTurn}
 use Rattle.rv_isa.specs.Frames.{Frame}
@@ -37,15 +38,24 @@ abbrev pub is_no_label : Action → Bool
 is_no_label (Label l) = false
 is_no_label _ = true
 
+-- a copy is none where the value stands already in the register that it goes to
+abbrev pub is_copy : Action → Bool
+is_copy (Compute Mv) = true
+is_copy _ = false
+
+-- each other action is an instruction at least, wherever its operands stand
+abbrev pub is_always_some : Action → Bool
+is_always_some action = is_no_label action && not (is_copy action)
+
 abbrev pub is_instruction : PlacedLine → Bool
-is_instruction (does alive action args into) = is_no_label action
+is_instruction (does alive action args into) = is_always_some action
 is_instruction (moves alive value way) = true
 
--- the k-th line of the function f is there, and is no label
+-- the k-th line of the function f is there, and is such an action
 abbrev pub AsmHasLine : List Lines → ℕ → ℕ → Type 0
 AsmHasLine functions f k =
     (lines : Lines) × ((slice_get functions f ≡ Some lines)
-    × ((line : Line) × ((slice_get lines.code k ≡ Some line) × (is_no_label line.action ≡ true))))
+    × ((line : Line) × ((slice_get lines.code k ≡ Some line) × (is_always_some line.action ≡ true))))
 
 abbrev pub PlacedHasLine : List PlacedLines → ℕ → ℕ → Type 0
 PlacedHasLine functions f k =

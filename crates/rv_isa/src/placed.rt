@@ -21,7 +21,7 @@ pub struct Placed {
 pub struct DataSection {
     /// Its size in bytes.
     pub size: u32,
-    /// The distance in bytes from its begin to the lowest frame of the stack.
+    /// The distance in bytes from its begin to the end of the cells, where the lowest frame of the stack begins.
     pub stack_bottom: u32,
 }
 

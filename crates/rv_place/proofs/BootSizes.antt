@@ -1,5 +1,5 @@
 -- How large a text and the memory behind it are: their addresses are far below 2^32.
-use Rattle.std.proofs.Common.{◌≡◌, ◌<◌, ◌≤◌, ℕ, ◌+◌, ◌*◌, ◌%◌, List, [], ◌∷◌, length, ap, ◌∙◌, arith}
+use Rattle.std.proofs.Common.{◌≡◌, ◌<◌, ◌≤◌, ℕ, ◌+◌, ◌*◌, ◌%◌, Bool, true, false, cond, List, [], ◌∷◌, length, ap, ◌∙◌, arith}
 use Rattle.std.proofs.lemmas.Nat.{mul-le}
 use Rattle.kk_base.specs.Sizes.{greatest_depth}
 use Rattle.elf_image.specs.declared.image.TheConstants.{PAGE_SIZE}
@@ -12,7 +12,7 @@ use Rattle.rv_isa.specs.Sizes.{wide_frame}
 use Rattle.rv_isa.specs.PlacedCode.{PlacedLine, does, moves, PlacedLines, placed_functions, placed_constants}
 use Rattle.rv_world.specs.Operations.{all_bytes}
 use Rattle.rv_place.specs.declared.words.Words.{Words}
-use Rattle.rv_place.specs.Addresses.{words_of_action, words_of_line, words_of_lines, words_of_functions, forms_of}
+use Rattle.rv_place.specs.Addresses.{is_silent, words_of_action, words_of_line, words_of_lines, words_of_functions, forms_of}
 use Rattle.rv_place.specs.declared.reach.Forms.{Forms}
 use Rattle.rv_place.specs.declared.reach.Reach.{Reach}
 use Rattle.rv_place.proofs.RunningLines.{jump_most, shift_most, branch_most}
@@ -35,8 +35,13 @@ action_most forms (Routine routine) = jump_most forms.jumps
 action_most forms Hold = omega (arith, jump_most forms.jumps)
 action_most forms Unhold = omega arith
 
+none_or : (silent : Bool) (words most : ℕ) → words ≤ most → cond silent 0 words ≤ most
+none_or true words most few = omega arith
+none_or false words most few = few
+
 line_most : (forms : Forms) (line : PlacedLine) → words_of_line forms line ≤ placed_line_length line
-line_most forms (does alive action args into) = action_most forms action
+line_most forms (does alive action args into) =
+    none_or (is_silent action args into) (words_of_action forms action) (action_length action) (action_most forms action)
 line_most forms (moves alive value way) = omega arith
 
 lines_most : (forms : Forms) (lines : List PlacedLine) → words_of_lines forms lines ≤ placed_code_length lines

@@ -1,16 +1,16 @@
 -- Lines have addresses of their own: functions stand one behind the other behind the runtime, and each line that is no label
 -- is some instructions of its function.
-use Rattle.std.proofs.Common.{◌≡◌, ◌≤◌, ◌<◌, inl, inr, ℕ, zero, suc, ◌+◌, ◌*◌, ◌%◌, List, [], ◌∷◌, Some, true}
+use Rattle.std.proofs.Common.{◌≡◌, ◌≤◌, ◌<◌, inl, inr, ℕ, zero, suc, ◌+◌, ◌*◌, ◌%◌, List, [], ◌∷◌, Some, Bool, true, false, ◌&&◌, not, cond}
 use Rattle.std.proofs.Common.{take, drop, slice_get}
 use Rattle.std.proofs.Common.{refl, sym, ap, ◌∙◌, subst, arith}
-use Rattle.std.proofs.lemmas.Bool.{cases_lt}
+use Rattle.std.proofs.lemmas.Bool.{cases_lt, and_parts}
 use Rattle.rv_isa.specs.declared.asm.Action.{Action}
 use Rattle.rv_isa.specs.declared.asm.Action.TheVariants.{Compute, Label, Jump, Branch, Call, TailCall}
 use Rattle.rv_isa.specs.declared.asm.Action.TheVariants.{Return, Routine, Hold, Unhold}
 use Rattle.rv_isa.specs.PlacedCode.{PlacedLine, does, moves, PlacedLines}
-use Rattle.rv_isa.specs.LinePlaces.{is_no_label, is_instruction, PlacedHasLine}
+use Rattle.rv_isa.specs.LinePlaces.{is_no_label, is_copy, is_instruction, PlacedHasLine}
 use Rattle.rv_isa.specs.Standing.{Code}
-use Rattle.rv_place.specs.Addresses.{words_of_action, words_of_line, words_of_lines, forms_of, entry_words, words_of_function}
+use Rattle.rv_place.specs.Addresses.{stands_there, is_silent, words_of_action, words_of_line, words_of_lines, forms_of, entry_words, words_of_function}
 use Rattle.rv_place.specs.Addresses.{entries_from, words_of_functions}
 use Rattle.rv_place.specs.LineAddresses.{address_in, line_address}
 use Rattle.rv_place.specs.Lines.{Map, FunctionsAt}
@@ -41,9 +41,17 @@ action_some forms (Routine routine) some = jump_some forms.jumps
 action_some forms Hold some = omega arith
 action_some forms Unhold some = omega arith
 
--- and so is such a line
+no_copy : (copy : Bool) → not copy ≡ true → copy ≡ false
+no_copy true is = cc is
+no_copy false is = refl
+
+-- and so is such a line, which is no copy
 line_some : (forms : Forms) (line : PlacedLine) → is_instruction line ≡ true → 1 ≤ words_of_line forms line
-line_some forms (does alive action args into) some = action_some forms action some
+line_some forms (does alive action args into) some =
+    let both = and_parts (is_no_label action) (not (is_copy action)) some in
+    let loud : is_silent action args into ≡ false
+    = ap (λ copy. copy && stands_there args into) (no_copy (is_copy action) both.1) in
+    subst (λ silent. 1 ≤ cond silent 0 (words_of_action forms action)) (sym loud) (action_some forms action both.0)
 line_some forms (moves alive value way) some = omega arith
 
 -- a line that is no label ends at the end of the lines at most

@@ -1,9 +1,10 @@
 -- Labels, moves and operations of the machine of the placed form, followed by the processor.
-use Rattle.std.proofs.Common.{◌≡◌, ◌≢◌, ◌≤◌, ◌<◌, inr, ℕ, ◌+◌, ◌*◌, ◌%◌, ◌^◌, List, [], ◌∷◌, length, Option, Some, None, true, false, map, option_map, refl, sym, ap, ◌∙◌, subst, arith}
+use Rattle.std.proofs.Common.{◌≡◌, ◌≢◌, ◌≤◌, ◌<◌, inr, ℕ, ◌+◌, ◌*◌, ◌%◌, ◌^◌, List, [], ◌∷◌, length, Option, Some, None, true, false, map, option_map, eqb-true, refl, sym, ap, ◌∙◌, subst, arith}
 use Rattle.std.proofs.lemmas.Bool.{and_parts, or_from}
 use Rattle.kk_base.specs.Memory.{Part}
 use Rattle.rv_isa.specs.declared.register.Register.{Register}
 use Rattle.rv_isa.specs.declared.instr.Instr.TheVariants as Instr
+use Rattle.rv_isa.specs.declared.asm.Action.{Action}
 use Rattle.rv_isa.specs.declared.asm.Action.TheVariants.{Compute}
 use Rattle.rv_isa.specs.declared.asm.Operation.{Operation}
 use Rattle.rv_isa.specs.declared.asm.Operation.TheVariants as OfOperation
@@ -18,10 +19,12 @@ use Rattle.rv_isa.specs.Conventions.{is_handed_out, is_register, conforms, compu
 use Rattle.rv_isa.specs.Costs.{operation_instructions}
 use Rattle.rv_isa.specs.Primitives.{stuck}
 use Rattle.rv_isa.specs.Frames.{Frame, put, all_of, is_among}
+use Rattle.rv_isa.specs.LinePlaces.{is_copy}
 use Rattle.rv_isa.specs.PlacedMachine.{PlacedState, PlacedTurn, is_held, read_at, placed_goes, placed_writes, placed_gives, placed_acts}
 use Rattle.rv_isa.specs.Bytes.{number_at, with_number}
 use Rattle.rv_isa.specs.Processor.{Processor, Ending, value, can_load, can_store}
 use Rattle.rv_isa.specs.Standing.{Code}
+use Rattle.rv_isa.proofs.Copies.{copy_is}
 use Rattle.rv_isa.proofs.Memory.{word-apart}
 use Rattle.cell_heap.specs.Known.{HoldsCells, SameRoots}
 use Rattle.cell_heap.proofs.Frames.{SameInside, SameInside-store}
@@ -31,7 +34,7 @@ use Rattle.cell_heap.specs.Pool.{Pool}
 use Rattle.cell_heap.proofs.Blocks.{mapped}
 use Rattle.rv_world.specs.World.{World, computed_in, primitives}
 use Rattle.rv_place.specs.Registers.{zero_register, sp}
-use Rattle.rv_place.specs.Addresses.{frame_bias, slot_offset}
+use Rattle.rv_place.specs.Addresses.{is_same_register, stands_there, is_silent, frame_bias, slot_offset}
 use Rattle.rv_place.specs.Instructions.{form_of, words_of_form, words_of_operation}
 use Rattle.rv_place.specs.declared.constant.WordForm.{WordForm}
 use Rattle.rv_place.specs.declared.constant.WordForm.TheVariants.{Short, Upper, Both}
@@ -42,9 +45,9 @@ use Rattle.rv_place.specs.Running.{IsHandedOut, GivesHandedOut, most_lines, IsIn
 use Rattle.rv_place.proofs.RunningExecuting.{MissesFree, Gets, addi_row, plain_gets, load_gets, store_goes}
 use Rattle.rv_place.proofs.RunningFree.{behind_misses}
 use Rattle.rv_place.proofs.RunningRows.{from_pointer}
-use Rattle.rv_place.proofs.RunningFrames.{handed_apart, agrees_kept, frames_put}
+use Rattle.rv_place.proofs.RunningFrames.{handed_apart, agrees_put, agrees_kept, frames_put}
 use Rattle.rv_place.proofs.RunningLinks.{is_own, handed_own, roots_done, links_put, slots_apart}
-use Rattle.rv_place.proofs.RunningWords.{words_in, in_registers, Computed, computes}
+use Rattle.rv_place.proofs.RunningWords.{some_cons, words_in, in_registers, Computed, computes}
 use Rattle.rv_place.proofs.RunningInside.{walks_done}
 use Rattle.rv_place.proofs.RunningComes.{or_stuck_some, Comes, comes_go, comes_idle, runs_on, agrees_got, sp_low, sp_word, sp_high, constants_kept, stays}
 
@@ -106,6 +109,65 @@ module _ {map_of : Map} {pool : Pool} {functions : List PlacedLines} {depth buff
         registers = running.registers;
         cells = running.cells;
       }) less
+
+  -- ---- copies that are no instruction
+
+  -- a register has already the word that goes to it
+  has_already : (old word : ℕ) (from to : Place) → is_same_register from to ≡ true → read_at known f.cells from ≡ Some word
+      → IsIn map_of code (most_lines functions) s.pc behind → 1 + length rest ≤ old
+      → Comes map_of pool functions depth stop code parts 0 old (placed_writes to (Some word) behind fs known world) s
+  has_already old word (slot k) to same read is_in less = cc same
+  has_already old word (register r) (slot k) same read is_in less = cc same
+  has_already old word (register r) (register q) same read is_in less =
+      let one : r.number ≡ q.number = eqb-true r.number q.number same in
+      let holds = running.registers r.number word read in
+      let handed : is_handed_out q.number ≡ true = subst (λ x. is_handed_out x ≡ true) one holds.0 in
+      let has : (value s.registers q.number ≡ word) × (word < 2 ^ 32)
+      = subst (λ x. (value s.registers x ≡ word) × (word < 2 ^ 32)) one (holds.1, holds.2) in
+      let stand = running.frames in
+      comes_idle map_of pool functions depth stop code parts 0 old
+      (record { frames = behind ∷ fs; registers = put q.number (Some word) known; shared = world }) s (record {
+        rests = running.rests;
+        trace = running.trace;
+        left = running.left;
+        bytes = running.bytes;
+        room = running.room;
+        base = running.base;
+        base_is = running.base_is;
+        frames = (is_in, stand.1, stand.2, stand.3);
+        registers = agrees_put q.number (Some word) known s.registers s.registers running.registers handed
+            (λ w e. let equal : word ≡ w = cc in subst (λ v. (value s.registers q.number ≡ v) × (v < 2 ^ 32)) equal has)
+            (λ x some apart. refl);
+        cells = running.cells;
+      }) less
+
+  stays_there : (old : ℕ) (args : List Operand) (into : Option Operand) (words : List ℕ) (turn : PlacedTurn World Ending)
+      → stands_there args into ≡ true → IsIn map_of code (most_lines functions) s.pc behind → 1 + length rest ≤ old
+      → all_of (map (λ (arg : Operand). read_at known f.cells arg.place) args) ≡ Some words
+      → placed_acts (primitives map_of.constants pool) depth functions behind fs known world (Compute OfOperation.Mv) args into words ≡ turn
+      → Comes map_of pool functions depth stop code parts 0 old turn s
+  stays_there old [] into words turn stands is_in less words_are is = cc stands
+  stays_there old (arg ∷ []) None words turn stands is_in less words_are is = cc stands
+  stays_there old (arg ∷ []) (Some into) words turn stands is_in less words_are is =
+      let split = some_cons (read_at known f.cells arg.place) [] words words_are in
+      let rest_is = split.3 in
+      let alone : [] ≡ split.1 = cc rest_is in
+      let one : words ≡ split.0 ∷ [] = split.4 ∙ ap (λ ws. split.0 ∷ ws) (sym alone) in
+      subst (λ t. Comes map_of pool functions depth stop code parts 0 old t s)
+      (sym (ap (placed_acts (primitives map_of.constants pool) depth functions behind fs known world (Compute OfOperation.Mv) (arg ∷ []) (Some into)) one) ∙ is)
+      (has_already old split.0 arg.place into.place stands split.2 is_in less)
+  stays_there old (arg ∷ other ∷ args) into words turn stands is_in less words_are is = cc stands
+
+  pub follow_silent : (old : ℕ) (action : Action) (args : List Operand) (into : Option Operand) (words : List ℕ) (turn : PlacedTurn World Ending)
+      → is_silent action args into ≡ true → IsIn map_of code (most_lines functions) s.pc behind → 1 + length rest ≤ old
+      → all_of (map (λ (arg : Operand). read_at known f.cells arg.place) args) ≡ Some words
+      → placed_acts (primitives map_of.constants pool) depth functions behind fs known world action args into words ≡ turn
+      → Comes map_of pool functions depth stop code parts 0 old turn s
+  follow_silent old action args into words turn silent is_in less words_are is =
+      let both = and_parts (is_copy action) (stands_there args into) silent in
+      stays_there old args into words turn both.1 is_in less words_are
+      (subst (λ a. placed_acts (primitives map_of.constants pool) depth functions behind fs known world a args into words ≡ turn)
+      (copy_is action both.0) is)
 
   -- ---- slots
 

@@ -20,14 +20,15 @@ use Rattle.rv_isa.specs.Execution.{rv32im}
 use Rattle.rv_isa.specs.Standing.{Code}
 use Rattle.cell_heap.specs.Pool.{Pool}
 use Rattle.rv_world.specs.World.{World, primitives}
-use Rattle.rv_place.specs.Addresses.{words_of_line}
+use Rattle.rv_place.specs.Addresses.{is_silent, words_of_action, words_of_line}
+use Rattle.rv_place.specs.Instructions.{words_of_operation}
 use Rattle.rv_place.specs.Lines.{Map}
 use Rattle.rv_place.specs.Grounds.{Ground}
 use Rattle.rv_place.specs.Running.{AllPlain, most_lines, Running, lines_left, NeverStuck, Related, Passing}
 use Rattle.rv_place.proofs.RunningReaches.{reaches}
 use Rattle.rv_place.proofs.RunningLines.{line_at, line_plain, goes_behind}
 use Rattle.rv_place.proofs.RunningComes.{or_stuck_some, Comes}
-use Rattle.rv_place.proofs.RunningMoves.{follow_label, follow_move}
+use Rattle.rv_place.proofs.RunningMoves.{follow_label, follow_silent, follow_move}
 use Rattle.rv_place.proofs.RunningCells.{follow_compute}
 use Rattle.rv_place.proofs.RunningJumps.{follow_jump, follow_branch, follow_tail_call, follow_call, follow_return}
 use Rattle.rv_place.proofs.RunningRoutines.{follow_routine}
@@ -60,46 +61,61 @@ module _ {map_of : Map} {pool : Pool} {functions : List PlacedLines} {depth buff
     module _ (alive : List Listed) (args : List Operand) (into : Option Operand) (words : List ℕ) (words_are : all_of (map (λ (arg : Operand). read_at known f.cells arg.place) args) ≡ Some words) (turn : PlacedTurn World Ending) (good : turn ≢ stuck) where
       -- what an action does
       follow_action : (action : Action) → f.code ≡ does alive action args into ∷ rest → conforms action args into ≡ true
-          → placed_acts (primitives map_of.constants pool) depth functions (record f { code = rest }) fs known world action args into words ≡ turn
+          → is_silent action args into ≡ false → placed_acts (primitives map_of.constants pool) depth functions (record f { code = rest }) fs known world action args into words ≡ turn
           → Comes map_of pool functions depth stop code parts (instructions_of (primitives map_of.constants pool) action (Some words) (top (f ∷ fs)) world) (suc (length rest)) turn s
-      follow_action (Compute operation) code_is conform is =
+      follow_action (Compute operation) code_is conform loud is =
           let line = does alive (Compute operation) args into in
           let writes = line_plain running.frames.0 line rest code_is in
           comes_within (operation_instructions operation + 0) (omega arith)
-          (follow_compute ground f fs known world s running rest (suc (length rest)) operation (λ next next_is below. goes_behind running.frames.0 line rest code_is next (record f { code = rest }) refl refl refl next_is below)
-          running.frames.0.forms running.frames.0.start args into words turn (line_at running.frames.0 line rest code_is) conform writes.0 words_are is good)
-      follow_action (Label l) code_is conform is =
+          (follow_compute ground f fs known world s running rest (suc (length rest)) operation (λ next next_is below. goes_behind running.frames.0 line rest code_is next (record f { code = rest }) refl refl refl
+          (ap (λ silent. s.pc + 4 * cond silent 0 (words_of_operation operation)) loud ∙ next_is) below)
+          running.frames.0.forms running.frames.0.start args into words turn (line_at running.frames.0 line rest code_is loud) conform writes.0 words_are is good)
+      follow_action (Label l) code_is conform loud is =
           let line = does alive (Label l) args into in
           let here : s.pc + 4 * words_of_line running.frames.0.forms line ≡ s.pc = omega arith in
           subst (λ t. Comes map_of pool functions depth stop code parts 0 (suc (length rest)) t s) is
           (follow_label ground f fs known world s running rest (suc (length rest)) (goes_behind running.frames.0 line rest code_is s.pc (record f { code = rest }) refl refl refl here running.frames.0.below) (omega arith))
-      follow_action (Jump l) code_is conform is =
-          follow_jump ground f fs known world s running rest (suc (length rest)) l args into words turn (line_at running.frames.0 (does alive (Jump l) args into) rest code_is) is good
-      follow_action (Branch condition l) code_is conform is =
+      follow_action (Jump l) code_is conform loud is =
+          follow_jump ground f fs known world s running rest (suc (length rest)) l args into words turn (line_at running.frames.0 (does alive (Jump l) args into) rest code_is loud) is good
+      follow_action (Branch condition l) code_is conform loud is =
           let line = does alive (Branch condition l) args into in
           let writes = line_plain running.frames.0 line rest code_is in
           follow_branch ground f fs known world s running rest (suc (length rest)) (λ next next_is below. goes_behind running.frames.0 line rest code_is next (record f { code = rest }) refl refl refl next_is below) condition l
-          args into words turn (line_at running.frames.0 line rest code_is) writes.1 conform words_are is good
-      follow_action (Call g) code_is conform is =
+          args into words turn (line_at running.frames.0 line rest code_is loud) writes.1 conform words_are is good
+      follow_action (Call g) code_is conform loud is =
           let line = does alive (Call g) args into in
           follow_call ground plain f fs known world s running rest (suc (length rest)) running.frames.0.forms g args into words running.frames.0.start turn
-          (λ next next_is below. goes_behind running.frames.0 line rest code_is next (record f { code = rest; into = awaited into }) refl refl refl next_is below) (line_at running.frames.0 line rest code_is) conform words_are is good
-      follow_action (TailCall g) code_is conform is =
-          follow_tail_call ground plain f fs known world s running rest (suc (length rest)) running.frames.0.forms g args into words running.frames.0.start turn (line_at running.frames.0 (does alive (TailCall g) args into) rest code_is) conform words_are is good
-      follow_action Return code_is conform is =
-          follow_return ground f known world s (suc (length rest)) (line_at running.frames.0 (does alive Return args into) rest code_is) fs rest args into words turn running conform words_are is good
-      follow_action (Routine routine) code_is conform is =
+          (λ next next_is below. goes_behind running.frames.0 line rest code_is next (record f { code = rest; into = awaited into }) refl refl refl next_is below) (line_at running.frames.0 line rest code_is loud) conform words_are is good
+      follow_action (TailCall g) code_is conform loud is =
+          follow_tail_call ground plain f fs known world s running rest (suc (length rest)) running.frames.0.forms g args into words running.frames.0.start turn (line_at running.frames.0 (does alive (TailCall g) args into) rest code_is loud) conform words_are is good
+      follow_action Return code_is conform loud is =
+          follow_return ground f known world s (suc (length rest)) (line_at running.frames.0 (does alive Return args into) rest code_is loud) fs rest args into words turn running conform words_are is good
+      follow_action (Routine routine) code_is conform loud is =
           let line = does alive (Routine routine) args into in
           follow_routine ground f fs known world s running rest (suc (length rest)) running.frames.0.forms (λ next next_is below. goes_behind running.frames.0 line rest code_is next (record f { code = rest }) refl refl refl next_is below) into turn good
-          routine running.frames.0.start args words (line_at running.frames.0 line rest code_is) conform words_are is
-      follow_action Hold code_is conform is =
+          routine running.frames.0.start args words (line_at running.frames.0 line rest code_is loud) conform words_are is
+      follow_action Hold code_is conform loud is =
           let line = does alive Hold args into in
           follow_hold ground f fs known world s running rest (suc (length rest)) args into words turn good words_are running.frames.0.forms
-          (λ next next_is below. goes_behind running.frames.0 line rest code_is next (record f { code = rest }) refl refl refl next_is below) (line_at running.frames.0 line rest code_is) is
-      follow_action Unhold code_is conform is =
+          (λ next next_is below. goes_behind running.frames.0 line rest code_is next (record f { code = rest }) refl refl refl next_is below) (line_at running.frames.0 line rest code_is loud) is
+      follow_action Unhold code_is conform loud is =
           let line = does alive Unhold args into in
           follow_unhold ground f fs known world s running rest (suc (length rest)) args into words turn good words_are
-          (λ next next_is below. goes_behind running.frames.0 line rest code_is next (record f { code = rest }) refl refl refl next_is below) (line_at running.frames.0 line rest code_is) is
+          (λ next next_is below. goes_behind running.frames.0 line rest code_is next (record f { code = rest }) refl refl refl next_is below) (line_at running.frames.0 line rest code_is loud) is
+
+      -- or what it does without an instruction
+      follow_statement : (silent : Bool) (action : Action) → is_silent action args into ≡ silent → f.code ≡ does alive action args into ∷ rest → conforms action args into ≡ true
+          → placed_acts (primitives map_of.constants pool) depth functions (record f { code = rest }) fs known world action args into words ≡ turn
+          → Comes map_of pool functions depth stop code parts (instructions_of (primitives map_of.constants pool) action (Some words) (top (f ∷ fs)) world) (suc (length rest)) turn s
+      follow_statement true action silent code_is conform is =
+          let line = does alive action args into in
+          let same : s.pc + 4 * 0 ≡ s.pc = omega arith in
+          let here : s.pc + 4 * words_of_line running.frames.0.forms line ≡ s.pc
+          = ap (λ quiet. s.pc + 4 * cond quiet 0 (words_of_action running.frames.0.forms action)) silent ∙ same in
+          comes_within (instructions_of (primitives map_of.constants pool) action (Some words) (top (f ∷ fs)) world) (omega arith)
+          (follow_silent ground f fs known world s running rest (suc (length rest)) action args into words turn silent
+          (goes_behind running.frames.0 line rest code_is s.pc (record f { code = rest }) refl refl refl here running.frames.0.below) (omega arith) words_are is)
+      follow_statement false action loud code_is conform is = follow_action action code_is conform loud is
 
     follow_line : (line : PlacedLine) (turn : PlacedTurn World Ending) → f.code ≡ line ∷ rest → placed_line (primitives map_of.constants pool) depth functions f fs known world (line ∷ rest) ≡ turn → turn ≢ stuck
         → Comes map_of pool functions depth stop code parts (placed_line_weight (primitives map_of.constants pool) (f ∷ fs) known world f (line ∷ rest)) (suc (length rest)) turn s
@@ -108,7 +124,7 @@ module _ {map_of : Map} {pool : Pool} {functions : List PlacedLines} {depth buff
         let conform = cond_true (conforms action args into) (or_stuck words_of (λ words. placed_acts (primitives map_of.constants pool) depth functions (record f { code = rest }) fs known world action args into words)) turn is good in
         let words = or_stuck_some words_of (λ words. placed_acts (primitives map_of.constants pool) depth functions (record f { code = rest }) fs known world action args into words) turn conform.1 good in
         subst (λ o. Comes map_of pool functions depth stop code parts (instructions_of (primitives map_of.constants pool) action o (top (f ∷ fs)) world) (suc (length rest)) turn s) (sym words.1)
-        (follow_action alive args into words.0 words.1 turn good action code_is conform.0 words.2)
+        (follow_statement alive args into words.0 words.1 turn good (is_silent action args into) action refl code_is conform.0 words.2)
     follow_line (moves alive value way) turn code_is is good =
         let line = moves alive value way in
         let next = cond_false (is_held f.held (to_of way)) (placed_writes (to_of way) (read_at known f.cells (from_of way)) (record f { code = rest }) fs known world) turn is good in

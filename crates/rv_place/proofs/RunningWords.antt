@@ -44,7 +44,7 @@ AllHanded (r ∷ rs) = (is_handed_out r.number ≡ true) × AllHanded rs
 
 -- ---- arguments in registers
 
-some_cons : (first : Option ℕ) (rest : List (Option ℕ)) (words : List ℕ) → all_of (first ∷ rest) ≡ Some words → (word : ℕ) × (more : List ℕ) × (first ≡ Some word) × (all_of rest ≡ Some more) × (words ≡ word ∷ more)
+pub some_cons : (first : Option ℕ) (rest : List (Option ℕ)) (words : List ℕ) → all_of (first ∷ rest) ≡ Some words → (word : ℕ) × (more : List ℕ) × (first ≡ Some word) × (all_of rest ≡ Some more) × (words ≡ word ∷ more)
 some_cons None rest words is = cc
 some_cons (Some word) rest words is = mapped (all_of rest) refl is
   where

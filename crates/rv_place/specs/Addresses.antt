@@ -1,6 +1,6 @@
 -- Where the parts of placed code stand: how many instructions each line is, and the addresses of functions, of labels and of
 -- the runtime's routines.
-use Rattle.std.specs.Prelude.{◌≡◌, ◌≢◌, ◌⊎◌, ℕ, ◌+◌, ◌*◌, max, List, [], ◌∷◌, Option, Some, None, cond, nat_lt}
+use Rattle.std.specs.Prelude.{◌==◌, ◌≡◌, ◌≢◌, ◌⊎◌, ℕ, ◌+◌, ◌*◌, max, List, [], ◌∷◌, Option, Some, None, Bool, false, ◌&&◌, cond, nat_lt}
 use Rattle.rv_isa.specs.declared.asm.Action.{Action}
 use Rattle.rv_isa.specs.declared.asm.Action.TheVariants.{Compute, Label, Jump, Branch, Call, TailCall, Return, Routine, Hold, Unhold}
 use Rattle.rv_isa.specs.declared.placed.Place.{Place}
@@ -9,6 +9,7 @@ use Rattle.rv_isa.specs.declared.placed.Operand.{Operand}
 use Rattle.rv_isa.specs.declared.placed.Symbol.{Symbol}
 use Rattle.rv_isa.specs.PlacedCode.{PlacedLine, does, moves, PlacedLines, from_of, to_of}
 use Rattle.rv_isa.specs.PlacedMachine.{is_label_line}
+use Rattle.rv_isa.specs.LinePlaces.{is_copy}
 use Rattle.rv_isa.specs.Sizes.{reach_down, narrow_frame, wide_frame}
 use Rattle.rv_place.specs.Instructions.{words_of_operation, words_of_jump, words_of_branch}
 use Rattle.rv_place.specs.declared.reach.Forms.{Forms}
@@ -34,8 +35,25 @@ words_of_action forms (Routine routine) = words_of_jump forms.jumps
 words_of_action forms Hold = 1 + words_of_jump forms.jumps
 words_of_action forms Unhold = 3
 
+-- whether two places are one register
+abbrev pub is_same_register : Place → Place → Bool
+is_same_register (register r) (register q) = r.number == q.number
+is_same_register (register r) (slot k) = false
+is_same_register (slot k) place = false
+
+-- whether the one argument stands already where the value goes
+abbrev pub stands_there : List Operand → Option Operand → Bool
+stands_there [] into = false
+stands_there (arg ∷ []) None = false
+stands_there (arg ∷ []) (Some into) = is_same_register arg.place into.place
+stands_there (arg ∷ other ∷ args) into = false
+
+-- a copy of such an argument is no instruction
+abbrev pub is_silent : Action → List Operand → Option Operand → Bool
+is_silent action args into = is_copy action && stands_there args into
+
 abbrev pub words_of_line : Forms → PlacedLine → ℕ
-words_of_line forms (does alive action args into) = words_of_action forms action
+words_of_line forms (does alive action args into) = cond (is_silent action args into) 0 (words_of_action forms action)
 words_of_line forms (moves alive value way) = 1
 
 abbrev pub words_of_lines : Forms → List PlacedLine → ℕ

@@ -1,5 +1,5 @@
 -- Placed code as it stands in memory: the instructions of each line, from an address on.
-use Rattle.std.specs.Prelude.{◌≡◌, ℕ, ◌+◌, ◌-◌, ◌*◌, ◌^◌, ◌≤◌, List, [], ◌∷◌, Option, Some, None, slice_get}
+use Rattle.std.specs.Prelude.{◌≡◌, ℕ, ◌+◌, ◌-◌, ◌*◌, ◌^◌, ◌≤◌, false, List, [], ◌∷◌, Option, Some, None, slice_get}
 use Rattle.rv_isa.specs.declared.register.Register.{Register}
 use Rattle.rv_place.specs.Registers.{zero_register, ra, sp, t0, s3, a0}
 use Rattle.rv_isa.specs.declared.immediate.Immediate.{Immediate}
@@ -22,7 +22,7 @@ use Rattle.rv_isa.specs.Sizes.{reach_down}
 use Rattle.rv_isa.specs.Standing.{Code, Has}
 use Rattle.rv_world.specs.Operations.{Constants}
 use Rattle.rv_place.specs.Instructions.{Zero, words_of_jump, JumpsTo, CallsTo, BranchesOn, UnholdsToken, Computes}
-use Rattle.rv_place.specs.Addresses.{words_of_line, words_of_shift, words_to_frame, label_address, forms_of, entry_words, frame_bias, slot_offset, IsBehind}
+use Rattle.rv_place.specs.Addresses.{is_silent, words_of_line, words_of_shift, words_to_frame, label_address, forms_of, entry_words, frame_bias, slot_offset, IsBehind}
 use Rattle.rv_place.specs.declared.reach.Forms.{Forms}
 use Rattle.rv_place.specs.declared.reach.Reach.{Reach}
 use Rattle.rv_place.specs.declared.reach.Reach.TheVariants.{Near, Far, Wide}
@@ -132,8 +132,10 @@ ActsAt map forms code start whole at (Routine routine) args into = (target : ℕ
 ActsAt map forms code start whole at Hold args into = HoldsIn map forms code at args
 ActsAt map forms code start whole at Unhold args into = UnholdsFrom map code at args
 
+-- of a copy that is no instruction nothing is said
 abbrev pub LineAt : Map → Forms → Code → ℕ → List PlacedLine → ℕ → PlacedLine → Type 0
-LineAt map forms code start whole at (does alive action args into) = ActsAt map forms code start whole at action args into
+LineAt map forms code start whole at (does alive action args into) =
+    is_silent action args into ≡ false → ActsAt map forms code start whole at action args into
 LineAt map forms code start whole at (moves alive value way) = MovesBy map code at way
 
 -- lines from an address on

@@ -5,7 +5,7 @@ ghost use Rattle.elf_image.specs.Program.{text_start};
 ghost use Rattle.rv_isa.specs.Costs.{placed_code_length, placed_functions_length};
 ghost use Rattle.rv_isa.specs.PlacedCode.{placed_line_of, placed_lines_of};
 ghost use Rattle.rv_isa.specs.PlacedMachine.{is_label_line};
-ghost use Rattle.rv_place.specs.Addresses.{words_of_action, words_of_line, words_of_lines, words_of_function, words_of_functions, label_address, greatest_frame, slots_of_operands, slots_of_line, slots_of_lines, slots_of_functions};
+ghost use Rattle.rv_place.specs.Addresses.{is_silent, words_of_action, words_of_line, words_of_lines, words_of_function, words_of_functions, label_address, greatest_frame, slots_of_operands, slots_of_line, slots_of_lines, slots_of_functions};
 ghost use Rattle.rv_place.specs.Texts.{most_text_length, most_functions, most_runtime_words, greatest_address};
 ghost use Rattle.rv_place.specs.Emitted.{Grew, ActionBy, LineBy, LinesBy, FunctionBy, FunctionsBy};
 
@@ -15,7 +15,7 @@ use crate::emit::{emit_branch, emit_call, emit_entry, emit_jump, emit_move, emit
 use crate::labels::Labels;
 use crate::operations::{argument, emit_operation};
 use crate::reach::Reach;
-use crate::sizes::{forms_of, words_of_function, words_of_item};
+use crate::sizes::{forms_of, is_silent, words_of_function, words_of_item};
 use kk_base::NoMemory;
 use rv_isa::{Action, Instr, Item, Operand, PlacedFunction};
 use std::alloc::Global;
@@ -82,7 +82,13 @@ fn emit_item(
             args,
             into,
             ..
-        } => emit_action(code, at, chart, labels, *action, args, *into),
+        } => {
+            if is_silent(*action, args, *into) {
+                Ok(())
+            } else {
+                emit_action(code, at, chart, labels, *action, args, *into)
+            }
+        }
         Item::Moves { way, .. } => emit_move(code, chart, *way),
     }
 }

@@ -7,7 +7,8 @@ ghost use Rattle.rv_isa.specs.WellFormed.{most_values};
 ghost use Rattle.rv_world.specs.Operations.{all_bytes};
 ghost use Rattle.cell_runtime.specs.Lines.{words_of};
 ghost use Rattle.rv_place.specs.Instructions.{words_of_operation};
-ghost use Rattle.rv_place.specs.Addresses.{words_of_action, words_of_line, words_of_lines, words_of_function, words_of_functions, forms_of, slots_of_place, slots_of_operands, slots_of_line, slots_of_lines, slots_of_functions, frame_size};
+ghost use Rattle.rv_isa.specs.LinePlaces.{is_copy};
+ghost use Rattle.rv_place.specs.Addresses.{is_same_register, stands_there, is_silent, words_of_action, words_of_line, words_of_lines, words_of_function, words_of_functions, forms_of, slots_of_place, slots_of_operands, slots_of_line, slots_of_lines, slots_of_functions, frame_size};
 ghost use Rattle.rv_place.specs.Texts.{most_text_length, most_functions, most_runtime_words, most_constant_bytes};
 
 use crate::constant::WordForm;
@@ -47,13 +48,58 @@ fn words_of_action(forms: Forms, action: Action) -> u32
     }
 }
 
+fn is_same_register(one: Place, other: Place) -> bool
+    ensures { result ≡ is_same_register one other }
+{
+    match (one, other) {
+        (Place::Register(one), Place::Register(other)) => one.number == other.number,
+        _ => false,
+    }
+}
+
+fn is_copy(action: Action) -> bool
+    ensures { result ≡ is_copy action }
+{
+    matches!(action, Action::Compute(Operation::Mv))
+}
+
+fn stands_there(args: &[Operand], into: Option<Operand>) -> bool
+    ensures { result ≡ stands_there args.now into }
+{
+    match args {
+        [arg] => match into {
+            Some(into) => is_same_register(arg.place, into.place),
+            None => false,
+        },
+        _ => false,
+    }
+}
+
+/// Whether the action is no instruction: a copy whose argument stands already where the value goes.
+pub fn is_silent(action: Action, args: &[Operand], into: Option<Operand>) -> bool
+    ensures { result ≡ is_silent action args.now into }
+{
+    is_copy(action) && stands_there(args, into)
+}
+
 /// How many instructions an item is.
 pub fn words_of_item(forms: Forms, item: &Item) -> u32
     ensures words { result ≡ words_of_line forms (placed_line_of item.now) }
     ensures few { result ≤ placed_line_length (placed_line_of item.now) }
 {
     match item {
-        Item::Does { action, .. } => words_of_action(forms, *action),
+        Item::Does {
+            action,
+            args,
+            into,
+            ..
+        } => {
+            if is_silent(*action, args, *into) {
+                0
+            } else {
+                words_of_action(forms, *action)
+            }
+        }
         Item::Moves { .. } => 1,
     }
 }

@@ -6,20 +6,20 @@ use Rattle.rv_isa.specs.declared.placed.Operand.{Operand}
 use Rattle.rv_isa.specs.declared.placed.Listed.{Listed}
 use Rattle.rv_isa.specs.AsmCode.{Line, Lines}
 use Rattle.rv_isa.specs.PlacedCode.{PlacedLine, does, moves, PlacedLines}
-use Rattle.rv_isa.specs.LinePlaces.{is_no_label, is_instruction, AsmHasLine, PlacedHasLine}
+use Rattle.rv_isa.specs.LinePlaces.{is_always_some, is_instruction, AsmHasLine, PlacedHasLine}
 use Rattle.rv_regs.specs.Conditions.{value_of, without_moves, ArePlacings}
 use Rattle.rv_regs.specs.LinesReached.{line_in, line_of}
 use Rattle.rv_regs.proofs.Steps.{callee_both}
 
 -- a statement over values has its line, which is no label where the statement is none
 has_line : (code : List PlacedLine) (k : ℕ) (line : Line) → slice_get (without_moves code) k ≡ Some line
-    → is_no_label line.action ≡ true
+    → is_always_some line.action ≡ true
     → (placed : PlacedLine) × ((slice_get code (line_in code k) ≡ Some placed) × (is_instruction placed ≡ true))
 has_line [] k line e none = cc
 has_line (moves alive value way ∷ code) k line e none = has_line code k line e none
 has_line (does alive action args into ∷ code) zero line e none =
     let same : line ≡ record { action = action; args = map value_of args; into = option_map value_of into } = cc in
-    (does alive action args into, (refl, ap (λ (l : Line). is_no_label l.action) (sym same) ∙ none))
+    (does alive action args into, (refl, ap (λ (l : Line). is_always_some l.action) (sym same) ∙ none))
 has_line (does alive action args into ∷ code) (suc k) line e none = has_line code k line e none
 
 -- two statements at one line are one
