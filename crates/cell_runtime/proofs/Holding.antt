@@ -1,10 +1,9 @@
 -- The hold and the unhold of a token, executed.
-use Rattle.std.proofs.Common.{◌≡◌, ◌≢◌, ℕ, ◌+◌, ◌<◌, ◌≤◌, ◌⊎◌, inl, inr, List, [], ◌∷◌, map, Some, refl, sym, ap, ◌∙◌, subst, arith}
+use Rattle.std.proofs.Common.{◌≡◌, ◌≢◌, ℕ, ◌+◌, ◌<◌, ◌≤◌, List, [], ◌∷◌, map, Some, refl, sym, ap, ◌∙◌, subst, arith}
 use Rattle.std.proofs.lemmas.Bool.Decides.{nat_tests}
 use Rattle.rv_isa.specs.declared.instr.Instr.{Instr}
 use Rattle.rv_isa.specs.declared.instr.Instr.TheVariants.{Beq, Addi, Lw, Sw, Jalr}
 use Rattle.rv_isa.specs.Arithmetic.{sum_word}
-use Rattle.rv_isa.specs.Bytes.{with_number}
 use Rattle.rv_isa.specs.Processor.{Processor, value, put}
 use Rattle.rv_isa.specs.Environment.{stepped}
 use Rattle.rv_isa.specs.Standing.{Code, Has, Stands, LeadsIn}
@@ -14,7 +13,7 @@ use Rattle.cell_heap.specs.Cells.{token, occurs}
 use Rattle.cell_heap.specs.Pool.{Pool}
 use Rattle.cell_heap.specs.View.{Link, View}
 use Rattle.cell_heap.specs.Memory.{word, IsSlot, IsHeldChain, Memory}
-use Rattle.cell_heap.proofs.Frames.{IsHeld-cell, cell-inside, byte-stored_apart}
+use Rattle.cell_heap.proofs.Frames.{IsHeld-cell, cell-inside}
 use Rattle.rv_isa.specs.declared.placed.Symbol.TheVariants.{Hold, Unhold}
 use Rattle.cell_runtime.specs.Registers.{KeptBy}
 use Rattle.cell_runtime.specs.Calls.{HasWayBack}
@@ -24,7 +23,7 @@ use Rattle.rv_isa.proofs.Registers.{x0, x1, x5, x9, x10}
 use Rattle.cell_runtime.proofs.Operands.{imm_0, imm_4, forward_8, forward_16}
 use Rattle.cell_runtime.proofs.Spelling.{plain, plain_makes}
 use Rattle.cell_runtime.proofs.Calling.{leads-back, then_one, returns_by}
-use Rattle.cell_runtime.proofs.HoldingTokens.{linked, token_cell, memory_held, memory_with, newest_below}
+use Rattle.cell_runtime.proofs.HoldingTokens.{linked, linked-outside, token_cell, memory_held, memory_with, newest_below}
 
 abbrev pub hold_code : List Instr
 hold_code =
@@ -101,7 +100,7 @@ module _ (code : Code) (pool : Pool) (view : View) (s : Processor) (stands : Sta
         record {
           returns = returns_by (leads-back t stands e has.1.1.1.1.1.0 refl way.aligned way.in_range) refl (kept cell) refl;
           cells = memory_held pool view s u memory cell slot fields is_token is_slot holds cells_apart slots_apart next_fits refl refl refl refl refl refl;
-          memory = outside cell (value s.registers 9) slot;
+          memory = linked-outside cell (value s.registers 9) slot s.memory;
           left = refl;
           trace = refl;
         },
@@ -109,10 +108,6 @@ module _ (code : Code) (pool : Pool) (view : View) (s : Processor) (stands : Sta
     where
       kept : (cell x : ℕ) → KeptBy Hold x → value (put 9 cell (put 5 cell s.registers)) x ≡ value s.registers x
       kept cell x out = let a : x ≢ 9 = out.0 in let b : x ≢ 5 = out.1.0 in grind (arith, nat_tests)
-
-      outside : (cell next slot x : ℕ) → (x < cell) ⊎ (cell + 8 ≤ x) → linked cell next slot s.memory x ≡ s.memory x
-      outside cell next slot x (inl low) = byte-stored_apart (with_number cell 4 next s.memory) (cell + 4) slot x (inl (omega arith)) ∙ byte-stored_apart s.memory cell next x (inl low)
-      outside cell next slot x (inr high) = byte-stored_apart (with_number cell 4 next s.memory) (cell + 4) slot x (inr (omega arith)) ∙ byte-stored_apart s.memory cell next x (inr (omega arith))
 
   holds_by : (held : List Link) (count address bytes : ℕ) → Held view s.memory (value s.registers 10) held count address bytes → (t : Processor) × AfterHold code pool view held count address bytes s t
   holds_by held count address bytes (no_token none) = hold_none none

@@ -8,7 +8,8 @@ use Rattle.cell_heap.specs.Pool.{Pool, IsCell, IsUsable}
 use Rattle.cell_heap.specs.View.{Link, View, HasBorder}
 use Rattle.cell_heap.specs.Memory.{word, HasWords, IsShown, IsChain, IsSlot, IsToken, IsHeld, IsHeldChain, Memory}
 use Rattle.cell_heap.proofs.Sums.{occurs-other}
-use Rattle.cell_heap.proofs.Frames.{changed-by, shows-at, shown-cell, SameBut, HasWords-same, IsShown-changed, IsChain-changed, IsHeldChain-changed, IsHeld-cell, slot-apart}
+use Rattle.cell_heap.proofs.Frames.{changed-by, shows-at, shown-cell, SameBut, HasWords-same, IsShown-changed, IsChain-changed}
+use Rattle.cell_heap.proofs.Frames.{IsHeldChain-changed, IsHeld-cell, slot-apart, byte-stored_apart}
 
 -- the memory in which a token names the next one and its slot
 abbrev pub linked : ℕ → ℕ → ℕ → (ℕ → ℕ) → ℕ → ℕ
@@ -39,6 +40,16 @@ module _ (cell next slot : ℕ) (memory : ℕ → ℕ) (next_fits : next < 2 ^ 3
       nearer : (x : ℕ) → (x + 4 ≤ cell) ⊎ (cell + 32 ≤ x) → (x + 4 ≤ cell) ⊎ (cell + 8 ≤ x)
       nearer x (inl low) = inl low
       nearer x (inr high) = inr (omega arith)
+
+-- all bytes but those of the first two words stay
+pub linked-outside : (cell next slot : ℕ) (memory : ℕ → ℕ) (x : ℕ) → (x < cell) ⊎ (cell + 8 ≤ x)
+    → linked cell next slot memory x ≡ memory x
+linked-outside cell next slot memory x (inl low) =
+    byte-stored_apart (with_number cell 4 next memory) (cell + 4) slot x (inl (omega arith))
+    ∙ byte-stored_apart memory cell next x (inl low)
+linked-outside cell next slot memory x (inr high) =
+    byte-stored_apart (with_number cell 4 next memory) (cell + 4) slot x (inr (omega arith))
+    ∙ byte-stored_apart memory cell next x (inr (omega arith))
 
 -- a heap with a cell that it has is that heap
 changed-none : (cell : ℕ) (c : Cell) (heap : Heap) → heap cell ≡ c → changed cell c heap ≡ heap

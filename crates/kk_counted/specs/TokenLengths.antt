@@ -6,9 +6,12 @@ use Rattle.kk_counted.specs.Lengths.{form_length, reference_length, most_length}
 use Rattle.kk_counted.specs.TokenLowerable.{most_slots}
 use Rattle.kk_counted.specs.TokenedCodes.{Tokened, TokenedArms, TokenedFunction}
 
--- the most instructions for a token that is held or taken back, freed, made null, and moved
+-- the most instructions for a token that is held, taken back, freed, made null, and moved
 abbrev pub hold_length : ℕ
-hold_length = 4
+hold_length = 7
+
+abbrev pub unhold_length : ℕ
+unhold_length = 4
 
 abbrev pub free_length : ℕ
 free_length = 5
@@ -21,7 +24,7 @@ move_length = 4
 
 -- of a token that a construction names beside its own: it is held and taken back
 abbrev pub other_length : ℕ
-other_length = 8
+other_length = hold_length + unhold_length
 
 abbrev mutual
   pub tokened_length : Tokened → ℕ
@@ -42,7 +45,7 @@ abbrev mutual
   tokened_length (Tokened.null y rest) = null_length + tokened_length rest
   tokened_length (Tokened.move to of rest) = move_length + tokened_length rest
   tokened_length (Tokened.hold y rest) = hold_length + tokened_length rest
-  tokened_length (Tokened.unhold y rest) = hold_length + tokened_length rest
+  tokened_length (Tokened.unhold y rest) = unhold_length + tokened_length rest
   tokened_length (Tokened.if_token y there absent) = form_length + tokened_length there + tokened_length absent
 
   pub tokened_arms_length : TokenedArms → ℕ
@@ -84,9 +87,10 @@ abbrev pub all_tokened_computes : List TokenedFunction → ℕ
 all_tokened_computes [] = 0
 all_tokened_computes (function ∷ functions) = tokened_computes function.body + all_tokened_computes functions
 
--- The most that tokens add: at no form but a dup and a drop more than eight instructions for each slot of its function.
+-- The most that tokens add: at no form but a dup and a drop more than it takes to hold each slot of its function and to take it
+-- back.
 abbrev pub most_tokened_length : ℕ
-most_tokened_length = most_length + 8 * most_slots * most_program_forms
+most_tokened_length = most_length + other_length * most_slots * most_program_forms
 
 -- the functions of a program with tokens within the limits
 pub record AreTokensShort (functions : List TokenedFunction) : Type 0 where

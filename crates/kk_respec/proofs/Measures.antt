@@ -5,7 +5,10 @@ use Rattle.kk_core.specs.CaseLengths.{tests_length}
 use Rattle.kk_counted.specs.KeptFields.{KnownFields, forget_slot, forget_variable, forget_variables, known_opened}
 use Rattle.kk_counted.specs.Lengths.{form_length, reference_length}
 use Rattle.kk_counted.specs.TokenCosts.{quiet_cost, other_cost, tokens_ahead, room_needed, arms_need_room, HasRoom}
-use Rattle.kk_counted.specs.TokenLengths.{hold_length, free_length, null_length, move_length, other_length, tokened_length, tokened_arms_length, tokened_functions_length, tokened_computes, tokened_arms_computes, all_tokened_computes, most_tokened_length, AreTokensShort}
+use Rattle.kk_counted.specs.TokenLengths.{hold_length, unhold_length, free_length, null_length, move_length, other_length}
+use Rattle.kk_counted.specs.TokenLengths.{tokened_length, tokened_arms_length, tokened_functions_length}
+use Rattle.kk_counted.specs.TokenLengths.{tokened_computes, tokened_arms_computes, all_tokened_computes}
+use Rattle.kk_counted.specs.TokenLengths.{most_tokened_length, AreTokensShort}
 use Rattle.kk_core.specs.Sizes.{most_program_forms}
 use Rattle.kk_counted.specs.TokenLowerable.{slots_of, slots_in, slots_in_arms}
 use Rattle.kk_counted.specs.TokenedCodes.{Tokened, TokenedArms, TokenedFunction, TokenedProgram}
@@ -150,7 +153,7 @@ mutual
   length_same known (Tokened.null y rest) = ap (λ n. null_length + n) (length_same (forget_slot y known) rest)
   length_same known (Tokened.move to of rest) = ap (λ n. move_length + n) (length_same (forget_slot to (forget_slot of known)) rest)
   length_same known (Tokened.hold y rest) = ap (λ n. hold_length + n) (length_same known rest)
-  length_same known (Tokened.unhold y rest) = ap (λ n. hold_length + n) (length_same known rest)
+  length_same known (Tokened.unhold y rest) = ap (λ n. unhold_length + n) (length_same known rest)
   length_same known (Tokened.if_token y there absent) =
       ap (λ n. form_length + n + tokened_length (respec known absent)) (length_same known there)
       ∙ ap (λ n. form_length + tokened_length there + n) (length_same known absent)

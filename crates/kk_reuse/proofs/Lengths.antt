@@ -1,6 +1,6 @@
--- Paired code is short: what it is longer by than the code that it is made of is paid by that code's forms. Each pays eight
--- instructions for each slot that a function can have, which is enough for the tokens that are held, named or moved there, and for
--- those that are freed behind it.
+-- Paired code is short: what it is longer by than the code that it is made of is paid by that code's forms. Each pays, for each
+-- slot that a function can have, what it takes to hold a token and to take it back. That is enough for the tokens that are held,
+-- named or moved there, and for those that are freed behind it.
 use Rattle.std.proofs.Common.{◌≡◌, ◌≤◌, ℕ, zero, suc, ◌+◌, ◌-◌, ◌*◌, Bool, true, false, if◌then◌else◌, List, [], ◌∷◌, map, Some, refl, arith}
 use Rattle.std.specs.Prelude.{slice_get}
 use Rattle.kk_syntax.specs.declared.program.Form.{Form}
@@ -8,7 +8,9 @@ use Rattle.kk_syntax.specs.declared.program.Form.TheVariants.{Construct, Call}
 use Rattle.kk_counted.specs.CountedCodes.{Counted, give, tail_call, case, compute, inside, read, open_cell, if_unique, dup, drop, CountedArms, no_arm, arm, CountedFunction, CountedProgram}
 use Rattle.kk_counted.specs.Lengths.{form_length, code_length, arms_length, functions_length, computes, arms_computes, all_computes, forms_in, arms_forms, all_forms_in, AreShort}
 use Rattle.kk_counted.specs.TokenCosts.{openings, openings_of, OpenAtMost}
-use Rattle.kk_counted.specs.TokenLengths.{hold_length, free_length, null_length, move_length, other_length, tokened_length, tokened_arms_length, tokened_functions_length, tokened_computes, tokened_arms_computes, all_tokened_computes, AreTokensShort}
+use Rattle.kk_counted.specs.TokenLengths.{hold_length, unhold_length, free_length, null_length, move_length, other_length}
+use Rattle.kk_counted.specs.TokenLengths.{tokened_length, tokened_arms_length, tokened_functions_length}
+use Rattle.kk_counted.specs.TokenLengths.{tokened_computes, tokened_arms_computes, all_tokened_computes, AreTokensShort}
 use Rattle.kk_counted.specs.TokenLowerable.{most_slots}
 use Rattle.kk_counted.specs.TokenedCodes.{Tokened}
 use Rattle.kk_reuse.specs.Following.{may_make, kept, taken}
@@ -25,7 +27,7 @@ holds_length : (n : ℕ) (code : Tokened) → tokened_length (holds n code) ≡ 
 holds_length zero code = omega arith
 holds_length (suc n) code = omega (arith, holds_length n (Tokened.hold n code))
 
-unholds_length : (n : ℕ) (code : Tokened) → tokened_length (unholds n code) ≡ hold_length * n + tokened_length code
+unholds_length : (n : ℕ) (code : Tokened) → tokened_length (unholds n code) ≡ unhold_length * n + tokened_length code
 unholds_length zero code = omega arith
 unholds_length (suc n) code = omega (arith, unholds_length n code)
 
@@ -59,7 +61,7 @@ form_long n x form arguments rest = omega arith
 -- Code before which so many tokens are unspent. What it takes to free each of the others has been saved.
 abbrev IsShort : Tokened → ℕ → ℕ → ℕ → Type 0
 IsShort code n length forms =
-    tokened_length code + free_length * most_slots ≤ length + 8 * most_slots * forms + free_length * n
+    tokened_length code + free_length * most_slots ≤ length + other_length * most_slots * forms + free_length * n
 
 -- whatever the number of tokens is with which a code begins
 abbrev FitsLength : Counted → Bool → ℕ → Type 0
@@ -121,7 +123,7 @@ mutual
       omega (arith, rest_short rest behind l n (paired_short rest behind l fits) few)
 
   arms_short : (arms : CountedArms) (behind : Bool) (l n : ℕ) → l ≤ most_slots → n + openings_of arms ≤ most_slots
-      → tokened_arms_length (paired_arms behind l n arms) ≤ arms_length arms + 8 * most_slots * arms_forms arms
+      → tokened_arms_length (paired_arms behind l n arms) ≤ arms_length arms + other_length * most_slots * arms_forms arms
   arms_short no_arm behind l n fits few = omega arith
   arms_short (arm body rest) behind l n fits few =
       omega (
@@ -218,7 +220,7 @@ mutual
 functions_long : (functions : List CountedFunction)
     → ((f : ℕ) (function : CountedFunction) → slice_get functions f ≡ Some function → openings function.body ≤ most_slots)
     → tokened_functions_length (map paired_function functions)
-    ≤ functions_length functions + 8 * most_slots * all_forms_in functions
+    ≤ functions_length functions + other_length * most_slots * all_forms_in functions
 functions_long [] few = omega arith
 functions_long (function ∷ functions) few =
     omega (

@@ -66,7 +66,7 @@ pub fn paired_code_can_be_lowered()
 {}
 
 /// Paired code is short where the code is that it is made of, which has few openings on a path: in all, its tokens add no more than
-/// the limits make of eight instructions for each slot at each form but a dup and a drop. It has no more forms on values. It is a
+/// the limits make of eleven instructions for each slot at each form but a dup and a drop. It has no more forms on values. It is a
 /// law, and does nothing.
 pub fn paired_code_is_short()
     ensures { (most : ℕ) (program : CountedProgram) → OpenAtMost most program → most ≤ most_slots

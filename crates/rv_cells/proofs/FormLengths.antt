@@ -13,6 +13,7 @@ use Rattle.kk_syntax.specs.Programs.{text_at}
 use Rattle.kk_syntax.specs.Shapes.{is_among}
 use Rattle.kk_source.specs.FormEffects.{piece_of}
 use Rattle.kk_counted.specs.Lowerable.{HasArity}
+use Rattle.kk_counted.specs.TokenLengths.{hold_length, unhold_length, other_length}
 use Rattle.kk_counted.specs.Marks.{CellMarks, field_marks, HaveMarks, IsFormMarked}
 use Rattle.rv_isa.specs.declared.asm.Action.TheVariants.{Label, TailCall, Call as CallOf, Routine as Calls, Hold}
 use Rattle.rv_isa.specs.declared.asm.ImmediateOperation.{ImmediateOperation}
@@ -171,13 +172,13 @@ construct_length base x header arguments lines is few =
 
 -- ---- tokens
 
-holds_length : (tokens : List ℕ) → code_length (hold_lines tokens) ≡ 4 * length tokens
+holds_length : (tokens : List ℕ) → code_length (hold_lines tokens) ≡ hold_length * length tokens
 holds_length [] = omega arith
 holds_length (token ∷ tokens) =
     let apart = lines_append (hold_lines tokens) (acts Hold (token ∷ []) ∷ []) in
     let more = holds_length tokens in omega (arith, apart, more)
 
-unholds_length : (tokens : List ℕ) → code_length (unhold_lines tokens) ≡ 4 * length tokens
+unholds_length : (tokens : List ℕ) → code_length (unhold_lines tokens) ≡ unhold_length * length tokens
 unholds_length [] = omega arith
 unholds_length (token ∷ tokens) = let more = unholds_length tokens in omega (arith, more)
 
@@ -220,7 +221,7 @@ set_length false base x i word one two empty is =
 
 pub fill_length : (base x token : ℕ) (others : List ℕ) (filled header : ℕ) (arguments kept : List ℕ) (head count : Bool)
     (lines : List Line) → FillLines base x token others filled header arguments kept head count lines → length arguments ≤ 6
-    → code_length lines ≤ 80 + 8 * length others
+    → code_length lines ≤ 80 + other_length * length others
 fill_length base x token others filled header arguments kept head count lines is few =
     let taken : Line = record { action = Calls Take; args = []; into = Some x } in
     let built : List Line = acts (Label filled) [] ∷ is.1 in

@@ -73,11 +73,8 @@ gives_into action (Some into) = gives_at action into.place
 abbrev pub conforms : Action → List Operand → Option Operand → Bool
 conforms action args into = take_from action 0 args && gives_into action into
 
--- whether the action may change the register, besides giving its value: a call any, a routine its own, and where a token is
--- held or taken back, the two that this takes
+-- whether the action may change the register, besides giving its value: a call any, and a routine its own
 abbrev pub spoils : Action → ℕ → Bool
 spoils (Call f) x = true
 spoils (Routine routine) x = is_spoilt_by routine x
-spoils Hold x = (x == 5) || (x == 10)
-spoils Unhold x = (x == 5) || (x == 10)
 spoils _ x = false

@@ -27,9 +27,10 @@ routine_instructions m (Routine routine) (Some words) held shared = m.lasts rout
 routine_instructions m _ _ held shared = 0
 
 -- A far jump is two instructions, and a branch to a far label one over a jump. A call has its callee's entry: it compares the
+-- A far jump is two instructions, and a branch to a far label one over a jump. A call has its callee's entry: it compares the
 -- newest frame with the end of the cells, takes a frame and saves the return address. A return loads it and gives the frame back; a
--- large frame is taken and given back in two parts. A token is held by a call with the address of its slot, and taken back by three
--- instructions.
+-- large frame is taken and given back in two parts. A token is loaded from its slot, and put on the held chain or taken off. An action
+-- is as many instructions where it is written.
 abbrev pub action_instructions : Action → ℕ
 action_instructions (Compute operation) = operation_instructions operation
 action_instructions (Label l) = 0
@@ -39,15 +40,8 @@ action_instructions (Call f) = 7
 action_instructions (TailCall f) = 2
 action_instructions Return = 4
 action_instructions (Routine routine) = 2
-action_instructions Hold = 9
-action_instructions Unhold = 7
-
--- How many instructions an action is at most as it is written. A token is held by the address of its slot and a call, and what is
--- called stands elsewhere; it is taken back by three instructions. All others are as many as they execute at most.
-abbrev pub action_length : Action → ℕ
-action_length Hold = 3
-action_length Unhold = 3
-action_length action = action_instructions action
+action_instructions Hold = 6
+action_instructions Unhold = 3
 
 abbrev pub instructions_of : {H E W : Type 0} → Primitives H E W → Action → Option (List ℕ) → Option ℕ → H → ℕ
 instructions_of m action words held shared = action_instructions action + routine_instructions m action words held shared
@@ -76,7 +70,7 @@ line_moves line = argument_moves line.action (length line.args) + result_moves l
 -- The most instructions that a line is, with its moves, that a code is, and that all functions are. Those of a function store its
 -- parameters first.
 abbrev pub line_length : Line → ℕ
-line_length line = line_moves line * move_instructions + action_length line.action
+line_length line = line_moves line * move_instructions + action_instructions line.action
 
 abbrev pub code_length : List Line → ℕ
 code_length [] = 0
@@ -88,7 +82,7 @@ functions_length (function ∷ functions) = length function.params * move_instru
 
 -- the same of code with places
 abbrev pub placed_line_length : PlacedLine → ℕ
-placed_line_length (does alive action args into) = action_length action
+placed_line_length (does alive action args into) = action_instructions action
 placed_line_length (moves alive value way) = move_instructions
 
 abbrev pub placed_code_length : List PlacedLine → ℕ

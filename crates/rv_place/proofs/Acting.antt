@@ -24,15 +24,15 @@ use Rattle.rv_isa.specs.PlacedCode.{PlacedLine, moves, PlacedLines}
 use Rattle.rv_isa.specs.Standing.{Code}
 use Rattle.rv_isa.proofs.Same.{same_register}
 use Rattle.rv_place.specs.Registers.{s3}
-use Rattle.rv_place.specs.Instructions.{words_of_jump, JumpsTo, CallsTo, BranchesOn, words_of_operation}
+use Rattle.rv_place.specs.Instructions.{words_of_jump, JumpsTo, CallsTo, BranchesOn, HoldsToken, UnholdsToken, words_of_operation}
 use Rattle.rv_place.specs.Addresses.{branch_words, slot_offset, words_of_shift, slots_of_place, slots_of_operands, words_of_action, words_of_line, words_of_lines, forms_of, words_to_frame, entry_words, entries_from, words_of_function, words_of_functions}
-use Rattle.rv_place.specs.Lines.{Map, IsFromPointer, IsOffsetOf, IsSymbolAt, frame_register, EntersAt, LinesAt, FunctionsAt, BranchesTo}
+use Rattle.rv_place.specs.Lines.{Map, IsFromPointer, IsOffsetOf, OnToken, IsSymbolAt, frame_register, EntersAt, LinesAt, FunctionsAt, BranchesTo}
 use Rattle.rv_place.specs.declared.reach.Forms.{Forms}
 use Rattle.rv_place.specs.declared.reach.Reach.{Reach}
 use Rattle.rv_place.specs.declared.reach.Reach.TheVariants.{Near, Far}
 use Rattle.rv_place.specs.declared.chart.Chart.{Chart}
 use Rattle.rv_place.specs.declared.labels.Labels.{Labels}
-use Rattle.rv_place.specs.Emitted.{Grew, TokenHeld, TokenUnheld, Charts, JumpReaches, BranchReaches, IsInText, IsInFunction, AreSymbols, IsAddressOf, register_or_zero, ReturnBy, HasLabels, OperationBy, ActionBy, LineBy, LinesBy, MoveBy, EntryBy, FunctionBy, FunctionsBy}
+use Rattle.rv_place.specs.Emitted.{Grew, TokenBy, Charts, JumpReaches, BranchReaches, IsInText, IsInFunction, AreSymbols, IsAddressOf, register_or_zero, ReturnBy, HasLabels, OperationBy, ActionBy, LineBy, LinesBy, MoveBy, EntryBy, FunctionBy, FunctionsBy}
 use Rattle.rv_place.proofs.Emitting.{grew_so, grew_then}
 use Rattle.rv_place.proofs.Near.{short_function, jump_reaches, text_reaches, label_reaches, branch_reaches, function_front, function_back, text_front, text_back}
 use Rattle.rv_place.proofs.Jumping.{BranchGrew}
@@ -77,6 +77,12 @@ module _ (chart : Chart) (labels : Labels) (from : ℕ) (args : List Operand) (i
 
   calls_to : (code : Code) (at word target : ℕ) → at ≡ from → (at ≡ from → JumpReaches jumps at word → CallsTo jumps code at word) → word ≡ target → JumpReaches jumps at target → CallsTo jumps code at target
   calls_to code at word target is_at here same reaches = subst (CallsTo jumps code at) same (here is_at (subst (JumpReaches jumps at) (sym same) reaches))
+
+  -- what was emitted for the token of a slot stands on every map
+  on_token : (Stands : Code → ℕ → Immediate → Type 0) (code : Code) (at : ℕ) {map : Map} → Charts chart map → jumps ≡ map.jumps
+      → 4 * slots_of_operands args + 4 ≤ chart.frame → TokenBy Stands jumps args code at → OnToken Stands map code at args
+  on_token Stands code at charts same inside here k slot_is =
+      let row = here k slot_is in (row.0, slot_from charts jumps same args inside k slot_is row.0 row.1, row.2)
 
   module _ {old new : List Instr} {action : Action} where
     pub on_operation : {operation : Operation} → action ≡ Compute operation → Grew (words_of_operation operation) (OperationBy chart operation args into) old new → Acted old new action
@@ -152,31 +158,19 @@ module _ (chart : Chart) (labels : Labels) (from : ℕ) (args : List Operand) (i
         (text_reaches charts inside target (omega (arith, target_is, charts.first_word)) (omega (arith, target_is)) (omega (arith, target_is, high))))
         emitted)
 
-    pub on_hold : {word : ℕ} → action ≡ Hold → 4 * slots_of_operands args + 4 ≤ chart.frame → ((runtime : ℕ) (names : List (Symbol × ℕ)) → AreSymbols runtime names chart.symbols → IsAddressOf runtime names symbol.Hold word)
-        → Grew (1 + words_of_jump jumps) (TokenHeld jumps args word from) old new → Acted old new action
-    on_hold {word} is inside word_is emitted =
+    pub on_hold : action ≡ Hold → 4 * slots_of_operands args + 4 ≤ chart.frame → Grew 6 (TokenBy HoldsToken jumps args) old new
+        → Acted old new action
+    on_hold is inside emitted =
         subst (Acted old new) (sym is)
         (grew_so refl
-        (λ code at here is_at map charts start whole has within k slot_is target there.
-        let sets = here.sets k slot_is in
-        let high = charts.symbols_in symbol.Hold there.0 there.1 in
-        let target_is : target ≡ map.runtime + 4 * there.0 = there.2 in
-        let same : word ≡ target = word_is map.runtime map.labels charts.symbols there.0 there.1 ∙ sym target_is in
-        let behind = function_back 1 (words_of_jump jumps) within in
-        let reaches : JumpReaches jumps (at + 4) target =
-        text_reaches charts behind target (omega (arith, target_is, charts.first_word)) (omega (arith, target_is)) (omega (arith, target_is, high)) in (
-          (sets.0, slot_from charts jumps within.jumps args inside k slot_is sets.0 sets.1, sets.2),
-          subst (CallsTo jumps code (at + 4)) same (here.calls is_at (subst (JumpReaches jumps (at + 4)) (sym same) reaches)),
-        ))
-        emitted)
+        (λ code at here is_at map charts start whole has within. on_token HoldsToken code at charts within.jumps inside here) emitted)
 
-    pub on_unhold : action ≡ Unhold → 4 * slots_of_operands args + 4 ≤ chart.frame → Grew 3 (TokenUnheld jumps args) old new → Acted old new action
+    pub on_unhold : action ≡ Unhold → 4 * slots_of_operands args + 4 ≤ chart.frame → Grew 3 (TokenBy UnholdsToken jumps args) old new
+        → Acted old new action
     on_unhold is inside emitted =
         subst (Acted old new) (sym is)
         (grew_so refl
-        (λ code at here is_at map charts start whole has within k slot_is.
-        let row = here k slot_is in (row.0, slot_from charts jumps within.jumps args inside k slot_is row.0 row.1, row.2))
-        emitted)
+        (λ code at here is_at map charts start whole has within. on_token UnholdsToken code at charts within.jumps inside here) emitted)
 
 -- the branch of an entry, to the stop for a full stack
 pub entry_branch : {chart : Chart} {map : Map} → Charts chart map → (code : Code) (at target from : ℕ) → at ≡ from → IsInText map at (entry_words map.jumps)

@@ -11,7 +11,7 @@ use Rattle.rv_isa.specs.declared.placed.Placed.{Placed}
 use Rattle.rv_isa.specs.declared.placed.Symbol.{Symbol}
 use Rattle.rv_isa.specs.declared.placed.Symbol.TheVariants as symbol
 use Rattle.rv_isa.specs.PlacedCode.{placed_functions}
-use Rattle.rv_isa.specs.Sizes.{wide_frame}
+use Rattle.rv_isa.specs.Sizes.{reach_down, wide_frame}
 use Rattle.rv_isa.specs.Standing.{Code, code_of}
 use Rattle.rv_isa.proofs.Standing.{Has-front, Has-get, code_of-Has, code_of-place}
 use Rattle.cell_runtime.specs.Layouts.{below_pointer, layout_of}
@@ -25,12 +25,11 @@ use Rattle.cell_runtime.specs.Prints.{buffer_bytes, IsPrintInt, IsPrintText, IsR
 use Rattle.cell_runtime.specs.Stops.{IsStop}
 use Rattle.cell_runtime.specs.Takes.{IsTake}
 use Rattle.cell_runtime.specs.Drops.{IsDrop}
-use Rattle.cell_runtime.specs.Tokens.{IsHold}
 use Rattle.rv_place.specs.Images.{code_in}
 use Rattle.rv_place.specs.declared.words.Words.{Words}
 use Rattle.rv_place.specs.Addresses.{jump_words, words_of_functions, IsBehind, frame_size}
 use Rattle.rv_place.specs.declared.reach.Reach.TheVariants.{Near}
-use Rattle.rv_place.specs.Texts.{ArePlaceable, most_text_words, most_constant_bytes, greatest_bottom, text_bytes, memory_of, pool_in, map_of, ArePlacedWords}
+use Rattle.rv_place.specs.Texts.{ArePlaceable, most_text_words, most_constant_bytes, text_bytes, memory_of, pool_in, map_of, ArePlacedWords}
 use Rattle.rv_place.specs.Grounds.{HasRoutine, Ground}
 use Rattle.rv_place.proofs.BootLoaded.{two_parts, text-loaded, memory-loaded, memory-stored, stored-behind}
 use Rattle.rv_place.proofs.BootSizes.{memory_behind, memory_page, stack_most, words_most, bytes_most, memory_most}
@@ -50,9 +49,6 @@ behind_take = inr (λ e. cc, inr (λ e. cc, inr (λ e. cc, inl (refl, refl))))
 
 behind_drop : IsBehind (symbol.Routine routine.Drop) 32 runtime_labels
 behind_drop = inr (λ e. cc, inr (λ e. cc, inr (λ e. cc, inr (λ e. cc, inl (refl, refl)))))
-
-behind_hold : IsBehind symbol.Hold 60 runtime_labels
-behind_hold = inr (λ e. cc, inr (λ e. cc, inr (λ e. cc, inr (λ e. cc, inr (λ e. cc, inl (refl, refl))))))
 
 behind_print_int : IsBehind (symbol.Routine routine.PrintInt) 70 runtime_labels
 behind_print_int =
@@ -75,7 +71,7 @@ pub record HasRoom (cells depth frame text memory bottom size : ℕ) : Type 0 wh
   pub near : memory < text_start + 4 * most_text_words + most_constant_bytes + PAGE_SIZE
   pub memory_page : memory % PAGE_SIZE ≡ 0
   pub some_cells : bottom ≡ 32 + 32 * cells + below_pointer frame
-  pub few_cells : bottom ≤ greatest_bottom
+  pub few_cells : bottom ≤ 32 + 32 * greatest_cells + reach_down
   pub size_is : size ≡ bottom + depth * frame
   pub few_frames : depth * frame ≤ greatest_depth * wide_frame
 
@@ -165,7 +161,6 @@ module _ {cells depth : ℕ} {runtime program : Placed} {words : Words} (is_runt
         own_inside = own-inside;
         take = routine-at (symbol.Routine routine.Take) 15 (IsTake (pool_in cells runtime program) own_code) behind_take stands.take;
         give_up = routine-at (symbol.Routine routine.Drop) 32 (IsDrop own_code) behind_drop stands.give_up;
-        hold = routine-at symbol.Hold 60 (IsHold (pool_in cells runtime program) own_code) behind_hold stands.hold;
         print_int = routine-at (symbol.Routine routine.PrintInt) 70 (IsPrintInt memory own_code) behind_print_int (rw memory_is stands.print_int);
         print_text = routine-at (symbol.Routine routine.PrintText) 94 (IsPrintText own_code) behind_print_text stands.print_text;
         read_byte = routine-at (symbol.Routine routine.ReadByte) 100 (IsReadByte memory own_code) behind_read_byte (rw memory_is stands.read_byte);

@@ -1,15 +1,15 @@
--- Words that are apart from each free cell: those behind the cells, and those of the program's own blocks.
-use Rattle.std.proofs.Common.{◌≡◌, ◌≢◌, ◌≤◌, ◌⊎◌, inl, inr, ℕ, ◌+◌, List, [], ◌∷◌, Option, All, refl, sym, ap, ◌∙◌, arith}
+-- Words that are apart from each free cell: those behind the cells, those of tokens, and those of the program's own blocks.
+use Rattle.std.proofs.Common.{◌≡◌, ◌≢◌, ◌≤◌, ◌⊎◌, inl, inr, ℕ, ◌+◌, List, [], ◌∷◌, All, refl, sym, ap, ◌∙◌, arith}
 use Rattle.std.proofs.lemmas.Bool.{cases_lt}
 use Rattle.std.proofs.lemmas.List.Elements.{All-nil, All-cons}
 use Rattle.rv_isa.specs.Bytes.{Apart}
 use Rattle.rv_isa.specs.FreeCells.{free_list}
 use Rattle.rv_isa.specs.Processor.{Processor}
 use Rattle.cell_heap.specs.Cells.{Cell, no_cell, free, token, waiting, counted, occurs}
-use Rattle.cell_heap.specs.Pool.{Pool, end_of, IsCell}
+use Rattle.cell_heap.specs.Pool.{Pool, end_of}
 use Rattle.cell_heap.specs.View.{Link, View}
 use Rattle.cell_heap.specs.Memory.{Memory}
-use Rattle.cell_heap.specs.Blocks.{kept, Cells, fields_of, seen, seen_cells}
+use Rattle.cell_heap.specs.Blocks.{Cells, seen_cells}
 use Rattle.cell_heap.specs.Known.{HoldsCells}
 use Rattle.cell_heap.proofs.Sums.{occurs-first, occurs-later}
 use Rattle.cell_heap.proofs.Frames.{shown-cell, cell-inside}
@@ -40,6 +40,19 @@ each_free pool view s memory P each =
     all_members P (free_list pool.cells s)
     (λ x some. elim (free_or_other (view.heap x)) [ inl is ↦ each x is | inr other ↦ absurd (some (lists.no_other x other)) ])
 
+-- a word of a cell that is a token
+pub token_misses : {pool : Pool} {view : View} {s : Processor} → Memory pool view s → (at to : ℕ) (fields : List ℕ)
+    → view.heap at ≡ token fields → at ≤ to → to + 4 ≤ at + 32 → MissesFree pool.cells s to
+token_misses {pool} {view} {s} memory at to fields is low high =
+    let cell = shown-cell memory.shown at (token fields) is (λ e. cc) in
+    each_free pool view s memory (λ x. Apart to 4 x 32)
+    (λ x is_free.
+    let other = shown-cell memory.shown x free is_free (λ e. cc) in
+    let differ : x ≢ at = λ e. token_not_free fields (sym is ∙ ap view.heap (sym e) ∙ is_free) in
+    let whole = cell.aligned in
+    let other_whole = other.aligned in
+    elim (cases_lt at x) [ inl below ↦ inr (omega arith) | inr above ↦ inl (omega arith) ])
+
 module _ {pool : Pool} {cells : Cells} {links : List Link} {s : Processor} (holds : HoldsCells pool cells links s) where
   -- a word behind the cells
   pub behind_misses : (at : ℕ) → end_of pool ≤ at → MissesFree pool.cells s at
@@ -54,14 +67,3 @@ module _ {pool : Pool} {cells : Cells} {links : List Link} {s : Processor} (hold
   apart_misses at apart =
       each_free pool _ s holds.memory (λ x. Apart at 4 x 32)
       (λ x is. elim (apart x is) [ inl before ↦ inr before | inr after ↦ inl after ])
-
-  -- the first word of a held token
-  pub held_misses : {at : ℕ} (words : ℕ → Option ℕ) → cells.blocks at ≡ kept words → IsCell pool at → MissesFree pool.cells s at
-  held_misses {at} words is cell =
-      apart_misses at
-      (λ x is_free.
-      let other = shown-cell holds.memory.shown x free is_free (λ e. cc) in
-      let differ : x ≢ at = λ e. token_not_free (fields_of words) (sym (ap seen is) ∙ ap (seen_cells cells) (sym e) ∙ is_free) in
-      let whole = cell.aligned in
-      let other_whole = other.aligned in
-      elim (cases_lt at x) [ inl below ↦ inl (omega arith) | inr above ↦ inr (omega arith) ])

@@ -96,7 +96,7 @@ module _ {map_of : Map} {pool : Pool} {functions : List PlacedLines} {depth buff
           routine running.frames.0.start args words (line_at running.frames.0 line rest code_is loud) conform words_are is
       follow_action Hold code_is conform loud is =
           let line = does alive Hold args into in
-          follow_hold ground f fs known world s running rest (suc (length rest)) args into words turn good words_are running.frames.0.forms
+          follow_hold ground f fs known world s running rest (suc (length rest)) args into words turn good words_are
           (λ next next_is below. goes_behind running.frames.0 line rest code_is next (record f { code = rest }) refl refl refl next_is below) (line_at running.frames.0 line rest code_is loud) is
       follow_action Unhold code_is conform loud is =
           let line = does alive Unhold args into in

@@ -22,7 +22,7 @@ words_of_shift Near = 1
 words_of_shift Far = 1
 words_of_shift Wide = 2
 
--- how many instructions an action is, by the forms of jumps and branches; a token that is held takes the address of its slot and a call
+-- how many instructions an action is, by the forms of jumps and branches
 abbrev pub words_of_action : Forms → Action → ℕ
 words_of_action forms (Compute operation) = words_of_operation operation
 words_of_action forms (Label l) = 0
@@ -32,7 +32,7 @@ words_of_action forms (Call f) = words_of_jump forms.jumps
 words_of_action forms (TailCall f) = words_of_jump forms.jumps
 words_of_action forms Return = 2 + words_of_shift forms.jumps
 words_of_action forms (Routine routine) = words_of_jump forms.jumps
-words_of_action forms Hold = 1 + words_of_jump forms.jumps
+words_of_action forms Hold = 6
 words_of_action forms Unhold = 3
 
 -- whether two places are one register

@@ -23,9 +23,9 @@ use Rattle.cell_runtime.specs.Lines as OfRuntime
 use Rattle.rv_world.specs.Operations.{address_in}
 use Rattle.rv_place.specs.Addresses.{words_of_action, words_of_shift, words_of_line, words_of_lines, words_of_function, words_of_functions, branch_words, jump_words, entry_words, entries_from, slot_offset, IsBehind, label_address}
 use Rattle.rv_place.specs.Lines.{Map, IsFromPointer, ShiftsStack, ActsAt, LineAt, LinesAt, FunctionAt, FunctionsAt, EntersAt, MovesBy, ReturnsFrom, registers_of, register_into}
-use Rattle.rv_place.specs.Registers.{zero_register, ra, sp, a0}
+use Rattle.rv_place.specs.Registers.{zero_register, ra, sp}
 use Rattle.rv_isa.specs.PlacedMachine.{only_slot}
-use Rattle.rv_place.specs.Instructions.{Computes, CallsTo, UnholdsToken}
+use Rattle.rv_place.specs.Instructions.{Computes}
 use Rattle.rv_place.specs.declared.chart.Chart.{Chart}
 use Rattle.rv_place.specs.declared.labels.Labels.{Labels}
 use Rattle.rv_place.specs.declared.reach.Reach.{Reach}
@@ -103,7 +103,6 @@ IsAddressOf runtime labels symbol address = (before : ℕ) → IsBehind symbol b
 -- the addresses of the symbols of a runtime, whose text begins at an address
 pub record AreSymbols (runtime : ℕ) (labels : List (Symbol × ℕ)) (symbols : Symbols) : Type 0 where
   pub stack_full : IsAddressOf runtime labels symbol.StackFull symbols.stack_full
-  pub hold : IsAddressOf runtime labels symbol.Hold symbols.hold
   pub take : IsAddressOf runtime labels (symbol.Routine Take) symbols.take
   pub give_up : IsAddressOf runtime labels (symbol.Routine Drop) symbols.give_up
   pub print_int : IsAddressOf runtime labels (symbol.Routine PrintInt) symbols.print_int
@@ -141,15 +140,10 @@ or_next None next = next
 abbrev pub HasLabels : Labels → ℕ → List PlacedLine → Type 0
 HasLabels labels start whole = (l : ℕ) → get nat_cmp labels.addresses l ≡ label_address labels.forms l start whole
 
--- the address of the slot of a token goes to a0, and the routine that holds it is called: code that was emitted for an address
-pub record TokenHeld (jumps : Reach) (args : List Operand) (target from : ℕ) (code : Code) (at : ℕ) : Type 0 where
-  pub sets : (k : ℕ) → only_slot args ≡ Some k → (offset : Immediate) × IsFromPointer jumps (slot_offset k) offset × (code at ≡ Some (Addi a0 sp offset))
-  pub calls : at ≡ from → JumpReaches jumps (at + 4) target → CallsTo jumps code (at + 4) target
-
--- a token is taken back from its slot
-abbrev pub TokenUnheld : Reach → List Operand → Code → ℕ → Type 0
-TokenUnheld jumps args code at =
-    (k : ℕ) → only_slot args ≡ Some k → (offset : Immediate) × IsFromPointer jumps (slot_offset k) offset × UnholdsToken code at offset
+-- what was emitted for an action on the token of a slot, by the slot's offset
+abbrev pub TokenBy : (Code → ℕ → Immediate → Type 0) → Reach → List Operand → Code → ℕ → Type 0
+TokenBy Stands jumps args code at =
+    (k : ℕ) → only_slot args ≡ Some k → (offset : Immediate) × IsFromPointer jumps (slot_offset k) offset × Stands code at offset
 
 -- code of each kind that was emitted for an address, `from`, by every map that the chart is of; lines are those of a function that has these labels
 abbrev pub ActionBy : Chart → Labels → ℕ → Action → List Operand → Option Operand → Code → ℕ → Type 0

@@ -15,7 +15,6 @@ use Rattle.cell_runtime.specs.Prints.{buffer_bytes, IsPrintInt, IsPrintText, IsR
 use Rattle.cell_runtime.specs.Stops.{IsStop}
 use Rattle.cell_runtime.specs.Takes.{IsTake}
 use Rattle.cell_runtime.specs.Drops.{IsDrop}
-use Rattle.cell_runtime.specs.Tokens.{IsHold}
 use Rattle.cell_heap.specs.Pool.{Pool, end_of}
 use Rattle.rv_world.specs.Operations.{all_bytes}
 use Rattle.rv_place.specs.Addresses.{frame_bias}
@@ -62,7 +61,6 @@ pub record Ground (map : Map) (pool : Pool) (functions : List PlacedLines) (dept
   pub own_inside : (at : ℕ) (i : Instr) → own at ≡ Some i → (map.runtime ≤ at) × (at < map.runtime + 4 * TEXT_WORDS)
   pub take : HasRoutine map (symbol.Routine routine.Take) (IsTake pool own)
   pub give_up : HasRoutine map (symbol.Routine routine.Drop) (IsDrop own)
-  pub hold : HasRoutine map symbol.Hold (IsHold pool own)
   pub print_int : HasRoutine map (symbol.Routine routine.PrintInt) (IsPrintInt buffer own)
   pub print_text : HasRoutine map (symbol.Routine routine.PrintText) (IsPrintText own)
   pub read_byte : HasRoutine map (symbol.Routine routine.ReadByte) (IsReadByte buffer own)

@@ -166,6 +166,19 @@ FreesToken code at a =
     (over : BranchOffset) × (zero : Immediate) × (over.word ≡ 12) × Zero zero
     × Has code at (Instr.Beq a zero_register over ∷ Instr.Sw a s0 zero ∷ Instr.Addi s0 a zero ∷ [])
 
+-- The token in ra becomes the newest held one: its first word is the one that was held before it, its second the address of its
+-- slot, and s1 is its own address.
+abbrev pub LinksToken : Code → ℕ → Immediate → Type 0
+LinksToken code at slot =
+    (zero : Immediate) × (second : Immediate) × Zero zero × (second.word ≡ 4)
+    × Has code at (Instr.Sw ra s1 zero ∷ Instr.Addi s1 sp slot ∷ Instr.Sw ra s1 second ∷ Instr.Addi s1 ra zero ∷ [])
+
+-- The token in a slot is held: it is loaded to ra. A branch leads over the rest where the slot has none.
+abbrev pub HoldsToken : Code → ℕ → Immediate → Type 0
+HoldsToken code at slot =
+    (over : BranchOffset) × (over.word ≡ 20) × (code at ≡ Some (Instr.Lw ra sp slot))
+    × (code (at + 4) ≡ Some (Instr.Beq ra zero_register over)) × LinksToken code (at + 4 + 4) slot
+
 -- The newest held token is taken back from its slot: it is loaded to ra, and its first word, the address of the one that was held before it, goes to
 -- s1. A branch leads over this where the slot has none.
 abbrev pub UnholdsToken : Code → ℕ → Immediate → Type 0

@@ -1,7 +1,7 @@
 -- Placed code as it stands in memory: the instructions of each line, from an address on.
 use Rattle.std.specs.Prelude.{◌≡◌, ℕ, ◌+◌, ◌-◌, ◌*◌, ◌^◌, ◌≤◌, false, List, [], ◌∷◌, Option, Some, None, slice_get}
 use Rattle.rv_isa.specs.declared.register.Register.{Register}
-use Rattle.rv_place.specs.Registers.{zero_register, ra, sp, t0, s3, a0}
+use Rattle.rv_place.specs.Registers.{zero_register, ra, sp, t0, s3}
 use Rattle.rv_isa.specs.declared.immediate.Immediate.{Immediate}
 use Rattle.rv_isa.specs.declared.instr.Instr.TheVariants.{Addi, Jalr, Lw, Sw}
 use Rattle.rv_isa.specs.declared.asm.Condition.{Condition}
@@ -21,7 +21,7 @@ use Rattle.rv_isa.specs.Arithmetic.{sum_word}
 use Rattle.rv_isa.specs.Sizes.{reach_down}
 use Rattle.rv_isa.specs.Standing.{Code, Has}
 use Rattle.rv_world.specs.Operations.{Constants}
-use Rattle.rv_place.specs.Instructions.{Zero, words_of_jump, JumpsTo, CallsTo, BranchesOn, UnholdsToken, Computes}
+use Rattle.rv_place.specs.Instructions.{Zero, words_of_jump, JumpsTo, CallsTo, BranchesOn, HoldsToken, UnholdsToken, Computes}
 use Rattle.rv_place.specs.Addresses.{is_silent, words_of_line, words_of_shift, words_to_frame, label_address, forms_of, entry_words, frame_bias, slot_offset, IsBehind}
 use Rattle.rv_place.specs.declared.reach.Forms.{Forms}
 use Rattle.rv_place.specs.declared.reach.Reach.{Reach}
@@ -103,16 +103,10 @@ pub record ReturnsFrom (map : Map) (code : Code) (at : ℕ) : Type 0 where
   pub zero_is : Zero zero
   pub goes : code (at + 4 + 4 * words_of_shift map.jumps) ≡ Some (Jalr zero_register ra zero)
 
--- a token is held: the routine is called with the address of its slot in a0
-abbrev pub HoldsIn : Map → Forms → Code → ℕ → List Operand → Type 0
-HoldsIn map forms code at args =
-    (k : ℕ) → only_slot args ≡ Some k → (target : ℕ) → IsSymbolAt map symbol.Hold target
-    → ((offset : Immediate) × IsOffsetOf map k offset × (code at ≡ Some (Addi a0 sp offset))) × CallsTo forms.jumps code (at + 4) target
-
--- a token is taken back from its slot
-abbrev pub UnholdsFrom : Map → Code → ℕ → List Operand → Type 0
-UnholdsFrom map code at args =
-    (k : ℕ) → only_slot args ≡ Some k → (offset : Immediate) × IsOffsetOf map k offset × UnholdsToken code at offset
+-- what stands for an action on the token of a slot, by the slot's offset
+abbrev pub OnToken : (Code → ℕ → Immediate → Type 0) → Map → Code → ℕ → List Operand → Type 0
+OnToken Stands map code at args =
+    (k : ℕ) → only_slot args ≡ Some k → (offset : Immediate) × IsOffsetOf map k offset × Stands code at offset
 
 -- What stands at an address for an action of a function of these forms whose lines, `whole`, stand at `start`. Of what is none, as a jump to a label that is
 -- not there, nothing is said.
@@ -129,8 +123,8 @@ ActsAt map forms code start whole at (Call f) args into = (entry : ℕ) → slic
 ActsAt map forms code start whole at (TailCall f) args into = (entry : ℕ) → slice_get map.entries f ≡ Some entry → JumpsTo forms.jumps code at (entry + 4 * entry_words map.jumps)
 ActsAt map forms code start whole at Return args into = ReturnsFrom map code at
 ActsAt map forms code start whole at (Routine routine) args into = (target : ℕ) → IsSymbolAt map (symbol.Routine routine) target → CallsTo forms.jumps code at target
-ActsAt map forms code start whole at Hold args into = HoldsIn map forms code at args
-ActsAt map forms code start whole at Unhold args into = UnholdsFrom map code at args
+ActsAt map forms code start whole at Hold args into = OnToken HoldsToken map code at args
+ActsAt map forms code start whole at Unhold args into = OnToken UnholdsToken map code at args
 
 -- of a copy that is no instruction nothing is said
 abbrev pub LineAt : Map → Forms → Code → ℕ → List PlacedLine → ℕ → PlacedLine → Type 0

@@ -1,14 +1,13 @@
 -- What a text is made of: the runtime's instructions, those of the functions behind them, and the constants behind these.
-use Rattle.std.specs.Prelude.{◌≡◌, ℕ, ◌+◌, ◌-◌, ◌*◌, ◌≤◌, List, ◌++◌, length, cond, nat_lt}
+use Rattle.std.specs.Prelude.{◌≡◌, ℕ, ◌+◌, ◌-◌, ◌*◌, ◌^◌, ◌≤◌, List, ◌++◌, length, cond, nat_lt}
 use Rattle.kk_base.specs.declared.limit.LimitKind.TheVariants.{FunctionNodes, Instances, ProgramNodes}
 use Rattle.kk_base.specs.Limits.{greatest_of}
-use Rattle.kk_base.specs.Sizes.{greatest_cells}
 use Rattle.elf_image.specs.Program.{text_start, memory_start}
 use Rattle.rv_isa.specs.declared.instr.Instr.{Instr}
 use Rattle.rv_isa.specs.declared.placed.Placed.{Placed}
 use Rattle.rv_isa.specs.PlacedCode.{placed_functions, placed_constants}
 use Rattle.rv_isa.specs.Costs.{placed_functions_length}
-use Rattle.rv_isa.specs.Sizes.{reach_down, narrow_frame, wide_frame}
+use Rattle.rv_isa.specs.Sizes.{narrow_frame, wide_frame}
 use Rattle.rv_isa.specs.Standing.{code_of}
 use Rattle.cell_runtime.specs.Lines.{Spells, AreWithin, words_of, labels_of}
 use Rattle.cell_heap.specs.Pool.{Pool}
@@ -47,9 +46,9 @@ most_constant_bytes = 1024 * greatest_of ProgramNodes
 abbrev pub greatest_address : ℕ
 greatest_address = 2147483648
 
--- how far behind the memory's begin the stack begins at most: behind the buffer, the cells, and what a load reaches down
+-- how far behind the memory's begin the stack may begin at most
 abbrev pub greatest_bottom : ℕ
-greatest_bottom = 32 + 32 * greatest_cells + reach_down
+greatest_bottom = 2 ^ 28
 
 -- A runtime and a program that can be placed: frames are so small that each slot is within reach of the stack pointer, and the
 -- text is small enough for a text part.

@@ -3,12 +3,11 @@
 ghost use Rattle.std.specs.Prelude.{◌≡◌, ℕ, ◌+◌, ◌*◌, ◌≤◌, Some, OnOk};
 ghost use Rattle.rv_isa.specs.PlacedMachine.{only_slot};
 ghost use Rattle.rv_place.specs.Addresses.{greatest_frame, slot_offset, slots_of_operands};
-ghost use Rattle.rv_place.specs.Instructions.{RaisesCount, FreesToken, words_of_jump};
-ghost use Rattle.rv_place.specs.Texts.{greatest_address};
+ghost use Rattle.rv_place.specs.Instructions.{RaisesCount, FreesToken, LinksToken, HoldsToken, UnholdsToken};
 ghost use Rattle.rv_place.specs.Lines.{IsFromPointer};
-ghost use Rattle.rv_place.specs.Emitted.{Grew, TokenHeld, TokenUnheld};
+ghost use Rattle.rv_place.specs.Emitted.{Grew, TokenBy};
 
-use crate::emit::{emit, emit_call, slot_offset};
+use crate::emit::{emit, slot_offset};
 use crate::reach::Reach;
 use kk_base::NoMemory;
 use rv_isa::{BranchOffset, Immediate, Instr, Operand, Place, Register};
@@ -110,34 +109,77 @@ fn token_offset(jumps: Reach, args: &[Operand]) -> Immediate
     }
 }
 
-/// Holds the token of a slot, at the address `at`: a call with the address of the slot in `a0`.
-pub fn emit_hold(
-    code: &mut Vec<Instr>,
-    at: u32,
-    jumps: Reach,
-    args: &[Operand],
-    target: u32,
-) -> Result<(), NoMemory>
-    requires at { at ≤ greatest_address }
-    requires slots { 4 * slots_of_operands args.now + 4 ≤ greatest_frame jumps }
-    ensures { OnOk result (Grew (1 + words_of_jump jumps) (TokenHeld jumps args.now target at) code.old.items code.new.items) }
+/// Makes the token in `ra`, which its slot has, the newest held one.
+fn emit_link(code: &mut Vec<Instr>, slot: Immediate) -> Result<(), NoMemory>
+    ensures { OnOk result (Grew 4 (λ c at. LinksToken c at slot) code.old.items code.new.items) }
 {
+    let second = Immediate::new(4);
+    emit(
+        code,
+        Instr::Sw {
+            rs1: Register::RA,
+            rs2: Register::S1,
+            imm: Immediate::ZERO,
+        },
+    )?;
     emit(
         code,
         Instr::Addi {
-            rd: Register::A0,
+            rd: Register::S1,
             rs1: Register::SP,
-            imm: token_offset(jumps, args),
+            imm: slot,
         },
     )?;
-    emit_call(code, at + 4, jumps, target)?;
+    emit(
+        code,
+        Instr::Sw {
+            rs1: Register::RA,
+            rs2: Register::S1,
+            imm: second,
+        },
+    )?;
+    emit(
+        code,
+        Instr::Addi {
+            rd: Register::S1,
+            rs1: Register::RA,
+            imm: Immediate::ZERO,
+        },
+    )?;
+    Ok(())
+}
+
+/// Holds the token of a slot, which is the newest one then; where the slot has none, does nothing.
+pub fn emit_hold(code: &mut Vec<Instr>, jumps: Reach, args: &[Operand]) -> Result<(), NoMemory>
+    requires slots { 4 * slots_of_operands args.now + 4 ≤ greatest_frame jumps }
+    ensures { OnOk result (Grew 6 (TokenBy HoldsToken jumps args.now) code.old.items code.new.items) }
+{
+    let slot = token_offset(jumps, args);
+    let over = BranchOffset::new(20);
+    emit(
+        code,
+        Instr::Lw {
+            rd: Register::RA,
+            rs1: Register::SP,
+            imm: slot,
+        },
+    )?;
+    emit(
+        code,
+        Instr::Beq {
+            rs1: Register::RA,
+            rs2: Register::ZERO,
+            offset: over,
+        },
+    )?;
+    emit_link(code, slot)?;
     Ok(())
 }
 
 /// Takes the token of a slot back, which is the newest one; where the slot has none, does nothing.
 pub fn emit_unhold(code: &mut Vec<Instr>, jumps: Reach, args: &[Operand]) -> Result<(), NoMemory>
     requires slots { 4 * slots_of_operands args.now + 4 ≤ greatest_frame jumps }
-    ensures { OnOk result (Grew 3 (TokenUnheld jumps args.now) code.old.items code.new.items) }
+    ensures { OnOk result (Grew 3 (TokenBy UnholdsToken jumps args.now) code.old.items code.new.items) }
 {
     let over = BranchOffset::new(8);
     emit(

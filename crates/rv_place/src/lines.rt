@@ -57,7 +57,7 @@ fn emit_action(
         Action::TailCall(function) => emit_jump(code, at, jumps, chart.body(function)),
         Action::Return => emit_return(code, chart),
         Action::Routine(routine) => { emit_call(code, at, jumps, chart.symbols.routine(routine)) }
-        Action::Hold => emit_hold(code, at, jumps, args, chart.symbols.hold),
+        Action::Hold => emit_hold(code, jumps, args),
         Action::Unhold => emit_unhold(code, jumps, args),
     }
 }

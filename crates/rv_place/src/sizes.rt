@@ -1,7 +1,7 @@
 // How many instructions code is, how many bytes constants, and how large frames are.
 
 ghost use Rattle.std.specs.Prelude.{◌≡◌, ◌+◌, ◌*◌, ◌≤◌, length, map, max};
-ghost use Rattle.rv_isa.specs.Costs.{operation_instructions, action_length, placed_line_length, placed_code_length, placed_functions_length};
+ghost use Rattle.rv_isa.specs.Costs.{operation_instructions, action_instructions, placed_line_length, placed_code_length, placed_functions_length};
 ghost use Rattle.rv_isa.specs.PlacedCode.{placed_line_of, placed_lines_of, placed_functions, from_of, to_of};
 ghost use Rattle.rv_isa.specs.WellFormed.{most_values};
 ghost use Rattle.rv_world.specs.Operations.{all_bytes};
@@ -34,7 +34,7 @@ fn words_of_operation(operation: Operation) -> u32
 /// How many instructions an action is.
 fn words_of_action(forms: Forms, action: Action) -> u32
     ensures words { result ≡ words_of_action forms action }
-    ensures few { result ≤ action_length action }
+    ensures few { result ≤ action_instructions action }
 {
     let jump = forms.jumps.words_of_jump();
     match action {
@@ -43,7 +43,7 @@ fn words_of_action(forms: Forms, action: Action) -> u32
         Action::Jump(_) | Action::Call(_) | Action::TailCall(_) | Action::Routine(_) => jump,
         Action::Branch(_, _) => forms.words_of_branch(),
         Action::Return => 2 + forms.jumps.words_of_shift(),
-        Action::Hold => 1 + jump,
+        Action::Hold => 6,
         Action::Unhold => 3,
     }
 }

@@ -14,7 +14,6 @@ use rv_isa::{Native, Routine, Symbol};
 #[derive(Clone, Copy, PartialEq, Eq, Debug)]
 pub struct Symbols {
     pub stack_full: u32,
-    pub hold: u32,
     pub take: u32,
     pub give_up: u32,
     pub print_int: u32,
@@ -30,7 +29,6 @@ impl Symbols {
     {
         Symbols {
             stack_full: address_of(natives, Symbol::StackFull),
-            hold: address_of(natives, Symbol::Hold),
             take: address_of(natives, Symbol::Routine(Routine::Take)),
             give_up: address_of(natives, Symbol::Routine(Routine::Drop)),
             print_int: address_of(natives, Symbol::Routine(Routine::PrintInt)),

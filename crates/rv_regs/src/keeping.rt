@@ -18,7 +18,6 @@ pub fn may_spoil(action: Option<Action>, register: u8) -> bool
     match action {
         Some(Action::Call(_)) => true,
         Some(Action::Routine(routine)) => routine.spoils(register),
-        Some(Action::Hold | Action::Unhold) => register == 5 || register == 10,
         _ => false,
     }
 }

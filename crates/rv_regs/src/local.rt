@@ -324,7 +324,6 @@ fn prepare(
         }
         Action::Hold | Action::Unhold => {
             store_all(alloc, walk, &statement.args)?;
-            leave_spoilt(alloc, walk, action, &behind.point.alive, &behind.stored)?;
             walk.state = state_uncopied(alloc, &walk.state, &statement.args)?;
             Ok(())
         }

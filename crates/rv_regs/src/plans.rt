@@ -113,10 +113,7 @@ pub fn goes_on(action: Action) -> bool {
 
 // Whether the action spoils registers.
 fn spoils_some(action: Action) -> bool {
-    matches!(
-        action,
-        Action::Call(_) | Action::Routine(_) | Action::Hold | Action::Unhold
-    )
+    matches!(action, Action::Call(_) | Action::Routine(_))
 }
 
 /// Whether it spoils registers that values may stay in.

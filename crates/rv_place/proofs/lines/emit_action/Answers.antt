@@ -47,7 +47,7 @@ returns-in-Routine c =
 pub returns-in-Hold : goal.returns-in-Hold
 returns-in-Hold c =
     on_so c.emit_hold.result
-    (on_hold c.args.chart.now c.args.labels.now c.args.at c.args.args.now c.args.into c.in-Hold.is c.requires.slots (λ runtime names are. are.hold))
+    (on_hold c.args.chart.now c.args.labels.now c.args.at c.args.args.now c.args.into c.in-Hold.is c.requires.slots)
     c.emit_hold.ensures
 
 pub returns-in-Unhold : goal.returns-in-Unhold
