@@ -26,7 +26,7 @@ use Rattle.rv_isa.specs.declared.asm.Operation.TheVariants.{Free}
 use Rattle.rv_isa.specs.AsmCode.{Line}
 use Rattle.rv_lower.specs.declared.lowering.Lowering.{Lowering}
 use Rattle.rv_lower.specs.Lines.{sets, copies_to, acts}
-use Rattle.rv_lower.specs.Lowered.{Goal, joins, goal_lines, tail_lines}
+use Rattle.rv_lower.specs.Lowered.{Goal, joins}
 use Rattle.rv_lower.specs.Written.{lines_written, texts_written, Wrote, WroteLines, TookLabel, Grows}
 use Rattle.rv_lower.proofs.Grown.{grows_of, grows_took, grows_none, grows_then, grows_more, later_texts}
 use Rattle.rv_cells.specs.declared.decide.Targets.{Targets}

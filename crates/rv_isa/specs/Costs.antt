@@ -27,7 +27,6 @@ routine_instructions m (Routine routine) (Some words) held shared = m.lasts rout
 routine_instructions m _ _ held shared = 0
 
 -- A far jump is two instructions, and a branch to a far label one over a jump. A call has its callee's entry: it compares the
--- A far jump is two instructions, and a branch to a far label one over a jump. A call has its callee's entry: it compares the
 -- newest frame with the end of the cells, takes a frame and saves the return address. A return loads it and gives the frame back; a
 -- large frame is taken and given back in two parts. A token is loaded from its slot, and put on the held chain or taken off. An action
 -- is as many instructions where it is written.

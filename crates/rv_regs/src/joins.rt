@@ -5,7 +5,8 @@ use crate::moving::{KeptState, Walk, put_away, put_store, spare_register};
 use crate::places::listing;
 use crate::plans::{Care, Plans};
 use crate::state::{
-    is_copied_in, is_in_slot, is_to_be_had, register_of, same_state, stands_in, state_at,
+    is_constant, is_copied_in, is_in_slot, is_of_constant, is_to_be_had, register_of, same_state,
+    stands_in, state_at,
 };
 use kk_base::NoMemory;
 use rv_isa::{Listed, Place, Register};
@@ -150,7 +151,8 @@ fn found_first(
     let mut goals = Vec::new(alloc);
     for value in alive_at(&plans.alive, label) {
         if let Some(listed) = listing(state, *value) {
-            if !is_lone && care.is_early(*value) {
+            let is_apart = listed.copy.is_some_and(is_of_constant);
+            if !is_lone && (is_apart || care.is_early(*value)) {
                 goals.push(Listed {
                     copy: None,
                     ..listed
@@ -161,6 +163,26 @@ fn found_first(
         }
     }
     Ok(goals)
+}
+
+// Before a label to which more than one way leads, values leave the registers of constants.
+fn leave_constants(
+    alloc: Global,
+    walk: &mut Walk,
+    label: u32,
+    plans: &Plans,
+) -> Result<(), NoMemory> {
+    if !is_one_of(label, &plans.lone) {
+        for value in alive_at(&plans.alive, label) {
+            if let Some(listed) = listing(&walk.state, *value) {
+                if is_constant(listed) {
+                    let to = spare_register(walk, &[])?;
+                    put_away(alloc, walk, listed, to)?;
+                }
+            }
+        }
+    }
+    Ok(())
 }
 
 // Values that go early come to their slots before a label to which more than one way leads.
@@ -196,7 +218,8 @@ pub fn go_to(
         let goals = same_state(alloc, &walk.kept[at].state)?;
         reach(alloc, walk, &goals, care)
     } else {
-        store_early(alloc, walk, label, plans, care)
+        store_early(alloc, walk, label, plans, care)?;
+        leave_constants(alloc, walk, label, plans)
     }
 }
 
@@ -207,7 +230,9 @@ pub fn kept_register(walk: &Walk, keep: &[u32], ahead: &[u32], value: u32) -> Op
         if at < walk.kept.len() {
             if let Some(listed) = listing(&walk.kept[at].state, value) {
                 return match register_of(listed) {
-                    Some(register) if is_to_be_had(&walk.state, keep, register) => Some(register),
+                    Some(register)
+                        if is_to_be_had(&walk.state, keep, register) && !is_of_constant(register) =>
+                        { Some(register) }
                     _ => None,
                 };
             }

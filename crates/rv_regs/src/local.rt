@@ -7,13 +7,14 @@ use crate::moving::{Walk, put_away, put_copy, put_store, spare_register};
 use crate::places::listing;
 use crate::plans::{Care, Due, Plan, Plans, goes_on, plans_of, spoils_many};
 use crate::state::{
-    argument_register, is_free, is_in, is_to_be_had, is_wished_for, operands_at, register_of,
-    same_state, stands_in, state_at, state_behind, state_clear_of, state_uncopied, state_without,
-    wished_register,
+    argument_register, constant_register, is_free, is_in, is_of_constant, is_to_be_had,
+    is_wished_for, operands_at, register_of, same_state, standing_in, stands_in, state_at,
+    state_behind, state_clear_of, state_uncopied, state_without, wished_register,
 };
 use kk_base::NoMemory;
 use rv_isa::{
-    Action, AsmFunction, Item, Listed, Operand, Place, PlacedFunction, Register, Statement,
+    Action, AsmFunction, Item, Listed, Operand, Operation, Place, PlacedFunction, Register,
+    Statement,
 };
 use std::alloc::Global;
 
@@ -50,20 +51,51 @@ fn settle(
     }
 }
 
-// A register for a value: the one that it has at a label ahead, or the one that it wishes for, else any.
+// A register for a value: the one that it has at a label ahead, or the one that it wishes for, or this one that costs nothing, else
+// any. For a value that has to go to its slot it is this one rather than the one that it wishes for.
 fn register_for(
     walk: &mut Walk,
     keep: &[u32],
     plan: &Plan,
     value: u32,
+    idle: Option<Register>,
 ) -> Result<Register, NoMemory> {
     if let Some(register) = kept_register(walk, keep, &plan.ahead, value) {
+        return Ok(register);
+    }
+    if let (Some(register), true) = (idle, is_one_of(value, &plan.slotted)) {
         return Ok(register);
     }
     if let Some(register) = wished_register(&walk.state, keep, &plan.wishes, value) {
         return Ok(register);
     }
-    spare_register(walk, keep)
+    match idle {
+        Some(register) => Ok(register),
+        None => spare_register(walk, keep),
+    }
+}
+
+// A register that costs nothing: for a constant its own, where the value comes to no label to which other ways lead; for a copy
+// that of its value, where this has no other use.
+fn idle_register(
+    state: &[Listed],
+    operation: Operation,
+    args: &[Operand],
+    value: u32,
+    plan: &Plan,
+) -> Option<Register> {
+    if let Some(register) = constant_register(operation) {
+        let is_open = is_to_be_had(state, &[], register) && !is_one_of(value, &plan.joining);
+        return if is_open { Some(register) } else { None };
+    }
+    if let (Operation::Mv, Some(arg)) = (operation, args.first()) {
+        if let Place::Register(register) = arg.place {
+            if is_free(state, register) && !is_of_constant(register) {
+                return Some(register);
+            }
+        }
+    }
+    None
 }
 
 // Each argument of a computation comes to a register.
@@ -71,7 +103,7 @@ fn fetch(alloc: Global, walk: &mut Walk, args: &[u32], plan: &Plan) -> Result<()
     for value in args {
         if let Some(listed) = listing(&walk.state, *value) {
             if register_of(listed).is_none() {
-                let to = register_for(walk, args, plan, *value)?;
+                let to = register_for(walk, args, plan, *value, None)?;
                 put_copy(alloc, walk, listed, to)?;
             }
         }
@@ -96,6 +128,75 @@ fn is_in_the_way(listed: Listed, args: &[u32]) -> bool {
         }
     }
     false
+}
+
+// What is copied, and has to be in its slot on each way on, goes there first: then the copy can have its register.
+fn store_copied(
+    alloc: Global,
+    walk: &mut Walk,
+    statement: &Statement,
+    behind: &Plan,
+) -> Result<(), NoMemory> {
+    if let Action::Compute(Operation::Mv) = statement.action {
+        for value in &statement.args {
+            if let Some(listed) = listing(&walk.state, *value) {
+                if walk.left > 0 && is_one_of(*value, &behind.stored) {
+                    put_store(alloc, walk, listed)?;
+                }
+            }
+        }
+    }
+    Ok(())
+}
+
+// How many of the arguments are in no register.
+fn loads_for(state: &[Listed], args: &[u32]) -> usize {
+    args.iter()
+        .filter(|value| {
+            listing(state, **value).is_some_and(|listed| register_of(listed).is_none())
+        })
+        .count()
+}
+
+// A value that is alive behind a copy leaves a register.
+fn leave_wished(
+    alloc: Global,
+    walk: &mut Walk,
+    listed: Listed,
+    args: &[u32],
+    behind: &Plan,
+) -> Result<(), NoMemory> {
+    if is_one_of(listed.value, &behind.stored) {
+        put_store(alloc, walk, listed)
+    } else if !is_one_of(listed.value, &behind.point.alive) {
+        Ok(())
+    } else if let Some(to) = wished_register(&walk.state, args, &behind.wishes, listed.value) {
+        put_away(alloc, walk, listed, to)
+    } else {
+        Ok(())
+    }
+}
+
+// Another value leaves the register that the result of a copy wishes for: it goes to its slot, where it has to be on each way on,
+// or to a register that it wishes for itself.
+fn make_room(
+    alloc: Global,
+    walk: &mut Walk,
+    statement: &Statement,
+    behind: &Plan,
+) -> Result<(), NoMemory> {
+    let (Action::Compute(Operation::Mv), Some(value)) = (statement.action, statement.into) else {
+        return Ok(());
+    };
+    let loads = loads_for(&walk.state, &statement.args);
+    for wish in &behind.wishes {
+        if wish.value == value && walk.left > loads {
+            if let Some(listed) = standing_in(&walk.state, wish.register) {
+                leave_wished(alloc, walk, listed, &statement.args, behind)?;
+            }
+        }
+    }
+    Ok(())
 }
 
 // The first argument that is not where it is taken, and can be brought there: with `is_gentle`, where that loses no copy.
@@ -216,11 +317,15 @@ fn leave_spoilt(
 fn result_for(
     walk: &mut Walk,
     action: Action,
+    args: &[Operand],
     value: u32,
     plan: &Plan,
 ) -> Result<Register, NoMemory> {
     match action {
-        Action::Compute(_) => register_for(walk, &[], plan, value),
+        Action::Compute(operation) => {
+            let idle = idle_register(&walk.state, operation, args, value, plan);
+            register_for(walk, &[], plan, value, idle)
+        }
         _ => Ok(Register::A0),
     }
 }
@@ -279,7 +384,7 @@ fn put_line(
     match statement.into {
         Some(value) => {
             walk.state = state_without(alloc, &walk.state, value)?;
-            let register = result_for(walk, action, value, behind)?;
+            let register = result_for(walk, action, &args, value, behind)?;
             let place = Place::Register(register);
             let into = Operand { value, place };
             walk.items.push(Item::Does {
@@ -312,7 +417,11 @@ fn prepare(
 ) -> Result<(), NoMemory> {
     let action = statement.action;
     match action {
-        Action::Compute(_) | Action::Branch(..) => fetch(alloc, walk, &statement.args, before),
+        Action::Compute(_) | Action::Branch(..) => {
+            store_copied(alloc, walk, statement, behind)?;
+            make_room(alloc, walk, statement, behind)?;
+            fetch(alloc, walk, &statement.args, before)
+        }
         Action::TailCall(_) | Action::Return => arrange(alloc, walk, &statement.args),
         Action::Call(_) | Action::Routine(_) => {
             if spoils_many(action) {
@@ -390,6 +499,42 @@ fn pay(alloc: Global, walk: &mut Walk, plan: &Plan, care: &Care) -> Result<(), N
     Ok(())
 }
 
+// Values come to where they stand at the label that a statement is or names, and to where the statement takes them.
+fn approach(
+    alloc: Global,
+    walk: &mut Walk,
+    statement: &Statement,
+    before: &Plan,
+    behind: &Plan,
+    plans: &Plans,
+    care: &Care,
+) -> Result<(), NoMemory> {
+    match statement.action {
+        Action::Label(label) => {
+            if walk.is_reached {
+                go_to(alloc, walk, label, plans, care)?;
+                join(alloc, walk, label, plans, care)?;
+            }
+            walk.state = take_state(alloc, &mut walk.kept, label, &before.point)?;
+            Ok(())
+        }
+        Action::Jump(label) => {
+            go_to(alloc, walk, label, plans, care)?;
+            join(alloc, walk, label, plans, care)
+        }
+        Action::Branch(_, label) => {
+            go_to(alloc, walk, label, plans, care)?;
+            prepare(alloc, walk, statement, before, behind)?;
+            store_some(alloc, walk, &before.stored, behind)?;
+            join(alloc, walk, label, plans, care)
+        }
+        _ => {
+            prepare(alloc, walk, statement, before, behind)?;
+            store_some(alloc, walk, &before.stored, behind)
+        }
+    }
+}
+
 fn step(
     alloc: Global,
     walk: &mut Walk,
@@ -399,39 +544,17 @@ fn step(
     plans: &Plans,
     care: &Care,
 ) -> Result<(), NoMemory> {
-    let action = statement.action;
     walk.left = walk.left.saturating_add(statement.args.len());
+    walk.ahead = copy_of(alloc, &before.ahead)?;
     if walk.is_reached {
         pay(alloc, walk, before, care)?;
     }
-    match action {
-        Action::Label(label) => {
-            if walk.is_reached {
-                go_to(alloc, walk, label, plans, care)?;
-                join(alloc, walk, label, plans, care)?;
-            }
-            walk.state = take_state(alloc, &mut walk.kept, label, &before.point)?;
-        }
-        Action::Jump(label) => {
-            go_to(alloc, walk, label, plans, care)?;
-            join(alloc, walk, label, plans, care)?;
-        }
-        Action::Branch(_, label) => {
-            go_to(alloc, walk, label, plans, care)?;
-            prepare(alloc, walk, statement, before, behind)?;
-            store_some(alloc, walk, &before.stored, behind)?;
-            join(alloc, walk, label, plans, care)?;
-        }
-        _ => {
-            prepare(alloc, walk, statement, before, behind)?;
-            store_some(alloc, walk, &before.stored, behind)?;
-        }
-    }
+    approach(alloc, walk, statement, before, behind, plans, care)?;
     blame(alloc, walk, &statement.args, care)?;
     put_line(alloc, walk, statement, behind, care)?;
     walk.last = walk.index;
     walk.index = walk.index.saturating_add(1);
-    walk.is_reached = goes_on(action);
+    walk.is_reached = goes_on(statement.action);
     if !walk.is_reached {
         walk.state = state_at(alloc, &[], &behind.point)?;
     }
@@ -463,6 +586,7 @@ fn start(alloc: Global, params: &[u32], plan: &Plan, care: &Care) -> Result<Walk
         state: passed(alloc, params, plan)?,
         kept: Vec::new(alloc),
         is_reached: true,
+        ahead: copy_of(alloc, &plan.ahead)?,
         left: params.len(),
         moved: Vec::new(alloc),
         index: 0,
@@ -515,7 +639,8 @@ fn add_new(values: &mut Vec<u32>, more: &[u32]) -> Result<bool, NoMemory> {
 }
 
 /// The function with its values in registers as long as they can be; or `None` where that would be too much work. Where it goes
-/// early, each value goes to its slot as soon as it is there, if it has to be there at some point. Whether it is right, only a check tells.
+/// early, each value goes to its slot as soon as it is there, if it has to be there at some point. Whether it is right, only a
+/// check tells.
 pub fn local_function(
     alloc: Global,
     function: &AsmFunction,

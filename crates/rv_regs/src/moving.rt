@@ -2,7 +2,7 @@
 
 use crate::liveness::is_one_of;
 use crate::plans::Due;
-use crate::state::{any_register, register_of, same_state, without_copy_in};
+use crate::state::{NUMBERS, any_register, is_free, register_of, same_state, without_copy_in};
 use kk_base::NoMemory;
 use rv_isa::{Action, Item, Listed, Place, Register, Way};
 use std::alloc::Global;
@@ -27,6 +27,8 @@ pub struct Walk {
     pub index: usize,
     /// The index of the last statement.
     pub last: usize,
+    /// The next labels on the way on from here.
+    pub ahead: Vec<u32>,
     /// The moves that may still stand before the next statement.
     pub left: usize,
     /// The values that were moved since the last statement.
@@ -145,9 +147,36 @@ fn longest_alive(state: &[Listed], keep: &[u32]) -> Option<u32> {
     None
 }
 
-/// A register for a value, which has at most copies, and none of these values. Where there is none, it is any, and the walk tells which value
-/// stood in the way.
+// Whether a value is to be in the register at the next label ahead that tells where values stand.
+fn is_awaited(walk: &Walk, register: Register) -> bool {
+    for label in &walk.ahead {
+        for kept in &walk.kept {
+            if kept.label == *label {
+                return !is_free(&kept.state, register);
+            }
+        }
+    }
+    false
+}
+
+// A free register that no value is to be in there.
+fn quiet_register(walk: &Walk) -> Option<Register> {
+    for number in NUMBERS {
+        if let Some(register) = Register::try_new(number) {
+            if is_free(&walk.state, register) && !is_awaited(walk, register) {
+                return Some(register);
+            }
+        }
+    }
+    None
+}
+
+/// A register for a value, which has at most copies, and none of these values. Where there is none, it is any, and the walk tells
+/// which value stood in the way.
 pub fn spare_register(walk: &mut Walk, keep: &[u32]) -> Result<Register, NoMemory> {
+    if let Some(register) = quiet_register(walk) {
+        return Ok(register);
+    }
     match any_register(&walk.state, keep) {
         Some(register) => Ok(register),
         None => {

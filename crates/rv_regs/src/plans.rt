@@ -7,7 +7,7 @@ use crate::liveness::{
 };
 use crate::state::argument_register;
 use kk_base::NoMemory;
-use rv_isa::{Action, Register, Routine, Statement};
+use rv_isa::{Action, Operation, Register, Routine, Statement};
 use std::alloc::Global;
 
 /// The most work that code with registers is worth: its lines times the square of the most values that are alive at a point.
@@ -60,6 +60,8 @@ pub struct Plan {
     pub stored: Vec<u32>,
     /// The values that are alive behind a later action that spoils some registers.
     pub crossing: Vec<u32>,
+    /// The values that are alive at a later label to which more than one way leads, before any call.
+    pub joining: Vec<u32>,
     pub wishes: Vec<Wish>,
     /// The next labels on the way on from here.
     pub ahead: Vec<u32>,
@@ -85,6 +87,7 @@ struct Walk {
     slotted: Vec<LabelPoint>,
     stored: Vec<LabelPoint>,
     crossing: Vec<LabelPoint>,
+    joining: Vec<LabelPoint>,
     wishes: Vec<LabelWishes>,
     ahead: Vec<LabelPoint>,
 }
@@ -133,7 +136,7 @@ fn named_label(action: Action) -> Option<u32> {
     }
 }
 
-// The labels to which one jump or branch alone leads.
+// The labels to which one way alone leads: that of a jump or branch, or that of the line before.
 fn lone_labels(alloc: Global, code: &[Statement]) -> Result<Vec<u32>, NoMemory> {
     let mut once = Vec::new(alloc);
     let mut again = Vec::new(alloc);
@@ -148,7 +151,8 @@ fn lone_labels(alloc: Global, code: &[Statement]) -> Result<Vec<u32>, NoMemory> 
             }
         }
         if let Action::Label(label) = statement.action {
-            if !is_reached && is_one_of(label, &once) && !is_one_of(label, &again) {
+            let is_named = is_one_of(label, &once);
+            if is_named != is_reached && !is_one_of(label, &again) {
                 lone.push(label)?;
             }
         }
@@ -196,6 +200,23 @@ fn crossing_by(alloc: Global, statement: &Statement, behind: &[u32]) -> Result<V
         alive_before(alloc, &[], statement.into, behind)
     } else {
         Ok(Vec::new(alloc))
+    }
+}
+
+// The values that come to a label to which more than one way leads, by those behind a statement.
+fn joining_by(
+    alloc: Global,
+    walk: &Walk,
+    action: Action,
+    behind: &[u32],
+    lone: &[u32],
+) -> Result<Vec<u32>, NoMemory> {
+    match action {
+        Action::Label(label) if !is_one_of(label, lone) => copy_of(alloc, behind),
+        Action::Jump(label) | Action::Branch(_, label) if !is_one_of(label, lone) => {
+            copy_of(alloc, alive_at(&walk.alive, label))
+        }
+        _ => Ok(Vec::new(alloc)),
     }
 }
 
@@ -278,16 +299,39 @@ fn wishes_behind(alloc: Global, walk: &Walk, action: Action) -> Result<Vec<Wish>
     Ok(wishes)
 }
 
+// What a copy wishes for, its value wishes for too, unless this keeps its register behind the copy.
+fn copied_wish(walk: &Walk, statement: &Statement, wish: Wish) -> Option<Wish> {
+    match (statement.action, statement.args.first()) {
+        (Action::Compute(Operation::Mv), Some(value))
+            if is_result(statement.into, wish.value)
+                && (!is_one_of(*value, &walk.at.point.alive)
+                    || is_one_of(*value, &walk.at.stored)) => {
+            Some(Wish {
+                value: *value,
+                ..wish
+            })
+        }
+        _ => None,
+    }
+}
+
 // The wishes before a statement: those behind it, but for its result and for registers that it spoils, and those for its arguments.
 fn wishes_before(alloc: Global, walk: &Walk, statement: &Statement) -> Result<Vec<Wish>, NoMemory> {
     let action = statement.action;
     let mut wishes = Vec::new(alloc);
+    let mut copied = None;
     for wish in &wishes_behind(alloc, walk, action)? {
+        if let Some(wish) = copied_wish(walk, statement, *wish) {
+            copied = Some(wish);
+        }
         if !is_result(statement.into, wish.value)
             && !may_spoil(Some(action), wish.register.number)
         {
             wishes.push(*wish)?;
         }
+    }
+    if let Some(wish) = copied {
+        wishes = with_wish(alloc, &wishes, wish)?;
     }
     if let Action::Call(_) | Action::TailCall(_) | Action::Return | Action::Routine(_) = action {
         for (index, value) in statement.args.iter().enumerate() {
@@ -346,15 +390,38 @@ fn plan_before(
     let later = alive_behind(alloc, action, &walk.at.crossing, &walk.crossing)?;
     let here = crossing_by(alloc, statement, &behind)?;
     let crossing = alive_before(alloc, &here, into, &later)?;
+    let later = if spoils_many(action) {
+        Vec::new(alloc)
+    } else {
+        alive_behind(alloc, action, &walk.at.joining, &walk.joining)?
+    };
+    let here = joining_by(alloc, walk, action, &behind, lone)?;
+    let joining = alive_before(alloc, &here, into, &later)?;
     let wishes = wishes_before(alloc, walk, statement)?;
     Ok(Plan {
         point: Point { alive, held },
         slotted,
         stored,
         crossing,
+        joining,
         wishes,
         ahead: ahead_before(alloc, walk, action)?,
     })
+}
+
+// The table with the wishes at one label more, if the action is a label.
+fn with_wishes(
+    alloc: Global,
+    mut table: Vec<LabelWishes>,
+    action: Action,
+    here: &[Wish],
+) -> Result<Vec<LabelWishes>, NoMemory> {
+    if let Action::Label(label) = action {
+        let mut wishes = Vec::new(alloc);
+        wishes.extend_from_slice(here)?;
+        table.push(LabelWishes { label, wishes })?;
+    }
+    Ok(table)
 }
 
 fn step(
@@ -372,7 +439,8 @@ fn step(
         slotted,
         stored,
         crossing,
-        mut wishes,
+        joining,
+        wishes,
         ahead,
     } = walk;
     let action = statement.action;
@@ -380,15 +448,9 @@ fn step(
     let slotted = with_point(slotted, action, copy_of(alloc, &before.slotted)?)?;
     let stored = with_point(stored, action, copy_of(alloc, &before.stored)?)?;
     let crossing = with_point(crossing, action, copy_of(alloc, &before.crossing)?)?;
+    let joining = with_point(joining, action, copy_of(alloc, &before.joining)?)?;
     let ahead = with_point(ahead, action, copy_of(alloc, &before.ahead)?)?;
-    if let Action::Label(label) = action {
-        let mut here = Vec::new(alloc);
-        here.extend_from_slice(&before.wishes)?;
-        wishes.push(LabelWishes {
-            label,
-            wishes: here,
-        })?;
-    }
+    let wishes = with_wishes(alloc, wishes, action, &before.wishes)?;
     passed.push(at)?;
     Ok(Walk {
         passed,
@@ -397,6 +459,7 @@ fn step(
         slotted,
         stored,
         crossing,
+        joining,
         wishes,
         ahead,
     })
@@ -415,6 +478,7 @@ fn no_plan(alloc: Global) -> Plan {
         slotted: Vec::new(alloc),
         stored: Vec::new(alloc),
         crossing: Vec::new(alloc),
+        joining: Vec::new(alloc),
         wishes: Vec::new(alloc),
         ahead: Vec::new(alloc),
     }
@@ -430,6 +494,7 @@ pub fn plans_of(alloc: Global, code: &[Statement], care: &Care) -> Result<Option
         slotted: Vec::new(alloc),
         stored: Vec::new(alloc),
         crossing: Vec::new(alloc),
+        joining: Vec::new(alloc),
         wishes: Vec::new(alloc),
         ahead: Vec::new(alloc),
     };
