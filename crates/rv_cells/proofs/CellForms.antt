@@ -57,7 +57,7 @@ use Rattle.rv_lower.proofs.Formed.{
   some_same,
 }
 use Rattle.rv_lower.proofs.Operations.{Leads, leads_then, leads_weaker, next_temporary, only_bound}
-use Rattle.rv_cells.specs.CellLines.{Loads, Stores, AllLoads, AllStores, StoresIf, SomeStores, is_kept, dup_lines, drop_lines, dups_lines, drops_lines}
+use Rattle.rv_cells.specs.CellLines.{Loads, Stores, AllLoads, AllStores, StoresIf, SomeStores, dup_lines, drop_lines, dups_lines, drops_lines}
 use Rattle.rv_cells.specs.CellLines.{SetIf, SomeWords, ConstructLines}
 
 -- an operation that gives no value

@@ -1,6 +1,6 @@
 -- For each state at which the counted machine is at a form, the assembler's machine comes to one whose cells are those of the
 -- counted heap. Where the form is a call, a print or a construction with fields, that is at a line of the form's own.
-use Rattle.std.proofs.Common.{◌≡◌, ◌≢◌, ℕ, ◌+◌, ◌%◌, ◌<◌, ◌≤◌, ◌&&◌, not, true, false, List, [], ◌∷◌, ◌++◌, length, drop, Some, All, refl, sym, ◌∙◌, ap, subst, arith, flat_map}
+use Rattle.std.proofs.Common.{◌≡◌, ◌≢◌, ℕ, ◌+◌, ◌%◌, ◌<◌, ◌≤◌, ◌&&◌, not, true, false, List, [], ◌∷◌, ◌++◌, length, drop, Some, All, refl, sym, ◌∙◌, ap, subst, arith, flat_map, ◌⊎◌, inl, inr}
 use Rattle.std.proofs.Math.Seq.{drop-append_seam}
 use Rattle.std.proofs.lemmas.List.{append-nil, drop-drop}
 use Rattle.kk_base.specs.Machines.{state, trace}
@@ -24,7 +24,7 @@ use Rattle.kk_counted.specs.Marks.{CellMarks}
 use Rattle.kk_counted.specs.TokenCosts.{token_cost, HasRoom}
 use Rattle.kk_counted.specs.TokenRuns.{is_quiet, is_quiet_at, ComesTo}
 use Rattle.kk_counted.specs.TokenStates.{TokenJoin, TokenControl, TokenConfiguration, TokenState, bare_control, bare_configuration, bare_setting}
-use Rattle.kk_counted.specs.TokenedCodes.{Tokened, TokenedProgram}
+use Rattle.kk_counted.specs.TokenedCodes.{Tokened, TokenedArms, TokenedProgram}
 use Rattle.kk_counted.proofs.TokenSettling.{comes_to_each}
 use Rattle.cell_heap.specs.Pool.{Pool}
 use Rattle.rv_isa.specs.Processor.{Ending, exited}
@@ -47,12 +47,33 @@ use Rattle.rv_cells.proofs.OwnLines.{among_found}
 use Rattle.rv_cells.proofs.Runs.{left_at}
 use Rattle.rv_cells.proofs.TokenFormedFunctions.{bare_at}
 use Rattle.rv_cells.proofs.TokenMeaning.{lowering, idle, fills, seen_states, related, tokened, start, turn, runs_the_same}
-use Rattle.rv_cells.proofs.TokenStanding.{Lowering, setting, upper, lower, pace, Passing, IsAt, StandsFor, Related}
+use Rattle.rv_cells.proofs.TokenStanding.{Lowering, setting, upper, lower, pace, Passing, IsAt, IsBehind, GivesUp, IsAhead, IsNear, MayStandFor, Related}
 use Rattle.rv_cells.proofs.TokenSimulating.{simulates}
 
 code_same : (a b : Counted) (e f : Environment) (j k : List CountedJoin)
     → CountedControl.running a e j ≡ CountedControl.running b f k → a ≡ b
 code_same a b e f j k is = cc
+
+-- what gives a variable up, and a case, is no call, no print and no construction
+no_act : (program : Lowering) (environment : Environment) (x : ℕ) (arms : TokenedArms) (code : Tokened)
+    → IsAhead program environment x arms code → is_act (bare code) ≡ true → ⊥
+no_act program environment x arms (Tokened.drop y rest) ahead is = cc is
+no_act program environment x arms (Tokened.case y decisions others) ahead is = cc is
+no_act program environment x arms (Tokened.give y) ahead is = absurd ahead
+no_act program environment x arms (Tokened.tail_call f arguments) ahead is = absurd ahead
+no_act program environment x arms (Tokened.compute y form arguments others rest) ahead is = absurd ahead
+no_act program environment x arms (Tokened.inside y block rest) ahead is = absurd ahead
+no_act program environment x arms (Tokened.read y c fields rest) ahead is = absurd ahead
+no_act program environment x arms (Tokened.open_cell y c fields used z rest) ahead is = absurd ahead
+no_act program environment x arms (Tokened.if_unique y c fields used z rest) ahead is = absurd ahead
+no_act program environment x arms (Tokened.dup y rest) ahead is = absurd ahead
+no_act program environment x arms (Tokened.fill y z c first arguments kept others rest) ahead is = absurd ahead
+no_act program environment x arms (Tokened.free y rest) ahead is = absurd ahead
+no_act program environment x arms (Tokened.null y rest) ahead is = absurd ahead
+no_act program environment x arms (Tokened.move to of rest) ahead is = absurd ahead
+no_act program environment x arms (Tokened.hold y rest) ahead is = absurd ahead
+no_act program environment x arms (Tokened.unhold y rest) ahead is = absurd ahead
+no_act program environment x arms (Tokened.if_token y there absent) ahead is = absurd ahead
 
 module _ (layout : Layout) (marks : CellMarks) (code : TokenedProgram) (constants : List (List ℕ)) (functions : List Lines)
     (lowered : IsTokenedLowered layout marks code constants functions)
@@ -96,15 +117,31 @@ module _ (layout : Layout) (marks : CellMarks) (code : TokenedProgram) (constant
     ),
   )
 
+  has_cells_behind : (tokens_code : Tokened) (environment : Environment) (inner : List TokenJoin) (c : TokenConfiguration)
+      (left_input : List ℕ) (at_turn : AsmTurn World Ending)
+      → (is : IsNear (lowering layout marks code constants functions lowered room fits_room pool depth first input aligned some
+      bytes fits) tokens_code environment inner c left_input at_turn) → HasCellsOf c.heap is.spot.world
+  has_cells_behind tokens_code environment inner c left_input at_turn is = (
+    is.spot.address,
+    (
+      is.spot.owners,
+      subst (λ heap. Follows pool layout is.spot.address is.spot.owners heap is.spot.world.cells) is.heap_is is.follows,
+    ),
+  )
+
   -- so it goes on with them
   goes_on : (control : TokenControl) (c : TokenConfiguration) (left_input : List ℕ) (at_turn : AsmTurn World Ending)
       (form : Counted) (environment : Environment) (joins : List CountedJoin)
-      → StandsFor (lowering layout marks code constants functions lowered room fits_room pool depth first input aligned some bytes
+      → MayStandFor (lowering layout marks code constants functions lowered room fits_room pool depth first input aligned some bytes
       fits) control c left_input at_turn
       → bare_control control ≡ CountedControl.running form environment joins → GoesOn c.heap at_turn
-  goes_on (TokenControl.running tokens_code own_environment inner) c left_input at_turn form environment joins is same = (
+  goes_on (TokenControl.running tokens_code own_environment inner) c left_input at_turn form environment joins (inl is) same = (
     record { frames = left_at is.left is.spot.frame ∷ is.fs; shared = is.spot.world },
     (is.turn_is, has_cells tokens_code own_environment inner c left_input at_turn is),
+  )
+  goes_on (TokenControl.running tokens_code own_environment inner) c left_input at_turn form environment joins (inr is) same = (
+    record { frames = left_at is.left is.spot.frame ∷ is.fs; shared = is.spot.world },
+    (is.turn_is, has_cells_behind tokens_code own_environment inner c left_input at_turn is),
   )
   goes_on (TokenControl.stopped by) c left_input at_turn form environment joins is same = cc same
   goes_on TokenControl.stuck c left_input at_turn form environment joins is same = absurd is
@@ -206,14 +243,27 @@ module _ (layout : Layout) (marks : CellMarks) (code : TokenedProgram) (constant
   -- so each turn that stands for a state at such a form
   at_control : (act : Counted) (environment : Environment) (joins : List CountedJoin) (control : TokenControl)
       (c : TokenConfiguration) (left_input : List ℕ) (at_turn : AsmTurn World Ending)
-      → StandsFor (lowering layout marks code constants functions lowered room fits_room pool depth first input aligned some bytes
+      → MayStandFor (lowering layout marks code constants functions lowered room fits_room pool depth first input aligned some bytes
       fits) control c left_input at_turn
       → bare_control control ≡ CountedControl.running act environment joins → is_quiet_at control ≡ false → is_act act ≡ true
       → ((m : ℕ) → state (lower low) m at_turn ≢ stuck) → ComesToLine act c.heap at_turn
-  at_control act environment joins (TokenControl.running tokens_code own_environment inner) c left_input at_turn stands same loud
-      does never =
+  at_control act environment joins (TokenControl.running tokens_code own_environment inner) c left_input at_turn (inl stands) same
+      loud does never =
       at_line act tokens_code own_environment inner c left_input at_turn stands
       (code_same (bare tokens_code) act own_environment environment _ joins same) loud does never
+  at_control act environment joins (TokenControl.running tokens_code own_environment inner) c left_input at_turn (inr behind) same
+      loud does never =
+      absurd (by behind.near (ap is_act (code_same (bare tokens_code) act own_environment environment _ joins same) ∙ does))
+    where
+      by : IsBehind (lowering layout marks code constants functions lowered room fits_room pool depth first input aligned some bytes
+          fits) tokens_code inner c.frames c.tokens left_input behind.spot behind.fs behind.left
+          ⊎ GivesUp (lowering layout marks code constants functions lowered room fits_room pool depth first input aligned some bytes
+          fits) tokens_code inner c.frames c.tokens left_input behind.spot behind.fs behind.left → is_act (bare tokens_code) ≡ true → ⊥
+      by (inl ahead) acts = no_act low behind.spot.environment ahead.x ahead.arms tokens_code ahead.ahead acts
+      by (inr gives) acts =
+          let drops : is_act (bare (Tokened.drop gives.y gives.rest)) ≡ true
+          = ap (λ t. is_act (bare t)) (sym gives.code_is) ∙ acts in
+          cc drops
   at_control act environment joins (TokenControl.stopped by) c left_input at_turn stands same loud does never = cc same
   at_control act environment joins TokenControl.stuck c left_input at_turn stands same loud does never = absurd stands
 
@@ -228,7 +278,7 @@ module _ (layout : Layout) (marks : CellMarks) (code : TokenedProgram) (constant
     same : bare_configuration state_is.machine ≡ counted_after (roomy_cost room) (bare_setting (setting low)) input n
     loud : is_quiet_at state_is.machine.control ≡ false
     steps : ℕ
-    stands : StandsFor low state_is.machine.control state_is.machine state_is.input
+    stands : MayStandFor low state_is.machine.control state_is.machine state_is.input
         (state (lower low) steps asm_begin)
     told : trace (lower low) steps asm_begin
         ≡ trace (roomy_outside room (setting_on (bare_program code) pool depth)) n
@@ -257,7 +307,7 @@ module _ (layout : Layout) (marks : CellMarks) (code : TokenedProgram) (constant
         same = come.1.0;
         loud = come.1.1.1;
         steps = reaches.steps;
-        stands = subst (λ (s : TokenState). StandsFor low s.machine.control s.machine s.input there)
+        stands = subst (λ (s : TokenState). MayStandFor low s.machine.control s.machine s.input there)
             (seen_states layout marks code constants functions lowered room fits_room pool depth first input aligned some bytes
             fits m)
             reaches.related.stands;

@@ -1,6 +1,5 @@
 -- Constructions in the cells of tokens, as lines.
-use Rattle.std.proofs.Common.{◌≡◌, ◌≢◌, ◌<◌, ◌≤◌, ℕ, ◌+◌, ◌*◌, ◌==◌, cond, Bool, true, false, not, List, [], ◌∷◌, ◌++◌, length, Option, Some, nat_eq, refl, sym, ◌∙◌, ap, subst, arith, append_assoc, eqb-true}
-use mathlib.Core.Path.{fun_ext}
+use Rattle.std.proofs.Common.{◌≡◌, ◌≢◌, ◌<◌, ◌≤◌, ℕ, ◌+◌, ◌*◌, Bool, true, false, not, List, [], ◌∷◌, ◌++◌, length, Option, Some, nat_eq, refl, sym, ◌∙◌, ap, subst, arith, append_assoc}
 use Rattle.std.proofs.lemmas.List.{length-map}
 use Rattle.kk_source.specs.Live.{value_of}
 use Rattle.std.proofs.lemmas.Bool.Decides.{nat_tests}
@@ -12,22 +11,21 @@ use Rattle.rv_isa.specs.declared.routine.Routine.TheVariants.{Take}
 use Rattle.rv_isa.specs.AsmCode.{Line}
 use Rattle.rv_isa.specs.AsmMachine.{is_label}
 use Rattle.rv_isa.specs.Frames.{Frame, put, found}
-use Rattle.cell_heap.specs.Blocks.{Cells, own, with_block, with_word}
-use Rattle.rv_world.specs.World.{World, with_cells}
-use Rattle.rv_lower.specs.Lines.{sets, copies_to, acts}
+use Rattle.cell_heap.specs.Blocks.{Cells}
+use Rattle.rv_world.specs.World.{with_cells}
+use Rattle.rv_lower.specs.Lines.{copies_to, acts}
 use Rattle.rv_lower.proofs.Calls.{HaveWords}
 use Rattle.rv_lower.proofs.Performing.{put_same, put_other}
 use Rattle.rv_cells.specs.Layout.{words_in, header_of}
 use Rattle.rv_cells.specs.Follows.{IsBlockOf, Owner, cell_of, in_hand, Follows, with_owner, assign}
 use Rattle.rv_cells.specs.CellLines.{is_kept, FillLines, hold_lines, unhold_lines}
-use Rattle.rv_cells.proofs.Owners.{chosen_other}
-use Rattle.rv_cells.proofs.Words.{from_later, hand_owned, same_owner}
+use Rattle.rv_cells.proofs.Words.{hand_owned, same_owner}
 use Rattle.rv_cells.proofs.Runs.{turn_of, Runs, runs_then}
-use Rattle.rv_cells.proofs.Acting.{put_in, sets_runs, copy_runs, label_exact, falls_one_exact, branch_one_exact}
+use Rattle.rv_cells.proofs.Acting.{put_in, copy_runs, label_exact, falls_one_exact, branch_one_exact}
 use Rattle.rv_cells.proofs.Spots.{Spot, Known, Here}
 use Rattle.rv_cells.proofs.LineCosts.{most_moves, row_cost, row_more}
-use Rattle.rv_cells.proofs.Values.{HasValues, among_none, has_temporary}
-use Rattle.rv_cells.proofs.Constructing.{IsMaking, made_spot, construct_cost, Hands, twice_owner, stored, store_hand, args_words, below_words, few_arguments, names_made, counts_made}
+use Rattle.rv_cells.proofs.Values.{HasValues, among_none}
+use Rattle.rv_cells.proofs.Constructing.{IsMaking, made_spot, construct_cost, Hands, twice_owner, args_words, few_arguments, names_made, counts_made}
 use Rattle.rv_cells.proofs.FormWords.{has_same}
 use Rattle.rv_cells.proofs.KeptStores.{picked, picked_all, word_if, with_some}
 use Rattle.rv_cells.proofs.WordStores.{HasWords, has_stored, words_behind, count_behind, header_behind, fields_behind, put_if, words_same, set_cost, set_steps, both_set, words_spare, words_run}

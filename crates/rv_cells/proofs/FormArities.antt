@@ -1,6 +1,6 @@
 -- Forms with tokens have as many arguments as they take, where their bare forms do; and a call, a print and a construction with
 -- fields begins with copies, or with none, and behind them has a line that is always an instruction.
-use Rattle.std.proofs.Common.{◌≡◌, ℕ, zero, suc, ◌+◌, ◌≤◌, ◌<◌, ◌&&◌, not, Bool, true, false, cond, List, [], ◌∷◌, ◌++◌, length, Some, slice_get}
+use Rattle.std.proofs.Common.{◌≡◌, ℕ, zero, suc, ◌+◌, ◌≤◌, ◌<◌, ◌&&◌, not, Bool, true, false, cond, List, [], ◌∷◌, ◌++◌, length, Option, Some, slice_get}
 use Rattle.std.proofs.Common.{refl, sym, ◌∙◌, ap, subst, arith}
 use Rattle.kk_syntax.specs.declared.program.Form.{Form}
 use Rattle.kk_syntax.specs.declared.program.Form.TheVariants.{Number, Unit as Nothing, ReadByte, PrintText, Unary, Binary, Print, Construct, Call}
@@ -17,9 +17,11 @@ use Rattle.rv_isa.specs.AsmCode.{Line}
 use Rattle.rv_isa.specs.LinePlaces.{is_copy, is_always_some}
 use Rattle.rv_lower.specs.Lines.{copies_to, copies, PrintLines}
 use Rattle.rv_lower.specs.Lowered.{Goal}
+use Rattle.rv_cells.specs.declared.compare.Branching.{Branching}
+use Rattle.rv_cells.specs.Comparing.{branch_of}
 use Rattle.rv_cells.specs.CountedLines.{Setting}
-use Rattle.rv_cells.specs.TokenedLines.{AskLines, CodeLines}
-use Rattle.rv_cells.proofs.FormPlaces.{Parts, no_part, part, parts_in}
+use Rattle.rv_cells.specs.TokenedLines.{OwnLines, LinesBehind}
+use Rattle.rv_cells.proofs.FormPlaces.{Parts, no_part, part, parts_behind}
 
 -- ---- arities
 
@@ -189,27 +191,28 @@ print_begins base texts (byte ∷ bytes) print last is no_copy some =
 
 module _ (setting : Setting) (variables : ℕ) where
   -- the lines of a form on values
-  form_begins : (low x : ℕ) (form : Form) (arguments others : List ℕ) (rest : Tokened) (own : List Line) (high : ℕ)
-      → AskLines setting variables low x form arguments others own high → HasArity form arguments
+  form_begins : (low x : ℕ) (form : Form) (arguments others : List ℕ) (joined : Bool) (rest : Tokened) (own : List Line) (high : ℕ)
+      → OwnLines (branch_of form arguments joined) setting variables low x form arguments others own high
+      → HasArity form arguments
       → is_own_act (Tokened.compute x form arguments others rest) ≡ true → Begins own
-  form_begins low x (Number n) arguments others rest own high lines arity act = cc act
-  form_begins low x Nothing arguments others rest own high lines arity act = cc act
-  form_begins low x ReadByte arguments others rest own high lines arity act = cc act
-  form_begins low x (PrintText how text) arguments others rest own high lines arity act =
+  form_begins low x (Number n) arguments others joined rest own high lines arity act = cc act
+  form_begins low x Nothing arguments others joined rest own high lines arity act = cc act
+  form_begins low x ReadByte arguments others joined rest own high lines arity act = cc act
+  form_begins low x (PrintText how text) arguments others joined rest own high lines arity act =
       begins_by own _ lines.0.2 (print_begins setting.base setting.texts.constants (piece_of how (text_at setting.texts.literals text))
       lines.0.0 _ lines.0.1 refl refl)
-  form_begins low x (Unary operator) arguments others rest own high lines arity act = cc act
-  form_begins low x (Binary operator) arguments others rest own high lines arity act = cc act
-  form_begins low x (Print how) [] others rest own high lines arity act = absurd (omega (arith, arity))
-  form_begins low x (Print how) (a ∷ b ∷ more) others rest own high lines arity act = absurd (omega (arith, arity))
-  form_begins low x (Print how) (a ∷ []) others rest own high lines arity act =
+  form_begins low x (Unary operator) arguments others joined rest own high lines arity act = cc act
+  form_begins low x (Binary operator) arguments others joined rest own high lines arity act = cc act
+  form_begins low x (Print how) [] others joined rest own high lines arity act = absurd (omega (arith, arity))
+  form_begins low x (Print how) (a ∷ b ∷ more) others joined rest own high lines arity act = absurd (omega (arith, arity))
+  form_begins low x (Print how) (a ∷ []) others joined rest own high lines arity act =
       begins_by own _ lines.0 (begins_behind_copy _ _ _ (begins_at _ _ refl refl))
-  form_begins low x (Construct c) [] others rest own high lines arity act = cc act
-  form_begins low x (Construct c) (a ∷ more) [] rest own high lines arity act =
+  form_begins low x (Construct c) [] others joined rest own high lines arity act = cc act
+  form_begins low x (Construct c) (a ∷ more) [] joined rest own high lines arity act =
       begins_by own _ lines.0.6 (begins_at _ _ refl refl)
-  form_begins low x (Construct c) (a ∷ more) (other ∷ others) rest own high lines arity act =
+  form_begins low x (Construct c) (a ∷ more) (other ∷ others) joined rest own high lines arity act =
       begins_by own _ lines.2 (begins_at _ _ refl refl)
-  form_begins low x (Call f) arguments others rest own high lines arity act =
+  form_begins low x (Call f) arguments others joined rest own high lines arity act =
       begins_by own _ lines.0 (copies_begin setting.base arguments _ refl refl)
 
   -- an act whose own lines begin so, and whose other part comes behind them
@@ -223,27 +226,27 @@ module _ (setting : Setting) (variables : ℕ) where
         omega (arith, few, same);
   }
 
-  pub act_own : (goal : Goal) (low : ℕ) (code : Tokened) (own : List Line) (high : ℕ)
-      (lines : CodeLines setting variables goal low code own high) → FitArities code → is_own_act code ≡ true
-      → IsOwn own (parts_in setting variables goal low code own high lines)
-  act_own goal low (Tokened.give x) own high lines arity act = cc act
-  act_own goal low (Tokened.tail_call f arguments) own high lines arity act =
+  pub act_own : (left : Option Branching) (goal : Goal) (low : ℕ) (code : Tokened) (own : List Line) (high : ℕ)
+      (lines : LinesBehind left setting variables goal low code own high) → FitArities code → is_own_act code ≡ true
+      → IsOwn own (parts_behind setting variables left goal low code own high lines)
+  act_own left goal low (Tokened.give x) own high lines arity act = cc act
+  act_own left goal low (Tokened.tail_call f arguments) own high lines arity act =
       record { begins = begins_by own _ lines.0 (copies_begin setting.base arguments _ refl refl); apart = tt }
-  act_own goal low (Tokened.case x decisions arms) own high lines arity act = cc act
-  act_own goal low (Tokened.compute x form arguments others rest) own high lines arity act =
-      own_by own lines.0 lines.1 _ _ lines.5
-      (form_begins low x form arguments others rest lines.0 lines.2 lines.3 arity.0 act)
-  act_own goal low (Tokened.inside x block rest) own high lines arity act = cc act
-  act_own goal low (Tokened.read x c fields rest) own high lines arity act = cc act
-  act_own goal low (Tokened.open_cell x c fields used y rest) own high lines arity act = cc act
-  act_own goal low (Tokened.if_unique x c fields used y rest) own high lines arity act = cc act
-  act_own goal low (Tokened.dup x rest) own high lines arity act = cc act
-  act_own goal low (Tokened.drop x rest) own high lines arity act = cc act
-  act_own goal low (Tokened.fill x y c first arguments kept others rest) own high lines arity act =
-      own_by own lines.0 lines.1 _ _ lines.4 (begins_by lines.0 _ lines.2.4 (begins_behind_copy _ _ _ (begins_behind_copy _ _ _ (begins_at _ _ refl refl))))
-  act_own goal low (Tokened.free y rest) own high lines arity act = cc act
-  act_own goal low (Tokened.null y rest) own high lines arity act = cc act
-  act_own goal low (Tokened.move to of rest) own high lines arity act = cc act
-  act_own goal low (Tokened.hold y rest) own high lines arity act = cc act
-  act_own goal low (Tokened.unhold y rest) own high lines arity act = cc act
-  act_own goal low (Tokened.if_token y there absent) own high lines arity act = cc act
+  act_own left goal low (Tokened.case x decisions arms) own high lines arity act = cc act
+  act_own left goal low (Tokened.compute x form arguments others rest) own high lines arity act =
+      own_by own lines.0 lines.1 _ _ lines.7
+      (form_begins low x form arguments others lines.3 rest lines.0 lines.2 lines.4 arity.0 act)
+  act_own left goal low (Tokened.inside x block rest) own high lines arity act = cc act
+  act_own left goal low (Tokened.read x c fields rest) own high lines arity act = cc act
+  act_own left goal low (Tokened.open_cell x c fields used y rest) own high lines arity act = cc act
+  act_own left goal low (Tokened.if_unique x c fields used y rest) own high lines arity act = cc act
+  act_own left goal low (Tokened.dup x rest) own high lines arity act = cc act
+  act_own left goal low (Tokened.drop x rest) own high lines arity act = cc act
+  act_own left goal low (Tokened.fill x y c first arguments kept others rest) own high lines arity act =
+      own_by own lines.0 lines.1 _ _ lines.4 (begins_by lines.0 _ lines.2.4 (begins_behind_copy _ _ _ (begins_at _ _ refl refl)))
+  act_own left goal low (Tokened.free y rest) own high lines arity act = cc act
+  act_own left goal low (Tokened.null y rest) own high lines arity act = cc act
+  act_own left goal low (Tokened.move to of rest) own high lines arity act = cc act
+  act_own left goal low (Tokened.hold y rest) own high lines arity act = cc act
+  act_own left goal low (Tokened.unhold y rest) own high lines arity act = cc act
+  act_own left goal low (Tokened.if_token y there absent) own high lines arity act = cc act

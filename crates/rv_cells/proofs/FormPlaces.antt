@@ -13,8 +13,10 @@ use Rattle.rv_isa.specs.AsmCode.{Line}
 use Rattle.rv_lower.specs.Lines.{sets, copies_to, acts}
 use Rattle.rv_lower.specs.Lowered.{Goal, joins}
 use Rattle.rv_cells.specs.CellLines.{dup_lines, drop_lines}
+use Rattle.rv_cells.specs.declared.compare.Branching.{Branching}
+use Rattle.rv_cells.specs.Comparing.{branch_of}
 use Rattle.rv_cells.specs.CountedLines.{Setting}
-use Rattle.rv_cells.specs.TokenedLines.{CodeLines, ArmsLines}
+use Rattle.rv_cells.specs.TokenedLines.{LinesBehind, CodeLines, ArmsLines}
 
 -- ---- trees
 
@@ -64,48 +66,50 @@ lines_before (step ∷ steps) = length step.before + lines_before steps
 
 module _ (setting : Setting) (variables : ℕ) where
   abbrev mutual
-    pub parts_in : (goal : Goal) (low : ℕ) (code : Tokened) (own : List Line) (high : ℕ)
-        → CodeLines setting variables goal low code own high → Parts
-    parts_in goal low (Tokened.give x) own high lines = no_part
-    parts_in goal low (Tokened.tail_call f arguments) own high lines = no_part
-    parts_in goal low (Tokened.case x decisions arms) own high lines =
+    pub parts_behind : (left : Option Branching) (goal : Goal) (low : ℕ) (code : Tokened) (own : List Line) (high : ℕ)
+        → LinesBehind left setting variables goal low code own high → Parts
+    parts_behind left goal low (Tokened.give x) own high lines = no_part
+    parts_behind left goal low (Tokened.tail_call f arguments) own high lines = no_part
+    parts_behind left goal low (Tokened.case x decisions arms) own high lines =
         arms_in goal low (lines.2 + length decisions) arms lines.1 high 0 lines.0 lines.5
-    parts_in goal low (Tokened.compute x form arguments others rest) own high lines =
-        part (0 ∷ []) lines.0 (tree rest lines.1 (parts_in goal lines.2 rest lines.1 high lines.4)) no_part
-    parts_in goal low (Tokened.inside x block rest) own high lines =
-        part (0 ∷ []) [] (tree block lines.0 (parts_in (joins x low) (low + 1) block lines.0 lines.2 lines.3))
+    parts_behind left goal low (Tokened.compute x form arguments others rest) own high lines =
+        part (0 ∷ []) lines.0
+        (tree rest lines.1 (parts_behind (branch_of form arguments lines.3) goal lines.2 rest lines.1 high lines.5)) no_part
+    parts_behind left goal low (Tokened.inside x block rest) own high lines =
+        part (0 ∷ []) [] (tree block lines.0 (parts_behind None (joins x low) (low + 1) block lines.0 lines.2 lines.3))
         (part (1 ∷ []) (lines.0 ++ (acts (Label low) [] ∷ []))
-        (tree rest lines.1 (parts_in goal lines.2 rest lines.1 high lines.4)) no_part)
-    parts_in goal low (Tokened.read x c fields rest) own high lines =
-        part (0 ∷ []) lines.0 (tree rest lines.1 (parts_in goal low rest lines.1 high lines.3)) no_part
-    parts_in goal low (Tokened.open_cell x c fields used y rest) own high lines =
-        part (0 ∷ []) lines.0 (tree rest lines.1 (parts_in goal (low + 2) rest lines.1 high lines.3)) no_part
-    parts_in goal low (Tokened.if_unique x c fields used y rest) own high lines =
-        part (0 ∷ []) lines.0 (tree rest lines.1 (parts_in goal (low + 2) rest lines.1 high lines.3)) no_part
-    parts_in goal low (Tokened.dup x rest) own high lines =
-        part (0 ∷ []) (dup_lines setting.holds x) (tree rest lines.0 (parts_in goal low rest lines.0 high lines.1)) no_part
-    parts_in goal low (Tokened.drop x rest) own high lines =
+        (tree rest lines.1 (parts_behind None goal lines.2 rest lines.1 high lines.4)) no_part)
+    parts_behind left goal low (Tokened.read x c fields rest) own high lines =
+        part (0 ∷ []) lines.0 (tree rest lines.1 (parts_behind None goal low rest lines.1 high lines.3)) no_part
+    parts_behind left goal low (Tokened.open_cell x c fields used y rest) own high lines =
+        part (0 ∷ []) lines.0 (tree rest lines.1 (parts_behind None goal (low + 2) rest lines.1 high lines.3)) no_part
+    parts_behind left goal low (Tokened.if_unique x c fields used y rest) own high lines =
+        part (0 ∷ []) lines.0 (tree rest lines.1 (parts_behind None goal (low + 2) rest lines.1 high lines.3)) no_part
+    parts_behind left goal low (Tokened.dup x rest) own high lines =
+        part (0 ∷ []) (dup_lines setting.holds x) (tree rest lines.0 (parts_behind None goal low rest lines.0 high lines.1)) no_part
+    parts_behind left goal low (Tokened.drop x rest) own high lines =
         part (0 ∷ []) (drop_lines setting.base setting.holds x)
-        (tree rest lines.0 (parts_in goal low rest lines.0 high lines.1)) no_part
-    parts_in goal low (Tokened.fill x y c first arguments kept others rest) own high lines =
-        part (0 ∷ []) lines.0 (tree rest lines.1 (parts_in goal (low + 1) rest lines.1 high lines.3)) no_part
-    parts_in goal low (Tokened.free y rest) own high lines =
+        (tree rest lines.0 (parts_behind left goal low rest lines.0 high lines.1)) no_part
+    parts_behind left goal low (Tokened.fill x y c first arguments kept others rest) own high lines =
+        part (0 ∷ []) lines.0 (tree rest lines.1 (parts_behind None goal (low + 1) rest lines.1 high lines.3)) no_part
+    parts_behind left goal low (Tokened.free y rest) own high lines =
         part [] (acts (Compute Op.Free) ((variables + y) ∷ []) ∷ [])
-        (tree rest lines.0 (parts_in goal low rest lines.0 high lines.1)) no_part
-    parts_in goal low (Tokened.null y rest) own high lines =
-        part [] (sets 0 (variables + y) ∷ []) (tree rest lines.0 (parts_in goal low rest lines.0 high lines.1)) no_part
-    parts_in goal low (Tokened.move to of rest) own high lines =
+        (tree rest lines.0 (parts_behind None goal low rest lines.0 high lines.1)) no_part
+    parts_behind left goal low (Tokened.null y rest) own high lines =
+        part [] (sets 0 (variables + y) ∷ []) (tree rest lines.0 (parts_behind None goal low rest lines.0 high lines.1)) no_part
+    parts_behind left goal low (Tokened.move to of rest) own high lines =
         part [] (copies_to (variables + of) (variables + to) ∷ [])
-        (tree rest lines.0 (parts_in goal low rest lines.0 high lines.1)) no_part
-    parts_in goal low (Tokened.hold y rest) own high lines =
-        part [] (acts Hold ((variables + y) ∷ []) ∷ []) (tree rest lines.0 (parts_in goal low rest lines.0 high lines.1)) no_part
-    parts_in goal low (Tokened.unhold y rest) own high lines =
-        part [] (acts Unhold ((variables + y) ∷ []) ∷ []) (tree rest lines.0 (parts_in goal low rest lines.0 high lines.1)) no_part
-    parts_in goal low (Tokened.if_token y there absent) own high lines =
+        (tree rest lines.0 (parts_behind None goal low rest lines.0 high lines.1)) no_part
+    parts_behind left goal low (Tokened.hold y rest) own high lines =
+        part [] (acts Hold ((variables + y) ∷ []) ∷ []) (tree rest lines.0 (parts_behind None goal low rest lines.0 high lines.1)) no_part
+    parts_behind left goal low (Tokened.unhold y rest) own high lines =
+        part [] (acts Unhold ((variables + y) ∷ []) ∷ []) (tree rest lines.0 (parts_behind None goal low rest lines.0 high lines.1)) no_part
+    parts_behind left goal low (Tokened.if_token y there absent) own high lines =
         part [] (acts (Branch Equal low) ((variables + y) ∷ []) ∷ [])
-        (tree there lines.0 (parts_in goal (low + 1) there lines.0 lines.2 lines.3))
-        (part [] (((acts (Branch Equal low) ((variables + y) ∷ []) ∷ []) ++ lines.0) ++ (acts (Label low) [] ∷ []))
-        (tree absent lines.1 (parts_in goal lines.2 absent lines.1 high lines.4)) no_part)
+        (tree there lines.0 (parts_behind None goal (low + 1) there lines.0 lines.2 lines.3))
+        (part [] (((acts (Branch Equal low) ((variables + y) ∷ []) ∷ []) ++ lines.0)
+        ++ (acts (Label low) [] ∷ []))
+        (tree absent lines.1 (parts_behind None goal lines.2 absent lines.1 high lines.4)) no_part)
 
     -- the arms, from a row on, which stand behind some lines
     pub arms_in : (goal : Goal) (label low : ℕ) (arms : TokenedArms) (own : List Line) (high row : ℕ) (before : List Line)
@@ -113,13 +117,17 @@ module _ (setting : Setting) (variables : ℕ) where
     arms_in goal label low TokenedArms.no_arm own high row before lines = no_part
     arms_in goal label low (TokenedArms.arm body rest) own high row before lines =
         part (row ∷ []) (before ++ (acts (Label label) [] ∷ []))
-        (tree body lines.0 (parts_in goal low body lines.0 lines.2 lines.3))
+        (tree body lines.0 (parts_behind None goal low body lines.0 lines.2 lines.3))
         (arms_in goal (label + 1) lines.2 rest lines.1 high (suc row) (before ++ (acts (Label label) [] ∷ lines.0)) lines.4)
 
-  -- the tree of a code
+  -- the tree of a code, where a comparison may be left to it
+  abbrev pub tree_behind : (left : Option Branching) (goal : Goal) (low : ℕ) (code : Tokened) (own : List Line) (high : ℕ)
+      → LinesBehind left setting variables goal low code own high → Tree
+  tree_behind left goal low code own high lines = tree code own (parts_behind left goal low code own high lines)
+
   abbrev pub tree_in : (goal : Goal) (low : ℕ) (code : Tokened) (own : List Line) (high : ℕ)
       → CodeLines setting variables goal low code own high → Tree
-  tree_in goal low code own high lines = tree code own (parts_in goal low code own high lines)
+  tree_in goal low code own high lines = tree_behind None goal low code own high lines
 
 -- ---- where a code stands
 

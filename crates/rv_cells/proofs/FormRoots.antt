@@ -150,7 +150,8 @@ module _ (layout : Layout) (marks : CellMarks) (code : TokenedProgram) (constant
         base = of.lowered.variables + of.lowered.slots;
         texts = program_texts;
         standing = of.lowered.standing;
-      }) of.lowered.variables returns 0 function.body (lowered.each f function is).0.code of.lowered.labels of.lowered.code way act
+      }) of.lowered.variables None returns 0 function.body (lowered.each f function is).0.code of.lowered.labels of.lowered.code way
+      act
       (ap (λ (g : CountedFunction). code_at g.body way) bare_is ∙ at.code_is) at.acts in
       let line : ℕ = lines_before reaches.steps + lead (own_of reaches.inner) in
       let number : 0 + lines_before reaches.steps + lead (own_of reaches.inner) ≡ line = omega arith in (

@@ -8,17 +8,18 @@ use Rattle.kk_counted.specs.Arms.{arm_count}
 use Rattle.kk_counted.specs.CountBounds.{HasAnArm}
 use Rattle.kk_counted.specs.CountedCodes.{CountedArms, no_arm, arm}
 use Rattle.kk_core.specs.Decisions.{NodeTree, chooses, tests, AreOrderly}
-use Rattle.rv_isa.specs.declared.asm.Action.TheVariants.{Label}
+use Rattle.rv_isa.specs.declared.asm.Action.TheVariants.{Label, Branch}
 use Rattle.rv_isa.specs.AsmCode.{Line}
 use Rattle.rv_isa.specs.WellFormed.{is_alive}
 use Rattle.rv_lower.specs.Lines.{acts}
 use Rattle.rv_lower.specs.Lowered.{Goal}
-use Rattle.rv_lower.proofs.Formed.{Readable, AreFormed, Good, HasRoom}
+use Rattle.rv_lower.proofs.Formed.{Readable, AreFormed, Good, HasRoom, readable_small}
 use Rattle.rv_lower.proofs.AbsentLabels.{HasNo, has_no_append, found_here, alive_at_here, other_label}
 use Rattle.rv_lower.proofs.Codes.{Ahead, Fits, good_label, goal_up, goal_later}
 use Rattle.rv_cells.specs.Layout.{Layout}
+use Rattle.rv_cells.specs.declared.compare.Branching.{Branching}
 use Rattle.rv_cells.specs.CountedLines.{label_of, ways_of, NodesLines}
-use Rattle.rv_lower.proofs.Codes.{StandsAhead, stands_past}
+use Rattle.rv_lower.proofs.Codes.{StandsAhead, stands_past, good_branch}
 use Rattle.rv_cells.proofs.FormedNodes.{NameLater, HaveLabels, nodes_none, nodes_good}
 
 -- a case that has an arm has some
@@ -210,3 +211,19 @@ module _ (base : ℕ) (bound outer : List ℕ) (has : HasRoom base bound) (layou
     none = case_none;
     good = λ tail ahead. subst (Good Before) (sym (append_assoc choice bodies tail)) (case_good tail ahead);
   }
+
+-- a branch on two variables before arms, to the second of them
+pub fits_branch : (base : ℕ) (bound outer : List ℕ) → HasRoom base bound → (goal : Goal) (low rows middle high : ℕ)
+    (branch : Branching) (bodies : List Line) → 1 < rows → low + rows ≤ middle → is_bound bound branch.first ≡ true
+    → is_bound bound branch.second ≡ true → ArmsFit base bound outer goal low rows middle high bodies
+    → Fits base bound outer goal low high (acts (Branch branch.condition (low + 1)) (branch.first ∷ branch.second ∷ []) ∷ bodies)
+fits_branch base bound outer has goal low rows middle high branch bodies two under first second arms = record {
+  up = let up = arms.up in omega (arith, up, under);
+  none = λ l apart. (refl, arms.outside l apart);
+  good = λ tail ahead.
+      let after = arms.good tail ahead in
+      good_branch (Readable base base bound) (Readable base base bound) branch.condition (low + 1)
+      (branch.first ∷ branch.second ∷ []) (bodies ++ tail) (omega arith) (inl first, (inl second, tt)) (λ v is. is)
+      (readable_small base base bound has (omega arith)) (after.stands 1 two)
+      (record { formed = after.formed; alive = after.alive (omega (arith, two)) });
+}

@@ -1,9 +1,13 @@
 -- The lines of a step before those of the code that follows it: together they are well formed, and have only their own labels.
-use Rattle.std.proofs.Common.{◌≡◌, ℕ, ◌+◌, ◌<◌, Bool, true, List, [], ◌∷◌, ◌++◌, length, sym, subst, append_assoc}
+use Rattle.std.proofs.Common.{◌≡◌, ℕ, ◌+◌, ◌<◌, Bool, true, false, List, [], ◌∷◌, ◌++◌, length, refl, sym, subst, append_assoc}
 use Rattle.kk_counted.specs.Lowerable.{AreBelow, bound_list}
 use Rattle.kk_core.specs.Sizes.{AreBound}
 use Rattle.kk_syntax.specs.Shapes.{is_among as is_bound}
+use Rattle.std.specs.Prelude.{if◌then◌else◌}
+use Rattle.rv_isa.specs.declared.asm.Action.TheVariants.{Routine as Calls}
+use Rattle.rv_isa.specs.declared.routine.Routine.TheVariants.{Drop}
 use Rattle.rv_isa.specs.AsmCode.{Line}
+use Rattle.rv_lower.specs.Lines.{copies_to, acts}
 use Rattle.rv_lower.specs.Lowered.{Goal}
 use Rattle.rv_lower.proofs.Formed.{AllBound, Readable, Good, HasRoom}
 use Rattle.rv_lower.proofs.AbsentLabels.{has_no_append}
@@ -39,6 +43,17 @@ module _ (base : ℕ) (bound outer : List ℕ) (has : HasRoom base bound) (goal 
       → Fits base bound outer goal low high (drop_lines base holds x ++ more)
   fits_drop holds x is fits =
       fits_step base bound bound outer goal low high 2 (drop_lines base holds x) more (drop_leads base bound holds x has is) fits
+
+  -- one less of a variable that is bound where its type has cells
+  pub fits_drop_if : (holds : ℕ → Bool) (x : ℕ) → (holds x ≡ true → is_bound bound x ≡ true) → Fits base bound outer goal low high more
+      → Fits base bound outer goal low high (drop_lines base holds x ++ more)
+  fits_drop_if holds x is fits = by (holds x) refl
+    where
+      by : (b : Bool) → holds x ≡ b → Fits base bound outer goal low high (drop_lines base holds x ++ more)
+      by true some = fits_drop holds x (is some) fits
+      by false none =
+          subst (λ (b : Bool). Fits base bound outer goal low high
+          ((if b then copies_to x base ∷ acts (Calls Drop) (base ∷ []) ∷ [] else []) ++ more)) (sym none) fits
 
   -- a construction
   pub fits_construct : (x header : ℕ) (arguments : List ℕ) (own : List Line) → x < base → AreBound bound arguments

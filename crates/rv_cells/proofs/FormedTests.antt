@@ -1,8 +1,7 @@
 -- The lines of the nodes of decisions: before well-formed code in which the labels that they name stand, they are well formed.
-use Rattle.std.proofs.Common.{◌≡◌, ℕ, zero, suc, ◌+◌, ◌<◌, ◌≤◌, ◌⊎◌, inl, inr, Bool, true, false, not, List, []}
-use Rattle.std.proofs.Common.{◌∷◌, ◌++◌, length, nat_eq, Option, None, Some, option_map, option_to_list, IsSome, refl, sym, ap, subst, ◌∙◌, arith, append_assoc}
+use Rattle.std.proofs.Common.{◌≡◌, ℕ, zero, suc, ◌+◌, ◌≤◌, inl, inr, Bool, true, false, not, List, []}
+use Rattle.std.proofs.Common.{◌∷◌, ◌++◌, nat_eq, Option, None, Some, option_map, option_to_list, refl, sym, ap, subst, ◌∙◌, arith, append_assoc}
 use Rattle.std.specs.Prelude.{filter, if◌then◌else◌}
-use Rattle.std.proofs.lemmas.Bool.{false≢true, or_cases}
 use Rattle.kk_syntax.specs.Shapes.{is_among as is_bound}
 use Rattle.kk_core.specs.declared.decisions.Answer.{Answer}
 use Rattle.kk_core.specs.declared.decisions.Edge.{Edge}
@@ -13,12 +12,10 @@ use Rattle.rv_isa.specs.declared.asm.Operation.TheVariants as Op
 use Rattle.rv_isa.specs.declared.asm.ImmediateOperation.TheVariants.{Andi}
 use Rattle.rv_isa.specs.AsmCode.{Line}
 use Rattle.rv_isa.specs.AsmMachine.{is_label}
-use Rattle.rv_isa.specs.WellFormed.{is_alive, is_alive_at, is_alive_behind, most_values}
 use Rattle.rv_lower.specs.Lines.{computes, sets, acts}
-use Rattle.rv_lower.proofs.Formed.{Each, Readable, formed_more, Good, HasRoom, weaker, all_each}
-use Rattle.rv_lower.proofs.Formed.{alive_line, good_computes, readable_small, readable_more, to_temporary, none_some}
-use Rattle.rv_lower.proofs.AbsentLabels.{HasNo, has_no_append, found_past, alive_at_past}
-use Rattle.rv_lower.proofs.Labels.{found_label}
+use Rattle.rv_lower.proofs.Formed.{Readable, Good, HasRoom, weaker}
+use Rattle.rv_lower.proofs.Formed.{good_computes, readable_small, readable_more, to_temporary}
+use Rattle.rv_lower.proofs.AbsentLabels.{HasNo, has_no_append}
 use Rattle.rv_lower.proofs.Codes.{good_alone, StandsAhead, stands_past, good_branch}
 use Rattle.rv_cells.specs.Layout.{Layout}
 use Rattle.rv_cells.specs.CellLines.{Loads, Walks, walked, spare, jump_lines}

@@ -1,5 +1,5 @@
 -- The parts of a code stand one behind the other among its lines, so that a line is of one of them alone.
-use Rattle.std.proofs.Common.{◌≡◌, ℕ, zero, suc, ◌+◌, ◌≤◌, ◌<◌, inl, inr, List, [], ◌∷◌, ◌++◌, length, Some, true, refl, sym, ◌∙◌, ap, subst, arith, append_assoc}
+use Rattle.std.proofs.Common.{◌≡◌, ℕ, zero, suc, ◌+◌, ◌≤◌, ◌<◌, inl, inr, List, [], ◌∷◌, ◌++◌, length, Option, Some, None, true, refl, sym, ◌∙◌, ap, subst, arith, append_assoc}
 use Rattle.std.specs.Prelude.{slice_get}
 use Rattle.std.proofs.lemmas.List.{append-nil, length-append}
 use Rattle.kk_counted.specs.TokenedCodes.{Tokened, TokenedArms}
@@ -10,10 +10,12 @@ use Rattle.rv_isa.specs.AsmCode.{Line}
 use Rattle.rv_lower.specs.Lines.{sets, copies_to, acts}
 use Rattle.rv_lower.specs.Lowered.{Goal, joins}
 use Rattle.rv_cells.specs.CellLines.{dup_lines, drop_lines}
+use Rattle.rv_cells.specs.declared.compare.Branching.{Branching}
+use Rattle.rv_cells.specs.Comparing.{branch_of}
 use Rattle.rv_cells.specs.CountedLines.{Setting}
-use Rattle.rv_cells.specs.TokenedLines.{CodeLines, ArmsLines}
+use Rattle.rv_cells.specs.TokenedLines.{LinesBehind, CodeLines, ArmsLines}
 use Rattle.rv_cells.proofs.FormArities.{FitArities, FitAllArities, is_own_act, lead, get_left, get_below, StartsBehind, IsOwn, act_own}
-use Rattle.rv_cells.proofs.FormPlaces.{Tree, tree, Parts, no_part, part, code_of, own_of, parts_of, Step, IsPart, Leads, way_of, lines_before, parts_in, arms_in, tree_in}
+use Rattle.rv_cells.proofs.FormPlaces.{Tree, tree, Parts, no_part, part, code_of, own_of, parts_of, Step, IsPart, Leads, way_of, lines_before, parts_behind, arms_in, tree_in}
 
 -- ---- order
 
@@ -59,37 +61,37 @@ two_longer first second line =
 module _ (setting : Setting) (variables : ℕ) where
   mutual
     -- the parts of a code are in order
-    pub orderly : (goal : Goal) (low : ℕ) (code : Tokened) (own : List Line) (high : ℕ)
-        (lines : CodeLines setting variables goal low code own high) → FitArities code
-        → AreOrderly own 0 (parts_in setting variables goal low code own high lines)
-    orderly goal low (Tokened.give x) own high lines a = tt
-    orderly goal low (Tokened.tail_call f arguments) own high lines a = tt
-    orderly goal low (Tokened.case x decisions arms) own high lines a =
+    pub orderly : (left : Option Branching) (goal : Goal) (low : ℕ) (code : Tokened) (own : List Line) (high : ℕ)
+        (lines : LinesBehind left setting variables goal low code own high) → FitArities code
+        → AreOrderly own 0 (parts_behind setting variables left goal low code own high lines)
+    orderly left goal low (Tokened.give x) own high lines a = tt
+    orderly left goal low (Tokened.tail_call f arguments) own high lines a = tt
+    orderly left goal low (Tokened.case x decisions arms) own high lines a =
         orderly_less own (length lines.0) 0
         (arms_in setting variables goal low (lines.2 + length decisions) arms lines.1 high 0 lines.0 lines.5) (omega arith)
         (arms_orderly goal low (lines.2 + length decisions) arms lines.1 high 0 lines.0 lines.5 own lines.6 a)
-    orderly goal low (Tokened.compute x form arguments others rest) own high lines a = (
+    orderly left goal low (Tokened.compute x form arguments others rest) own high lines a = (
       omega arith,
       (
-        ([], before_all own lines.0 lines.1 lines.5),
+        ([], before_all own lines.0 lines.1 lines.7),
         (
           (
-            act_own setting variables goal lines.2 rest lines.1 high lines.4 a.1,
-            orderly goal lines.2 rest lines.1 high lines.4 a.1,
+            act_own setting variables (branch_of form arguments lines.3) goal lines.2 rest lines.1 high lines.5 a.1,
+            orderly (branch_of form arguments lines.3) goal lines.2 rest lines.1 high lines.5 a.1,
           ),
           tt,
         ),
       ),
     )
-    orderly goal low (Tokened.inside x block rest) own high lines a =
+    orderly left goal low (Tokened.inside x block rest) own high lines a =
         let label = acts (Label low) [] in (
           omega arith,
           (
             (label ∷ lines.1, lines.5),
             (
               (
-                act_own setting variables (joins x low) (low + 1) block lines.0 lines.2 lines.3 a.0,
-                orderly (joins x low) (low + 1) block lines.0 lines.2 lines.3 a.0,
+                act_own setting variables None (joins x low) (low + 1) block lines.0 lines.2 lines.3 a.0,
+                orderly None (joins x low) (low + 1) block lines.0 lines.2 lines.3 a.0,
               ),
               (
                 (let more = one_longer lines.0 label in omega (arith, more)),
@@ -97,8 +99,8 @@ module _ (setting : Setting) (variables : ℕ) where
                   ([], behind_two own [] lines.0 lines.1 label lines.5),
                   (
                     (
-                      act_own setting variables goal lines.2 rest lines.1 high lines.4 a.1,
-                      orderly goal lines.2 rest lines.1 high lines.4 a.1,
+                      act_own setting variables None goal lines.2 rest lines.1 high lines.4 a.1,
+                      orderly None goal lines.2 rest lines.1 high lines.4 a.1,
                     ),
                     tt,
                   ),
@@ -107,150 +109,150 @@ module _ (setting : Setting) (variables : ℕ) where
             ),
           ),
         )
-    orderly goal low (Tokened.read x c fields rest) own high lines a = (
+    orderly left goal low (Tokened.read x c fields rest) own high lines a = (
       omega arith,
       (
         ([], before_all own lines.0 lines.1 lines.4),
         (
           (
-            act_own setting variables goal low rest lines.1 high lines.3 a,
-            orderly goal low rest lines.1 high lines.3 a,
+            act_own setting variables None goal low rest lines.1 high lines.3 a,
+            orderly None goal low rest lines.1 high lines.3 a,
           ),
           tt,
         ),
       ),
     )
-    orderly goal low (Tokened.open_cell x c fields used y rest) own high lines a = (
+    orderly left goal low (Tokened.open_cell x c fields used y rest) own high lines a = (
       omega arith,
       (
         ([], before_all own lines.0 lines.1 lines.4),
         (
           (
-            act_own setting variables goal (low + 2) rest lines.1 high lines.3 a,
-            orderly goal (low + 2) rest lines.1 high lines.3 a,
+            act_own setting variables None goal (low + 2) rest lines.1 high lines.3 a,
+            orderly None goal (low + 2) rest lines.1 high lines.3 a,
           ),
           tt,
         ),
       ),
     )
-    orderly goal low (Tokened.if_unique x c fields used y rest) own high lines a = (
+    orderly left goal low (Tokened.if_unique x c fields used y rest) own high lines a = (
       omega arith,
       (
         ([], before_all own lines.0 lines.1 lines.4),
         (
           (
-            act_own setting variables goal (low + 2) rest lines.1 high lines.3 a,
-            orderly goal (low + 2) rest lines.1 high lines.3 a,
+            act_own setting variables None goal (low + 2) rest lines.1 high lines.3 a,
+            orderly None goal (low + 2) rest lines.1 high lines.3 a,
           ),
           tt,
         ),
       ),
     )
-    orderly goal low (Tokened.fill x y c first arguments kept others rest) own high lines a = (
+    orderly left goal low (Tokened.fill x y c first arguments kept others rest) own high lines a = (
       omega arith,
       (
         ([], before_all own lines.0 lines.1 lines.4),
         (
           (
-            act_own setting variables goal (low + 1) rest lines.1 high lines.3 a,
-            orderly goal (low + 1) rest lines.1 high lines.3 a,
+            act_own setting variables None goal (low + 1) rest lines.1 high lines.3 a,
+            orderly None goal (low + 1) rest lines.1 high lines.3 a,
           ),
           tt,
         ),
       ),
     )
-    orderly goal low (Tokened.dup x rest) own high lines a = (
+    orderly left goal low (Tokened.dup x rest) own high lines a = (
       omega arith,
       (
         ([], before_all own (dup_lines setting.holds x) lines.0 lines.2),
         (
           (
-            act_own setting variables goal low rest lines.0 high lines.1 a,
-            orderly goal low rest lines.0 high lines.1 a,
+            act_own setting variables None goal low rest lines.0 high lines.1 a,
+            orderly None goal low rest lines.0 high lines.1 a,
           ),
           tt,
         ),
       ),
     )
-    orderly goal low (Tokened.drop x rest) own high lines a = (
+    orderly left goal low (Tokened.drop x rest) own high lines a = (
       omega arith,
       (
         ([], before_all own (drop_lines setting.base setting.holds x) lines.0 lines.2),
         (
           (
-            act_own setting variables goal low rest lines.0 high lines.1 a,
-            orderly goal low rest lines.0 high lines.1 a,
+            act_own setting variables left goal low rest lines.0 high lines.1 a,
+            orderly left goal low rest lines.0 high lines.1 a,
           ),
           tt,
         ),
       ),
     )
-    orderly goal low (Tokened.free y rest) own high lines a = (
+    orderly left goal low (Tokened.free y rest) own high lines a = (
       omega arith,
       (
         ([], before_all own (acts (Compute Op.Free) ((variables + y) ∷ []) ∷ []) lines.0 lines.2),
         (
           (
-            act_own setting variables goal low rest lines.0 high lines.1 a,
-            orderly goal low rest lines.0 high lines.1 a,
+            act_own setting variables None goal low rest lines.0 high lines.1 a,
+            orderly None goal low rest lines.0 high lines.1 a,
           ),
           tt,
         ),
       ),
     )
-    orderly goal low (Tokened.null y rest) own high lines a = (
+    orderly left goal low (Tokened.null y rest) own high lines a = (
       omega arith,
       (
         ([], before_all own (sets 0 (variables + y) ∷ []) lines.0 lines.2),
         (
           (
-            act_own setting variables goal low rest lines.0 high lines.1 a,
-            orderly goal low rest lines.0 high lines.1 a,
+            act_own setting variables None goal low rest lines.0 high lines.1 a,
+            orderly None goal low rest lines.0 high lines.1 a,
           ),
           tt,
         ),
       ),
     )
-    orderly goal low (Tokened.move to of rest) own high lines a = (
+    orderly left goal low (Tokened.move to of rest) own high lines a = (
       omega arith,
       (
         ([], before_all own (copies_to (variables + of) (variables + to) ∷ []) lines.0 lines.2),
         (
           (
-            act_own setting variables goal low rest lines.0 high lines.1 a,
-            orderly goal low rest lines.0 high lines.1 a,
+            act_own setting variables None goal low rest lines.0 high lines.1 a,
+            orderly None goal low rest lines.0 high lines.1 a,
           ),
           tt,
         ),
       ),
     )
-    orderly goal low (Tokened.hold y rest) own high lines a = (
+    orderly left goal low (Tokened.hold y rest) own high lines a = (
       omega arith,
       (
         ([], before_all own (acts Hold ((variables + y) ∷ []) ∷ []) lines.0 lines.2),
         (
           (
-            act_own setting variables goal low rest lines.0 high lines.1 a,
-            orderly goal low rest lines.0 high lines.1 a,
+            act_own setting variables None goal low rest lines.0 high lines.1 a,
+            orderly None goal low rest lines.0 high lines.1 a,
           ),
           tt,
         ),
       ),
     )
-    orderly goal low (Tokened.unhold y rest) own high lines a = (
+    orderly left goal low (Tokened.unhold y rest) own high lines a = (
       omega arith,
       (
         ([], before_all own (acts Unhold ((variables + y) ∷ []) ∷ []) lines.0 lines.2),
         (
           (
-            act_own setting variables goal low rest lines.0 high lines.1 a,
-            orderly goal low rest lines.0 high lines.1 a,
+            act_own setting variables None goal low rest lines.0 high lines.1 a,
+            orderly None goal low rest lines.0 high lines.1 a,
           ),
           tt,
         ),
       ),
     )
-    orderly goal low (Tokened.if_token y there absent) own high lines a =
+    orderly left goal low (Tokened.if_token y there absent) own high lines a =
         let test : List Line = acts (Branch Equal low) ((variables + y) ∷ []) ∷ [] in
         let label = acts (Label low) [] in (
           omega arith,
@@ -258,8 +260,8 @@ module _ (setting : Setting) (variables : ℕ) where
             (label ∷ lines.1, lines.5),
             (
               (
-                act_own setting variables goal (low + 1) there lines.0 lines.2 lines.3 a.0,
-                orderly goal (low + 1) there lines.0 lines.2 lines.3 a.0,
+                act_own setting variables None goal (low + 1) there lines.0 lines.2 lines.3 a.0,
+                orderly None goal (low + 1) there lines.0 lines.2 lines.3 a.0,
               ),
               (
                 two_longer test lines.0 label,
@@ -267,8 +269,8 @@ module _ (setting : Setting) (variables : ℕ) where
                   ([], behind_two own test lines.0 lines.1 label lines.5),
                   (
                     (
-                      act_own setting variables goal lines.2 absent lines.1 high lines.4 a.1,
-                      orderly goal lines.2 absent lines.1 high lines.4 a.1,
+                      act_own setting variables None goal lines.2 absent lines.1 high lines.4 a.1,
+                      orderly None goal lines.2 absent lines.1 high lines.4 a.1,
                     ),
                     tt,
                   ),
@@ -297,8 +299,8 @@ module _ (setting : Setting) (variables : ℕ) where
             (lines.1, behind),
             (
               (
-                act_own setting variables goal low body lines.0 lines.2 lines.3 a.0,
-                orderly goal low body lines.0 lines.2 lines.3 a.0,
+                act_own setting variables None goal low body lines.0 lines.2 lines.3 a.0,
+                orderly None goal low body lines.0 lines.2 lines.3 a.0,
               ),
               orderly_less whole (length (before ++ (line ∷ lines.0))) (length (before ++ (line ∷ [])) + length lines.0)
                   (arms_in setting variables goal (label + 1) lines.2 rest lines.1 high (suc row) (before ++ (line ∷ lines.0))
@@ -315,7 +317,7 @@ module _ (setting : Setting) (variables : ℕ) where
       (lines : CodeLines setting variables goal low code own high) → FitArities code
       → IsOrderly (tree_in setting variables goal low code own high lines)
   tree_orderly goal low code own high lines a =
-      (act_own setting variables goal low code own high lines a, orderly goal low code own high lines a)
+      (act_own setting variables None goal low code own high lines a, orderly None goal low code own high lines a)
 
 -- ---- steps
 

@@ -29,6 +29,8 @@ pub mod Calling
 pub mod Written
 pub mod Grown
 pub mod Bound
+pub mod Naming
+pub mod Comparisons
 pub mod TokenLineCosts
 pub mod TokenStanding
 pub mod Telling
@@ -84,6 +86,7 @@ pub mod TokenInside
 pub mod TokenMoves
 pub mod TokenBlocks
 pub mod TokenDeciding
+pub mod TokenBehind
 pub mod TokenComputing
 pub mod FormWords
 pub mod TokenSimulating
@@ -94,4 +97,5 @@ pub mod ComingToLines
 pub mod TokenMarks
 pub mod Standings
 pub mod TokenGrown
+pub mod TokenJoins
 pub mod TokenLowered

@@ -1,6 +1,6 @@
 -- The lines of a function at which the calls, prints and constructions with fields begin that one way of its bare form leads to: one,
 -- or one for each side of the tests of tokens on the way.
-use Rattle.std.proofs.Common.{◌≡◌, inl, inr, ℕ, zero, suc, ◌+◌, ◌==◌, ◌&&◌, ◌||◌, Bool, true, false, List, [], ◌∷◌, ◌++◌, length, Some, refl, sym, ◌∙◌, ap, subst, arith, append_assoc, eqb-true}
+use Rattle.std.proofs.Common.{◌≡◌, inl, inr, ℕ, zero, suc, ◌+◌, ◌==◌, ◌&&◌, ◌||◌, Bool, true, false, List, [], ◌∷◌, ◌++◌, length, Option, Some, None, refl, sym, ◌∙◌, ap, subst, arith, append_assoc, eqb-true}
 use Rattle.std.proofs.lemmas.List.{append-nil}
 use Rattle.kk_source.specs.Matching.{and_then}
 use Rattle.kk_syntax.specs.Shapes.{is_among}
@@ -15,10 +15,12 @@ use Rattle.rv_isa.specs.declared.asm.Action.TheVariants.{Label}
 use Rattle.rv_isa.specs.AsmCode.{Line}
 use Rattle.rv_lower.specs.Lines.{acts}
 use Rattle.rv_lower.specs.Lowered.{Goal, joins}
+use Rattle.rv_cells.specs.declared.compare.Branching.{Branching}
+use Rattle.rv_cells.specs.Comparing.{branch_of}
 use Rattle.rv_cells.specs.CountedLines.{Setting}
-use Rattle.rv_cells.specs.TokenedLines.{CodeLines, ArmsLines}
+use Rattle.rv_cells.specs.TokenedLines.{LinesBehind, ArmsLines}
 use Rattle.rv_cells.proofs.FormArities.{is_own_act, lead}
-use Rattle.rv_cells.proofs.FormPlaces.{Tree, tree, Parts, no_part, part, code_of, own_of, parts_of, Step, IsPart, Leads, way_of, lines_before, arms_in, tree_in}
+use Rattle.rv_cells.proofs.FormPlaces.{Tree, tree, Parts, no_part, part, code_of, own_of, parts_of, Step, IsPart, Leads, way_of, lines_before, arms_in, tree_behind}
 
 -- ---- numbers and lists
 
@@ -198,100 +200,100 @@ false_not is = cc is
 
 module _ (setting : Setting) (variables : ℕ) where
   mutual
-    pub way_there : (goal : Goal) (low : ℕ) (code : Tokened) (own : List Line) (high : ℕ)
-        (lines : CodeLines setting variables goal low code own high) (way : List ℕ) (act : Counted)
+    pub way_there : (left : Option Branching) (goal : Goal) (low : ℕ) (code : Tokened) (own : List Line) (high : ℕ)
+        (lines : LinesBehind left setting variables goal low code own high) (way : List ℕ) (act : Counted)
         → code_at (bare code) way ≡ Some act → is_act act ≡ true
-        → Reaches (tree_in setting variables goal low code own high lines) way
-    way_there goal low (Tokened.give x) own high lines [] act is does =
+        → Reaches (tree_behind setting variables left goal low code own high lines) way
+    way_there left goal low (Tokened.give x) own high lines [] act is does =
         absurd (false_not (act_here (bare (Tokened.give x)) act is does))
-    way_there goal low (Tokened.give x) own high lines (n ∷ way) act is does = cc is
-    way_there goal low (Tokened.tail_call f arguments) own high lines [] act is does =
-        reaches_itself (tree_in setting variables goal low (Tokened.tail_call f arguments) own high lines) refl
-    way_there goal low (Tokened.tail_call f arguments) own high lines (n ∷ way) act is does = cc is
-    way_there goal low (Tokened.case x decisions arms) own high lines [] act is does =
+    way_there left goal low (Tokened.give x) own high lines (n ∷ way) act is does = cc is
+    way_there left goal low (Tokened.tail_call f arguments) own high lines [] act is does =
+        reaches_itself (tree_behind setting variables left goal low (Tokened.tail_call f arguments) own high lines) refl
+    way_there left goal low (Tokened.tail_call f arguments) own high lines (n ∷ way) act is does = cc is
+    way_there left goal low (Tokened.case x decisions arms) own high lines [] act is does =
         absurd (false_not (act_here (bare (Tokened.case x decisions arms)) act is does))
-    way_there goal low (Tokened.case x decisions arms) own high lines (n ∷ way) act is does =
+    way_there left goal low (Tokened.case x decisions arms) own high lines (n ∷ way) act is does =
         let there = arm_there goal low (lines.2 + length decisions) arms lines.1 high 0 lines.0 lines.5 n way act is does in
         let number : 0 + n ≡ n = omega arith in
-        subst (λ w. Reaches (tree_in setting variables goal low (Tokened.case x decisions arms) own high lines) w)
+        subst (λ w. Reaches (tree_behind setting variables left goal low (Tokened.case x decisions arms) own high lines) w)
         (ap (λ w. w ++ way) (there.1.1.0 ∙ ap (λ k. k ∷ []) number))
-        (reaches_behind (tree_in setting variables goal low (Tokened.case x decisions arms) own high lines) there.0 way there.1.0
+        (reaches_behind (tree_behind setting variables left goal low (Tokened.case x decisions arms) own high lines) there.0 way there.1.0
         there.1.1.1)
-    way_there goal low (Tokened.compute x form arguments others rest) own high lines [] act is does =
-        reaches_itself (tree_in setting variables goal low (Tokened.compute x form arguments others rest) own high lines)
+    way_there left goal low (Tokened.compute x form arguments others rest) own high lines [] act is does =
+        reaches_itself (tree_behind setting variables left goal low (Tokened.compute x form arguments others rest) own high lines)
         (act_here (bare (Tokened.compute x form arguments others rest)) act is does)
-    way_there goal low (Tokened.compute x form arguments others rest) own high lines (zero ∷ way) act is does =
-        reaches_behind (tree_in setting variables goal low (Tokened.compute x form arguments others rest) own high lines) _ way
+    way_there left goal low (Tokened.compute x form arguments others rest) own high lines (zero ∷ way) act is does =
+        reaches_behind (tree_behind setting variables left goal low (Tokened.compute x form arguments others rest) own high lines) _ way
         (inl refl)
-        (way_there goal lines.2 rest lines.1 high lines.4 way act is does)
-    way_there goal low (Tokened.compute x form arguments others rest) own high lines (suc n ∷ way) act is does = cc is
-    way_there goal low (Tokened.inside x block rest) own high lines [] act is does =
+        (way_there (branch_of form arguments lines.3) goal lines.2 rest lines.1 high lines.5 way act is does)
+    way_there left goal low (Tokened.compute x form arguments others rest) own high lines (suc n ∷ way) act is does = cc is
+    way_there left goal low (Tokened.inside x block rest) own high lines [] act is does =
         absurd (false_not (act_here (bare (Tokened.inside x block rest)) act is does))
-    way_there goal low (Tokened.inside x block rest) own high lines (zero ∷ way) act is does =
-        reaches_behind (tree_in setting variables goal low (Tokened.inside x block rest) own high lines) _ way (inl refl)
-        (way_there (joins x low) (low + 1) block lines.0 lines.2 lines.3 way act is does)
-    way_there goal low (Tokened.inside x block rest) own high lines (suc zero ∷ way) act is does =
-        reaches_behind (tree_in setting variables goal low (Tokened.inside x block rest) own high lines) _ way (inr (inl refl))
-        (way_there goal lines.2 rest lines.1 high lines.4 way act is does)
-    way_there goal low (Tokened.inside x block rest) own high lines (suc (suc n) ∷ way) act is does = cc is
-    way_there goal low (Tokened.read x c fields rest) own high lines [] act is does =
+    way_there left goal low (Tokened.inside x block rest) own high lines (zero ∷ way) act is does =
+        reaches_behind (tree_behind setting variables left goal low (Tokened.inside x block rest) own high lines) _ way (inl refl)
+        (way_there None (joins x low) (low + 1) block lines.0 lines.2 lines.3 way act is does)
+    way_there left goal low (Tokened.inside x block rest) own high lines (suc zero ∷ way) act is does =
+        reaches_behind (tree_behind setting variables left goal low (Tokened.inside x block rest) own high lines) _ way (inr (inl refl))
+        (way_there None goal lines.2 rest lines.1 high lines.4 way act is does)
+    way_there left goal low (Tokened.inside x block rest) own high lines (suc (suc n) ∷ way) act is does = cc is
+    way_there left goal low (Tokened.read x c fields rest) own high lines [] act is does =
         absurd (false_not (act_here (bare (Tokened.read x c fields rest)) act is does))
-    way_there goal low (Tokened.read x c fields rest) own high lines (zero ∷ way) act is does =
-        reaches_behind (tree_in setting variables goal low (Tokened.read x c fields rest) own high lines) _ way (inl refl)
-        (way_there goal low rest lines.1 high lines.3 way act is does)
-    way_there goal low (Tokened.read x c fields rest) own high lines (suc n ∷ way) act is does = cc is
-    way_there goal low (Tokened.open_cell x c fields used y rest) own high lines [] act is does =
+    way_there left goal low (Tokened.read x c fields rest) own high lines (zero ∷ way) act is does =
+        reaches_behind (tree_behind setting variables left goal low (Tokened.read x c fields rest) own high lines) _ way (inl refl)
+        (way_there None goal low rest lines.1 high lines.3 way act is does)
+    way_there left goal low (Tokened.read x c fields rest) own high lines (suc n ∷ way) act is does = cc is
+    way_there left goal low (Tokened.open_cell x c fields used y rest) own high lines [] act is does =
         absurd (false_not (act_here (bare (Tokened.open_cell x c fields used y rest)) act is does))
-    way_there goal low (Tokened.open_cell x c fields used y rest) own high lines (zero ∷ way) act is does =
-        reaches_behind (tree_in setting variables goal low (Tokened.open_cell x c fields used y rest) own high lines) _ way
+    way_there left goal low (Tokened.open_cell x c fields used y rest) own high lines (zero ∷ way) act is does =
+        reaches_behind (tree_behind setting variables left goal low (Tokened.open_cell x c fields used y rest) own high lines) _ way
         (inl refl)
-        (way_there goal (low + 2) rest lines.1 high lines.3 way act is does)
-    way_there goal low (Tokened.open_cell x c fields used y rest) own high lines (suc n ∷ way) act is does = cc is
-    way_there goal low (Tokened.if_unique x c fields used y rest) own high lines [] act is does =
+        (way_there None goal (low + 2) rest lines.1 high lines.3 way act is does)
+    way_there left goal low (Tokened.open_cell x c fields used y rest) own high lines (suc n ∷ way) act is does = cc is
+    way_there left goal low (Tokened.if_unique x c fields used y rest) own high lines [] act is does =
         absurd (false_not (act_here (bare (Tokened.if_unique x c fields used y rest)) act is does))
-    way_there goal low (Tokened.if_unique x c fields used y rest) own high lines (zero ∷ way) act is does =
-        reaches_behind (tree_in setting variables goal low (Tokened.if_unique x c fields used y rest) own high lines) _ way
+    way_there left goal low (Tokened.if_unique x c fields used y rest) own high lines (zero ∷ way) act is does =
+        reaches_behind (tree_behind setting variables left goal low (Tokened.if_unique x c fields used y rest) own high lines) _ way
         (inl refl)
-        (way_there goal (low + 2) rest lines.1 high lines.3 way act is does)
-    way_there goal low (Tokened.if_unique x c fields used y rest) own high lines (suc n ∷ way) act is does = cc is
-    way_there goal low (Tokened.dup x rest) own high lines [] act is does =
+        (way_there None goal (low + 2) rest lines.1 high lines.3 way act is does)
+    way_there left goal low (Tokened.if_unique x c fields used y rest) own high lines (suc n ∷ way) act is does = cc is
+    way_there left goal low (Tokened.dup x rest) own high lines [] act is does =
         absurd (false_not (act_here (bare (Tokened.dup x rest)) act is does))
-    way_there goal low (Tokened.dup x rest) own high lines (zero ∷ way) act is does =
-        reaches_behind (tree_in setting variables goal low (Tokened.dup x rest) own high lines) _ way (inl refl)
-        (way_there goal low rest lines.0 high lines.1 way act is does)
-    way_there goal low (Tokened.dup x rest) own high lines (suc n ∷ way) act is does = cc is
-    way_there goal low (Tokened.drop x rest) own high lines [] act is does =
+    way_there left goal low (Tokened.dup x rest) own high lines (zero ∷ way) act is does =
+        reaches_behind (tree_behind setting variables left goal low (Tokened.dup x rest) own high lines) _ way (inl refl)
+        (way_there None goal low rest lines.0 high lines.1 way act is does)
+    way_there left goal low (Tokened.dup x rest) own high lines (suc n ∷ way) act is does = cc is
+    way_there left goal low (Tokened.drop x rest) own high lines [] act is does =
         absurd (false_not (act_here (bare (Tokened.drop x rest)) act is does))
-    way_there goal low (Tokened.drop x rest) own high lines (zero ∷ way) act is does =
-        reaches_behind (tree_in setting variables goal low (Tokened.drop x rest) own high lines) _ way (inl refl)
-        (way_there goal low rest lines.0 high lines.1 way act is does)
-    way_there goal low (Tokened.drop x rest) own high lines (suc n ∷ way) act is does = cc is
-    way_there goal low (Tokened.fill x y c first arguments kept others rest) own high lines [] act is does =
-        reaches_itself (tree_in setting variables goal low (Tokened.fill x y c first arguments kept others rest) own high lines)
+    way_there left goal low (Tokened.drop x rest) own high lines (zero ∷ way) act is does =
+        reaches_behind (tree_behind setting variables left goal low (Tokened.drop x rest) own high lines) _ way (inl refl)
+        (way_there left goal low rest lines.0 high lines.1 way act is does)
+    way_there left goal low (Tokened.drop x rest) own high lines (suc n ∷ way) act is does = cc is
+    way_there left goal low (Tokened.fill x y c first arguments kept others rest) own high lines [] act is does =
+        reaches_itself (tree_behind setting variables left goal low (Tokened.fill x y c first arguments kept others rest) own high lines)
         (act_here (bare (Tokened.fill x y c first arguments kept others rest)) act is does)
-    way_there goal low (Tokened.fill x y c first arguments kept others rest) own high lines (zero ∷ way) act is does =
-        reaches_behind (tree_in setting variables goal low (Tokened.fill x y c first arguments kept others rest) own high lines) _ way
+    way_there left goal low (Tokened.fill x y c first arguments kept others rest) own high lines (zero ∷ way) act is does =
+        reaches_behind (tree_behind setting variables left goal low (Tokened.fill x y c first arguments kept others rest) own high lines) _ way
         (inl refl)
-        (way_there goal (low + 1) rest lines.1 high lines.3 way act is does)
-    way_there goal low (Tokened.fill x y c first arguments kept others rest) own high lines (suc n ∷ way) act is does = cc is
-    way_there goal low (Tokened.free y rest) own high lines way act is does =
-        reaches_behind (tree_in setting variables goal low (Tokened.free y rest) own high lines) _ way (inl refl)
-        (way_there goal low rest lines.0 high lines.1 way act is does)
-    way_there goal low (Tokened.null y rest) own high lines way act is does =
-        reaches_behind (tree_in setting variables goal low (Tokened.null y rest) own high lines) _ way (inl refl)
-        (way_there goal low rest lines.0 high lines.1 way act is does)
-    way_there goal low (Tokened.move to of rest) own high lines way act is does =
-        reaches_behind (tree_in setting variables goal low (Tokened.move to of rest) own high lines) _ way (inl refl)
-        (way_there goal low rest lines.0 high lines.1 way act is does)
-    way_there goal low (Tokened.hold y rest) own high lines way act is does =
-        reaches_behind (tree_in setting variables goal low (Tokened.hold y rest) own high lines) _ way (inl refl)
-        (way_there goal low rest lines.0 high lines.1 way act is does)
-    way_there goal low (Tokened.unhold y rest) own high lines way act is does =
-        reaches_behind (tree_in setting variables goal low (Tokened.unhold y rest) own high lines) _ way (inl refl)
-        (way_there goal low rest lines.0 high lines.1 way act is does)
-    way_there goal low (Tokened.if_token y there absent) own high lines way act is does =
-        reaches_behind (tree_in setting variables goal low (Tokened.if_token y there absent) own high lines) _ way (inl refl)
-        (way_there goal (low + 1) there lines.0 lines.2 lines.3 way act is does)
+        (way_there None goal (low + 1) rest lines.1 high lines.3 way act is does)
+    way_there left goal low (Tokened.fill x y c first arguments kept others rest) own high lines (suc n ∷ way) act is does = cc is
+    way_there left goal low (Tokened.free y rest) own high lines way act is does =
+        reaches_behind (tree_behind setting variables left goal low (Tokened.free y rest) own high lines) _ way (inl refl)
+        (way_there None goal low rest lines.0 high lines.1 way act is does)
+    way_there left goal low (Tokened.null y rest) own high lines way act is does =
+        reaches_behind (tree_behind setting variables left goal low (Tokened.null y rest) own high lines) _ way (inl refl)
+        (way_there None goal low rest lines.0 high lines.1 way act is does)
+    way_there left goal low (Tokened.move to of rest) own high lines way act is does =
+        reaches_behind (tree_behind setting variables left goal low (Tokened.move to of rest) own high lines) _ way (inl refl)
+        (way_there None goal low rest lines.0 high lines.1 way act is does)
+    way_there left goal low (Tokened.hold y rest) own high lines way act is does =
+        reaches_behind (tree_behind setting variables left goal low (Tokened.hold y rest) own high lines) _ way (inl refl)
+        (way_there None goal low rest lines.0 high lines.1 way act is does)
+    way_there left goal low (Tokened.unhold y rest) own high lines way act is does =
+        reaches_behind (tree_behind setting variables left goal low (Tokened.unhold y rest) own high lines) _ way (inl refl)
+        (way_there None goal low rest lines.0 high lines.1 way act is does)
+    way_there left goal low (Tokened.if_token y there absent) own high lines way act is does =
+        reaches_behind (tree_behind setting variables left goal low (Tokened.if_token y there absent) own high lines) _ way (inl refl)
+        (way_there None goal (low + 1) there lines.0 lines.2 lines.3 way act is does)
 
     arm_there : (goal : Goal) (label low : ℕ) (arms : TokenedArms) (own : List Line) (high row : ℕ) (before : List Line)
         (lines : ArmsLines setting variables goal label low arms own high) (index : ℕ) (way : List ℕ) (act : Counted)
@@ -302,7 +304,7 @@ module _ (setting : Setting) (variables : ℕ) where
     arm_there goal label low (TokenedArms.arm body rest) own high row before lines zero way act is does =
         let number : row ≡ row + 0 = omega arith in (
           _,
-          (inl refl, (ap (λ k. k ∷ []) number, way_there goal low body lines.0 lines.2 lines.3 way act is does)),
+          (inl refl, (ap (λ k. k ∷ []) number, way_there None goal low body lines.0 lines.2 lines.3 way act is does)),
         )
     arm_there goal label low (TokenedArms.arm body rest) own high row before lines (suc index) way act is does =
         let later = arm_there goal (label + 1) lines.2 rest lines.1 high (suc row)

@@ -47,7 +47,7 @@ at_asked program x c a more other others rest idle inner frames tokens input s f
     let below = p.numbered.0 in
     let values : ℕ → _ = put x (Some 0) s.frame.cells in
     let after : List Line = p.lines.1 ++ p.after in
-    let ask = p.lines.3 in
+    let ask = p.lines.4 in
     let row = row_times more (most_moves + 2) in
     let held = row_times zs (most_moves + 9) in
     let back = row_times zs (most_moves + 7) in
@@ -60,8 +60,8 @@ at_asked program x c a more other others rest idle inner frames tokens input s f
       own = p.lines.0;
       more = p.lines.1;
       behind = p.lines.2;
-      lines = p.lines.4;
-      parts = p.lines.5;
+      lines = p.lines.5;
+      parts = p.lines.7;
       part_is = record { way = 0 ∷ []; is_part = inl refl; code_is = refl };
       variable = p.numbered.0;
       marked = p.marked.1.1;

@@ -18,13 +18,12 @@ use Rattle.rv_isa.specs.AsmCode.{Line}
 use Rattle.rv_isa.specs.Frames.{Frame}
 use Rattle.cell_heap.specs.Blocks.{Cells}
 use Rattle.cell_heap.specs.Pool.{Pool, IsCell}
-use Rattle.rv_lower.specs.Lines.{acts, copies_to}
+use Rattle.rv_lower.specs.Lines.{acts}
 use Rattle.rv_lower.proofs.Orders.{split_at}
-use Rattle.rv_lower.proofs.Performing.{put_same, put_other}
 use Rattle.rv_cells.specs.Layout.{Layout}
 use Rattle.rv_cells.specs.Follows.{Owner, Follows}
 use Rattle.rv_cells.proofs.FormPlaces.{stands_behind, stands_behind_three}
-use Rattle.rv_cells.proofs.Acting.{put_in, copy_runs, label_runs, falls_one_runs, branch_one_runs}
+use Rattle.rv_cells.proofs.Acting.{label_runs, falls_one_runs, branch_one_runs}
 use Rattle.rv_cells.proofs.FormWords.{has_same}
 use Rattle.rv_cells.proofs.LineCosts.{most_moves}
 use Rattle.rv_cells.proofs.Runs.{turn_of, Runs, runs_then}

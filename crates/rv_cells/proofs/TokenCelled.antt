@@ -30,7 +30,7 @@ use Rattle.rv_cells.proofs.TokenFields.{recounted_words, dup_cells, drop_cells}
 use Rattle.rv_cells.proofs.TokenFrames.{none_behind, slots_moved, all_carried}
 use Rattle.rv_cells.proofs.TokenLineCosts.{forms}
 use Rattle.rv_cells.proofs.TokenStanding.{lines_setting}
-use Rattle.rv_cells.proofs.TokenStanding.{IsTokenCell, token_words, Lowering, texts, setting, upper, known_of, At, IsFitFrom, Follows_step}
+use Rattle.rv_cells.proofs.TokenStanding.{IsTokenCell, token_words, Lowering, setting, upper, known_of, At, IsFitFrom, Follows_step}
 use Rattle.rv_cells.proofs.TokenStands.{stand_moved}
 use Rattle.rv_cells.proofs.TokenLanding.{lands_did, token_at, machine_at, CodeSteps, IsSilent, silent_goes, seen_action, GoesTo, goes_on, kept_after}
 

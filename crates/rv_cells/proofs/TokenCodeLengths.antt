@@ -1,7 +1,9 @@
 -- The assembler code of code with tokens is short: it is no longer than that code tells.
-use Rattle.std.proofs.Common.{◌≡◌, ℕ, suc, ◌+◌, ◌*◌, ◌≤◌, inl, inr, Bool, false, List, [], ◌∷◌, ◌++◌, length, Some, refl, sym, ap}
+use Rattle.std.proofs.Common.{◌≡◌, ℕ, suc, ◌+◌, ◌*◌, ◌≤◌, inl, inr, Bool, false, List, [], ◌∷◌, ◌++◌, length, Some, refl, sym, ap, Option, None}
 use Rattle.std.proofs.Common.{subst, arith}
 use Rattle.std.specs.Prelude.{slice_get}
+use Rattle.kk_core.specs.Decisions.{NodeTree}
+use Rattle.kk_core.specs.CaseLengths.{tests_length}
 use Rattle.kk_counted.specs.BareForms.{bare, bare_arms, bare_function, bare_program}
 use Rattle.kk_counted.specs.Lengths.{form_length}
 use Rattle.kk_counted.specs.Lowerable.{HasArity, HasArities, HaveArities, IsLowerable, AreLowerable}
@@ -24,10 +26,12 @@ use Rattle.rv_lower.specs.Written.{texts_of}
 use Rattle.rv_lower.proofs.Functions.{from_to_length}
 use Rattle.rv_world.specs.Operations.{all_bytes}
 use Rattle.rv_cells.specs.CellLines.{dup_lines, drop_lines}
+use Rattle.rv_cells.specs.declared.compare.Branching.{Branching}
+use Rattle.rv_cells.specs.Comparing.{branch_of}
 use Rattle.rv_cells.specs.CountedLines.{Setting, ways_of}
 use Rattle.rv_cells.specs.Layout.{Layout, IsNarrow, header_of}
 use Rattle.rv_cells.specs.Tables.{table_of, layout_in}
-use Rattle.rv_cells.specs.TokenedLines.{values_of_slots, header_stands, count_stands, AskLines, CodeLines, ArmsLines, IsFunctionOf}
+use Rattle.rv_cells.specs.TokenedLines.{values_of_slots, header_stands, count_stands, AskLines, OwnLines, CaseLines, LinesBehind, ArmsLines, IsFunctionOf}
 use Rattle.rv_cells.specs.TokenedLowered.{IsTokenedForm}
 use Rattle.rv_cells.proofs.FormLengths.{lines_append, loads_length, dup_length, drop_length, token_unique_length, fill_length}
 use Rattle.rv_cells.proofs.FormLengths.{goal_length, tail_length, marks_many, form_short}
@@ -75,77 +79,96 @@ module _ (setting : Setting) (variables : ℕ) (table : CellMarks) (narrow : (c 
             )
       ]
 
+  -- so are they where the case behind a comparison does its work, and is a branch then
+  own_short : (branch : Option Branching) (low x : ℕ) (form : Form) (arguments others : List ℕ) (own : List Line) (middle : ℕ)
+      → HasArity form arguments → IsFormMarked table setting.holds form arguments (setting.holds x)
+      → OwnLines branch setting variables low x form arguments others own middle
+      → code_length own ≤ form_length + other_length * length others
+  own_short None low x form arguments others own middle arity marked is =
+      ask_short low x form arguments others own middle arity marked is
+  own_short (Some branch) low x form arguments others own middle arity marked is =
+      let whole = ap code_length is.0 in omega (arith, whole)
+
+  choice_short : (branch : Option Branching) (nodes arms x : ℕ) (decisions : List NodeTree) (choice : List Line)
+      → CaseLines branch setting nodes arms x decisions choice → code_length choice ≤ tests_length decisions + 5
+  choice_short None nodes arms x decisions choice is =
+      let short = nodes_short setting.layout setting.base nodes (ways_of decisions nodes arms) x 0 decisions choice is in
+      omega (arith, short)
+  choice_short (Some branch) nodes arms x decisions choice is = let whole = ap code_length is in omega (arith, whole)
+
   mutual
-    code_short : (code : Tokened) (bound : List ℕ) (given : Bool) (goal : Goal) (low high : ℕ) (lines : List Line)
+    code_short : (branch : Option Branching) (code : Tokened) (bound : List ℕ) (given : Bool) (goal : Goal) (low high : ℕ) (lines : List Line)
         (left unspent held : List ℕ) → HasMark table setting.holds result bound given (bare code) → HasArities (bare code)
-        → SpendsTokens left unspent held code → CodeLines setting variables goal low code lines high
+        → SpendsTokens left unspent held code → LinesBehind branch setting variables goal low code lines high
         → IsShort code lines
-    code_short (Tokened.give x) bound given goal low high lines left unspent held marked arities spends is =
+    code_short branch (Tokened.give x) bound given goal low high lines left unspent held marked arities spends is =
         let whole = ap code_length is.0 in
         let own = goal_length goal x in omega (arith, whole, own)
-    code_short (Tokened.tail_call f arguments) bound given goal low high lines left unspent held marked arities spends is =
+    code_short branch (Tokened.tail_call f arguments) bound given goal low high lines left unspent held marked arities spends is =
         let whole = ap code_length is.0 in
         let own = tail_length setting.base f arguments (omega (arith, arities)) in omega (arith, whole, own)
-    code_short (Tokened.case x decisions arms) bound given goal low high lines left unspent held marked arities spends is =
+    code_short branch (Tokened.case x decisions arms) bound given goal low high lines left unspent held marked arities spends is =
         let whole = ap code_length is.6 in
         let apart = lines_append is.0 is.1 in
-        let choice = nodes_short setting.layout setting.base is.2 (ways_of decisions is.2 low) x 0 decisions is.0 is.4 in
+        let choice = choice_short branch is.2 low x decisions is.0 is.4 in
         let bodies = arms_short arms bound given goal low (is.2 + length decisions) high is.1 left unspent marked.1 arities
         spends.1 is.5 in
         omega (arith, whole, apart, choice, bodies)
-    code_short (Tokened.compute x form arguments others rest) bound given goal low high lines left unspent held marked arities
+    code_short branch (Tokened.compute x form arguments others rest) bound given goal low high lines left unspent held marked arities
         spends is =
-        let whole = ap code_length is.5 in
+        let whole = ap code_length is.7 in
         let apart = lines_append is.0 is.1 in
-        let own = ask_short low x form arguments others is.0 is.2 arities.0 marked.1.0 is.3 in
-        let more = code_short rest (x ∷ bound) given goal is.2 high is.1 left unspent held marked.1.1 arities.1 spends.1 is.4 in
+        let comes = branch_of form arguments is.3 in
+        let own = own_short comes low x form arguments others is.0 is.2 arities.0 marked.1.0 is.4 in
+        let more = code_short comes rest (x ∷ bound) given goal is.2 high is.1 left unspent held marked.1.1 arities.1 spends.1
+        is.5 in
         omega (arith, whole, apart, own, more)
-    code_short (Tokened.inside x block rest) bound given goal low high lines left unspent held marked arities spends is =
+    code_short branch (Tokened.inside x block rest) bound given goal low high lines left unspent held marked arities spends is =
         let whole = ap code_length is.5 in
         let apart = lines_append is.0 (acts (Label low) [] ∷ is.1) in
-        let part = code_short block bound (setting.holds x) (joins x low) (low + 1) is.2 is.0 spends.0 unspent [] marked.0 arities.0
+        let part = code_short None block bound (setting.holds x) (joins x low) (low + 1) is.2 is.0 spends.0 unspent [] marked.0 arities.0
         spends.1.1.0 is.3 in
-        let more = code_short rest (x ∷ bound) given goal is.2 high is.1 left spends.0 [] marked.1 arities.1 spends.1.1.1
+        let more = code_short None rest (x ∷ bound) given goal is.2 high is.1 left spends.0 [] marked.1 arities.1 spends.1.1.1
         is.4 in
         omega (arith, whole, apart, part, more)
-    code_short (Tokened.read x c fields rest) bound given goal low high lines left unspent held marked arities spends is =
+    code_short branch (Tokened.read x c fields rest) bound given goal low high lines left unspent held marked arities spends is =
         let whole = ap code_length is.4 in
         let apart = lines_append is.0 is.1 in
         let own = loads_length x 2 fields is.0 is.2 in
         let few = few_fields c fields marked.0.1.1 in
-        let more = code_short rest (fields ++ bound) given goal low high is.1 left unspent [] marked.1 arities spends.1 is.3 in
+        let more = code_short None rest (fields ++ bound) given goal low high is.1 left unspent [] marked.1 arities spends.1 is.3 in
         omega (arith, whole, apart, own, few, more)
-    code_short (Tokened.open_cell x c fields used y rest) bound given goal low high lines left unspent held marked arities
+    code_short branch (Tokened.open_cell x c fields used y rest) bound given goal low high lines left unspent held marked arities
         spends is =
         let whole = ap code_length is.4 in
         let apart = lines_append is.0 is.1 in
         let own = token_unique_length setting.holds setting.base low (low + 1) x fields used (variables + y) is.0 is.2
         (few_fields c fields marked.0.1.1) in
-        let more = code_short rest (fields ++ bound) given goal (low + 2) high is.1 left (y ∷ unspent) [] marked.1 arities
+        let more = code_short None rest (fields ++ bound) given goal (low + 2) high is.1 left (y ∷ unspent) [] marked.1 arities
         spends.1.1 is.3 in
         omega (arith, whole, apart, own, more)
-    code_short (Tokened.if_unique x c fields used y rest) bound given goal low high lines left unspent held marked arities
+    code_short branch (Tokened.if_unique x c fields used y rest) bound given goal low high lines left unspent held marked arities
         spends is =
         let whole = ap code_length is.4 in
         let apart = lines_append is.0 is.1 in
         let own = token_unique_length setting.holds setting.base low (low + 1) x fields used (variables + y) is.0 is.2
         (few_fields c fields marked.0.1.1) in
-        let more = code_short rest (fields ++ bound) given goal (low + 2) high is.1 left (y ∷ unspent) [] marked.1 arities
+        let more = code_short None rest (fields ++ bound) given goal (low + 2) high is.1 left (y ∷ unspent) [] marked.1 arities
         spends.1.1 is.3 in
         omega (arith, whole, apart, own, more)
-    code_short (Tokened.dup x rest) bound given goal low high lines left unspent held marked arities spends is =
+    code_short branch (Tokened.dup x rest) bound given goal low high lines left unspent held marked arities spends is =
         let whole = ap code_length is.2 in
         let apart = lines_append (dup_lines setting.holds x) is.0 in
         let own = dup_length setting.holds x in
-        let more = code_short rest bound given goal low high is.0 left unspent [] marked.1 arities spends.1 is.1 in
+        let more = code_short None rest bound given goal low high is.0 left unspent [] marked.1 arities spends.1 is.1 in
         omega (arith, whole, apart, own, more)
-    code_short (Tokened.drop x rest) bound given goal low high lines left unspent held marked arities spends is =
+    code_short branch (Tokened.drop x rest) bound given goal low high lines left unspent held marked arities spends is =
         let whole = ap code_length is.2 in
         let apart = lines_append (drop_lines setting.base setting.holds x) is.0 in
         let own = drop_length setting.holds setting.base x in
-        let more = code_short rest bound given goal low high is.0 left unspent [] marked.1 arities spends.1 is.1 in
+        let more = code_short branch rest bound given goal low high is.0 left unspent [] marked.1 arities spends.1 is.1 in
         omega (arith, whole, apart, own, more)
-    code_short (Tokened.fill x y c first arguments kept others rest) bound given goal low high lines left unspent held marked arities
+    code_short branch (Tokened.fill x y c first arguments kept others rest) bound given goal low high lines left unspent held marked arities
         spends is =
         let whole = ap code_length is.4 in
         let apart = lines_append is.0 is.1 in
@@ -155,36 +178,36 @@ module _ (setting : Setting) (variables : ℕ) (table : CellMarks) (narrow : (c 
         let own = fill_length setting.base x (variables + y) (values_of_slots variables others) low (header_of setting.layout c)
         (first ∷ arguments) kept (header_stands setting.standing c) (count_stands setting.standing) is.0 is.2
         (omega (arith, many, few)) in
-        let more = code_short rest (x ∷ bound) given goal (low + 1) high is.1 left (without (y ∷ []) unspent) [] marked.1.1 arities.1
+        let more = code_short None rest (x ∷ bound) given goal (low + 1) high is.1 left (without (y ∷ []) unspent) [] marked.1.1 arities.1
         spends.1.1.1.1 is.3 in
         omega (arith, whole, apart, values, own, more)
-    code_short (Tokened.free y rest) bound given goal low high lines left unspent held marked arities spends is =
+    code_short branch (Tokened.free y rest) bound given goal low high lines left unspent held marked arities spends is =
         let whole = ap code_length is.2 in
-        let more = code_short rest bound given goal low high is.0 left (without (y ∷ []) unspent) [] marked arities spends.1.1
+        let more = code_short None rest bound given goal low high is.0 left (without (y ∷ []) unspent) [] marked arities spends.1.1
         is.1 in
         omega (arith, whole, more)
-    code_short (Tokened.null y rest) bound given goal low high lines left unspent held marked arities spends is =
+    code_short branch (Tokened.null y rest) bound given goal low high lines left unspent held marked arities spends is =
         let whole = ap code_length is.2 in
-        let more = code_short rest bound given goal low high is.0 left (y ∷ unspent) [] marked arities spends.1.1 is.1 in
+        let more = code_short None rest bound given goal low high is.0 left (y ∷ unspent) [] marked arities spends.1.1 is.1 in
         omega (arith, whole, more)
-    code_short (Tokened.move to of rest) bound given goal low high lines left unspent held marked arities spends is =
+    code_short branch (Tokened.move to of rest) bound given goal low high lines left unspent held marked arities spends is =
         let whole = ap code_length is.2 in
-        let more = code_short rest bound given goal low high is.0 left (to ∷ without (of ∷ []) unspent) [] marked arities
+        let more = code_short None rest bound given goal low high is.0 left (to ∷ without (of ∷ []) unspent) [] marked arities
         spends.1.1.1 is.1 in
         omega (arith, whole, more)
-    code_short (Tokened.hold y rest) bound given goal low high lines left unspent held marked arities spends is =
+    code_short branch (Tokened.hold y rest) bound given goal low high lines left unspent held marked arities spends is =
         let whole = ap code_length is.2 in
-        let more = code_short rest bound given goal low high is.0 left unspent (y ∷ held) marked arities spends.1.1 is.1 in
+        let more = code_short None rest bound given goal low high is.0 left unspent (y ∷ held) marked arities spends.1.1 is.1 in
         omega (arith, whole, more)
-    code_short (Tokened.unhold y rest) bound given goal low high lines left unspent held marked arities spends is =
+    code_short branch (Tokened.unhold y rest) bound given goal low high lines left unspent held marked arities spends is =
         let whole = ap code_length is.2 in
-        let more = code_short rest bound given goal low high is.0 left unspent spends.0 marked arities spends.1.1.1 is.1 in
+        let more = code_short None rest bound given goal low high is.0 left unspent spends.0 marked arities spends.1.1.1 is.1 in
         omega (arith, whole, more)
-    code_short (Tokened.if_token y there absent) bound given goal low high lines left unspent held marked arities spends is =
+    code_short branch (Tokened.if_token y there absent) bound given goal low high lines left unspent held marked arities spends is =
         let whole = ap code_length is.5 in
         let ways = lines_append is.0 (acts (Label low) [] ∷ is.1) in
-        let yes = code_short there bound given goal (low + 1) is.2 is.0 left unspent held marked arities spends.1.1.0 is.3 in
-        let no = code_short absent bound given goal is.2 high is.1 left unspent held
+        let yes = code_short None there bound given goal (low + 1) is.2 is.0 left unspent held marked arities spends.1.1.0 is.3 in
+        let no = code_short None absent bound given goal is.2 high is.1 left unspent held
         (subst (HasMark table setting.holds result bound given) (sym spends.1.0) marked) (subst HasArities (sym spends.1.0) arities)
         spends.1.1.1 is.4 in
         omega (arith, whole, ways, yes, no)
@@ -198,7 +221,7 @@ module _ (setting : Setting) (variables : ℕ) (table : CellMarks) (narrow : (c 
     arms_short (TokenedArms.arm body rest) bound given goal label low high lines left unspent marked arities spends is =
         let whole = ap code_length is.5 in
         let apart = lines_append is.0 is.1 in
-        let one = code_short body bound given goal low is.2 is.0 left unspent [] marked.0 arities.0 spends.0 is.3 in
+        let one = code_short None body bound given goal low is.2 is.0 left unspent [] marked.0 arities.0 spends.0 is.3 in
         let more = arms_short rest bound given goal (label + 1) is.2 high is.1 left unspent marked.1 arities.1 spends.1 is.4 in
         omega (arith, whole, apart, one, more)
 
@@ -215,7 +238,7 @@ function_short layout texts table narrow f function lines may spends is =
     let params = ap (λ (xs : List ℕ). length xs) is.lowered.params in
     let many = from_to_length 0 function.parameters in
     let few = may.few_parameters in
-    let body = code_short setting is.lowered.variables table narrow (result_mark table f) function.body
+    let body = code_short setting is.lowered.variables table narrow (result_mark table f) None function.body
     (numbers_from 0 function.parameters) (result_mark table f) returns 0 is.lowered.labels lines.code [] [] [] is.marked.body_marked
     may.arities spends is.lowered.code in
     omega (arith, params, many, few, body)

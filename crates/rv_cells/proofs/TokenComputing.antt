@@ -1,8 +1,9 @@
 -- The lines of forms that call no function and make no cell do the steps of the machine with tokens: numbers, operators, prints and
 -- reads, and constructors without fields.
-use Rattle.std.proofs.Common.{◌≡◌, ◌≢◌, ℕ, ◌+◌, ◌*◌, ◌<◌, ◌≤◌, inl, inr, Bool, false, not, List, [], ◌∷◌, ◌++◌, length, Option, Some, All, refl, sym, ◌∙◌, ap, subst, arith, append_assoc}
+use Rattle.std.proofs.Common.{◌≡◌, ◌≢◌, ℕ, ◌+◌, ◌*◌, ◌<◌, ◌≤◌, inl, inr, Bool, false, not, List, [], ◌∷◌, ◌++◌, length, Option, Some, None, All, refl, sym, ◌∙◌, ap, subst, arith, append_assoc}
 use Rattle.std.specs.Fmt.{signed_decimal}
 use Rattle.kk_base.specs.Trace.{Event, output}
+use Rattle.kk_syntax.specs.declared.operator.BinaryOperator.{BinaryOperator}
 use Rattle.kk_syntax.specs.declared.operator.UnaryOperator.TheVariants.{Negate, Not}
 use Rattle.kk_syntax.specs.declared.program.Form.{Form}
 use Rattle.kk_syntax.specs.declared.program.Form.TheVariants.{Number, Unit as Nothing, ReadByte, PrintText, Unary, Binary, Print, Construct, Call}
@@ -15,6 +16,7 @@ use Rattle.kk_source.specs.Sound.{Within}
 use Rattle.kk_source.specs.Actions.{print_step}
 use Rattle.kk_source.specs.FormEffects.{truth, integer_of, unary_result, number_result, binary_result, byte_value, piece_of}
 use Rattle.kk_counted.specs.Heaps.{Heap}
+use Rattle.kk_counted.specs.Marks.{AreUnmarked}
 use Rattle.kk_counted.specs.TokenKeeping.{Lists, IsJudged, ListsAfterForm, ListsAfter, AreKeptBy}
 use Rattle.kk_counted.specs.TokenMachine.{bound_to}
 use Rattle.kk_counted.specs.TokenRuns.{AllLead}
@@ -38,17 +40,22 @@ use Rattle.rv_lower.proofs.Runs.{Target as NumberTarget, word_cost, most_cost}
 use Rattle.rv_lower.proofs.Runs as NumberRuns
 use Rattle.rv_cells.specs.Layout.{word_in, FitsField}
 use Rattle.rv_cells.specs.Follows.{Follows}
+use Rattle.rv_cells.specs.declared.compare.Branching.{Branching}
+use Rattle.rv_cells.specs.Comparing.{branch_of, MayJoin}
+use Rattle.rv_cells.specs.TokenedLines.{CodeLines}
 use Rattle.rv_cells.proofs.Bound.{within_one, below_among}
-use Rattle.rv_cells.proofs.FormPlaces.{stands_behind}
+use Rattle.rv_cells.proofs.FormPlaces.{Tree, Next, tree_in, stands_behind}
 use Rattle.rv_cells.proofs.FormWords.{has_same, number_word, word_follows, IsPlainForm, put_some, is_true_of, fits_constant, bytes_behind, turns_are}
 use Rattle.rv_cells.proofs.Runs.{turn_of}
 use Rattle.rv_cells.proofs.Spots.{Spot, saved}
 use Rattle.rv_cells.proofs.Values.{among_by, has_bound}
+use Rattle.rv_cells.proofs.Comparisons.{plain_part, plain_own, tested_is, joined_from}
+use Rattle.rv_cells.proofs.TokenBehind.{at_joined}
 use Rattle.rv_cells.proofs.TokenEntering.{at_call}
 use Rattle.rv_cells.proofs.TokenFrames.{slots_moved}
 use Rattle.rv_cells.proofs.TokenLineCosts.{forms}
 use Rattle.rv_cells.proofs.TokenLanding.{token_at, machine_at, CodeSteps, seen_action, does_by, kept_after}
-use Rattle.rv_cells.proofs.TokenStanding.{held_values, Lowering, upper, continues_more, At, IsFitFrom, arrives, Follows_step}
+use Rattle.rv_cells.proofs.TokenStanding.{held_values, Lowering, upper, continues_more, At, IsFitFrom, arrives, Follows_step, lines_setting}
 
 -- no token is held at a plain form, and the lists stay
 holds_none : (form : Form) (arguments others unspent held : List ℕ) → IsPlainForm form arguments
@@ -122,7 +129,15 @@ module _ (program : Lowering) where
     with_value v input_left =
         token_at program rest (record { variable = x; value = v } ∷ s.environment) inner frames s.heap tokens input_left
 
-    pub at_value : (v : Value) (n : ℕ) (events : List Event) (cells : ℕ → Option ℕ) (world : World) (input_left : List ℕ)
+    -- the lines of the rest, which is the part behind those of the form
+    abbrev pub RestLines : Type 0
+    RestLines =
+        (are : CodeLines (lines_setting program at.shape) at.shape.variables at.does.goal at.does.placed.lines.2 rest at.does.placed.lines.1 at.does.placed.high)
+        × Next (tree_in (lines_setting program at.shape) at.shape.variables at.does.goal at.does.placed.low (Tokened.compute x form arguments others rest) at.does.placed.own
+        at.does.placed.high at.does.placed.lines) at.does.placed.lines.0
+        (tree_in (lines_setting program at.shape) at.shape.variables at.does.goal at.does.placed.lines.2 rest at.does.placed.lines.1 at.does.placed.high are)
+
+    pub at_value : RestLines → (v : Value) (n : ℕ) (events : List Event) (cells : ℕ → Option ℕ) (world : World) (input_left : List ℕ)
         (cost : ℕ) → cost ≤ most_cost
         → NumberRuns.Runs numbers_target cost n events
         (turn_at (s.frame.function, s.frame.whole) (form_own ++ form_rest) s.frame.cells s.frame.into fs s.world)
@@ -133,7 +148,7 @@ module _ (program : Lowering) where
         → (upper program).step form_state ≡ (events, with_value v input_left)
         → world.left ≡ input_left → world.cells ≡ s.world.cells → All (λ byte. byte < 256) input_left
         → Follows_step program idle form_state (turn_of left s.frame fs s.world)
-    at_value v n events cells world input_left cost cheap run kept there fits within after is left_is cells_are bytes =
+    at_value rests v n events cells world input_left cost cheap run kept there fits within after is left_is cells_are bytes =
         let p = at.does.placed in
         let short = p.short in
         let variables = at.shape.variables in
@@ -144,7 +159,7 @@ module _ (program : Lowering) where
         let none : s.frame.held ≡ [] = at.has.held_is ∙ ap (held_values slots variables)
         (holds_none form arguments others at.lists.unspent at.lists.held is_plain at.judged.spends.0) in
         let parts : left ≡ form_own ++ form_rest
-        = p.left_is ∙ ap (λ own. own ++ p.after) p.lines.5 ∙ append_assoc p.lines.0 p.lines.1 p.after in
+        = p.left_is ∙ ap (λ own. own ++ p.after) p.lines.7 ∙ append_assoc p.lines.0 p.lines.1 p.after in
         let first : turn_at (s.frame.function, s.frame.whole) (form_own ++ form_rest) s.frame.cells s.frame.into fs s.world
         ≡ turn_of left s.frame fs s.world
         = turns_are (form_own ++ form_rest) s.frame fs s.world none ∙ ap (λ ls. turn_of ls s.frame fs s.world) (sym parts) in
@@ -196,10 +211,10 @@ module _ (program : Lowering) where
                 after = p.after;
                 low = p.lines.2;
                 high = p.high;
-                lines = p.lines.4;
+                lines = rests.0;
                 left_is = refl;
                 place = place;
-                stands = stands_behind p.stands (record { way = 0 ∷ []; is_part = inl refl; code_is = refl });
+                stands = stands_behind p.stands rests.1;
                 marked = p.marked.1.1;
                 numbered = p.numbered.1.1;
                 has = p.has.1;
@@ -231,17 +246,30 @@ module _ (program : Lowering) where
         }))
 
     -- by what a form performs
-    performed_value : (t : TypeTree) (v : Value) (events : List Event) (world : World) (input_left : List ℕ)
+    performed_value : RestLines → (t : TypeTree) (v : Value) (events : List Event) (world : World) (input_left : List ℕ)
         → Performing.Performs numbers_target form_own (at.shape.variables + at.shape.slots) x t v s.frame.cells s.world world events
         → at.shape.holds x ≡ false → IsKept v → (upper program).step form_state ≡ (events, with_value v input_left)
         → world.left ≡ input_left → world.cells ≡ s.world.cells → All (λ byte. byte < 256) input_left
         → Follows_step program idle form_state (turn_of left s.frame fs s.world)
-    performed_value t v events world input_left performs plain after is left_is cells_are bytes =
+    performed_value rests t v events world input_left performs plain after is left_is cells_are bytes =
         let shown = word_follows program.layout program.falsity program.truth_is s.address (length s.heap) t v performs.word
         performs.is in
-        at_value v performs.steps events performs.cells' world input_left performs.cost performs.cheap
+        at_value rests v performs.steps events performs.cells' world input_left performs.cost performs.cheap
         (performs.runs (s.frame.function, s.frame.whole) form_rest s.frame.into fs) performs.kept (performs.there ∙ ap (λ w. Some w) (sym shown.0))
         (subst (λ b. FitsField b v) (sym plain) shown.1) shown.2 after is left_is cells_are bytes
+
+    -- where no comparison is left to the rest
+    plain_rest : branch_of form arguments at.does.placed.lines.3 ≡ None → RestLines
+    plain_rest none =
+        let p = at.does.placed in
+        let part = plain_part (lines_setting program at.shape) at.shape.variables (branch_of form arguments p.lines.3) none at.does.goal p.lines.2 rest p.lines.1 p.high p.lines.5 in (
+          part.0,
+          record {
+            way = 0 ∷ [];
+            is_part = inl (ap (λ (t : Tree). record { way = 0 ∷ []; before = p.lines.0; inner = t }) part.1);
+            code_is = refl;
+          },
+        )
 
   print_is : (piece : List ℕ) (to : TokenConfiguration) (input : List ℕ)
       → seen_action program (print_step piece to) input ≡ (put_of piece, record { machine = to; input = input })
@@ -260,12 +288,83 @@ module _ (program : Lowering) where
   reads x arguments others rest environment inner frames heap tokens [] = refl
   reads x arguments others rest environment inner frames heap tokens (byte ∷ bytes) = refl
 
+  -- an operator on two values, whose value a variable takes
+  at_binary : (x : ℕ) (operator : BinaryOperator) (a b : ℕ) (others : List ℕ) (rest : Tokened) (idle : ℕ) (inner : List TokenJoin)
+      (frames : List TokenFrame) (tokens : Tokens) (input : List ℕ) (s : Spot) (fs : List (Frame Line)) (left : List Line)
+      → idle ≡ forms (Tokened.compute x (Binary operator) (a ∷ b ∷ []) others rest)
+      → (at : At program (Tokened.compute x (Binary operator) (a ∷ b ∷ []) others rest) inner frames tokens input s fs left)
+      → branch_of (Binary operator) (a ∷ b ∷ []) at.does.placed.lines.3 ≡ None
+      → IsFitFrom program
+      (token_at program (Tokened.compute x (Binary operator) (a ∷ b ∷ []) others rest) s.environment inner frames s.heap tokens input)
+      → Follows_step program idle
+      (token_at program (Tokened.compute x (Binary operator) (a ∷ b ∷ []) others rest) s.environment inner frames s.heap tokens
+      input) (turn_of left s.frame fs s.world)
+  at_binary x operator a b others rest idle inner frames tokens input s fs left idle_is at none fit =
+      let p = at.does.placed in
+      let base = at.shape.variables + at.shape.slots in
+      let asked = plain_own (lines_setting program at.shape)
+      at.shape.variables (branch_of (Binary operator) (a ∷ b ∷ []) p.lines.3) none p.low x (Binary operator) (a ∷ b ∷ []) others
+      p.lines.0 p.lines.2 p.lines.4 in
+      let first = (fit 0).bare.fits.0 in
+      let second = (fit 0).bare.fits.1 in
+      let bound_a = p.marked.0.0 in
+      let bound_b = p.marked.0.1.0 in
+      let low = p.numbered.0 in
+      let same : number_result operator (signed first.0) (signed second.0)
+      ≡ binary_result operator (value_of s.environment a) (value_of s.environment b)
+      = ap (λ n. number_result operator n (signed second.0)) (sym (ap integer_of first.1))
+      ∙ ap (λ n. number_result operator (integer_of (value_of s.environment a)) n) (sym (ap integer_of second.1)) in
+      performed_value x (Binary operator) (a ∷ b ∷ []) others rest tt idle inner frames tokens input s fs left idle_is at fit
+      (plain_rest x (Binary operator) (a ∷ b ∷ []) others rest tt idle inner frames tokens input s fs left idle_is at fit none)
+      (binary_type operator) (binary_result operator (value_of s.environment a) (value_of s.environment b)) [] s.world input
+      (subst (λ v. Performing.Performs numbers_target p.lines.0 base x (binary_type operator) v s.frame.cells s.world s.world [])
+      same
+      (Performing.binary_performs numbers_target base x operator a b first.0 second.0 p.lines.0 s.frame.cells s.world
+      (omega (arith, low)) (below_among x s.bound a p.numbered.1.0 bound_a) (below_among x s.bound b p.numbered.1.0 bound_b)
+      (number_word at.has.values a bound_a first) (number_word at.has.values b bound_b second) first.2 second.2 asked.0))
+      p.marked.1.0.1
+      (kept_after program (Tokened.compute x (Binary operator) (a ∷ b ∷ []) others rest) inner frames tokens input s fs left at
+      tt refl)
+      refl at.input_is refl at.bytes
+
+  -- a comparison whose work the case behind it does, behind variables that are given up
+  abbrev JoinsAt : ℕ → BinaryOperator → ℕ → ℕ → List ℕ → Branching → List ℕ → Tokened → Type 0
+  JoinsAt x operator a b others branch ys rest =
+      (idle : ℕ) (inner : List TokenJoin) (frames : List TokenFrame) (tokens : Tokens) (input : List ℕ) (s : Spot)
+      (fs : List (Frame Line)) (left : List Line) → idle ≡ forms (Tokened.compute x (Binary operator) (a ∷ b ∷ []) others rest)
+      → (at : At program (Tokened.compute x (Binary operator) (a ∷ b ∷ []) others rest) inner frames tokens input s fs left)
+      → branch_of (Binary operator) (a ∷ b ∷ []) at.does.placed.lines.3 ≡ Some branch → AreUnmarked at.shape.holds ys
+      → IsFitFrom program
+      (token_at program (Tokened.compute x (Binary operator) (a ∷ b ∷ []) others rest) s.environment inner frames s.heap tokens input)
+      → Follows_step program idle
+      (token_at program (Tokened.compute x (Binary operator) (a ∷ b ∷ []) others rest) s.environment inner frames s.heap tokens
+      input) (turn_of left s.frame fs s.world)
+
+  at_comparison : (x : ℕ) (operator : BinaryOperator) (a b : ℕ) (others : List ℕ) (rest : Tokened) (branch : Branching) (idle : ℕ)
+      (inner : List TokenJoin) (frames : List TokenFrame) (tokens : Tokens) (input : List ℕ) (s : Spot) (fs : List (Frame Line))
+      (left : List Line) → idle ≡ forms (Tokened.compute x (Binary operator) (a ∷ b ∷ []) others rest)
+      → (at : At program (Tokened.compute x (Binary operator) (a ∷ b ∷ []) others rest) inner frames tokens input s fs left)
+      → branch_of (Binary operator) (a ∷ b ∷ []) at.does.placed.lines.3 ≡ Some branch
+      → IsFitFrom program
+      (token_at program (Tokened.compute x (Binary operator) (a ∷ b ∷ []) others rest) s.environment inner frames s.heap tokens input)
+      → Follows_step program idle
+      (token_at program (Tokened.compute x (Binary operator) (a ∷ b ∷ []) others rest) s.environment inner frames s.heap tokens
+      input) (turn_of left s.frame fs s.world)
+  at_comparison x operator a b others rest branch idle inner frames tokens input s fs left idle_is at joined fit =
+      let from = joined_from operator a b at.does.placed.lines.3 branch joined in
+      let case_is = tested_is at.shape.holds x rest (subst (λ t. MayJoin at.shape.holds t x rest) from.0 at.does.placed.lines.6) in
+      subst (JoinsAt x operator a b others branch case_is.ys) (sym case_is.is)
+      (λ idle inner frames tokens input s fs left idle_is at joined plain fit. at_joined program x operator a b others case_is.ys
+      case_is.arms branch case_is.unnamed idle inner frames tokens input s fs left idle_is at joined from.1 plain fit)
+      idle inner frames tokens input s fs left idle_is at joined case_is.plain fit
+
   pub at_plain : (x : ℕ) (form : Form) (arguments others : List ℕ) (rest : Tokened) → IsPlainForm form arguments
       → CodeSteps program (Tokened.compute x form arguments others rest)
   at_plain x (Number n) arguments others rest plain idle inner frames tokens input s fs left idle_is at fit =
       let p = at.does.placed in
-      let lines = p.lines.3.0 in
-      performed_value x (Number n) arguments others rest plain idle inner frames tokens input s fs left idle_is at fit int32
+      let lines = p.lines.4.0 in
+      performed_value x (Number n) arguments others rest plain idle inner frames tokens input s fs left idle_is at fit
+      (p.lines.5, record { way = 0 ∷ []; is_part = inl refl; code_is = refl }) int32
       (integer n) [] s.world input
       (Performing.sets_performs numbers_target (at.shape.variables + at.shape.slots) x lines.0 int32 (integer n) p.lines.0
       s.frame.cells s.world (ap integer (sym lines.1), lines.2) lines.3)
@@ -274,20 +373,22 @@ module _ (program : Lowering) where
       refl at.input_is refl at.bytes
   at_plain x Nothing arguments others rest plain idle inner frames tokens input s fs left idle_is at fit =
       let p = at.does.placed in
-      performed_value x Nothing arguments others rest plain idle inner frames tokens input s fs left idle_is at fit unit_type unit
+      performed_value x Nothing arguments others rest plain idle inner frames tokens input s fs left idle_is at fit
+      (p.lines.5, record { way = 0 ∷ []; is_part = inl refl; code_is = refl }) unit_type unit
       [] s.world input
       (Performing.sets_performs numbers_target (at.shape.variables + at.shape.slots) x unit_word unit_type unit p.lines.0
-      s.frame.cells s.world (refl, refl) p.lines.3.0)
+      s.frame.cells s.world (refl, refl) p.lines.4.0)
       p.marked.1.0.1
       (kept_after program (Tokened.compute x Nothing arguments others rest) inner frames tokens input s fs left at tt refl)
       refl at.input_is refl at.bytes
   at_plain x ReadByte arguments others rest plain idle inner frames tokens input s fs left idle_is at fit =
       let p = at.does.placed in
-      performed_value x ReadByte arguments others rest plain idle inner frames tokens input s fs left idle_is at fit int32
+      performed_value x ReadByte arguments others rest plain idle inner frames tokens input s fs left idle_is at fit
+      (p.lines.5, record { way = 0 ∷ []; is_part = inl refl; code_is = refl }) int32
       (byte_value (Performing.got numbers_target input)) (Performing.read_events numbers_target input)
       (Performing.world_behind numbers_target input s.world) (Performing.left_behind numbers_target input)
       (Performing.read_performs numbers_target (at.shape.variables + at.shape.slots) x input p.lines.0 s.frame.cells s.world
-      at.input_is at.bytes p.lines.3.0)
+      at.input_is at.bytes p.lines.4.0)
       p.marked.1.0.1
       (kept_after program (Tokened.compute x ReadByte arguments others rest) inner frames tokens input s fs left at tt refl
       (Performing.got numbers_target input))
@@ -297,11 +398,12 @@ module _ (program : Lowering) where
       let p = at.does.placed in
       let code = Tokened.compute x (PrintText how text) arguments others rest in
       let piece : List ℕ = piece_of how (text_at program.code.texts text) in
-      let lines = p.lines.3.0 in
+      let lines = p.lines.4.0 in
       let low = p.numbered.0 in
       let from = machine_at program code s.environment inner frames s.heap tokens in
       let to : TokenConfiguration = bound_to x unit rest s.environment inner from in
       performed_value x (PrintText how text) arguments others rest plain idle inner frames tokens input s fs left idle_is at fit
+      (p.lines.5, record { way = 0 ∷ []; is_part = inl refl; code_is = refl })
       unit_type unit (put_of piece) (told_more (put_of piece) s.world) input
       (Performing.print_text_performs numbers_target (at.shape.variables + at.shape.slots) x piece lines.0 p.lines.0 s.frame.cells
       s.world (omega (arith, low)) lines.1 lines.2)
@@ -318,12 +420,13 @@ module _ (program : Lowering) where
       let number = (fit 0).bare.fits in
       let bound = p.marked.0.0 in
       let low = p.numbered.0 in
-      performed_value x (Unary Negate) (a ∷ []) others rest plain idle inner frames tokens input s fs left idle_is at fit int32
+      performed_value x (Unary Negate) (a ∷ []) others rest plain idle inner frames tokens input s fs left idle_is at fit
+      (p.lines.5, record { way = 0 ∷ []; is_part = inl refl; code_is = refl }) int32
       (unary_result Negate (value_of s.environment a)) [] s.world input
       (subst (λ v. Performing.Performs numbers_target p.lines.0 base x int32 (unary_result Negate v) s.frame.cells s.world s.world
       []) (sym number.1)
       (Performing.unary_performs_negate numbers_target base x a number.0 p.lines.0 s.frame.cells s.world (omega (arith, low))
-      (below_among x s.bound a p.numbered.1.0 bound) (number_word at.has.values a bound number) number.2 p.lines.3.0))
+      (below_among x s.bound a p.numbered.1.0 bound) (number_word at.has.values a bound number) number.2 p.lines.4.0))
       p.marked.1.0.1
       (kept_after program (Tokened.compute x (Unary Negate) (a ∷ []) others rest) inner frames tokens input s fs left at tt refl)
       refl at.input_is refl at.bytes
@@ -333,7 +436,7 @@ module _ (program : Lowering) where
   at_plain x (Unary Not) (a ∷ []) others rest plain idle inner frames tokens input s fs left idle_is at fit =
       let p = at.does.placed in
       let base = at.shape.variables + at.shape.slots in
-      let lines = p.lines.3.0 in
+      let lines = p.lines.4.0 in
       let truth_at = (fit 0).bare.fits in
       let b : Bool = truth_at.0 in
       let bound = p.marked.0.0 in
@@ -341,7 +444,8 @@ module _ (program : Lowering) where
       (truth_word b) (b, refl, refl) in
       let turned : truth (not b) ≡ unary_result Not (value_of s.environment a)
       = ap (λ c. truth (not c)) (sym (is_true_of b)) ∙ ap (λ v. unary_result Not v) (sym truth_at.1) in
-      performed_value x (Unary Not) (a ∷ []) others rest plain idle inner frames tokens input s fs left idle_is at fit bool
+      performed_value x (Unary Not) (a ∷ []) others rest plain idle inner frames tokens input s fs left idle_is at fit
+      (p.lines.5, record { way = 0 ∷ []; is_part = inl refl; code_is = refl }) bool
       (unary_result Not (value_of s.environment a)) [] s.world input
       (subst (λ v. Performing.Performs numbers_target p.lines.0 base x bool v s.frame.cells s.world s.world []) turned
       (Performing.unary_performs_not numbers_target base x a b lines.0 p.lines.0 s.frame.cells s.world
@@ -357,28 +461,16 @@ module _ (program : Lowering) where
   at_plain x (Binary operator) (a ∷ b ∷ c ∷ more) others rest plain idle inner frames tokens input s fs left idle_is at fit =
       absurd (fit 0).bare.fits
   at_plain x (Binary operator) (a ∷ b ∷ []) others rest plain idle inner frames tokens input s fs left idle_is at fit =
-      let p = at.does.placed in
-      let base = at.shape.variables + at.shape.slots in
-      let first = (fit 0).bare.fits.0 in
-      let second = (fit 0).bare.fits.1 in
-      let bound_a = p.marked.0.0 in
-      let bound_b = p.marked.0.1.0 in
-      let low = p.numbered.0 in
-      let same : number_result operator (signed first.0) (signed second.0)
-      ≡ binary_result operator (value_of s.environment a) (value_of s.environment b)
-      = ap (λ n. number_result operator n (signed second.0)) (sym (ap integer_of first.1))
-      ∙ ap (λ n. number_result operator (integer_of (value_of s.environment a)) n) (sym (ap integer_of second.1)) in
-      performed_value x (Binary operator) (a ∷ b ∷ []) others rest plain idle inner frames tokens input s fs left idle_is at fit
-      (binary_type operator) (binary_result operator (value_of s.environment a) (value_of s.environment b)) [] s.world input
-      (subst (λ v. Performing.Performs numbers_target p.lines.0 base x (binary_type operator) v s.frame.cells s.world s.world [])
-      same
-      (Performing.binary_performs numbers_target base x operator a b first.0 second.0 p.lines.0 s.frame.cells s.world
-      (omega (arith, low)) (below_among x s.bound a p.numbered.1.0 bound_a) (below_among x s.bound b p.numbered.1.0 bound_b)
-      (number_word at.has.values a bound_a first) (number_word at.has.values b bound_b second) first.2 second.2 p.lines.3.0))
-      p.marked.1.0.1
-      (kept_after program (Tokened.compute x (Binary operator) (a ∷ b ∷ []) others rest) inner frames tokens input s fs left at
-      tt refl)
-      refl at.input_is refl at.bytes
+      by (branch_of (Binary operator) (a ∷ b ∷ []) at.does.placed.lines.3) refl
+    where
+      by : (o : Option Branching) → branch_of (Binary operator) (a ∷ b ∷ []) at.does.placed.lines.3 ≡ o
+          → Follows_step program idle
+          (token_at program (Tokened.compute x (Binary operator) (a ∷ b ∷ []) others rest) s.environment inner frames s.heap tokens
+          input) (turn_of left s.frame fs s.world)
+      by None none =
+          at_binary x operator a b others rest idle inner frames tokens input s fs left idle_is at none fit
+      by (Some branch) joined =
+          at_comparison x operator a b others rest branch idle inner frames tokens input s fs left idle_is at joined fit
   at_plain x (Print how) [] others rest plain idle inner frames tokens input s fs left idle_is at fit = absurd (fit 0).bare.fits
   at_plain x (Print how) (a ∷ b ∷ more) others rest plain idle inner frames tokens input s fs left idle_is at fit =
       absurd (fit 0).bare.fits
@@ -395,10 +487,11 @@ module _ (program : Lowering) where
       let events : List Event = output piece ∷ [] in
       let some : put_of piece ≡ events
       = put_some piece (some_piece how (signed_decimal (signed number.0)) (some_digits number.0 number.2)) in
-      performed_value x (Print how) (a ∷ []) others rest plain idle inner frames tokens input s fs left idle_is at fit unit_type
+      performed_value x (Print how) (a ∷ []) others rest plain idle inner frames tokens input s fs left idle_is at fit
+      (p.lines.5, record { way = 0 ∷ []; is_part = inl refl; code_is = refl }) unit_type
       unit events (told_more events s.world) input
       (Performing.print_int_performs numbers_target base x a number.0 how p.lines.0 s.frame.cells s.world (omega (arith, low))
-      (below_among x s.bound a p.numbered.1.0 bound) (number_word at.has.values a bound number) number.2 p.lines.3.0)
+      (below_among x s.bound a p.numbered.1.0 bound) (number_word at.has.values a bound number) number.2 p.lines.4.0)
       p.marked.1.0.1
       (print_leads (AreKeptBy program.pool.cells (ListsAfter code inner at.lists))
       (piece_of how (signed_decimal (integer_of (value_of s.environment a)))) to
@@ -410,11 +503,12 @@ module _ (program : Lowering) where
   at_plain x (Construct c) [] others rest plain idle inner frames tokens input s fs left idle_is at fit =
       let p = at.does.placed in
       let word = 2 * program.layout.tag c + 1 in
-      at_value x (Construct c) [] others rest plain idle inner frames tokens input s fs left idle_is at fit (constant c) 1 []
+      at_value x (Construct c) [] others rest plain idle inner frames tokens input s fs left idle_is at fit
+      (p.lines.5, record { way = 0 ∷ []; is_part = inl refl; code_is = refl }) (constant c) 1 []
       (put x (Some word) s.frame.cells) s.world input word_cost (omega arith)
       (subst (λ own. NumberRuns.Runs numbers_target word_cost 1 []
       (turn_at (s.frame.function, s.frame.whole) (own ++ (p.lines.1 ++ p.after)) s.frame.cells s.frame.into fs s.world)
-      (turn_at (s.frame.function, s.frame.whole) (p.lines.1 ++ p.after) (put x (Some word) s.frame.cells) s.frame.into fs s.world)) (sym p.lines.3.0)
+      (turn_at (s.frame.function, s.frame.whole) (p.lines.1 ++ p.after) (put x (Some word) s.frame.cells) s.frame.into fs s.world)) (sym p.lines.4.0)
       (NumberRuns.compute_runs numbers_target (s.frame.function, s.frame.whole) (Op.Li word) [] x
       (p.lines.1 ++ p.after) s.frame.cells s.frame.into fs s.world [] word (omega arith) refl refl))
       (λ z less other. put_other x z word s.frame.cells other) (put_same x word s.frame.cells)

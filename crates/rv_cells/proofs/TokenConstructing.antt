@@ -235,9 +235,9 @@ module _ (program : Lowering) (x c a : ℕ) (more : List ℕ) (rest : Tokened) (
       goes_on program code inner frames tokens input s fs left at idle fit rest p.lines.0 p.lines.1 to gs after (x ∷ s.bound)
       at.lists (construct_cost known (a ∷ more)) (builds (busy s.heap)) lands
       (record {
-        parts = p.lines.5;
+        parts = p.lines.7;
         low = p.lines.2;
-        lines = p.lines.4;
+        lines = p.lines.5;
         part_is = record { way = 0 ∷ []; is_part = inl refl; code_is = refl };
         within = within_itself (x ∷ s.bound);
         older = within_one x s.bound;
@@ -275,7 +275,7 @@ module _ (program : Lowering) (x c a : ℕ) (more : List ℕ) (rest : Tokened) (
   steps_free : busy s.heap + marked tokens.marks size < program.pool.cells → Serves (has_room tokens) → Steps_on
   steps_free room served =
       let number = at.cells.number in
-      let done = construct_did known rest_lines fs s x c (a ∷ more) at.does.placed.lines.0 here making at.does.placed.lines.3.0
+      let done = construct_did known rest_lines fs s x c (a ∷ more) at.does.placed.lines.0 here making at.does.placed.lines.4.0
       (omega (arith, room, number)) in
       let one = done.0 in
       let did = done.3 in
@@ -307,11 +307,11 @@ module _ (program : Lowering) (x c a : ℕ) (more : List ℕ) (rest : Tokened) (
       (at.cells.are link.frame link.slot p mark) in
       let taken = taken_from program s.address size tokens.slots at.lists.older frames fs at.shape.result at.waits all_apart link
       links top_is p has in
-      let made = construct_held known rest_lines fs s x c (a ∷ more) at.does.placed.lines.0 here making at.does.placed.lines.3.0
+      let made = construct_held known rest_lines fs s x c (a ∷ more) at.does.placed.lines.0 here making at.does.placed.lines.4.0
       taken.gs place kept.0 holds_none taken.newest taken.taken kept.1 (omega (arith, full, number)) in
       let owners = with_owner place (cell_of size) s.owners in
       goes_there taken.gs place
-      (last_frame known rest_lines fs s x c (a ∷ more) at.does.placed.lines.0 here making at.does.placed.lines.3.0 place) made.0
+      (last_frame known rest_lines fs s x c (a ∷ more) at.does.placed.lines.0 here making at.does.placed.lines.4.0 place) made.0
       after (lands_leads made.1) refl
       (λ z low. made.1.spared (v + z) (omega (arith, low)) refl (slot_spare z)) served
       (cell_goes at.cells program.aligned link.frame link.slot p (later place) owners heap_made after
@@ -335,12 +335,12 @@ module _ (program : Lowering) (x c a : ℕ) (more : List ℕ) (rest : Tokened) (
       let next : TokenState = record { machine = token_at_end heap_full from; input = input } in
       let no_token = none_held program s.address size tokens.slots at.lists.older frames fs at.shape.result at.waits all_apart
       (sym chain_is ∙ chain) in
-      let ran = full_did known rest_lines fs s x c (a ∷ more) p.lines.0 here making p.lines.3.0 (omega (arith, full, number))
+      let ran = full_did known rest_lines fs s x c (a ∷ more) p.lines.0 here making p.lines.4.0 (omega (arith, full, number))
       (ap (λ held. top_in held s.frame.cells (top fs)) holds_none ∙ no_token) in
       let t0 = turn_of left s.frame fs s.world in
       let t1 : AsmTurn World Ending = ended (exited (number_of OfEnding.HeapFull)) s.world in
       let is : left ≡ p.lines.0 ++ rest_lines
-      = p.left_is ∙ ap (λ own. own ++ p.after) p.lines.5 ∙ append_assoc p.lines.0 p.lines.1 p.after in
+      = p.left_is ∙ ap (λ own. own ++ p.after) p.lines.7 ∙ append_assoc p.lines.0 p.lines.1 p.after in
       does_by program idle start next [] t0 (ap (λ action. seen_action program action input) (asked no_room served)) fit
       (λ fits. by_lines program 1 (most_moves + 10) ((upper program).weight start) (saved s.heap) idle next t0 t1
       (subst (λ ls. Runs (target program) (most_moves + 10) 1 (turn_of ls s.frame fs s.world) t1) (sym is) ran)

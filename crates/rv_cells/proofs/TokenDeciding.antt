@@ -48,7 +48,7 @@ use Rattle.rv_cells.proofs.TokenBlocks.{turns_to}
 use Rattle.rv_cells.proofs.TokenLineCosts.{forms, arms_forms}
 use Rattle.rv_cells.proofs.TokenLanding.{token_at, machine_at, CodeSteps, seen_action, kept_after}
 use Rattle.rv_cells.proofs.TokenStanding.{lines_setting}
-use Rattle.rv_cells.proofs.TokenStanding.{Lowering, target, texts, setting, known_of, At, IsFitFrom, finds, Follows_step}
+use Rattle.rv_cells.proofs.TokenStanding.{Lowering, target, setting, known_of, At, IsFitFrom, finds, Follows_step}
 
 -- ---- where nodes and arms stand
 
@@ -113,16 +113,16 @@ nodes_begin layout base nodes arms ways x k (tests at edges otherwise ∷ each) 
     inr (are.2.0 ++ are.1, are.4 ∙ ap (λ ls. ls ++ are.1) are.2.2)
 
 -- an arm of a row stands behind its label
-record ArmAt (setting : Setting) (variables : ℕ) (goal : Goal) (l : ℕ) (body : Tokened) (lines : List Line) : Type 0 where
-  before : List Line
-  first : List Line
-  rest : List Line
-  low : ℕ
-  high : ℕ
-  is : lines ≡ before ++ (acts (Label l) [] ∷ (first ++ rest))
-  code : CodeLines setting variables goal low body first high
+pub record ArmAt (setting : Setting) (variables : ℕ) (goal : Goal) (l : ℕ) (body : Tokened) (lines : List Line) : Type 0 where
+  pub before : List Line
+  pub first : List Line
+  pub rest : List Line
+  pub low : ℕ
+  pub high : ℕ
+  pub is : lines ≡ before ++ (acts (Label l) [] ∷ (first ++ rest))
+  pub code : CodeLines setting variables goal low body first high
 
-arm_stands : (setting : Setting) (variables : ℕ) (goal : Goal) (label low high row : ℕ) (arms : TokenedArms) (lines : List Line)
+pub arm_stands : (setting : Setting) (variables : ℕ) (goal : Goal) (label low high row : ℕ) (arms : TokenedArms) (lines : List Line)
     (body : Tokened) → ArmsLines setting variables goal label low arms lines high → tokened_arm_at arms row ≡ Some body
     → ArmAt setting variables goal (label + row) body lines
 arm_stands setting variables goal label low high row TokenedArms.no_arm lines body are is = cc
@@ -168,7 +168,7 @@ step_same : (w v : List ℕ) (b c : List Line) (t u : Tree) → w ≡ v → b �
     → ◌≡◌ {A = Step} (record { way = w; before = b; inner = t }) (record { way = v; before = c; inner = u })
 step_same w v b c t u ways lines trees = λ i. record { way = ways i; before = lines i; inner = trees i }
 
-tree_moved : (setting : Setting) (variables : ℕ) (goal : Goal) (low high : ℕ) (own : List Line) (one body : Tokened)
+pub tree_moved : (setting : Setting) (variables : ℕ) (goal : Goal) (low high : ℕ) (own : List Line) (one body : Tokened)
     (same : one ≡ body) (lines : CodeLines setting variables goal low one own high)
     → tree_in setting variables goal low body own high
     (subst (λ b. CodeLines setting variables goal low b own high) same lines)
@@ -181,7 +181,7 @@ tree_moved setting variables goal low high own one body same lines =
     (subst_refl (λ c. CodeLines setting variables goal low c own high) lines)) same
 
 -- the arm of a row is a part, behind its label
-arm_part : (setting : Setting) (variables : ℕ) (goal : Goal) (label low high first row : ℕ) (arms : TokenedArms)
+pub arm_part : (setting : Setting) (variables : ℕ) (goal : Goal) (label low high first row : ℕ) (arms : TokenedArms)
     (lines start : List Line) (body : Tokened) (are : ArmsLines setting variables goal label low arms lines high)
     (is : tokened_arm_at arms row ≡ Some body)
     → IsPart (record {
@@ -221,15 +221,23 @@ arm_part setting variables goal label low high first (suc row) (TokenedArms.arm 
     ∙ ap (λ l. (start ++ (head ++ later.before)) ++ (acts (Label l) [] ∷ [])) there) refl)
     (arm_part setting variables goal (label + 1) are.2 high (suc first) row more are.1 (start ++ head) body are.4 is))
 
+-- no line is before the arm of the first row
+pub arm_first : (setting : Setting) (variables : ℕ) (goal : Goal) (label low high : ℕ) (arms : TokenedArms) (lines : List Line)
+    (body : Tokened) (are : ArmsLines setting variables goal label low arms lines high) (is : tokened_arm_at arms 0 ≡ Some body)
+    → (arm_stands setting variables goal label low high 0 arms lines body are is).before ≡ []
+unfolding arm_stands
+arm_first setting variables goal label low high TokenedArms.no_arm lines body are is = cc is
+arm_first setting variables goal label low high (TokenedArms.arm one more) lines body are is = refl
+
 -- the bare form of an arm is that of its row
-arm_bare : (arms : TokenedArms) (row : ℕ) (body : Tokened) → tokened_arm_at arms row ≡ Some body
+pub arm_bare : (arms : TokenedArms) (row : ℕ) (body : Tokened) → tokened_arm_at arms row ≡ Some body
     → arm_at (bare_arms arms) row ≡ Some (bare body)
 arm_bare TokenedArms.no_arm row body is = cc is
 arm_bare (TokenedArms.arm one more) zero body is = ap (λ o. option_map bare o) is
 arm_bare (TokenedArms.arm one more) (suc row) body is = arm_bare more row body is
 
 -- what is true of all arms is true of the one of a row
-arm_short : (arms : TokenedArms) (row : ℕ) (body : Tokened) → tokened_arm_at arms row ≡ Some body → forms body ≤ arms_forms arms
+pub arm_short : (arms : TokenedArms) (row : ℕ) (body : Tokened) → tokened_arm_at arms row ≡ Some body → forms body ≤ arms_forms arms
 arm_short TokenedArms.no_arm row body is = cc
 arm_short (TokenedArms.arm one more) zero body is =
     let same : one ≡ body = cc is in
@@ -237,14 +245,14 @@ arm_short (TokenedArms.arm one more) zero body is =
     omega arith
 arm_short (TokenedArms.arm one more) (suc row) body is = let later = arm_short more row body is in omega arith
 
-arm_numbered : (base : ℕ) (bound : List ℕ) (arms : TokenedArms) (row : ℕ) (body : Tokened) → tokened_arm_at arms row ≡ Some body
+pub arm_numbered : (base : ℕ) (bound : List ℕ) (arms : TokenedArms) (row : ℕ) (body : Tokened) → tokened_arm_at arms row ≡ Some body
     → AreArmsNumbered base bound (bare_arms arms) → AreNumbered base bound (bare body)
 arm_numbered base bound TokenedArms.no_arm row body is are = cc
 arm_numbered base bound (TokenedArms.arm one more) zero body is are =
     let same : one ≡ body = cc is in subst (λ b. AreNumbered base bound (bare b)) same are.0
 arm_numbered base bound (TokenedArms.arm one more) (suc row) body is are = arm_numbered base bound more row body is are.1
 
-arm_marked : (marks : CellMarks) (holds : ℕ → Bool) (result given : Bool) (bound : List ℕ) (arms : TokenedArms) (row : ℕ)
+pub arm_marked : (marks : CellMarks) (holds : ℕ → Bool) (result given : Bool) (bound : List ℕ) (arms : TokenedArms) (row : ℕ)
     (body : Tokened) → tokened_arm_at arms row ≡ Some body → HaveMark marks holds result bound given (bare_arms arms)
     → HasMark marks holds result bound given (bare body)
 arm_marked marks holds result given bound TokenedArms.no_arm row body is are = cc
@@ -253,21 +261,21 @@ arm_marked marks holds result given bound (TokenedArms.arm one more) zero body i
 arm_marked marks holds result given bound (TokenedArms.arm one more) (suc row) body is are =
     arm_marked marks holds result given bound more row body is are.1
 
-arm_slots : (slots : ℕ) (arms : TokenedArms) (row : ℕ) (body : Tokened) → tokened_arm_at arms row ≡ Some body → HaveSlots slots arms
+pub arm_slots : (slots : ℕ) (arms : TokenedArms) (row : ℕ) (body : Tokened) → tokened_arm_at arms row ≡ Some body → HaveSlots slots arms
     → HasSlots slots body
 arm_slots slots TokenedArms.no_arm row body is have = cc
 arm_slots slots (TokenedArms.arm one more) zero body is have =
     let same : one ≡ body = cc is in subst (HasSlots slots) same have.0
 arm_slots slots (TokenedArms.arm one more) (suc row) body is have = arm_slots slots more row body is have.1
 
-arm_keeps : (standing : Standing) (arms : TokenedArms) (row : ℕ) (body : Tokened) → tokened_arm_at arms row ≡ Some body
+pub arm_keeps : (standing : Standing) (arms : TokenedArms) (row : ℕ) (body : Tokened) → tokened_arm_at arms row ≡ Some body
     → AllKeep standing arms → Keeps standing body
 arm_keeps standing TokenedArms.no_arm row body is keep = cc
 arm_keeps standing (TokenedArms.arm one more) zero body is keep =
     let same : one ≡ body = cc is in subst (Keeps standing) same keep.0
 arm_keeps standing (TokenedArms.arm one more) (suc row) body is keep = arm_keeps standing more row body is keep.1
 
-case_there : (o : Option Tokened) (environment : Environment) (inner : List TokenJoin) (from : TokenConfiguration)
+pub case_there : (o : Option Tokened) (environment : Environment) (inner : List TokenJoin) (from : TokenConfiguration)
     (input : List ℕ) → NotStuck (bare_configuration (performed (token_case_step o environment inner from) input).1.machine).control
     → (body : Tokened) × (o ≡ Some body)
 case_there None environment inner from input going = absurd going

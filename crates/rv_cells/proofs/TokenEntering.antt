@@ -314,7 +314,7 @@ module _ (program : Lowering) where
           (less_of at.has.values arguments all) (words_of at.has.values arguments all) in
           let reads = words_read f1.cells (temporaries base arguments) ws (row_has base arguments ws s.frame.cells many) in
           let is : left ≡ copies base arguments ++ (line ∷ behind)
-          = p.left_is ∙ ap (λ own. own ++ p.after) (p.lines.5 ∙ ap (λ own. own ++ p.lines.1) p.lines.3.0)
+          = p.left_is ∙ ap (λ own. own ++ p.after) (p.lines.7 ∙ ap (λ own. own ++ p.lines.1) p.lines.4.0)
           ∙ append_assoc (copies base arguments ++ (line ∷ [])) p.lines.1 p.after
           ∙ append_assoc (copies base arguments) (line ∷ []) behind in
           let as_deep = as_many_wait program s.address (length s.heap) tokens.slots at.lists.older frames fs at.shape.result at.waits in
@@ -322,7 +322,7 @@ module _ (program : Lowering) where
           = ap (λ n. nat_le program.depth (suc n)) as_deep.0 ∙ test in
           let place : s.frame.whole ≡ (p.before ++ p.lines.0) ++ behind
           = split_at s.frame.whole p.before left p.lines.0 p.lines.1 p.after p.place
-          (p.left_is ∙ ap (λ own. own ++ p.after) p.lines.5) in
+          (p.left_is ∙ ap (λ own. own ++ p.after) p.lines.7) in
           let short = p.short in
           let waits : AllWait program s.address (length s.heap) tokens.slots (at.lists.held ∷ at.lists.older) (waiting ∷ frames)
           (f2 ∷ fs) (result_mark program.marks f) = (
@@ -342,7 +342,7 @@ module _ (program : Lowering) where
                   after = p.after;
                   low = p.lines.2;
                   high = p.high;
-                  lines = p.lines.4;
+                  lines = p.lines.5;
                   left_is = refl;
                   place = place;
                   stands = stands_behind p.stands (record { way = 0 ∷ []; is_part = inl refl; code_is = refl });

@@ -20,9 +20,8 @@ use Rattle.rv_isa.specs.declared.asm.Action.TheVariants.{Branch, Routine as Call
 use Rattle.rv_isa.specs.declared.asm.Condition.TheVariants.{NotEqual}
 use Rattle.rv_isa.specs.declared.routine.Routine.TheVariants.{Take}
 use Rattle.rv_isa.specs.AsmCode.{Line}
-use Rattle.rv_isa.specs.Frames.{Frame, put}
+use Rattle.rv_isa.specs.Frames.{Frame}
 use Rattle.rv_lower.specs.Lines.{copies_to, acts}
-use Rattle.rv_lower.proofs.Performing.{put_other}
 use Rattle.rv_cells.specs.Layout.{FitFields, words_in, header_of}
 use Rattle.rv_cells.specs.Follows.{cell_of, is_aside, with_owner, assign}
 use Rattle.rv_cells.specs.CellLines.{hold_lines, unhold_lines}

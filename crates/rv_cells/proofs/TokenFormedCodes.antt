@@ -1,25 +1,28 @@
 -- The lines of a code with tokens that can be lowered are well formed, and have only its own labels: where the code spends its
 -- tokens, and holds them around calls alone.
 use Rattle.std.proofs.Common.{◌≡◌, ℕ, suc, ◌+◌, ◌<◌, ◌≤◌, ◌==◌, ◌&&◌, ◌⊎◌, inl, inr, Bool, true, false, not, List, [], ◌∷◌, ◌++◌}
-use Rattle.std.proofs.Common.{length, refl, sym, ap, subst, ◌∙◌, arith}
+use Rattle.std.proofs.Common.{length, Some, refl, sym, ap, subst, ◌∙◌, arith}
 use Rattle.std.specs.List.{AllByRecursion}
+use Rattle.std.specs.Prelude.{slice_get, if◌then◌else◌}
 use Rattle.std.proofs.lemmas.Bool.{or_cases, or_left, or_right, eq-eqb, eqb-true, false≢true, ne_eqb}
 use Rattle.kk_syntax.specs.declared.program.Form.{Form}
 use Rattle.kk_syntax.specs.declared.program.Form.TheVariants.{Number, Unit as Nothing, ReadByte, PrintText}
 use Rattle.kk_syntax.specs.declared.program.Form.TheVariants.{Unary, Binary, Print, Construct, Call}
 use Rattle.kk_syntax.specs.Shapes.{is_among, without}
+use Rattle.kk_core.specs.Decisions.{NodeTree, chooses}
 use Rattle.kk_core.specs.Sizes.{AreBound}
 use Rattle.kk_counted.specs.Arms.{HasArms, HaveArms, arm_count}
 use Rattle.kk_counted.specs.BareForms.{bare, bare_arms}
 use Rattle.kk_counted.specs.CountBounds.{EachHasAnArm, AllHaveAnArm}
 use Rattle.kk_counted.specs.Lowerable.{AreBelow, bound_list, AreNumbered, AreArmsNumbered, HasArity, HasArities, HaveArities}
-use Rattle.kk_counted.specs.Marks.{CellMarks, HasMark, HaveMark}
+use Rattle.kk_counted.specs.Marks.{CellMarks, IsFormMarked}
 use Rattle.kk_counted.specs.Spending.{AreApart}
 use Rattle.kk_counted.specs.TokenLowerable.{HoldsAtCalls, HoldAtCalls}
 use Rattle.kk_counted.specs.TokenSpending.{AtForm, SpendsTokens, SpendAllTokens}
 use Rattle.kk_counted.specs.TokenedCodes.{Tokened, TokenedArms}
 use Rattle.kk_counted.proofs.TokenForms.{among_without}
-use Rattle.rv_isa.specs.declared.asm.Action.TheVariants.{Compute, Unhold}
+use Rattle.rv_isa.specs.declared.asm.Action.TheVariants.{Compute, Routine as Calls, Unhold}
+use Rattle.rv_isa.specs.declared.routine.Routine.TheVariants.{Drop}
 use Rattle.rv_isa.specs.declared.asm.Condition.TheVariants.{Equal}
 use Rattle.rv_isa.specs.declared.asm.Operation.{Operation}
 use Rattle.rv_isa.specs.declared.asm.Operation.TheVariants as Op
@@ -29,18 +32,24 @@ use Rattle.rv_lower.specs.Lines.{Texts, computes, copies_to, sets, acts}
 use Rattle.rv_lower.specs.Lowered.{Goal, joins, goal_lines, tail_lines}
 use Rattle.rv_lower.proofs.Formed.{Each, Readable, HasRoom, IsWithin, within_more, room_more, to_variable}
 use Rattle.rv_cells.specs.declared.standing.Standing.{Standing}
-use Rattle.rv_lower.proofs.Operations.{Leads, next_temporary}
+use Rattle.rv_lower.proofs.Operations.{Leads}
 use Rattle.rv_lower.proofs.Codes.{Fits, fits_weaker, fits_give, fits_tail_call, fits_inside, fits_split}
 use Rattle.rv_cells.specs.Layout.{Layout, header_of}
+use Rattle.rv_cells.specs.CellLines.{drop_lines}
 use Rattle.rv_cells.specs.CountedLines.{Setting, ComputeLines}
-use Rattle.rv_cells.specs.TokenedLines.{values_of_slots, HasSlots, HaveSlots, header_stands, count_stands, CodeLines, ArmsLines}
+use Rattle.rv_cells.specs.declared.compare.Branching.{Branching}
+use Rattle.rv_cells.specs.Comparing.{branch_of, IsTested, MayJoin}
+use Rattle.rv_cells.specs.TokenedLines.{values_of_slots, HasSlots, HaveSlots, header_stands, count_stands, OwnLines, LinesBehind, CodeLines, ArmsLines}
 use Rattle.rv_cells.proofs.AskedForms.{Asks, ask_either}
 use Rattle.rv_cells.proofs.CellForms.{effect, kept_list, bound_later}
-use Rattle.rv_cells.proofs.FormedCases.{some_arm, ArmsFit, arms_none, arms_more, fits_case}
+use Rattle.rv_cells.proofs.Bound.{within_one}
+use Rattle.rv_cells.proofs.Comparisons.{either_left, compared_by, reads_both, plain_part, plain_own}
+use Rattle.rv_cells.proofs.FormedCases.{some_arm, ArmsFit, arms_none, arms_more, fits_case, fits_branch}
 use Rattle.rv_cells.proofs.FormedForms.{fits_form}
 use Rattle.rv_cells.proofs.FormedOrders.{behind, listed_within, front_within, room_front}
-use Rattle.rv_cells.proofs.FormedSteps.{all_bound, fits_step, fits_dup, fits_drop, fits_read}
+use Rattle.rv_cells.proofs.FormedSteps.{all_bound, fits_step, fits_dup, fits_drop_if, fits_read}
 use Rattle.rv_cells.proofs.FormedUniques.{fits_token_unique}
+use Rattle.rv_cells.proofs.Naming.{HasUses, HaveUses, first_spared, arms_use_behind, arms_numbered_fewer}
 use Rattle.rv_cells.proofs.TokenFormedFills.{fits_fill}
 use Rattle.rv_cells.proofs.TokenFormedHeld.{FitsHeld, held_fits, fits_held, held_weaker, fits_hold, fits_unhold, fits_held_call}
 use Rattle.rv_cells.proofs.TokenFormedSlots.{read_below, variable_there, slot_there, read_within, room_read, values_there}
@@ -274,7 +283,7 @@ module _ (layout : Layout) (holds : ℕ → Bool) (texts : Texts) (standing : St
 
   mutual
     pub code_fits : (code : Tokened) (bound outer unspent left held : List ℕ) (given : Bool) (goal : Goal) (low high : ℕ)
-        (lines : List Line) → HasRoom variables bound → IsWithin outer bound → HasMark marks holds result bound given (bare code)
+        (lines : List Line) → HasRoom variables bound → IsWithin outer bound → HasUses marks holds result bound given (bare code)
         → AreNumbered variables bound (bare code) → HasArms (bare code) → EachHasAnArm (bare code) → HasArities (bare code)
         → HasSlots slots code → HoldsAtCalls held code → SpendsTokens left unspent held code
         → AreBelow slots held → AreApart held → CodeLines setting variables goal low code lines high
@@ -309,22 +318,44 @@ module _ (layout : Layout) (holds : ℕ → Bool) (texts : Texts) (standing : St
         orderly.1 some.1 arities few at.1 spends.1 (let nodes = is.3 in omega (arith, nodes)) is.5)))
     code_fits (Tokened.compute x form arguments others rest) bound outer unspent left held given goal low high lines has within
         marked numbered arms some arities few at spends below apart is =
-        let later = held_weaker (variables + slots) (values_of_slots variables held) (reads unspent (x ∷ bound))
-        (x ∷ reads unspent bound) (reads left outer) goal is.2 high is.1 (bound_behind_value x unspent bound)
-        (code_fits rest (x ∷ bound) outer unspent left held given goal is.2 high is.1 (room_more variables bound x has numbered.0)
-        (λ v there. or_right (x == v) (is_among bound v) (within v there)) marked.1.1 numbered.1.1 arms some arities.1 few.1
-        (held_behind held x form arguments others rest at) spends.1 below apart is.4) in
-        subst (λ (lines : List Line). HeldFits held (reads unspent bound) (reads left outer) goal low high lines) (sym is.5)
-        (elim (ask_either setting variables low x form arguments others is.0 is.2 is.3) [
-          | inl own ↦
-              compute_fits held unspent bound (reads left outer) has x numbered.0 goal low high is.1 form arguments others rest is.0
-              at below marked.0 arities.0 own.0
-              (subst (λ (from : ℕ). HeldFits held (x ∷ reads unspent bound) (reads left outer) goal from high is.1)
-              (sym own.1) later)
-          | inr asks ↦
-              asked_fits held unspent bound (reads left outer) has x numbered.0 goal low high is.1 form arguments others is.0 is.2
-              asks spends.0 few.0 marked.0 later
-        ])
+        let comes = branch_of form arguments is.3 in
+        elim (either_left (branch_of form arguments is.3)) [
+          | inl none ↦ (
+              let rest_is = plain_part setting variables comes none goal is.2 rest is.1 high is.5 in
+              let later = held_weaker (variables + slots) (values_of_slots variables held) (reads unspent (x ∷ bound))
+              (x ∷ reads unspent bound) (reads left outer) goal is.2 high is.1 (bound_behind_value x unspent bound)
+              (code_fits rest (x ∷ bound) outer unspent left held given goal is.2 high is.1 (room_more variables bound x has numbered.0)
+              (λ v there. or_right (x == v) (is_among bound v) (within v there)) marked.1.1 numbered.1.1 arms some arities.1 few.1
+              (held_behind held x form arguments others rest at) spends.1 below apart rest_is.0) in
+              subst (λ (lines : List Line). HeldFits held (reads unspent bound) (reads left outer) goal low high lines) (sym is.7)
+              (elim (ask_either setting variables low x form arguments others is.0 is.2
+              (plain_own setting variables comes none low x form arguments others is.0 is.2 is.4)) [
+                | inl own ↦
+                    compute_fits held unspent bound (reads left outer) has x numbered.0 goal low high is.1 form arguments others rest
+                    is.0 at below marked.0 arities.0 own.0
+                    (subst (λ (from : ℕ). HeldFits held (x ∷ reads unspent bound) (reads left outer) goal from high is.1)
+                    (sym own.1) later)
+                | inr asks ↦
+                    asked_fits held unspent bound (reads left outer) has x numbered.0 goal low high is.1 form arguments others is.0 is.2
+                    asks spends.0 few.0 marked.0 later
+              ])
+              )
+          | inr some_branch ↦ (
+              let branch = some_branch.0 in
+              let compared = compared_by form arguments is.3 branch some_branch.1 in
+              let both = subst (AreBound bound) compared.arguments_are marked.0 in
+              let read = reads_both compared.operator compared.first compared.second branch bound both.0 both.1.0 compared.decides in
+              let own = subst (λ o. OwnLines o setting variables low x form arguments others is.0 is.2) some_branch.1 is.4 in
+              let lines_are = is.7 ∙ ap (λ own. own ++ is.1) own.0 in
+              subst (λ (lines : List Line). HeldFits held (reads unspent bound) (reads left outer) goal low high lines) (sym lines_are)
+              (subst (λ (from : ℕ). HeldFits held (reads unspent bound) (reads left outer) goal from high is.1) (sym own.1)
+              (joined_fits rest branch x bound outer unspent left held given goal is.2 high is.1 has within marked.1.1 numbered.1.1 arms
+              some arities.1 few.1 (held_behind held x form arguments others rest at) spends.1 read.0 read.1
+              (subst (λ t. MayJoin holds t x rest) compared.joined_is is.6)
+              (subst (λ (f : Form). IsFormMarked marks holds f arguments (holds x)) compared.form_is marked.1.0).1
+              (subst (λ o. LinesBehind o setting variables goal is.2 rest is.1 high) some_branch.1 is.5)))
+              )
+        ]
     code_fits (Tokened.inside x block rest) bound outer unspent left held given goal low high lines has within marked numbered arms
         some arities few at spends below apart is =
         none_held held (reads unspent bound) (reads left outer) goal low high lines at.0
@@ -400,8 +431,8 @@ module _ (layout : Layout) (holds : ℕ → Bool) (texts : Texts) (standing : St
         arities few at spends below apart is =
         none_held held (reads unspent bound) (reads left outer) goal low high lines at.0
         (subst (FitsCode (reads unspent bound) (reads left outer) goal low high) (sym is.2)
-        (fits_drop (variables + slots) (reads unspent bound) (reads left outer) (has_room unspent bound has) goal low high is.0
-        holds x (variable_there variables slots unspent bound x marked.0)
+        (fits_drop_if (variables + slots) (reads unspent bound) (reads left outer) (has_room unspent bound has) goal low high is.0
+        holds x (λ some. variable_there variables slots unspent bound x (marked.0 some))
         (fits_held (variables + slots) (reads unspent bound) (reads left outer) goal low high is.0
         (code_fits rest bound outer unspent left [] given goal low high is.0 has within marked.1 numbered arms some arities few
         at.1 spends.1 tt tt is.1))))
@@ -501,14 +532,79 @@ module _ (layout : Layout) (holds : ℕ → Bool) (texts : Texts) (standing : St
         few.1.0 at.1.0 (subst (λ (h : List ℕ). SpendsTokens left unspent h there) at.0 spends.1.1.0) tt tt is.3))
         (fits_held (variables + slots) (reads unspent bound) (reads left outer) goal is.2 high is.1
         (code_fits absent bound outer unspent left [] given goal is.2 high is.1 has within
-        (subst (HasMark marks holds result bound given) (sym spends.1.0) marked)
+        (subst (HasUses marks holds result bound given) (sym spends.1.0) marked)
         (subst (AreNumbered variables bound) (sym spends.1.0) numbered) (subst HasArms (sym spends.1.0) arms)
         (subst EachHasAnArm (sym spends.1.0) some) (subst HasArities (sym spends.1.0) arities) few.1.1 at.1.1
         (subst (λ (h : List ℕ). SpendsTokens left unspent h absent) at.0 spends.1.1.1) tt tt is.4))))
 
+    -- a case that does the work of a comparison in front of it
+    joined_fits : (code : Tokened) (branch : Branching) (x : ℕ) (bound outer unspent left held : List ℕ) (given : Bool) (goal : Goal)
+        (low high : ℕ) (lines : List Line) → HasRoom variables bound → IsWithin outer bound
+        → HasUses marks holds result (x ∷ bound) given (bare code) → AreNumbered variables (x ∷ bound) (bare code)
+        → HasArms (bare code) → EachHasAnArm (bare code) → HasArities (bare code) → HasSlots slots code → HoldsAtCalls held code
+        → SpendsTokens left unspent held code → is_among bound branch.first ≡ true → is_among bound branch.second ≡ true
+        → IsTested holds x code → holds x ≡ false → LinesBehind (Some branch) setting variables goal low code lines high
+        → HeldFits held (reads unspent bound) (reads left outer) goal low high lines
+    joined_fits (Tokened.case y decisions arms) branch x bound outer unspent left held given goal low high lines has within marked
+        numbered orderly some arities few at spends first second tested plain is =
+        let two = orderly.0.below 2 1 (chooses 1) (ap (λ (nodes : List NodeTree). slice_get nodes 2) tested.1) refl in
+        let nodes = is.3 in
+        none_held held (reads unspent bound) (reads left outer) goal low high lines at.0
+        (subst (FitsCode (reads unspent bound) (reads left outer) goal low high)
+        (sym (is.6 ∙ ap (λ (choice : List Line). choice ++ is.1) is.4))
+        (fits_branch (variables + slots) (reads unspent bound) (reads left outer) (has_room unspent bound has) goal low
+        (arm_count (bare_arms arms)) (is.2 + length decisions) high branch is.1 two (omega (arith, nodes))
+        (variable_there variables slots unspent bound branch.first first)
+        (variable_there variables slots unspent bound branch.second second)
+        (arms_fit arms bound outer unspent left given goal low (is.2 + length decisions) high is.1 has within
+        (arms_use_behind marks holds result x plain arms (x ∷ bound) bound given (first_spared x bound) tested.2 marked.1)
+        (arms_numbered_fewer variables (bare_arms arms) (x ∷ bound) bound (within_one x bound) numbered) orderly.1 some.1 arities few
+        at.1 spends.1 (omega (arith, nodes)) is.5)))
+    joined_fits (Tokened.give y) branch x bound outer unspent left held given goal low high lines has within marked
+        numbered orderly some arities few at spends first second tested plain is = absurd tested
+    joined_fits (Tokened.tail_call f arguments) branch x bound outer unspent left held given goal low high lines has within marked
+        numbered orderly some arities few at spends first second tested plain is = absurd tested
+    joined_fits (Tokened.compute y form arguments others rest) branch x bound outer unspent left held given goal low high lines has within marked
+        numbered orderly some arities few at spends first second tested plain is = absurd tested
+    joined_fits (Tokened.inside y block rest) branch x bound outer unspent left held given goal low high lines has within marked
+        numbered orderly some arities few at spends first second tested plain is = absurd tested
+    joined_fits (Tokened.read y c fields rest) branch x bound outer unspent left held given goal low high lines has within marked
+        numbered orderly some arities few at spends first second tested plain is = absurd tested
+    joined_fits (Tokened.open_cell y c fields used z rest) branch x bound outer unspent left held given goal low high lines has within marked
+        numbered orderly some arities few at spends first second tested plain is = absurd tested
+    joined_fits (Tokened.if_unique y c fields used z rest) branch x bound outer unspent left held given goal low high lines has within marked
+        numbered orderly some arities few at spends first second tested plain is = absurd tested
+    joined_fits (Tokened.dup y rest) branch x bound outer unspent left held given goal low high lines has within marked
+        numbered orderly some arities few at spends first second tested plain is = absurd tested
+    joined_fits (Tokened.drop y rest) branch x bound outer unspent left held given goal low high lines has within marked
+        numbered orderly some arities few at spends first second tested plain is =
+        let none : drop_lines (variables + slots) holds y ≡ []
+        = ap (λ (b : Bool). if b then copies_to y (variables + slots) ∷ acts (Calls Drop) ((variables + slots) ∷ []) ∷ [] else [])
+        tested.0 in
+        none_held held (reads unspent bound) (reads left outer) goal low high lines at.0
+        (subst (FitsCode (reads unspent bound) (reads left outer) goal low high)
+        (sym (is.2 ∙ ap (λ (own : List Line). own ++ is.0) none))
+        (fits_held (variables + slots) (reads unspent bound) (reads left outer) goal low high is.0
+        (joined_fits rest branch x bound outer unspent left [] given goal low high is.0 has within marked.1 numbered orderly some
+        arities few at.1 spends.1 first second tested.1 plain is.1)))
+    joined_fits (Tokened.fill y z c first_argument arguments kept others rest) branch x bound outer unspent left held given goal low high lines has within marked
+        numbered orderly some arities few at spends first second tested plain is = absurd tested
+    joined_fits (Tokened.free y rest) branch x bound outer unspent left held given goal low high lines has within marked
+        numbered orderly some arities few at spends first second tested plain is = absurd tested
+    joined_fits (Tokened.null y rest) branch x bound outer unspent left held given goal low high lines has within marked
+        numbered orderly some arities few at spends first second tested plain is = absurd tested
+    joined_fits (Tokened.move to of rest) branch x bound outer unspent left held given goal low high lines has within marked
+        numbered orderly some arities few at spends first second tested plain is = absurd tested
+    joined_fits (Tokened.hold y rest) branch x bound outer unspent left held given goal low high lines has within marked
+        numbered orderly some arities few at spends first second tested plain is = absurd tested
+    joined_fits (Tokened.unhold y rest) branch x bound outer unspent left held given goal low high lines has within marked
+        numbered orderly some arities few at spends first second tested plain is = absurd tested
+    joined_fits (Tokened.if_token y there absent) branch x bound outer unspent left held given goal low high lines has within marked
+        numbered orderly some arities few at spends first second tested plain is = absurd tested
+
     arms_fit : (arms : TokenedArms) (bound outer unspent left : List ℕ) (given : Bool) (goal : Goal) (label low high : ℕ)
         (lines : List Line) → HasRoom variables bound → IsWithin outer bound
-        → HaveMark marks holds result bound given (bare_arms arms) → AreArmsNumbered variables bound (bare_arms arms)
+        → HaveUses marks holds result bound given (bare_arms arms) → AreArmsNumbered variables bound (bare_arms arms)
         → HaveArms (bare_arms arms) → AllHaveAnArm (bare_arms arms) → HaveArities (bare_arms arms) → HaveSlots slots arms
         → HoldAtCalls arms → SpendAllTokens left unspent arms → label + arm_count (bare_arms arms) ≤ low
         → ArmsLines setting variables goal label low arms lines high

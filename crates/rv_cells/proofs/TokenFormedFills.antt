@@ -1,8 +1,8 @@
 -- The lines of a construction in the cell of a token, before those of the code that follows it.
 use Rattle.std.proofs.Common.{◌≡◌, ℕ, ◌+◌, ◌<◌, ◌≤◌, ◌==◌, ◌⊎◌, inl, inr, Bool, true, false, not, List, [], ◌∷◌, ◌++◌, length}
-use Rattle.std.proofs.Common.{Some, None, IsSome, refl, sym, ap, subst, ◌∙◌, arith, append_assoc}
+use Rattle.std.proofs.Common.{Some, refl, sym, ap, subst, ◌∙◌, arith, append_assoc}
 use Rattle.std.specs.List.{AllByRecursion}
-use Rattle.std.proofs.lemmas.Bool.{false≢true, or_cases, or_left, or_right, eq-eqb}
+use Rattle.std.proofs.lemmas.Bool.{or_left, or_right, eq-eqb}
 use Rattle.kk_core.specs.Sizes.{AreBound}
 use Rattle.kk_syntax.specs.Shapes.{is_among as is_bound}
 use Rattle.kk_counted.specs.Spending.{AreApart}
@@ -11,13 +11,13 @@ use Rattle.rv_isa.specs.declared.asm.Condition.TheVariants.{NotEqual}
 use Rattle.rv_isa.specs.declared.asm.Operation.TheVariants as Op
 use Rattle.rv_isa.specs.declared.routine.Routine.TheVariants.{Take}
 use Rattle.rv_isa.specs.AsmCode.{Line}
-use Rattle.rv_isa.specs.WellFormed.{is_alive, is_alive_at, most_values}
+use Rattle.rv_isa.specs.WellFormed.{most_values}
 use Rattle.rv_lower.specs.Lines.{copies_to, acts}
 use Rattle.rv_lower.specs.Lowered.{Goal}
-use Rattle.rv_lower.proofs.Formed.{Each, Readable, Good, HasRoom, room_more, to_variable, to_temporary, good_hands}
-use Rattle.rv_lower.proofs.Formed.{none_some, readable_small, readable_bound}
-use Rattle.rv_lower.proofs.AbsentLabels.{HasNo, has_no_append, found_past, found_here, alive_at_past, alive_at_here, other_label}
-use Rattle.rv_lower.proofs.Operations.{Leads, only_bound}
+use Rattle.rv_lower.proofs.Formed.{Each, Readable, Good, HasRoom, room_more, to_variable}
+use Rattle.rv_lower.proofs.Formed.{readable_small, readable_bound}
+use Rattle.rv_lower.proofs.AbsentLabels.{HasNo, has_no_append, other_label}
+use Rattle.rv_lower.proofs.Operations.{Leads}
 use Rattle.rv_lower.proofs.Codes.{Ahead, Fits, good_label, goal_up, stands_past, stands_here, good_branch}
 use Rattle.rv_cells.specs.CellLines.{SomeWords, is_kept, FillLines, hold_lines, unhold_lines}
 use Rattle.rv_cells.proofs.CellForms.{words_lead, bound_later}

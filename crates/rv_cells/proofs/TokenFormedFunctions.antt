@@ -7,7 +7,7 @@ use Rattle.std.specs.Prelude.{map, slice_get}
 use Rattle.std.proofs.lemmas.Bool.{false≢true}
 use Rattle.std.proofs.lemmas.Option.{slice_get-map}
 use Rattle.kk_syntax.specs.Shapes.{is_among as is_bound}
-use Rattle.kk_counted.specs.BareForms.{bare_function, bare_program}
+use Rattle.kk_counted.specs.BareForms.{bare, bare_function, bare_program}
 use Rattle.kk_counted.specs.Lowerable.{IsLowerable, AreLowerable}
 use Rattle.kk_counted.specs.Marks.{CellMarks, result_mark}
 use Rattle.kk_counted.specs.Spending.{numbers_from}
@@ -29,6 +29,7 @@ use Rattle.rv_cells.specs.Tables.{table_of, layout_in}
 use Rattle.rv_cells.specs.TokenedLines.{IsFunctionOf}
 use Rattle.rv_cells.specs.TokenedLowered.{IsTokenedForm}
 use Rattle.rv_cells.specs.TokenedMeaning.{IsTokenedLowered}
+use Rattle.rv_cells.proofs.Naming.{uses_marked}
 use Rattle.rv_cells.proofs.Calling.{among_numbers}
 use Rattle.rv_cells.proofs.TokenFormedCodes.{code_fits}
 use Rattle.rv_cells.proofs.TokenFormedHeld.{fits_held}
@@ -66,8 +67,9 @@ module _ (layout : Layout) (texts : Texts) (table : CellMarks) (f : ℕ) (functi
   fits : Fits base reads reads returns 0 is.lowered.labels lines.code
   fits = fits_held base reads reads returns 0 is.lowered.labels lines.code
       (code_fits layout is.lowered.holds texts is.lowered.standing table (result_mark table f) variables is.lowered.slots room
-      function.body parameters parameters [] [] [] (result_mark table f) returns 0 is.lowered.labels lines.code has (λ v there. there) is.marked.body_marked
-      is.numbered may.arms may.some_arm may.arities is.has tokens.straight spends tt tt is.lowered.code)
+      function.body parameters parameters [] [] [] (result_mark table f) returns 0 is.lowered.labels lines.code has (λ v there. there)
+      (uses_marked table is.lowered.holds (result_mark table f) (bare function.body) parameters (result_mark table f)
+      is.marked.body_marked) is.numbered may.arms may.some_arm may.arities is.has tokens.straight spends tt tt is.lowered.code)
 
   good : Good (Readable base base reads) lines.code
   good = subst (Good (Readable base base reads)) (append-nil lines.code)

@@ -1,5 +1,5 @@
 -- Code with tokens that grows: the lines and the texts of parts make those of the whole.
-use Rattle.std.proofs.Common.{◌≡◌, ◌⊎◌, inl, inr, Bool, false, ℕ, suc, ◌+◌, ◌<◌, List, [], ◌∷◌, ◌++◌, length, map, take, get_or, refl, sym, ap}
+use Rattle.std.proofs.Common.{◌≡◌, ◌⊎◌, inl, inr, Bool, ℕ, suc, ◌+◌, ◌<◌, false, List, [], ◌∷◌, ◌++◌, length, map, take, get_or, refl, sym, ap}
 use Rattle.std.proofs.Common.{subst, ◌∙◌, arith, append_assoc, append-nil}
 use Rattle.std.proofs.lemmas.List.{length-map, map-append, take_more}
 use Rattle.kk_syntax.specs.declared.program.Form.{Form}
@@ -33,12 +33,13 @@ use Rattle.rv_cells.specs.declared.decide.Targets.{Targets}
 use Rattle.rv_cells.specs.Layout.{header_of}
 use Rattle.rv_cells.specs.CellLines.{FillLines, ReadLines, dup_lines, drop_lines}
 use Rattle.rv_cells.specs.CountedLines.{Setting, ways_of, NodesLines}
-use Rattle.rv_cells.specs.TokenedLines.{CodeLines, ArmsLines, values_of_slots, header_stands, count_stands}
+use Rattle.rv_cells.specs.TokenedLines.{OwnLines, LinesBehind, CodeLines, ArmsLines, values_of_slots, header_stands, count_stands}
 use Rattle.rv_cells.specs.TokenedWritten.{token_test_lines, WroteFill, WroteAsk, WroteTokened, WroteTokenedArms, WroteTokenedSteps}
 use Rattle.rv_cells.specs.Written.{Facts, setting_in, TookTargets, WroteCountOpening, WroteValue}
+use Rattle.rv_cells.proofs.Comparisons.{never_left}
 
 -- the lines of a code at equal places
-code_same : (facts : Facts) {base base_too : ℕ} {texts texts_too : List (List ℕ)} {low low_too : ℕ} (variables : ℕ) (goal : Goal)
+pub code_same : (facts : Facts) {base base_too : ℕ} {texts texts_too : List (List ℕ)} {low low_too : ℕ} (variables : ℕ) (goal : Goal)
     (code : Tokened) (lines : List Line) (high : ℕ)
     → base ≡ base_too → texts ≡ texts_too → low ≡ low_too
     → CodeLines (setting_in facts base texts) variables goal low code lines high
@@ -49,7 +50,7 @@ code_same facts {base} {base_too} {texts} {texts_too} {low} {low_too} variables 
     (subst (λ (ts : List (List ℕ)). CodeLines (setting_in facts base ts) variables goal low_too code lines high) same_texts
     (subst (λ (l : ℕ). CodeLines (setting_in facts base texts) variables goal l code lines high) same_low are))
 
-arms_same : (facts : Facts) {base base_too : ℕ} {texts texts_too : List (List ℕ)} {low low_too : ℕ} (variables : ℕ) (goal : Goal)
+pub arms_same : (facts : Facts) {base base_too : ℕ} {texts texts_too : List (List ℕ)} {low low_too : ℕ} (variables : ℕ) (goal : Goal)
     (label : ℕ) (arms : TokenedArms) (lines : List Line) (high : ℕ)
     → base ≡ base_too → texts ≡ texts_too → low ≡ low_too
     → ArmsLines (setting_in facts base texts) variables goal label low arms lines high
@@ -74,7 +75,7 @@ steps_none facts variables a = record {
   are = λ later goal rest more high is. is;
 }
 
-plug_more : (moves : List TokenedMove) (move : TokenedMove) (rest : Tokened)
+pub plug_more : (moves : List TokenedMove) (move : TokenedMove) (rest : Tokened)
     → plug_tokened (moves ++ move ∷ []) rest ≡ plug_tokened moves (put_tokened move rest)
 plug_more [] move rest = refl
 plug_more (first ∷ moves) move rest = ap (put_tokened first) (plug_more moves move rest)
@@ -116,7 +117,18 @@ step_asks {a} {b} facts variables x form arguments others wrote = record {
   n = 1;
   grows = wrote.grows;
   counted = λ rest. one_form (tokened_computes rest);
-  are = λ later goal rest more high is. (wrote.lines, more, b.next_label, wrote.are later, is, refl);
+  are = λ later goal rest more high is. (
+    wrote.lines,
+    more,
+    b.next_label,
+    false,
+    subst (λ left. OwnLines left (setting_in facts a.base (texts_written b ++ later)) variables a.next_label x form arguments others
+        wrote.lines b.next_label) (sym (never_left form arguments)) (wrote.are later),
+    subst (λ left. LinesBehind left (setting_in facts a.base (texts_written b ++ later)) variables goal b.next_label rest more high)
+        (sym (never_left form arguments)) is,
+    tt,
+    refl,
+  );
 }
 
 -- a block inside: its label is taken first, and stands behind it
@@ -429,9 +441,19 @@ arms_then {a} {b} {c} {d} {here} facts variables goal label each body is wrote l
       (one.are later));
 }
 
-count_of_arms : (each : List Tokened) → arm_count (bare_arms (tokened_arms each)) ≡ length each
+pub count_of_arms : (each : List Tokened) → arm_count (bare_arms (tokened_arms each)) ≡ length each
 count_of_arms [] = refl
 count_of_arms (body ∷ each) = ap suc (count_of_arms each)
+
+-- labels are no lines
+pub took_none : {a b : Lowering} {arms nodes : ℕ} {targets : Targets} → TookTargets arms nodes targets a b → Grows 0 [] a b
+took_none {a} took = record {
+  code = took.took.code ∙ sym (append-nil (lines_written a));
+  base = took.took.base;
+  more = [];
+  texts = took.took.texts ∙ sym (append-nil (texts_written a));
+  few = omega arith;
+}
 
 -- a case: its labels are taken first, those of its arms and then those of its nodes
 pub code_cases : {a b c d : Lowering} (facts : Facts) (variables : ℕ) (goal : Goal) (x : ℕ) (decisions : List NodeTree)
@@ -442,7 +464,7 @@ pub code_cases : {a b c d : Lowering} (facts : Facts) (variables : ℕ) (goal : 
     → WroteTokened facts variables goal (Tokened.case x decisions (tokened_arms arms)) a d
 code_cases {a} {b} {c} {d} facts variables goal x decisions arms targets took choice bodies = record {
   lines = choice.lines ++ bodies.lines;
-  grows = grows_more (omega arith) (grows_then none (grows_then (grows_of choice.wrote) bodies.grows));
+  grows = grows_more (omega arith) (grows_then (took_none took) (grows_then (grows_of choice.wrote) bodies.grows));
   are = λ later. (
     choice.lines,
     bodies.lines,
@@ -459,15 +481,6 @@ code_cases {a} {b} {c} {d} facts variables goal x decisions arms targets took ch
   );
 }
   where
-    none : Grows 0 [] a b
-    none = record {
-      code = took.took.code ∙ sym (append-nil (lines_written a));
-      base = took.took.base;
-      more = [];
-      texts = took.took.texts ∙ sym (append-nil (texts_written a));
-      few = omega arith;
-    }
-
     low_is : c.next_label ≡ targets.nodes + length decisions
     low_is = omega (arith, choice.wrote.label, took.took.next, took.second)
 

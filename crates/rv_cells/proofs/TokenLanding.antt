@@ -33,7 +33,7 @@ use Rattle.rv_cells.proofs.Bound.{AreWithin, has_fewer}
 use Rattle.rv_cells.proofs.FormPlaces.{tree_in, Next, stands_behind}
 use Rattle.rv_cells.proofs.TokenLineCosts.{forms}
 use Rattle.rv_cells.proofs.TokenStanding.{lines_setting}
-use Rattle.rv_cells.proofs.TokenStanding.{HaveSlotValues, HaveTokenCells, AllStand, held_values, Lowering, target, texts, setting, upper, known_of, Placed, Continues, continues_more, AllWait, At, IsFitFrom, Follow, by_lines, Follows_step}
+use Rattle.rv_cells.proofs.TokenStanding.{HaveSlotValues, HaveTokenCells, AllStand, held_values, Lowering, target, setting, upper, known_of, Placed, Continues, continues_more, AllWait, At, IsFitFrom, Follow, by_lines, Follows_step}
 
 -- ---- lines
 

@@ -38,7 +38,7 @@ use Rattle.rv_cells.specs.TokenedMeaning.{roomy_outside, IsTokenedLowered, Token
 use Rattle.rv_cells.proofs.FormRoots.{lowered_once}
 use Rattle.rv_cells.proofs.Programs.{all_free, lines_formed}
 use Rattle.rv_cells.proofs.TokenLineCosts.{forms}
-use Rattle.rv_cells.proofs.TokenStanding.{Lowering, setting, upper, lower, pace, Passing, HasEnded, StandsFor, IsFitWith, IsFitFrom, Related}
+use Rattle.rv_cells.proofs.TokenStanding.{Lowering, setting, upper, lower, pace, Passing, HasEnded, MayStandFor, IsFitWith, IsFitFrom, Related}
 use Rattle.rv_cells.proofs.TokenSimulating.{simulates, starts}
 
 -- ---- machines
@@ -212,12 +212,12 @@ module _ (layout : Layout) (marks : CellMarks) (code : TokenedProgram) (constant
 
   -- where the program ends by itself with an empty heap, all cells are free
   last_free : (by : End) (s : TokenState) (t : AsmTurn World Ending) → s.machine.control ≡ TokenControl.stopped by
-      → StandsFor lowering s.machine.control s.machine s.input t
+      → MayStandFor lowering s.machine.control s.machine s.input t
       → (world : World) × (t ≡ ended (exited (exit_of by)) world)
       × (by ≡ well → busy s.machine.heap ≡ 0 → AreFree pool world.cells)
   last_free by s t is stands =
       let end : HasEnded lowering by s.machine.heap t
-      = subst (λ control. StandsFor lowering control s.machine s.input t) is stands in (
+      = subst (λ control. MayStandFor lowering control s.machine s.input t) is stands in (
         end.world,
         end.turn_is,
         λ ends none. all_free pool layout end.address end.owners s.machine.heap end.world.cells end.follows (end.none ends) none,

@@ -1,5 +1,5 @@
 -- The assembler's machine does each step of the machine with tokens, from the start of a run to its end.
-use Rattle.std.proofs.Common.{◌≡◌, ℕ, ◌+◌, ◌<◌, true, List, [], Some, None, All, refl, sym, ◌∙◌, ap, subst, arith}
+use Rattle.std.proofs.Common.{◌≡◌, ◌⊎◌, inl, inr, ℕ, ◌+◌, ◌<◌, true, List, [], Some, None, All, refl, sym, ◌∙◌, ap, subst, arith}
 use Rattle.std.specs.Prelude.{slice_get, slice_index_or}
 use Rattle.std.proofs.lemmas.List.{append-nil}
 use Rattle.std.proofs.Math.Path.{path_j, subst_refl}
@@ -33,7 +33,7 @@ use Rattle.rv_cells.proofs.Values.{HasValues}
 use Rattle.rv_cells.proofs.Runs.{turn_of}
 use Rattle.rv_cells.proofs.Spots.{Spot, saved}
 use Rattle.rv_cells.proofs.TokenLineCosts.{forms}
-use Rattle.rv_cells.proofs.TokenStanding.{Lowering, texts, setting, upper, lower, pace, root_in, Passing, At, IsAt, StandsFor, IsFitFrom, Related, Follows_step, HaveTokenCells}
+use Rattle.rv_cells.proofs.TokenStanding.{Lowering, texts, setting, upper, lower, pace, root_in, Passing, At, IsAt, IsNear, MayStandFor, IsFitFrom, Related, Follows_step, HaveTokenCells}
 use Rattle.rv_cells.proofs.TokenLanding.{machine_at, token_at, CodeSteps}
 use Rattle.rv_cells.proofs.TokenGiving.{at_give}
 use Rattle.rv_cells.proofs.TokenEntering.{at_tail}
@@ -45,6 +45,7 @@ use Rattle.rv_cells.proofs.TokenMoves.{at_move}
 use Rattle.rv_cells.proofs.TokenHolds.{at_hold, at_unhold}
 use Rattle.rv_cells.proofs.TokenBlocks.{at_if_token}
 use Rattle.rv_cells.proofs.TokenDeciding.{at_case}
+use Rattle.rv_cells.proofs.TokenBehind.{near_step}
 use Rattle.rv_cells.proofs.TokenComputing.{at_compute}
 use Rattle.rv_cells.proofs.TokenAsked.{at_made}
 use Rattle.rv_cells.proofs.TokenFilling.{at_fill}
@@ -105,6 +106,19 @@ module _ (program : Lowering) where
       at_spot : At program code inner frames tokens input is.spot is.fs is.left
       at_spot = is.at
 
+  -- where it stands, or is near a comparison
+  may_step : (code : Tokened) (environment : Environment) (inner : List TokenJoin) (frames : List TokenFrame) (heap : Heap)
+      (tokens : Tokens) (input : List ℕ) (credit idle : ℕ) (t : AsmTurn World Ending) → credit ≡ saved heap → idle ≡ forms code
+      → IsFitFrom program (token_at program code environment inner frames heap tokens input)
+      → IsAt program code environment inner (machine_at program code environment inner frames heap tokens) input t
+      ⊎ IsNear program code environment inner (machine_at program code environment inner frames heap tokens) input t
+      → Follows_from credit idle (token_at program code environment inner frames heap tokens input) t
+  may_step code environment inner frames heap tokens input credit idle t credit_is idle_is fit (inl is) =
+      stands_step code environment inner frames heap tokens input credit idle t credit_is idle_is fit is
+  may_step code environment inner frames heap tokens input credit idle t credit_is idle_is fit (inr is) =
+      subst (λ c. Follows_from c idle (token_at program code environment inner frames heap tokens input) t) (sym credit_is)
+      (near_step program code environment inner frames heap tokens input idle t idle_is fit is)
+
   -- each state that has not ended is stepped
   steps_by : (control : TokenControl) (frames : List TokenFrame) (heap : Heap) (tokens : Tokens) (input : List ℕ) (credit idle : ℕ)
       (t : AsmTurn World Ending)
@@ -121,7 +135,7 @@ module _ (program : Lowering) where
         input = input;
       }) t
   steps_by (TokenControl.running code environment inner) frames heap tokens input credit idle t related goes =
-      stands_step code environment inner frames heap tokens input credit idle t related.credit_is related.idle_is related.fit
+      may_step code environment inner frames heap tokens input credit idle t related.credit_is related.idle_is related.fit
       related.stands
   steps_by (TokenControl.stopped by) frames heap tokens input credit idle t related goes = cc goes
   steps_by TokenControl.stuck frames heap tokens input credit idle t related goes = absurd related.stands
@@ -129,13 +143,14 @@ module _ (program : Lowering) where
   -- states that stand end alike
   ends_alike : (control : TokenControl) (frames : List TokenFrame) (heap : Heap) (tokens : Tokens) (input : List ℕ)
       (t : AsmTurn World Ending)
-      → StandsFor program control (record { control = control; frames = frames; heap = heap; tokens = tokens }) input t
+      → MayStandFor program control (record { control = control; frames = frames; heap = heap; tokens = tokens }) input t
       → (lower program).ending t
       ≡ (upper program).ending (record {
         machine = record { control = control; frames = frames; heap = heap; tokens = tokens };
         input = input;
       })
-  ends_alike (TokenControl.running code environment inner) frames heap tokens input t stands = ap end_of stands.turn_is
+  ends_alike (TokenControl.running code environment inner) frames heap tokens input t (inl stands) = ap end_of stands.turn_is
+  ends_alike (TokenControl.running code environment inner) frames heap tokens input t (inr behind) = ap end_of behind.turn_is
   ends_alike (TokenControl.stopped by) frames heap tokens input t stands = ap end_of stands.turn_is
   ends_alike TokenControl.stuck frames heap tokens input t stands = absurd stands
 
@@ -149,9 +164,11 @@ module _ (program : Lowering) where
 
   -- no state that stands is stuck
   passes : (control : TokenControl) (c : TokenConfiguration) (input : List ℕ) (t : AsmTurn World Ending)
-      → StandsFor program control c input t → Passing program t
-  passes (TokenControl.running code environment inner) c input t stands = λ is.
+      → MayStandFor program control c input t → Passing program t
+  passes (TokenControl.running code environment inner) c input t (inl stands) = λ is.
       goes_not t stands.left stands.spot.frame stands.fs stands.spot.world is stands.turn_is
+  passes (TokenControl.running code environment inner) c input t (inr behind) = λ is.
+      goes_not t behind.left behind.spot.frame behind.fs behind.spot.world is behind.turn_is
   passes (TokenControl.stopped by) c input t stands = λ is. ends_not t (exited (exit_of by)) stands.world is stands.turn_is
   passes TokenControl.stuck c input t stands = absurd stands
 
@@ -288,8 +305,8 @@ module _ (program : Lowering) (main : TokenedFunction) (main_is : slice_get prog
         credit_is = refl;
         idle_is = ap (λ (f : TokenedFunction). forms f.body) (sym body_is);
         fit = fit;
-        stands = subst (λ (f : TokenedFunction). IsAt program f.body [] [] (machine_at program f.body [] [] [] [] no_tokens) input
-            (asm_start lines (first_world program.pool input))) (sym body_is)
+        stands = inl (subst (λ (f : TokenedFunction). IsAt program f.body [] [] (machine_at program f.body [] [] [] [] no_tokens)
+            input (asm_start lines (first_world program.pool input))) (sym body_is)
             (record {
               spot = start_spot;
               fs = [];
@@ -298,5 +315,5 @@ module _ (program : Lowering) (main : TokenedFunction) (main_is : slice_get prog
               heap_is = refl;
               turn_is = refl;
               at = starts_at;
-            });
+            }));
       }

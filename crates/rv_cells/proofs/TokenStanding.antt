@@ -1,5 +1,5 @@
 -- How a state of the assembler's machine stands for a state of the machine with tokens.
-use Rattle.std.proofs.Common.{◌≡◌, ◌≢◌, ℕ, suc, ◌+◌, ◌*◌, ◌%◌, ◌<◌, ◌≤◌, Bool, true, false, List, [], ◌∷◌, ◌++◌, length, Option, Some, All, refl, sym, ◌∙◌, ap, subst, arith}
+use Rattle.std.proofs.Common.{◌≡◌, ◌≢◌, ℕ, suc, ◌+◌, ◌*◌, ◌%◌, ◌<◌, ◌≤◌, ◌⊎◌, inl, Bool, true, false, List, [], ◌∷◌, ◌++◌, length, Option, Some, All, refl, sym, ◌∙◌, ap, subst, arith}
 use Rattle.std.specs.Prelude.{slice_get, if◌then◌else◌}
 use Rattle.kk_base.specs.Trace.{Event}
 use Rattle.kk_base.specs.Machines.{Machine, mapped, state, trace, weight_of}
@@ -7,17 +7,20 @@ use Rattle.kk_base.specs.Simulations.{Reaches}
 use Rattle.kk_syntax.specs.Shapes.{is_among}
 use Rattle.kk_source.specs.State.{Environment, End, ended as well}
 use Rattle.kk_source.specs.Ends.{exit_of}
+use Rattle.kk_source.specs.FormEffects.{truth}
+use Rattle.kk_source.specs.Live.{value_of}
 use Rattle.kk_source.specs.Notes.{events_of}
+use Rattle.kk_core.specs.Truths.{truth_decisions}
 use Rattle.kk_counted.specs.BareForms.{bare}
 use Rattle.kk_counted.specs.Heaps.{Heap, fields_held}
 use Rattle.kk_counted.specs.Lowerable.{AreNumbered}
 use Rattle.kk_counted.specs.Marks.{CellMarks, field_marks, HasMark}
 use Rattle.kk_counted.specs.TokenCosts.{token_cost}
 use Rattle.kk_counted.specs.TokenKeeping.{Lists, IsJudged}
-use Rattle.kk_counted.specs.TokenMachine.{token_machine}
+use Rattle.kk_counted.specs.TokenMachine.{token_machine, tokened_arm_at}
 use Rattle.kk_counted.specs.TokenSpending.{AreTokensSpent}
 use Rattle.kk_counted.specs.TokenStates.{TokenSetting, TokenJoin, TokenFrame, TokenControl, TokenConfiguration, TokenState, bare_configuration}
-use Rattle.kk_counted.specs.TokenedCodes.{Tokened, TokenedFunction, TokenedProgram}
+use Rattle.kk_counted.specs.TokenedCodes.{Tokened, TokenedArms, TokenedFunction, TokenedProgram}
 use Rattle.kk_counted.proofs.KnownKept.{KeepsAt}
 use Rattle.kk_counted.specs.Tokens.{Slot, spent, null, token, is_unspent, is_token, token_of, Tokens, is_linked, marked}
 use Rattle.rv_isa.specs.declared.asm.Action.TheVariants.{Label}
@@ -34,7 +37,7 @@ use Rattle.rv_lower.specs.Lowered.{Goal, returns, joins}
 use Rattle.rv_lower.proofs.Labels.{found_label, label_found}
 use Rattle.rv_cells.specs.declared.standing.Standing.{Standing}
 use Rattle.rv_cells.specs.declared.standing.Standing.TheVariants.{Nothing, Count, Cell}
-use Rattle.rv_cells.specs.Layout.{Layout, IsNarrow, words_in, header_of}
+use Rattle.rv_cells.specs.Layout.{Layout, IsNarrow, words_in, header_of, FitsField}
 use Rattle.rv_cells.specs.Follows.{AreFrom, Owner, in_hand, kept_aside, Follows, NoneAside, set_aside}
 use Rattle.rv_cells.specs.CountedLines.{Setting}
 use Rattle.rv_cells.specs.TokenedLines.{CodeLines, HasSlots, Keeps, IsFunctionOf, AreFunctionsOf}
@@ -343,6 +346,64 @@ module _ (program : Lowering) where
     pub turn_is : turn ≡ turn_of left spot.frame fs spot.world
     pub at : At code inner c.frames c.tokens input spot fs left
 
+  -- A code that gives up a value that is no cell, which is no line: what comes behind it is at the lines that are left.
+  pub record GivesUp (code : Tokened) (inner : List TokenJoin) (frames : List TokenFrame) (tokens : Tokens) (input : List ℕ)
+      (s : Spot) (fs : List (Frame Line)) (left : List Line) : Type 0 where
+    pub y : ℕ
+    pub rest : Tokened
+    pub lists : Lists
+    pub code_is : code ≡ Tokened.drop y rest
+    pub plain : FitsField false (value_of s.environment y)
+    pub follows : Follows program.pool program.layout s.address s.owners s.heap s.world.cells
+    pub judged : IsJudged program.pool.cells lists.left lists.unspent lists.held lists.older (Tokened.drop y rest) inner frames s.heap
+        tokens
+    pub at : IsJudged program.pool.cells lists.left lists.unspent lists.held lists.older rest inner frames s.heap tokens
+        → At rest inner frames tokens input s fs left
+
+  -- Lines lead to a code of the function, or to what comes behind a variable that it gives up. They are a branch and a label at
+  -- most, and change no value and no cell.
+  pub record ComesTo (code : Tokened) (inner : List TokenJoin) (frames : List TokenFrame) (tokens : Tokens) (input : List ℕ)
+      (s : Spot) (fs : List (Frame Line)) (left : List Line) : Type 0 where
+    pub there : List Line
+    pub steps : ℕ
+    pub runs : Runs target 8 steps (turn_of left s.frame fs s.world) (turn_of there s.frame fs s.world)
+    pub stands : At code inner frames tokens input s fs there ⊎ GivesUp code inner frames tokens input s fs there
+
+  -- behind values that are no cells and are given up, a case on the truth of a variable comes
+  abbrev pub IsAhead : Environment → ℕ → TokenedArms → Tokened → Type 0
+  IsAhead environment x arms (Tokened.drop y rest) =
+      FitsField false (value_of environment y) × IsAhead environment x arms rest
+  IsAhead environment x arms (Tokened.case y decisions others) = (y ≡ x) × ((decisions ≡ truth_decisions) × (others ≡ arms))
+  IsAhead environment x arms _ = ⊥
+
+  -- A turn at the branch of a case that does the work of a comparison, where the machine with tokens has done the comparison and is
+  -- on its way to the case. It leads to the arm of the truth that the variable has.
+  pub record IsBehind (code : Tokened) (inner : List TokenJoin) (frames : List TokenFrame) (tokens : Tokens) (input : List ℕ)
+      (s : Spot) (fs : List (Frame Line)) (left : List Line) : Type 0 where
+    pub x : ℕ
+    pub arms : TokenedArms
+    pub test : Bool
+    pub lists : Lists
+    pub ahead : IsAhead s.environment x arms code
+    pub truth_is : value_of s.environment x ≡ truth test
+    pub follows : Follows program.pool program.layout s.address s.owners s.heap s.world.cells
+    pub judged : IsJudged program.pool.cells lists.left lists.unspent lists.held lists.older code inner frames s.heap tokens
+    pub comes : (body : Tokened) → tokened_arm_at arms (if test then 0 else 1) ≡ Some body
+        → IsJudged program.pool.cells lists.left lists.unspent lists.held lists.older body inner frames s.heap tokens
+        → ComesTo body inner frames tokens input s fs left
+
+  -- a turn at such a spot, where no line does the next step of the machine with tokens, or one does that before it too
+  pub record IsNear (code : Tokened) (environment : Environment) (inner : List TokenJoin) (c : TokenConfiguration) (input : List ℕ)
+      (turn : AsmTurn World Ending) : Type 0 where
+    pub spot : Spot
+    pub fs : List (Frame Line)
+    pub left : List Line
+    pub environment_is : spot.environment ≡ environment
+    pub heap_is : spot.heap ≡ c.heap
+    pub turn_is : turn ≡ turn_of left spot.frame fs spot.world
+    pub follows : Follows program.pool program.layout spot.address spot.owners spot.heap spot.world.cells
+    pub near : IsBehind code inner c.frames c.tokens input spot fs left ⊎ GivesUp code inner c.frames c.tokens input spot fs left
+
   -- The run has ended, and the cells hold the heap. Where it has come to its end no token is left.
   pub record HasEnded (by : End) (heap : Heap) (turn : AsmTurn World Ending) : Type 0 where
     pub world : World
@@ -356,6 +417,19 @@ module _ (program : Lowering) where
   StandsFor (TokenControl.running code environment inner) c input turn = IsAt code environment inner c input turn
   StandsFor (TokenControl.stopped by) c input turn = HasEnded by c.heap turn
   StandsFor TokenControl.stuck c input turn = ⊥
+
+  -- the same, where the turn may also be near a comparison
+  abbrev pub MayStandFor : TokenControl → TokenConfiguration → List ℕ → AsmTurn World Ending → Type 0
+  MayStandFor (TokenControl.running code environment inner) c input turn =
+      IsAt code environment inner c input turn ⊎ IsNear code environment inner c input turn
+  MayStandFor (TokenControl.stopped by) c input turn = HasEnded by c.heap turn
+  MayStandFor TokenControl.stuck c input turn = ⊥
+
+  pub may_stand : (control : TokenControl) (c : TokenConfiguration) (input : List ℕ) (turn : AsmTurn World Ending)
+      → StandsFor control c input turn → MayStandFor control c input turn
+  may_stand (TokenControl.running code environment inner) c input turn stands = inl stands
+  may_stand (TokenControl.stopped by) c input turn stands = stands
+  may_stand TokenControl.stuck c input turn stands = stands
 
   -- the steps of the machine with tokens that may go by without a line
   abbrev pub idle_of : TokenControl → ℕ
@@ -377,19 +451,19 @@ module _ (program : Lowering) where
     pub credit_is : credit ≡ saved s.machine.heap
     pub idle_is : idle ≡ idle_of s.machine.control
     pub fit : IsFitFrom s
-    pub stands : StandsFor s.machine.control s.machine s.input turn
+    pub stands : MayStandFor s.machine.control s.machine s.input turn
 
   -- a step of the machine with tokens is done
   abbrev pub Follow : ℕ → ℕ → ℕ → List Event × TokenState → AsmTurn World Ending → Type 0
   Follow cost credit idle next t = Reaches lower Related Passing pace (cost + credit) 1 idle next.0 next.1 t
 
   -- by steps with events
-  pub arrives : (n cost most credit idle : ℕ) (events : List Event) (s : TokenState) (t u : AsmTurn World Ending)
+  pub arrives_near : (n cost most credit idle : ℕ) (events : List Event) (s : TokenState) (t u : AsmTurn World Ending)
       → weight_of lower n t ≤ cost → trace lower n t ≡ events → ((k : ℕ) → k < n → state lower k t ≢ stuck_turn)
       → state lower n t ≡ u → cost + saved s.machine.heap ≤ most + credit
       → suc (idle_of s.machine.control) ≤ n * pace + idle → IsFitFrom s
-      → StandsFor s.machine.control s.machine s.input u → Follow most credit idle (events, s) t
-  arrives n cost most credit idle events s t u light told passes comes paid moves fit stands =
+      → MayStandFor s.machine.control s.machine s.input u → Follow most credit idle (events, s) t
+  arrives_near n cost most credit idle events s t u light told passes comes paid moves fit stands =
       record {
         steps = n;
         credit_after = saved s.machine.heap;
@@ -402,9 +476,18 @@ module _ (program : Lowering) where
           credit_is = refl;
           idle_is = refl;
           fit = fit;
-          stands = subst (StandsFor s.machine.control s.machine s.input) (sym comes) stands;
+          stands = subst (MayStandFor s.machine.control s.machine s.input) (sym comes) stands;
         };
       }
+
+  pub arrives : (n cost most credit idle : ℕ) (events : List Event) (s : TokenState) (t u : AsmTurn World Ending)
+      → weight_of lower n t ≤ cost → trace lower n t ≡ events → ((k : ℕ) → k < n → state lower k t ≢ stuck_turn)
+      → state lower n t ≡ u → cost + saved s.machine.heap ≤ most + credit
+      → suc (idle_of s.machine.control) ≤ n * pace + idle → IsFitFrom s
+      → StandsFor s.machine.control s.machine s.input u → Follow most credit idle (events, s) t
+  arrives n cost most credit idle events s t u light told passes comes paid moves fit stands =
+      arrives_near n cost most credit idle events s t u light told passes comes paid moves fit
+      (may_stand s.machine.control s.machine s.input u stands)
 
   -- by lines that tell nothing
   pub by_lines : (n cost most credit idle : ℕ) (s : TokenState) (t u : AsmTurn World Ending) → Runs target cost n t u
@@ -412,6 +495,13 @@ module _ (program : Lowering) where
       → StandsFor s.machine.control s.machine s.input u → Follow most credit idle ([], s) t
   by_lines n cost most credit idle s t u runs paid moves fit stands =
       arrives n cost most credit idle [] s t u runs.within runs.silent runs.passes runs.arrives paid moves fit stands
+
+  -- by lines, or none, to a state that is near a comparison
+  pub by_near : (n cost most credit idle : ℕ) (s : TokenState) (t u : AsmTurn World Ending) → Runs target cost n t u
+      → cost + saved s.machine.heap ≤ most + credit → suc (idle_of s.machine.control) ≤ n * pace + idle → IsFitFrom s
+      → MayStandFor s.machine.control s.machine s.input u → Follow most credit idle ([], s) t
+  by_near n cost most credit idle s t u runs paid moves fit stands =
+      arrives_near n cost most credit idle [] s t u runs.within runs.silent runs.passes runs.arrives paid moves fit stands
 
   -- lines do the step of a state
   abbrev pub Follows_step : ℕ → TokenState → AsmTurn World Ending → Type 0

@@ -1,7 +1,5 @@
 -- Some words of a cell in hand are stored: those that a token's cell has already, and the others.
 use Rattle.std.proofs.Common.{◌≡◌, ◌≢◌, ◌<◌, ◌≤◌, ℕ, ◌+◌, Bool, true, false, not, List, [], ◌∷◌, ◌++◌, length, Option, Some, refl, sym, ◌∙◌, ap, subst, arith, append_assoc}
-use Rattle.kk_syntax.specs.Shapes.{is_among}
-use Rattle.kk_source.specs.State.{Value, Cell}
 use Rattle.kk_counted.specs.Heaps.{Heap}
 use Rattle.kk_counted.specs.Spending.{AllAmong}
 use Rattle.rv_isa.specs.AsmCode.{Line}
@@ -11,8 +9,8 @@ use Rattle.rv_world.specs.World.{World, with_cells}
 use Rattle.rv_lower.specs.Lines.{sets}
 use Rattle.rv_lower.proofs.Calls.{HaveWords}
 use Rattle.rv_lower.proofs.Performing.{put_same, put_other}
-use Rattle.rv_cells.specs.Layout.{Layout, FitFields, words_in, header_of}
-use Rattle.rv_cells.specs.Follows.{AreFrom, IsBlockOf, Owner}
+use Rattle.rv_cells.specs.Layout.{Layout}
+use Rattle.rv_cells.specs.Follows.{AreFrom, Owner}
 use Rattle.rv_cells.specs.CellLines.{SetIf, SomeWords, is_kept}
 use Rattle.rv_cells.proofs.Acting.{put_in, sets_runs}
 use Rattle.rv_cells.proofs.Constructing.{Hands, stored, store_hand}

@@ -3,6 +3,7 @@ pub mod Follows
 pub mod Steps
 pub mod CellLines
 pub mod CountedLines
+pub mod Comparing
 pub mod TokenedLines
 pub mod Standings
 pub mod Written

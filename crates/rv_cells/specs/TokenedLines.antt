@@ -1,8 +1,9 @@
 -- The assembler code of a program in counted form with tokens. The value of slot y is that many behind the variables; the
 -- temporaries come behind the slots.
-use Rattle.std.specs.Prelude.{◌≡◌, ℕ, ◌+◌, ◌<◌, ◌≤◌, Bool, true, false, List, [], ◌∷◌, ◌++◌, map, length, Some, nat_eq, slice_get}
+use Rattle.std.specs.Prelude.{◌≡◌, ℕ, ◌+◌, ◌<◌, ◌≤◌, Bool, true, false, List, [], ◌∷◌, ◌++◌, map, length, Some, nat_eq, slice_get, Option, None}
 use Rattle.kk_syntax.specs.declared.program.Form.{Form}
 use Rattle.kk_syntax.specs.declared.program.Form.TheVariants.{Construct, Call}
+use Rattle.kk_core.specs.Decisions.{NodeTree}
 use Rattle.kk_core.specs.Sizes.{most_variables}
 use Rattle.kk_counted.specs.Arms.{arm_count}
 use Rattle.kk_counted.specs.BareForms.{bare, bare_arms, bare_function}
@@ -20,6 +21,8 @@ use Rattle.rv_lower.specs.Lowered.{Goal, returns, joins, goal_lines, from_to}
 use Rattle.rv_cells.specs.declared.standing.Standing.{Standing}
 use Rattle.rv_cells.specs.declared.standing.Standing.TheVariants.{Nothing, Count, Cell}
 use Rattle.rv_cells.specs.Layout.{Layout, header_of}
+use Rattle.rv_cells.specs.declared.compare.Branching.{Branching}
+use Rattle.rv_cells.specs.Comparing.{branch_of, MayJoin}
 use Rattle.rv_cells.specs.CellLines.{FillLines, ReadLines, TokenUniqueLines, dup_lines, drop_lines}
 use Rattle.rv_cells.specs.CountedLines.{Setting, ComputeLines, ways_of, NodesLines}
 
@@ -125,71 +128,92 @@ AskLines setting variables low x (Construct c) [] others lines high =
     ComputeLines setting x (Construct c) [] lines × (low ≡ high)
 AskLines setting variables low x form arguments others lines high = ComputeLines setting x form arguments lines × (low ≡ high)
 
+-- the same, where the case behind a comparison may do its work: the comparison has no lines then
+abbrev pub OwnLines : Option Branching → Setting → ℕ → ℕ → ℕ → Form → List ℕ → List ℕ → List Line → ℕ → Type 0
+OwnLines None setting variables low x form arguments others lines high =
+    AskLines setting variables low x form arguments others lines high
+OwnLines (Some branch) setting variables low x form arguments others lines high = (lines ≡ []) × (low ≡ high)
+
+-- The tests of a case with labels of its nodes from `nodes` on, and of its arms from `arms` on. Where it does the work of a
+-- comparison, a branch goes to the second arm, that of `False`, and else the first arm comes.
+abbrev pub CaseLines : Option Branching → Setting → ℕ → ℕ → ℕ → List NodeTree → List Line → Type 0
+CaseLines None setting nodes arms x decisions lines =
+    NodesLines setting.layout setting.base nodes (ways_of decisions nodes arms) x 0 decisions lines
+CaseLines (Some branch) setting nodes arms x decisions lines =
+    lines ≡ acts (Branch branch.condition (arms + 1)) (branch.first ∷ branch.second ∷ []) ∷ []
+
 -- The lines of a code whose value goes to a goal. Its labels are numbers from `low` on, below `high`. The fields that a
--- construction keeps, and what stands in the cells of tokens, are written only where its slot is null.
+-- construction keeps, and what stands in the cells of tokens, are written only where its slot is null. A comparison may be left to a
+-- code: the case does its work to which it leads, behind drops.
 abbrev mutual
-  pub CodeLines : Setting → ℕ → Goal → ℕ → Tokened → List Line → ℕ → Type 0
-  CodeLines setting variables goal low (Tokened.give x) lines high = (lines ≡ goal_lines goal x) × (low ≡ high)
-  CodeLines setting variables goal low (Tokened.tail_call f arguments) lines high =
+  pub LinesBehind : Option Branching → Setting → ℕ → Goal → ℕ → Tokened → List Line → ℕ → Type 0
+  LinesBehind left setting variables goal low (Tokened.give x) lines high = (lines ≡ goal_lines goal x) × (low ≡ high)
+  LinesBehind left setting variables goal low (Tokened.tail_call f arguments) lines high =
       (lines ≡ copies setting.base arguments ++ acts (TailCall f) (temporaries setting.base arguments) ∷ []) × (low ≡ high)
-  CodeLines setting variables goal low (Tokened.case x decisions arms) lines high =
+  LinesBehind left setting variables goal low (Tokened.case x decisions arms) lines high =
       (choice : List Line) × (bodies : List Line) × (nodes : ℕ) × (nodes ≡ low + arm_count (bare_arms arms))
-      × NodesLines setting.layout setting.base nodes (ways_of decisions nodes low) x 0 decisions choice
+      × CaseLines left setting nodes low x decisions choice
       × ArmsLines setting variables goal low (nodes + length decisions) arms bodies high × (lines ≡ choice ++ bodies)
-  CodeLines setting variables goal low (Tokened.compute x form arguments others rest) lines high =
-      (own : List Line) × (more : List Line) × (middle : ℕ) × AskLines setting variables low x form arguments others own middle
-      × CodeLines setting variables goal middle rest more high × (lines ≡ own ++ more)
-  CodeLines setting variables goal low (Tokened.inside x block rest) lines high =
+  LinesBehind left setting variables goal low (Tokened.compute x form arguments others rest) lines high =
+      (own : List Line) × (more : List Line) × (middle : ℕ) × (joined : Bool)
+      × OwnLines (branch_of form arguments joined) setting variables low x form arguments others own middle
+      × LinesBehind (branch_of form arguments joined) setting variables goal middle rest more high
+      × MayJoin setting.holds joined x rest × (lines ≡ own ++ more)
+  LinesBehind left setting variables goal low (Tokened.inside x block rest) lines high =
       (part : List Line) × (more : List Line) × (middle : ℕ)
-      × CodeLines setting variables (joins x low) (low + 1) block part middle
-      × CodeLines setting variables goal middle rest more high × (lines ≡ part ++ (acts (Label low) [] ∷ more))
-  CodeLines setting variables goal low (Tokened.read x c fields rest) lines high =
-      (own : List Line) × (more : List Line) × ReadLines x fields own × CodeLines setting variables goal low rest more high
+      × LinesBehind None setting variables (joins x low) (low + 1) block part middle
+      × LinesBehind None setting variables goal middle rest more high × (lines ≡ part ++ (acts (Label low) [] ∷ more))
+  LinesBehind left setting variables goal low (Tokened.read x c fields rest) lines high =
+      (own : List Line) × (more : List Line) × ReadLines x fields own × LinesBehind None setting variables goal low rest more high
       × (lines ≡ own ++ more)
-  CodeLines setting variables goal low (Tokened.open_cell x c fields used y rest) lines high =
+  LinesBehind left setting variables goal low (Tokened.open_cell x c fields used y rest) lines high =
       (own : List Line) × (more : List Line)
       × TokenUniqueLines setting.base setting.holds low (low + 1) x fields used (variables + y) own
-      × CodeLines setting variables goal (low + 2) rest more high × (lines ≡ own ++ more)
-  CodeLines setting variables goal low (Tokened.if_unique x c fields used y rest) lines high =
+      × LinesBehind None setting variables goal (low + 2) rest more high × (lines ≡ own ++ more)
+  LinesBehind left setting variables goal low (Tokened.if_unique x c fields used y rest) lines high =
       (own : List Line) × (more : List Line)
       × TokenUniqueLines setting.base setting.holds low (low + 1) x fields used (variables + y) own
-      × CodeLines setting variables goal (low + 2) rest more high × (lines ≡ own ++ more)
-  CodeLines setting variables goal low (Tokened.dup x rest) lines high =
-      (more : List Line) × CodeLines setting variables goal low rest more high × (lines ≡ dup_lines setting.holds x ++ more)
-  CodeLines setting variables goal low (Tokened.drop x rest) lines high =
-      (more : List Line) × CodeLines setting variables goal low rest more high
+      × LinesBehind None setting variables goal (low + 2) rest more high × (lines ≡ own ++ more)
+  LinesBehind left setting variables goal low (Tokened.dup x rest) lines high =
+      (more : List Line) × LinesBehind None setting variables goal low rest more high × (lines ≡ dup_lines setting.holds x ++ more)
+  LinesBehind left setting variables goal low (Tokened.drop x rest) lines high =
+      (more : List Line) × LinesBehind left setting variables goal low rest more high
       × (lines ≡ drop_lines setting.base setting.holds x ++ more)
-  CodeLines setting variables goal low (Tokened.fill x y c first arguments kept others rest) lines high =
+  LinesBehind left setting variables goal low (Tokened.fill x y c first arguments kept others rest) lines high =
       (own : List Line) × (more : List Line)
       × FillLines setting.base x (variables + y) (values_of_slots variables others) low (header_of setting.layout c)
       (first ∷ arguments) kept (header_stands setting.standing c) (count_stands setting.standing) own
-      × CodeLines setting variables goal (low + 1) rest more high × (lines ≡ own ++ more)
-  CodeLines setting variables goal low (Tokened.free y rest) lines high =
-      (more : List Line) × CodeLines setting variables goal low rest more high
+      × LinesBehind None setting variables goal (low + 1) rest more high × (lines ≡ own ++ more)
+  LinesBehind left setting variables goal low (Tokened.free y rest) lines high =
+      (more : List Line) × LinesBehind None setting variables goal low rest more high
       × (lines ≡ acts (Compute Op.Free) ((variables + y) ∷ []) ∷ more)
-  CodeLines setting variables goal low (Tokened.null y rest) lines high =
-      (more : List Line) × CodeLines setting variables goal low rest more high × (lines ≡ sets 0 (variables + y) ∷ more)
-  CodeLines setting variables goal low (Tokened.move to of rest) lines high =
-      (more : List Line) × CodeLines setting variables goal low rest more high
+  LinesBehind left setting variables goal low (Tokened.null y rest) lines high =
+      (more : List Line) × LinesBehind None setting variables goal low rest more high × (lines ≡ sets 0 (variables + y) ∷ more)
+  LinesBehind left setting variables goal low (Tokened.move to of rest) lines high =
+      (more : List Line) × LinesBehind None setting variables goal low rest more high
       × (lines ≡ copies_to (variables + of) (variables + to) ∷ more)
-  CodeLines setting variables goal low (Tokened.hold y rest) lines high =
-      (more : List Line) × CodeLines setting variables goal low rest more high
+  LinesBehind left setting variables goal low (Tokened.hold y rest) lines high =
+      (more : List Line) × LinesBehind None setting variables goal low rest more high
       × (lines ≡ acts Hold ((variables + y) ∷ []) ∷ more)
-  CodeLines setting variables goal low (Tokened.unhold y rest) lines high =
-      (more : List Line) × CodeLines setting variables goal low rest more high
+  LinesBehind left setting variables goal low (Tokened.unhold y rest) lines high =
+      (more : List Line) × LinesBehind None setting variables goal low rest more high
       × (lines ≡ acts Unhold ((variables + y) ∷ []) ∷ more)
-  CodeLines setting variables goal low (Tokened.if_token y there absent) lines high =
-      (yes : List Line) × (no : List Line) × (middle : ℕ) × CodeLines setting variables goal (low + 1) there yes middle
-      × CodeLines setting variables goal middle absent no high
+  LinesBehind left setting variables goal low (Tokened.if_token y there absent) lines high =
+      (yes : List Line) × (no : List Line) × (middle : ℕ) × LinesBehind None setting variables goal (low + 1) there yes middle
+      × LinesBehind None setting variables goal middle absent no high
       × (lines ≡ acts (Branch Equal low) ((variables + y) ∷ []) ∷ (yes ++ (acts (Label low) [] ∷ no)))
 
   -- the arms, each behind its label
   pub ArmsLines : Setting → ℕ → Goal → ℕ → ℕ → TokenedArms → List Line → ℕ → Type 0
   ArmsLines setting variables goal label low TokenedArms.no_arm lines high = (lines ≡ []) × (low ≡ high)
   ArmsLines setting variables goal label low (TokenedArms.arm body rest) lines high =
-      (first : List Line) × (more : List Line) × (middle : ℕ) × CodeLines setting variables goal low body first middle
+      (first : List Line) × (more : List Line) × (middle : ℕ) × LinesBehind None setting variables goal low body first middle
       × ArmsLines setting variables goal (label + 1) middle rest more high
       × (lines ≡ acts (Label label) [] ∷ (first ++ more))
+
+-- the lines of a code to which no comparison is left
+abbrev pub CodeLines : Setting → ℕ → Goal → ℕ → Tokened → List Line → ℕ → Type 0
+CodeLines = LinesBehind None
 
 -- ---- functions
 

@@ -16,7 +16,8 @@ use Rattle.rv_lower.specs.Lowered.{Goal}
 use Rattle.rv_lower.specs.Written.{texts_written, Grows}
 use Rattle.rv_cells.specs.declared.known.Known.{Known}
 use Rattle.rv_cells.specs.CellLines.{StoresIf, ConstructLines, FillLines, hold_lines, unhold_lines}
-use Rattle.rv_cells.specs.TokenedLines.{AskLines, CodeLines, ArmsLines}
+use Rattle.rv_cells.specs.declared.compare.Branching.{Branching}
+use Rattle.rv_cells.specs.TokenedLines.{AskLines, LinesBehind, CodeLines, ArmsLines}
 use Rattle.rv_cells.specs.Written.{Facts, setting_in}
 
 -- how many variables there are: each has a mark
@@ -70,6 +71,15 @@ pub record WroteTokened (facts : Facts) (variables : ℕ) (goal : Goal) (code : 
   pub grows : Grows (tokened_computes code) lines old new
   pub are : (later : List (List ℕ))
       → CodeLines (setting_in facts old.base (texts_written new ++ later)) variables goal old.next_label code lines
+      new.next_label
+
+-- the same of a case that does the work of a comparison
+pub record WroteBehind (facts : Facts) (variables : ℕ) (goal : Goal) (branch : Branching) (code : Tokened) (old new : Lowering)
+    : Type 0 where
+  pub lines : List Line
+  pub grows : Grows (tokened_computes code) lines old new
+  pub are : (later : List (List ℕ))
+      → LinesBehind (Some branch) (setting_in facts old.base (texts_written new ++ later)) variables goal old.next_label code lines
       new.next_label
 
 -- the same of the arms of a case, from a label on

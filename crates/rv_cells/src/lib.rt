@@ -5,10 +5,12 @@
 
 mod block;
 mod cells;
+mod compare;
 mod decide;
 mod known;
 mod law;
 mod mark;
+mod names;
 mod standing;
 mod token_block;
 mod token_cells;

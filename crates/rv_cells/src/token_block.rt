@@ -1,14 +1,18 @@
 // The code of blocks with tokens.
 
-ghost use Rattle.std.specs.Prelude.{[], ◌∷◌, map, OnOk};
-ghost use Rattle.kk_counted.specs.TokenedForms.{TokenedMove, tokened_code, tokened_last_code, tokened_move};
+ghost use Rattle.std.specs.Prelude.{ℕ, [], ◌∷◌, ◌≤◌, length, map, drop, OnOk, IsTrue};
+ghost use Rattle.kk_counted.specs.CountedForms.{decisions_of};
+ghost use Rattle.kk_counted.specs.TokenedCodes.{Tokened};
+ghost use Rattle.kk_counted.specs.TokenedForms.{TokenedMove, tokened_arms, tokened_code, tokened_last_code, tokened_move};
 ghost use Rattle.rv_lower.specs.Written.{goal_of};
 ghost use Rattle.rv_cells.specs.TokenedWritten.{variables_known, IfOpens, IfFills};
-ghost use Rattle.rv_cells.specs.TokenedWritten.{WroteTokened, WroteTokenedArms, WroteTokenedSteps};
-ghost use Rattle.rv_cells.specs.Written.{facts_of};
+ghost use Rattle.rv_cells.specs.TokenedWritten.{WroteTokened, WroteBehind, WroteTokenedArms, WroteTokenedSteps};
+ghost use Rattle.rv_cells.specs.Comparing.{AreNoLines};
+ghost use Rattle.rv_cells.specs.Written.{facts_of, holds_known};
 
 use crate::block::take_targets;
 use crate::cells::{Filling, write_drop, write_dup, write_reading};
+use crate::compare::{Branching, branch_between, write_branch};
 use crate::decide::{CaseWays, write_nodes};
 use crate::known::Known;
 use crate::standing::{has_count, has_header};
@@ -17,6 +21,7 @@ use crate::token_cells::{
     write_token_opening, write_token_test, write_unhold,
 };
 use kk_base::NoMemory;
+use kk_core::Decisions;
 use kk_counted::{TokenedBlock, TokenedLast, TokenedStep};
 use rv_lower::{Goal, Lowering, next, write_label, write_tail_call, write_value};
 
@@ -31,8 +36,60 @@ pub fn write_tokened(
     ensures { OnOk result (WroteTokened (facts_of known.now) (variables_known known.now) (goal_of goal) (tokened_code block.now)
         lowering.old lowering.new) }
 {
+    let (front, _) = block.steps.split_at(steps_with_lines(known, &block.steps));
+    if let Some((step, before)) = front.split_last()
+        && let Some(branch) = branch_between(step, &block.last)
+        && let TokenedLast::Case(_, decisions, arms) = &block.last
+    {
+        write_steps(lowering, known, before)?;
+        return write_branching(lowering, known, branch, decisions, arms, goal);
+    }
     write_steps(lowering, known, &block.steps)?;
     write_last(lowering, known, &block.last, goal)
+}
+
+/// How many steps come before those at the end that only give up variables of types without cells.
+fn steps_with_lines(known: &Known<'_>, steps: &[TokenedStep]) -> usize
+    ensures within { result ≤ length steps.now }
+    ensures others { AreNoLines (holds_known known.now) (map tokened_move (drop result steps.now)) }
+{
+    let mut count = steps.len();
+    while count > 0 {
+        if !has_no_line(known, &steps[count - 1]) {
+            return count;
+        }
+        count -= 1;
+    }
+    0
+}
+
+/// Whether a step only gives up a variable of a type without cells.
+fn has_no_line(known: &Known<'_>, step: &TokenedStep) -> bool
+    ensures { IsTrue result → AreNoLines (holds_known known.now) (tokened_move step.now ∷ []) }
+{
+    match step {
+        TokenedStep::Drop { variable } => !known.holds(*variable),
+        _ => false,
+    }
+}
+
+/// The code of a case that is a branch to the arm of `False`, before the arm of `True`.
+#[cycle(write)]
+fn write_branching(
+    lowering: &mut Lowering,
+    known: &Known<'_>,
+    branch: Branching,
+    decisions: &Decisions,
+    arms: &[TokenedBlock],
+    goal: Goal,
+) -> Result<(), NoMemory>
+    ensures { OnOk result ((x : ℕ) → WroteBehind (facts_of known.now) (variables_known known.now) (goal_of goal) branch
+        (Tokened.case x (decisions_of decisions.now) (tokened_arms (map tokened_code arms.now))) lowering.old lowering.new) }
+{
+    let targets = take_targets(lowering, decisions, arms.len())?;
+    let negative = next(targets.arms)?;
+    write_branch(lowering, branch, negative)?;
+    write_arms(lowering, known, targets.arms, arms, goal)
 }
 
 #[cycle(write)]

@@ -1,9 +1,8 @@
-use Rattle.std.proofs.Common.{Bool, List, sym, subst}
+use Rattle.std.proofs.Common.{Bool, sym, subst}
 use Rattle.std.proofs.lemmas.Result.{on_ok_weaker}
-use Rattle.rv_isa.specs.AsmCode.{Line}
 use Rattle.rv_cells.specs.TokenedWritten.{is_left}
-use Rattle.rv_cells.specs.CellLines.{SetIf, SomeStores, SomeWords, is_kept}
-use Rattle.rv_lower.specs.Written.{Wrote, WroteLines, short_line}
+use Rattle.rv_cells.specs.CellLines.{SomeStores, SomeWords, is_kept}
+use Rattle.rv_lower.specs.Written.{WroteLines, short_line}
 use Rattle.std.specs.Prelude.{map}
 use Rattle.rv_cells.proofs.Written.{some_words_written}
 use Rattle.rv_cells.proofs.cells.write_words.Goals as goal

@@ -1,10 +1,12 @@
-use Rattle.std.proofs.Common.{◌+◌, List, map, take, sym, subst, ap, ◌∙◌, arith}
+use Rattle.std.proofs.Common.{◌+◌, List, map, take, drop, refl, sym, subst, ap, ◌∙◌, arith}
 use Rattle.std.proofs.lemmas.Result.{on_ok_weaker}
 use Rattle.kk_counted.specs.TokenedCodes.{Tokened}
 use Rattle.kk_counted.specs.TokenedForms.{TokenedMove, tokened_code, tokened_move}
 use Rattle.rv_lower.specs.Written.{goal_of}
 use Rattle.rv_cells.specs.TokenedWritten.{variables_known, WroteTokened, WroteTokenedArms, WroteTokenedSteps}
-use Rattle.rv_cells.specs.Written.{facts_of}
+use Rattle.kk_counted.specs.declared.tokened.TokenedStep.{TokenedStep}
+use Rattle.rv_cells.specs.Comparing.{AreNoLines}
+use Rattle.rv_cells.specs.Written.{facts_of, holds_known}
 use Rattle.rv_cells.proofs.Grown.{length_mapped}
 use Rattle.rv_cells.proofs.TokenGrown.{
   steps_none,
@@ -37,6 +39,7 @@ use Rattle.rv_cells.proofs.TokenGrown.{
   steps_more,
   blocks_more,
 }
+use Rattle.rv_cells.proofs.TokenJoins.{branches_given, block_branches, block_plain}
 use Rattle.rv_cells.proofs.token_block.+write.Goals as goal
 
 pub write_steps-loop-step-init : goal.write_steps-loop-step-init
@@ -187,3 +190,27 @@ write_arms-loop-arm-preserved t c = record {
       (sym (length_mapped tokened_code c.args.arms.now c.loop-arm.arm-index c.loop-arm-test.true)))
       c.loop-arm.invariant.wrote c.in_ok-write_label.ensures c.in_ok-write_tokened.ensures);
 }
+
+pub write_branching-returns : goal.write_branching-returns
+write_branching-returns t c =
+    on_ok_weaker c.write_arms.result
+    (λ bodies x. branches_given (facts_of c.args.known.now) (variables_known c.args.known.now) (goal_of c.args.goal) c.args.branch x
+    c.args.decisions.now c.args.arms.now c.in_ok-targets.targets c.in_ok-negative.negative _ refl c.in_ok-targets.ensures
+    c.in_ok-negative.ensures c.in_ok-write_branch.ensures bodies) c.write_arms.ensures
+
+pub write_tokened-returns : goal.write_tokened-returns
+write_tokened-returns t c =
+    on_ok_weaker c.write_branching.result
+    (λ behind. block_branches (facts_of c.args.known.now) (variables_known c.args.known.now) (goal_of c.args.goal) c.args.block.now
+    c.deref.result.now c.split_at.result.0.now c.in-Some.before.now c.split_at.result.1.now c.in-Some.step.now
+    c.in-Some-branch_between.branch c.in-Case.field-0 c.in-Case.decisions c.in-Case.arms c.deref-3.result.now c.deref.ensures.value
+    c.split_at.ensures.by_index.0 c.in-Some.ensures.cases.0 (subst (λ (steps : List TokenedStep). AreNoLines (holds_known c.args.known.now) (map tokened_move steps))
+    (ap (drop c.steps_with_lines.result) (c.deref-2.ensures.value ∙ sym c.deref.ensures.value) ∙ sym c.split_at.ensures.back)
+    c.steps_with_lines.ensures.others) c.in-Some-branch_between.ensures
+    c.in-Case.is c.deref-3.ensures.value c.in_ok-write_steps.ensures behind) c.write_branching.ensures
+
+pub write_tokened-returns-2 : goal.write_tokened-returns-2
+write_tokened-returns-2 t c =
+    on_ok_weaker c.write_last.result
+    (λ last. block_plain (facts_of c.args.known.now) (variables_known c.args.known.now) (goal_of c.args.goal) c.args.block.now
+    c.deref-4.result.now c.deref-4.ensures.value c.in_ok-write_steps-2.ensures last) c.write_last.ensures
