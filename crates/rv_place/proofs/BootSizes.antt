@@ -41,7 +41,7 @@ none_or false words most few = few
 
 line_most : (forms : Forms) (line : PlacedLine) → words_of_line forms line ≤ placed_line_length line
 line_most forms (does alive action args into) =
-    none_or (is_silent action args into) (words_of_action forms action) (action_length action) (action_most forms action)
+    none_or (is_silent action args into) (words_of_action forms action) (action_instructions action) (action_most forms action)
 line_most forms (moves alive value way) = omega arith
 
 lines_most : (forms : Forms) (lines : List PlacedLine) → words_of_lines forms lines ≤ placed_code_length lines

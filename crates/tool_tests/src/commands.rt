@@ -237,7 +237,7 @@ static ROWS: [Row; 32] = [
         refused: NONE,
         status: Status::Done,
         out: "7\n",
-        err: "stats: instructions 47 free 5 of 5\n",
+        err: "stats: instructions 46 free 5 of 5\n",
         writes: false,
     },
     Row {
