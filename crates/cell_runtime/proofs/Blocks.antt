@@ -277,15 +277,3 @@ start_holds {pool} {t} memory = record {
   known = λ at. known_unused t.memory at (nat_le pool.first at && nat_lt at (end_of pool) && nat_eq (at % 32) 0);
   apart = λ at mine. absurd (none_own (nat_le pool.first at && nat_lt at (end_of pool) && nat_eq (at % 32) 0) mine);
 }
-
--- ---- nothing is done
-
--- memory is as before, and a reader sees the same
-pub again_holds : {pool : Pool} {cells : Cells} {links : List Link} {s t : Processor} → HoldsCells pool cells links s
-    → Memory pool (view_of cells links) t → ((x : ℕ) → t.memory x ≡ s.memory x) → HoldsCells pool cells links t
-again_holds {cells = cells} {s = s} {t = t} holds memory same = record {
-  memory = memory;
-  known = λ x. block-same holds t.memory x (cells.blocks x) refl
-      (λ other. record { same = λ y low high. number_at-same t.memory s.memory y 4 (λ z from upto. same z) });
-  apart = holds.apart;
-}

@@ -13,7 +13,6 @@ pub mod PrintingInt
 pub mod TakingCells
 pub mod Taking
 pub mod HoldingTokens
-pub mod Holding
 pub mod Starting
 pub mod DropRows
 pub mod DropStates

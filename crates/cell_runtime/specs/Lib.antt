@@ -4,7 +4,6 @@ pub mod Lines
 pub mod Prints
 pub mod Stops
 pub mod Takes
-pub mod Tokens
 pub mod Layouts
 pub mod Starts
 pub mod Texts

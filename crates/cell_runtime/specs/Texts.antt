@@ -4,7 +4,7 @@ use Rattle.kk_base.specs.Sizes.{greatest_depth}
 use Rattle.rv_isa.specs.declared.instr.Instr.{Instr}
 use Rattle.rv_isa.specs.declared.routine.Routine.TheVariants as routine
 use Rattle.rv_isa.specs.declared.placed.Symbol.{Symbol}
-use Rattle.rv_isa.specs.declared.placed.Symbol.TheVariants.{Start, Routine, Hold, Unhold, Stop, StackFull}
+use Rattle.rv_isa.specs.declared.placed.Symbol.TheVariants.{Start, Routine, Stop, StackFull}
 use Rattle.rv_isa.specs.declared.placed.Placed.{Placed}
 use Rattle.rv_isa.specs.Sizes.{reach_down}
 use Rattle.rv_isa.specs.Standing.{Code, Has}
@@ -16,7 +16,6 @@ use Rattle.cell_runtime.specs.Lines.{Spells, words_of, labels_of, AreWithin}
 use Rattle.cell_runtime.specs.Prints.{IsPrintInt, IsPrintText, IsReadByte}
 use Rattle.cell_runtime.specs.Stops.{IsStop}
 use Rattle.cell_runtime.specs.Takes.{IsTake}
-use Rattle.cell_runtime.specs.Tokens.{IsHold, IsUnhold}
 use Rattle.cell_runtime.specs.Drops.{IsDrop}
 use Rattle.cell_runtime.specs.Starts.{IsStart}
 
@@ -26,22 +25,20 @@ pool_of cells memory = record { first = memory + 32; cells = cells }
 
 -- the code at an address and behind it: each routine at its place. `main` stands behind the last one
 pub record IsRuntime (cells : ℕ) (layout : Layout) (memory : ℕ) (code : Code) (at : ℕ) : Type 0 where
-  pub start : IsStart (pool_of cells memory) (memory + layout.stack_end) (at + 4 * 110) code at
-  pub ended : IsStop ending.Ended code (at + 4 * 9)
-  pub stack_full : IsStop ending.StackFull code (at + 4 * 12)
-  pub take : IsTake (pool_of cells memory) code (at + 4 * 15)
-  pub give_up : IsDrop code (at + 4 * 32)
-  pub hold : IsHold (pool_of cells memory) code (at + 4 * 60)
-  pub unhold : IsUnhold (pool_of cells memory) code (at + 4 * 66)
-  pub print_int : IsPrintInt memory code (at + 4 * 70)
-  pub print_text : IsPrintText code (at + 4 * 94)
-  pub read_byte : IsReadByte memory code (at + 4 * 100)
+  pub start : IsStart (pool_of cells memory) (memory + layout.stack_end) (at + 4 * 101) code at
+  pub ended : IsStop ending.Ended code (at + 4 * 10)
+  pub stack_full : IsStop ending.StackFull code (at + 4 * 13)
+  pub take : IsTake (pool_of cells memory) code (at + 4 * 16)
+  pub give_up : IsDrop code (at + 4 * 33)
+  pub print_int : IsPrintInt memory code (at + 4 * 61)
+  pub print_text : IsPrintText code (at + 4 * 85)
+  pub read_byte : IsReadByte memory code (at + 4 * 91)
 
 -- the labels of the routines, each with the number of instructions before it
 abbrev pub runtime_labels : List (Symbol × ℕ)
 runtime_labels =
-    (Start, 0) ∷ (Stop, 9) ∷ (StackFull, 12) ∷ (Routine routine.Take, 15) ∷ (Routine routine.Drop, 32) ∷ (Hold, 60) ∷ (Unhold, 66)
-    ∷ (Routine routine.PrintInt, 70) ∷ (Routine routine.PrintText, 94) ∷ (Routine routine.ReadByte, 100) ∷ []
+    (Start, 0) ∷ (Stop, 10) ∷ (StackFull, 13) ∷ (Routine routine.Take, 16) ∷ (Routine routine.Drop, 33)
+    ∷ (Routine routine.PrintInt, 61) ∷ (Routine routine.PrintText, 85) ∷ (Routine routine.ReadByte, 91) ∷ []
 
 -- how far from the memory's begin the runtime's addresses are at most: twice as far as all frames take, even where each has as many
 -- bytes as a load reaches
@@ -53,7 +50,7 @@ pub record IsText (cells depth frame_bytes : ℕ) (text : Placed) : Type 0 where
   pub memory : text.memory ≡ record { size = (layout_of cells depth frame_bytes).stack_end; stack_bottom = (layout_of cells depth frame_bytes).stack }
   pub functions : text.functions.items ≡ []
   pub constants : text.constants.items ≡ []
-  pub words : words_of text.natives.items ≡ 110
+  pub words : words_of text.natives.items ≡ 101
   pub labels : labels_of 0 text.natives.items ≡ runtime_labels
   pub within : AreWithin greatest_reach text.natives.items
   pub routines : (memory : ℕ) (is : List Instr) (code : Code) (at : ℕ) → Spells memory text.natives.items is → Has code at is

@@ -1,4 +1,4 @@
-//! The routines that every image begins with: the start, cells and tokens, prints, reads and stops.
+//! The routines that every image begins with: the start, cells, prints, reads and stops.
 //!
 //! Each is RV32IM code. A routine that returns is called with the way back in `x1`; it uses no stack.
 #![tactic(auto)]
@@ -13,7 +13,6 @@ mod runtime;
 mod start;
 mod stop;
 mod take;
-mod tokens;
 
 pub use layout::Layout;
 pub use runtime::text;

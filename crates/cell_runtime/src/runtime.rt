@@ -13,7 +13,6 @@ use crate::read_byte::read_byte;
 use crate::start::start;
 use crate::stop::{Ending, stop};
 use crate::take::take;
-use crate::tokens::{hold, unhold};
 use kk_base::NoMemory;
 use rv_isa::{DataSection, Native, Placed, Routine, Symbol};
 use std::alloc::Global;
@@ -35,8 +34,6 @@ pub fn text(alloc: Global, cells: u32, depth: u32, frame_bytes: u32) -> Result<P
     add(&mut lines, Symbol::StackFull, &stop(Ending::StackFull))?;
     add(&mut lines, Symbol::Routine(Routine::Take), &take())?;
     add(&mut lines, Symbol::Routine(Routine::Drop), &give_up())?;
-    add(&mut lines, Symbol::Hold, &hold())?;
-    add(&mut lines, Symbol::Unhold, &unhold())?;
     add(&mut lines, Symbol::Routine(Routine::PrintInt), &print_int())?;
     add(
         &mut lines,

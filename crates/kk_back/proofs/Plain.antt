@@ -1,5 +1,5 @@
 -- What the assignment of registers gives is plain: it holds no token, writes what is handed out, and has the label of each branch.
-use Rattle.std.proofs.Common.{ℕ, List, [], ◌∷◌, Option, Some, None, Bool, true, false, cond, refl, sym, subst, map, option_map}
+use Rattle.std.proofs.Common.{◌≡◌, ℕ, List, [], ◌∷◌, Option, Some, None, Bool, true, false, not, cond, refl, sym, subst, map, option_map}
 use Rattle.std.specs.Prelude.{IsSome}
 use Rattle.rv_isa.specs.declared.asm.Action.{Action}
 use Rattle.rv_isa.specs.declared.asm.Action.TheVariants.{Branch}
@@ -10,23 +10,30 @@ use Rattle.rv_isa.specs.declared.placed.Place.TheVariants.{Register as register,
 use Rattle.rv_isa.specs.declared.placed.Placed.{Placed}
 use Rattle.rv_isa.specs.AsmCode.{Line, Lines, asm_functions}
 use Rattle.rv_isa.specs.AsmMachine.{is_label}
+use Rattle.rv_isa.specs.Conventions.{is_in, one_register}
 use Rattle.rv_isa.specs.Frames.{found}
 use Rattle.rv_isa.specs.PlacedCode.{PlacedLine, does, moves, PlacedLines, placed_functions, to_of}
 use Rattle.rv_isa.specs.PlacedMachine.{is_label_line}
 use Rattle.rv_isa.specs.WellFormed.{AreLabelsAhead, AreLinesFormed, IsWellFormed, AreWellFormed}
+use Rattle.rv_regs.specs.Conditions as OfRegisters
 use Rattle.rv_regs.specs.Conditions.{value_of, without_moves, WriteIsHandedOut, AllFit, IsPlacing, ArePlacings}
 use Rattle.rv_regs.specs.Valid.{IsValid}
 use Rattle.rv_place.specs.Running.{IsHandedOut, GivesHandedOut, HasLabel, ArePlain, AllPlain}
 
 -- ---- what is written
 
-handed_out : (value : ℕ) (place : Place) → WriteIsHandedOut (Some (record { value = value; place = place })) → IsHandedOut place
-handed_out value (register r) is = is
-handed_out value (slot k) is = tt
+handed_out : (place : Place) → OfRegisters.IsHandedOut place → IsHandedOut place
+handed_out (register r) is = is
+handed_out (slot k) is = tt
 
-gives_handed_out : (into : Option Operand) → WriteIsHandedOut into → GivesHandedOut into
-gives_handed_out None is = tt
-gives_handed_out (Some into) is = handed_out into.value into.place is
+gives_handed_out : (action : Action) (into : Option Operand) → WriteIsHandedOut (Some action) into → GivesHandedOut action into
+gives_handed_out action None is = tt
+gives_handed_out action (Some into) is = (handed_out into.place is.0, is.1)
+
+-- a move writes another register than the one that holds 1
+not_one : (there : Bool) → not there ≡ true → there ≡ false
+not_one true is = cc is
+not_one false is = refl
 
 -- ---- labels
 
@@ -69,10 +76,12 @@ code_is_plain : (whole code : List PlacedLine) → AllFit whole code → AreLine
 code_is_plain whole [] fit formed has = tt
 code_is_plain whole (does alive action args into ∷ code) fit formed has =
     let behind = has_later whole (record { action = action; args = map value_of args; into = option_map value_of into }) (without_moves code) has in (
-      (gives_handed_out into fit.0.1.write_handed_out, has_label whole action (without_moves code) formed.0.labels behind),
+      (gives_handed_out action into fit.0.1.write_handed_out, has_label whole action (without_moves code) formed.0.labels behind),
       code_is_plain whole code fit.1 formed.1 behind,
     )
-code_is_plain whole (moves alive value way ∷ code) fit formed has = (handed_out value (to_of way) fit.0.write_handed_out, code_is_plain whole code fit.1 formed has)
+code_is_plain whole (moves alive value way ∷ code) fit formed has =
+    let written = fit.0.write_handed_out in
+    ((handed_out (to_of way) written.0, not_one (is_in one_register (to_of way)) written.1), code_is_plain whole code fit.1 formed has)
 
 function_is_plain : (function : Lines) (placed : PlacedLines) → IsPlacing function placed → IsWellFormed function → ArePlain placed.code placed.code
 function_is_plain function placed placing formed = code_is_plain placed.code placed.code placing.fit (subst AreLinesFormed (sym placing.code) formed.lines) (has_all placed.code)

@@ -17,9 +17,9 @@ use rv_regs::assign;
 use std::alloc::Global;
 
 /// The image of assembler code, with a heap of `cells` cells, of whose calls at most `depth` are open at a time. The loaded image
-/// does what the code does, and touches no free cell outside of the runtime's words. Each line of the code that is no label has an
-/// address of its own behind these, to which the program counter comes, and goes on there, where the code comes to the line. At such
-/// moments memory has the code's cells.
+/// does what the code does, and touches no free cell outside of the runtime's words. Each line of the code that is always
+/// an instruction has an address of its own behind these, to which the program counter comes, and goes on there, where the code comes to
+/// the line. At such moments memory has the code's cells.
 pub fn assembled(alloc: Global, asm: &Asm, cells: u32, depth: u32) -> Result<Image, NoMemory>
     requires placeable { IsPlaceable (asm_functions asm.now) (asm_constants asm.now) }
     requires sizes { AreSizes cells depth }

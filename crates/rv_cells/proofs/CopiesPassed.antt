@@ -1,22 +1,25 @@
--- The assembler's machine goes past the copies that lines begin with: it stays in its function, and tells nothing.
-use Rattle.std.proofs.Common.{◌≡◌, ◌≢◌, ℕ, zero, suc, ◌≤◌, Bool, true, false, cond, List, [], ◌∷◌, ◌++◌, drop, length, Option, Some, None, map}
+-- The assembler's machine goes past the copies, and constants 1, that lines begin with: it stays in its function, and tells nothing.
+use Rattle.std.proofs.Common.{◌≡◌, ◌≢◌, ℕ, zero, suc, ◌≤◌, Bool, true, false, ◌⊎◌, inl, inr, cond, List, [], ◌∷◌, ◌++◌, drop, length, Option, Some, None, map}
 use Rattle.std.proofs.Common.{refl, sym, ◌∙◌, ap, subst, arith}
 use Rattle.std.proofs.Math.Seq.{drop-length}
 use Rattle.kk_base.specs.Machines.{Machine, state, trace}
 use Rattle.kk_base.specs.Trace.{Event}
 use Rattle.cell_heap.specs.Pool.{Pool}
 use Rattle.rv_isa.specs.declared.asm.Action.TheVariants.{Compute}
-use Rattle.rv_isa.specs.declared.asm.Operation.TheVariants.{Mv}
+use Rattle.rv_isa.specs.declared.asm.Operation.TheVariants.{Mv, Li}
 use Rattle.rv_isa.specs.AsmCode.{Line, Lines}
 use Rattle.rv_isa.specs.AsmMachine.{AsmTurn, asm_goes, asm_acts, asm_line, asm_next, asm_told, asm_machine}
 use Rattle.rv_isa.specs.Frames.{Frame, all_of}
+use Rattle.rv_isa.specs.Conventions.{gives_one}
 use Rattle.rv_isa.specs.LinePlaces.{is_copy}
+use Rattle.rv_isa.specs.declared.asm.Action.{Action}
+use Rattle.std.proofs.lemmas.Bool.{or_cases}
 use Rattle.rv_isa.specs.Primitives.{Turn, stuck, or_stuck}
 use Rattle.rv_isa.specs.Processor.{Ending}
-use Rattle.rv_isa.proofs.Copies.{copy_is}
+use Rattle.rv_isa.proofs.Copies.{copy_is, one_is}
 use Rattle.rv_world.specs.Operations.{Constants}
 use Rattle.rv_world.specs.World.{World, primitives}
-use Rattle.rv_cells.proofs.FormArities.{lead}
+use Rattle.rv_cells.proofs.FormArities.{may_be_none, lead}
 
 -- where nothing is stuck, a value that is gone on with is there
 some_there : {A S H W : Type 0} (o : Option A) (next : A → Turn S H W) → or_stuck o next ≢ stuck
@@ -53,19 +56,39 @@ module _ (constants : Constants) (pool : Pool) (depth : ℕ) (functions : List L
   copied f fs world args into rest (word ∷ []) good = record { frame = _; is = refl; function = refl; whole = refl; code = refl }
   copied f fs world args into rest (word ∷ other ∷ words) good = absurd (good refl)
 
-  by_line : (f : Frame Line) (fs : List (Frame Line)) (world : World) (line : Line) (rest : List Line) → is_copy line.action ≡ true
+  -- behind the constant 1
+  constant : (f : Frame Line) (fs : List (Frame Line)) (world : World) (args : List ℕ) (into : Option ℕ) (rest : List Line) (words : List ℕ)
+      → asm_acts (primitives constants pool) depth functions (record f { code = rest }) fs world (Compute (Li 1)) args into words ≢ stuck
+      → GoesOn f rest fs world
+      (asm_acts (primitives constants pool) depth functions (record f { code = rest }) fs world (Compute (Li 1)) args into words)
+  constant f fs world args into rest [] good = record { frame = _; is = refl; function = refl; whole = refl; code = refl }
+  constant f fs world args into rest (word ∷ words) good = absurd (good refl)
+
+  passed_by : (f : Frame Line) (fs : List (Frame Line)) (world : World) (args : List ℕ) (into : Option ℕ) (rest : List Line) (words : List ℕ)
+      (action : Action) → (is_copy action ≡ true) ⊎ (gives_one action ≡ true)
+      → asm_acts (primitives constants pool) depth functions (record f { code = rest }) fs world action args into words ≢ stuck
+      → GoesOn f rest fs world (asm_acts (primitives constants pool) depth functions (record f { code = rest }) fs world action args into words)
+  passed_by f fs world args into rest words action (inl copy) good =
+      let turn : Action → AsmTurn World Ending
+      = λ a. asm_acts (primitives constants pool) depth functions (record f { code = rest }) fs world a args into words in
+      subst (λ a. GoesOn f rest fs world (turn a)) (sym (copy_is action copy))
+      (copied f fs world args into rest words (subst (λ a. turn a ≢ stuck) (copy_is action copy) good))
+  passed_by f fs world args into rest words action (inr one) good =
+      let turn : Action → AsmTurn World Ending
+      = λ a. asm_acts (primitives constants pool) depth functions (record f { code = rest }) fs world a args into words in
+      subst (λ a. GoesOn f rest fs world (turn a)) (sym (one_is action one))
+      (constant f fs world args into rest words (subst (λ a. turn a ≢ stuck) (one_is action one) good))
+
+  by_line : (f : Frame Line) (fs : List (Frame Line)) (world : World) (line : Line) (rest : List Line) → may_be_none line.action ≡ true
       → asm_line (primitives constants pool) depth functions f fs world (line ∷ rest) ≢ stuck
       → GoesOn f rest fs world (asm_line (primitives constants pool) depth functions f fs world (line ∷ rest))
   by_line f fs world line rest copy good =
       let acts : List ℕ → AsmTurn World Ending = λ words. asm_acts (primitives constants pool) depth functions
       (record f { code = rest }) fs world line.action line.args line.into words in
       let there = some_there (all_of (map f.cells line.args)) acts good in
-      let is : asm_line (primitives constants pool) depth functions f fs world (line ∷ rest)
-      ≡ asm_acts (primitives constants pool) depth functions (record f { code = rest }) fs world (Compute Mv) line.args line.into there.0
-      = there.1 ∙ ap (λ action. asm_acts (primitives constants pool) depth functions (record f { code = rest }) fs world action
-      line.args line.into there.0) (copy_is line.action copy) in
-      subst (GoesOn f rest fs world) (sym is)
-      (copied f fs world line.args line.into rest there.0 (subst (λ turn. turn ≢ stuck) is good))
+      subst (GoesOn f rest fs world) (sym there.1)
+      (passed_by f fs world line.args line.into rest there.0 line.action (or_cases (is_copy line.action) (gives_one line.action) copy)
+      (subst (λ turn. turn ≢ stuck) there.1 good))
 
   -- Behind copies: the machine has told nothing.
   pub record Past (n : ℕ) (f : Frame Line) (fs : List (Frame Line)) (world : World) : Type 0 where
@@ -87,7 +110,7 @@ module _ (constants : Constants) (pool : Pool) (depth : ℕ) (functions : List L
           → Past (suc n) f fs world
       by [] is few others = absurd (omega arith)
       by (line ∷ rest) is few others =
-          let both = lead_copy (is_copy line.action) n (lead rest) few in
+          let both = lead_copy (may_be_none line.action) n (lead rest) few in
           let same : next (asm_goes f fs world) ≡ asm_line (primitives constants pool) depth functions f fs world (line ∷ rest)
           = ap (asm_line (primitives constants pool) depth functions f fs world) is in
           let one = subst (GoesOn f rest fs world) (sym same)

@@ -1,6 +1,6 @@
 -- Forms with tokens have as many arguments as they take, where their bare forms do; and a call, a print and a construction with
 -- fields begins with copies, or with none, and behind them has a line that is always an instruction.
-use Rattle.std.proofs.Common.{◌≡◌, ℕ, zero, suc, ◌+◌, ◌≤◌, ◌<◌, ◌&&◌, not, Bool, true, false, cond, List, [], ◌∷◌, ◌++◌, length, Option, Some, slice_get}
+use Rattle.std.proofs.Common.{◌≡◌, ℕ, zero, suc, ◌+◌, ◌≤◌, ◌<◌, ◌==◌, ◌||◌, ◌&&◌, not, Bool, true, false, cond, List, [], ◌∷◌, ◌++◌, length, Option, Some, slice_get}
 use Rattle.std.proofs.Common.{refl, sym, ◌∙◌, ap, subst, arith}
 use Rattle.kk_syntax.specs.declared.program.Form.{Form}
 use Rattle.kk_syntax.specs.declared.program.Form.TheVariants.{Number, Unit as Nothing, ReadByte, PrintText, Unary, Binary, Print, Construct, Call}
@@ -14,8 +14,10 @@ use Rattle.kk_counted.specs.TokenRuns.{is_quiet}
 use Rattle.kk_counted.specs.TokenSpending.{SpendsTokens, SpendAllTokens}
 use Rattle.kk_counted.specs.TokenedCodes.{Tokened, TokenedArms}
 use Rattle.rv_isa.specs.AsmCode.{Line}
+use Rattle.rv_isa.specs.declared.asm.Action.{Action}
+use Rattle.rv_isa.specs.Conventions.{gives_one}
 use Rattle.rv_isa.specs.LinePlaces.{is_copy, is_always_some}
-use Rattle.rv_lower.specs.Lines.{copies_to, copies, PrintLines}
+use Rattle.rv_lower.specs.Lines.{copies_to, sets, choice_of, copies, PrintLines}
 use Rattle.rv_lower.specs.Lowered.{Goal}
 use Rattle.rv_cells.specs.declared.compare.Branching.{Branching}
 use Rattle.rv_cells.specs.Comparing.{branch_of}
@@ -92,10 +94,14 @@ mutual
 abbrev pub is_own_act : Tokened → Bool
 is_own_act code = not (is_quiet code) && is_act (bare code)
 
--- how many copies lines begin with
+-- whether the action may be no instruction: a copy, or the constant 1
+abbrev pub may_be_none : Action → Bool
+may_be_none action = is_copy action || gives_one action
+
+-- how many of these lines begin with
 abbrev pub lead : List Line → ℕ
 lead [] = 0
-lead (line ∷ lines) = cond (is_copy line.action) (suc (lead lines)) 0
+lead (line ∷ lines) = cond (may_be_none line.action) (suc (lead lines)) 0
 
 -- behind them is a line that is always an instruction
 pub record Begins (lines : List Line) : Type 0 where
@@ -116,7 +122,7 @@ pub record IsOwn (own : List Line) (parts : Parts) : Type 0 where
 begins_by : (lines these : List Line) → lines ≡ these → Begins these → Begins lines
 begins_by lines these is begins = subst Begins (sym is) begins
 
-begins_at : (line : Line) (more : List Line) → is_copy line.action ≡ false → is_always_some line.action ≡ true
+begins_at : (line : Line) (more : List Line) → may_be_none line.action ≡ false → is_always_some line.action ≡ true
     → Begins (line ∷ more)
 begins_at line more no_copy some = record {
   line = line;
@@ -127,6 +133,15 @@ begins_at line more no_copy some = record {
 -- behind a copy
 begins_behind_copy : (x base : ℕ) (more : List Line) → Begins more → Begins (copies_to x base ∷ more)
 begins_behind_copy x base more begins = record { line = begins.line; is = begins.is; some = begins.some }
+
+-- behind a constant
+sets_by : (one : Bool) (word base : ℕ) (more : List Line) → (word == 1) ≡ one → Begins more → Begins (sets word base ∷ more)
+sets_by true word base more is begins = record {
+  line = begins.line;
+  is = ap (λ one. slice_get (sets word base ∷ more) (cond one (suc (lead more)) 0)) is ∙ begins.is;
+  some = begins.some;
+}
+sets_by false word base more is begins = begins_at (sets word base) more is (ap not is)
 
 -- a line that is there, in front of others too
 pub get_left : (xs ys : List Line) (k : ℕ) (line : Line) → slice_get xs k ≡ Some line → slice_get (xs ++ ys) k ≡ Some line
@@ -151,7 +166,7 @@ lead_front : (first more : List Line) (line : Line) → slice_get first (lead fi
     → lead (first ++ more) ≡ lead first
 lead_front [] more line is = cc is
 lead_front (line ∷ first) more there is =
-    lead_ends (is_copy line.action) line first more there (lead_front first more there) is
+    lead_ends (may_be_none line.action) line first more there (lead_front first more there) is
 
 -- with others behind them there are no less
 less_ends : (copy : Bool) (front whole : ℕ) → front ≤ whole → cond copy (suc front) 0 ≤ cond copy (suc whole) 0
@@ -161,7 +176,7 @@ less_ends false front whole less = omega arith
 pub lead_less : (first more : List Line) → lead first ≤ lead (first ++ more)
 lead_less [] more = omega arith
 lead_less (line ∷ first) more =
-    less_ends (is_copy line.action) (lead first) (lead (first ++ more)) (lead_less first more)
+    less_ends (may_be_none line.action) (lead first) (lead (first ++ more)) (lead_less first more)
 
 -- lines in front of others
 begins_more : (lines first more : List Line) → lines ≡ first ++ more → Begins first → Begins lines
@@ -174,19 +189,16 @@ begins_more lines first more is begins =
     })
 
 -- the copies of arguments, and what comes behind them
-copies_begin : (base : ℕ) (arguments : List ℕ) (last : Line) → is_copy last.action ≡ false → is_always_some last.action ≡ true
+copies_begin : (base : ℕ) (arguments : List ℕ) (last : Line) → may_be_none last.action ≡ false → is_always_some last.action ≡ true
     → Begins (copies base arguments ++ (last ∷ []))
 copies_begin base [] last no_copy some = begins_at last [] no_copy some
 copies_begin base (x ∷ xs) last no_copy some =
     begins_behind_copy x base (copies (base + 1) xs ++ (last ∷ [])) (copies_begin (base + 1) xs last no_copy some)
 
--- a print of constant bytes, or what comes behind it
+-- a print of constant bytes
 print_begins : (base : ℕ) (texts : List (List ℕ)) (bytes : List ℕ) (print : List Line) (last : Line)
-    → PrintLines base texts bytes print → is_copy last.action ≡ false → is_always_some last.action ≡ true
-    → Begins (print ++ (last ∷ []))
-print_begins base texts [] print last is no_copy some =
-    begins_by (print ++ (last ∷ [])) (last ∷ []) (ap (λ ls. ls ++ (last ∷ [])) is) (begins_at last [] no_copy some)
-print_begins base texts (byte ∷ bytes) print last is no_copy some =
+    → PrintLines base texts bytes print → Begins (print ++ (last ∷ []))
+print_begins base texts bytes print last is =
     begins_by (print ++ (last ∷ [])) _ (ap (λ ls. ls ++ (last ∷ [])) is.2) (begins_at _ _ refl refl)
 
 module _ (setting : Setting) (variables : ℕ) where
@@ -200,13 +212,14 @@ module _ (setting : Setting) (variables : ℕ) where
   form_begins low x ReadByte arguments others joined rest own high lines arity act = cc act
   form_begins low x (PrintText how text) arguments others joined rest own high lines arity act =
       begins_by own _ lines.0.2 (print_begins setting.base setting.texts.constants (piece_of how (text_at setting.texts.literals text))
-      lines.0.0 _ lines.0.1 refl refl)
+      lines.0.0 _ lines.0.1)
   form_begins low x (Unary operator) arguments others joined rest own high lines arity act = cc act
   form_begins low x (Binary operator) arguments others joined rest own high lines arity act = cc act
   form_begins low x (Print how) [] others joined rest own high lines arity act = absurd (omega (arith, arity))
   form_begins low x (Print how) (a ∷ b ∷ more) others joined rest own high lines arity act = absurd (omega (arith, arity))
   form_begins low x (Print how) (a ∷ []) others joined rest own high lines arity act =
-      begins_by own _ lines.0 (begins_behind_copy _ _ _ (begins_at _ _ refl refl))
+      begins_by own _ lines.0
+      (begins_behind_copy _ _ _ (sets_by (choice_of how == 1) (choice_of how) (setting.base + 1) _ refl (begins_at _ _ refl refl)))
   form_begins low x (Construct c) [] others joined rest own high lines arity act = cc act
   form_begins low x (Construct c) (a ∷ more) [] joined rest own high lines arity act =
       begins_by own _ lines.0.6 (begins_at _ _ refl refl)

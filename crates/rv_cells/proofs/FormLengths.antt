@@ -336,8 +336,7 @@ tail_length base f arguments few =
 
 print_length : (base : ℕ) (texts : List (List ℕ)) (bytes : List ℕ) (lines : List Line) → PrintLines base texts bytes lines
     → code_length lines ≤ 10
-print_length base texts [] lines is = let whole = ap code_length is in omega (arith, whole)
-print_length base texts (byte ∷ bytes) lines is = let whole = ap code_length is.2 in omega (arith, whole)
+print_length base texts bytes lines is = let whole = ap code_length is.2 in omega (arith, whole)
 
 -- variables are as many as the marks that they have
 pub marks_many : (holds : ℕ → Bool) (xs : List ℕ) (marks : List Bool) → HaveMarks holds xs marks → length xs ≡ length marks

@@ -1,10 +1,10 @@
 -- Where values stand for what is done with them: the conventions of calls and routines, and what an instruction can reach.
-use Rattle.std.specs.Prelude.{◌==◌, ℕ, suc, ◌+◌, List, [], ◌∷◌, Option, Some, None, Bool, true, false, ◌&&◌, ◌||◌, nat_le, slice_get}
+use Rattle.std.specs.Prelude.{◌==◌, ℕ, suc, ◌+◌, List, [], ◌∷◌, Option, Some, None, Bool, true, false, not, ◌&&◌, ◌||◌, nat_le, slice_get}
 use Rattle.rv_isa.specs.Routines.{taken_by, given_by, is_spoilt_by}
 use Rattle.rv_isa.specs.declared.asm.Action.{Action}
 use Rattle.rv_isa.specs.declared.asm.Action.TheVariants.{Compute, Label, Jump, Branch, Call, TailCall, Return, Routine, Hold, Unhold}
 use Rattle.rv_isa.specs.declared.asm.Operation.{Operation}
-use Rattle.rv_isa.specs.declared.asm.Operation.TheVariants.{Sw, Dup, Free}
+use Rattle.rv_isa.specs.declared.asm.Operation.TheVariants.{Li, Sw, Dup, Free}
 use Rattle.rv_isa.specs.declared.placed.Place.{Place}
 use Rattle.rv_isa.specs.declared.placed.Place.TheVariants.{Register as register, Slot as slot}
 use Rattle.rv_isa.specs.declared.placed.Operand.{Operand}
@@ -21,6 +21,18 @@ is_in x (slot k) = false
 abbrev pub is_in_any : Option ℕ → Place → Bool
 is_in_any None place = false
 is_in_any (Some x) place = is_in x place
+
+-- gp holds 1 from the start of a run to its end
+abbrev pub one_register : ℕ
+one_register = 3
+
+abbrev pub gives_one : Action → Bool
+gives_one (Compute (Li word)) = word == 1
+gives_one _ = false
+
+-- whether an action may write at a place: at gp where it gives 1, which is no instruction then
+abbrev pub may_write : Action → Place → Bool
+may_write action place = gives_one action || not (is_in one_register place)
 
 abbrev pub is_register : Place → Bool
 is_register (register r) = true

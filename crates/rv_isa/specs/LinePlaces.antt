@@ -4,6 +4,7 @@ use Rattle.rv_isa.specs.declared.asm.Action.{Action}
 use Rattle.rv_isa.specs.declared.asm.Action.TheVariants.{Compute, Label}
 use Rattle.rv_isa.specs.declared.asm.Operation.TheVariants.{Mv}
 use Rattle.rv_isa.specs.AsmCode.{Line, Lines}
+use Rattle.rv_isa.specs.Conventions.{gives_one}
 use Rattle.rv_isa.specs.AsmMachine.{AsmTurn}
 use Rattle.rv_isa.specs.Frames.{Frame}
 use Rattle.rv_isa.specs.PlacedCode.{PlacedLine, does, moves, PlacedLines}
@@ -43,9 +44,9 @@ abbrev pub is_copy : Action → Bool
 is_copy (Compute Mv) = true
 is_copy _ = false
 
--- each other action is an instruction at least, wherever its operands stand
+-- Neither is 1, for the register that holds it always. Each other action is an instruction at least, wherever its operands stand.
 abbrev pub is_always_some : Action → Bool
-is_always_some action = is_no_label action && not (is_copy action)
+is_always_some action = is_no_label action && (not (is_copy action) && not (gives_one action))
 
 abbrev pub is_instruction : PlacedLine → Bool
 is_instruction (does alive action args into) = is_always_some action

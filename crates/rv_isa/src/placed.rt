@@ -21,7 +21,7 @@ pub struct Placed {
 pub struct DataSection {
     /// Its size in bytes.
     pub size: u32,
-    /// The distance in bytes from its begin to the end of the cells, where the lowest frame of the stack begins.
+    /// The distance in bytes from its begin to where the stack pointer stands in the lowest frame, which begins at the end of the cells.
     pub stack_bottom: u32,
 }
 
@@ -116,10 +116,6 @@ pub enum Symbol {
     /// Where the machine starts.
     Start,
     Routine(Routine),
-    /// The routine that holds a token, which the address of its slot in a0 names.
-    Hold,
-    /// The routine that takes it back.
-    Unhold,
     /// Where `main` returns to.
     Stop,
     /// Where a call goes that finds as many frames as the stack has room for.

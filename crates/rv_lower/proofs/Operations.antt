@@ -258,9 +258,8 @@ module _ (base : ℕ) (bound : List ℕ) (has : HasRoom base bound) (x : ℕ) (l
 
   module _ (texts : Texts) where
     prints : (bytes : List ℕ) (lines : List Line) → PrintLines base texts.constants bytes lines → Leads (Before base) (Before base) 3 lines
-    prints [] lines is = subst (Leads (Before base) (Before base) 3) (sym is) (record { no_label = λ l. tt; few = omega arith; good = λ rest good. good })
-    prints (byte ∷ bytes) lines is =
-        subst (Leads (Before base) (Before base) 3) (sym is.2) (serves_two Routine.PrintText (Op.La is.0) (Op.Li (length (byte ∷ bytes))) [] refl refl refl (omega arith) tt)
+    prints bytes lines is =
+        subst (Leads (Before base) (Before base) 3) (sym is.2) (serves_two Routine.PrintText (Op.La is.0) (Op.Li (length bytes)) [] refl refl refl (omega arith) tt)
 
     -- a form on as many variables as it takes
     pub form_serves : (of : Form) (arguments : List ℕ) (lines : List Line) → HasArguments of arguments → AllBound bound arguments

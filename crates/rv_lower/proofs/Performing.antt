@@ -380,16 +380,9 @@ module _ (target : Target) where
       (put_other (base + 1) base count c1 (λ e. omega (arith, e)) ∙ put_same base at cells) (put_same (base + 1) count c1)
       (λ held. ap (λ bytes. print_bytes bytes world) there.2) (λ held. omega arith)
 
-  same_world : (world : World) → told_more [] world ≡ world
-  same_world world = ap (λ (events : List Event). record world { trace = events }) (append-nil world.trace)
-
-  pub print_text_performs : (base x : ℕ) (piece : List ℕ) (print own : List Line) (cells : ℕ → Option ℕ) (world : World) → x < base → PrintLines base target.constants.texts piece print → own ≡ print ++ sets unit_word x ∷ []
-      → Performs own base x unit_type unit cells world (told_more (put_of piece) world) (put_of piece)
-  print_text_performs base x [] print own cells world above lines own_is =
-      let alone : own ≡ sets unit_word x ∷ [] = own_is ∙ ap (λ some. some ++ sets unit_word x ∷ []) lines in
-      subst (λ w. Performs own base x unit_type unit cells world w []) (sym (same_world world)) (sets_performs base x unit_word unit_type unit own cells world (refl, refl) alone)
-  print_text_performs base x (byte ∷ bytes) print own cells world above lines own_is =
-      let text : List ℕ = byte ∷ bytes in
+  pub print_text_performs : (base x : ℕ) (text : List ℕ) (print own : List Line) (cells : ℕ → Option ℕ) (world : World) → x < base → PrintLines base target.constants.texts text print → own ≡ print ++ sets unit_word x ∷ []
+      → Performs own base x unit_type unit cells world (told_more (put_of text) world) (put_of text)
+  print_text_performs base x text print own cells world above lines own_is =
       subst (λ some. Performs some base x unit_type unit cells world (told_more (put_of text) world) (put_of text)) (sym (own_is ∙ ap (λ some. some ++ sets unit_word x ∷ []) lines.2))
       (text_performs base x text lines.0 cells world above lines.1)
 

@@ -98,12 +98,11 @@ abbrev pub choice_of : PrintForm → ℕ
 choice_of OfPrint.Print = 0
 choice_of OfPrint.PrintLine = 1
 
--- A print of constant bytes, which stand among the texts. No bytes are not printed.
+-- a print of constant bytes, which stand among the texts
 abbrev pub PrintLines : ℕ → List (List ℕ) → List ℕ → List Line → Type 0
-PrintLines base texts [] lines = lines ≡ []
-PrintLines base texts (byte ∷ bytes) lines =
-    (index : ℕ) × (slice_get texts index ≡ Some (byte ∷ bytes))
-    × (lines ≡ computes (Op.La index) [] base ∷ sets (length (byte ∷ bytes)) (base + 1) ∷ acts (Action.Routine Routine.PrintText) (base ∷ (base + 1) ∷ []) ∷ [])
+PrintLines base texts bytes lines =
+    (index : ℕ) × (slice_get texts index ≡ Some bytes)
+    × (lines ≡ computes (Op.La index) [] base ∷ sets (length bytes) (base + 1) ∷ acts (Action.Routine Routine.PrintText) (base ∷ (base + 1) ∷ []) ∷ [])
 
 -- A form with arguments, on variables. One with another number of arguments is none, and so is a construction with fields.
 abbrev pub AppliedLines : ℕ → ℕ → Form → List ℕ → List Line → Type 0

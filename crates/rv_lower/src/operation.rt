@@ -330,15 +330,12 @@ impl Lowering {
         self.push(Action::Call(function), &handed, Some(into))
     }
 
-    /// A print of constant bytes. No bytes are not printed.
+    /// A print of constant bytes.
     fn print_text(&mut self, form: PrintForm, text: &[u8]) -> Result<(), NoMemory>
         requires { length text.now ≤ 255 }
         ensures { OnOk result (WrotePrint (piece_of form text.now) self.old self.new) }
     {
         let bytes = piece(self.alloc, form, text)?;
-        if bytes.is_empty() {
-            return Ok(());
-        }
         let (address, count) = (self.base, self.temporary(1)?);
         let length = bytes.len() as u32;
         let index = self.add_text(bytes)?;

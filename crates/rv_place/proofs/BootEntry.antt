@@ -5,6 +5,7 @@ use Rattle.std.specs.List.{slice_get}
 use Rattle.kk_base.specs.Memory.{Part}
 use Rattle.rv_isa.specs.PlacedCode.{PlacedLines}
 use Rattle.rv_isa.specs.PlacedMachine.{PlacedState, placed_entered}
+use Rattle.rv_isa.specs.Conventions.{one_register}
 use Rattle.rv_isa.specs.Frames.{empty}
 use Rattle.rv_isa.specs.Bytes.{bytes_at, with_number}
 use Rattle.rv_isa.specs.Processor.{Processor, value, can_store}
@@ -53,6 +54,7 @@ pub record IsBefore (map : Map) (pool : Pool) (depth stop entry : ℕ) (code : C
   pub pc_is : s.pc ≡ entry
   pub way_is : value s.registers 1 ≡ stop
   pub base_is : value s.registers 2 ≡ stack_end map depth + frame_bias map.jumps
+  pub one : value s.registers one_register ≡ 1
   pub trace_is : s.trace ≡ []
   pub left_is : s.left ≡ input
   pub cells : HoldsCells pool (unused_cells pool) [] s
@@ -104,6 +106,7 @@ module _ {map : Map} {pool : Pool} {functions : List PlacedLines} {depth buffer 
       base_is = takes.base_is;
       frames = rw (takes.done.memory_is, takes.done.pc_is) frames_stand;
       registers = λ x word e. cc;
+      one = takes.done.kept one_register ((λ e. cc), ((λ e. cc), tt)) ∙ before.one;
       cells = outside-holds before.cells (roots_done takes.done refl) (subst (λ m. SameInside pool s.memory m) (sym takes.done.memory_is) (SameInside-store pool s.memory base stop (inr (omega (arith, above, ground.cells_below))))) (record { same = λ slot some. absurd (some refl) });
     };
   }

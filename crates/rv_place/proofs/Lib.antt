@@ -7,6 +7,7 @@ pub mod RunningLinks
 pub mod RunningRows
 pub mod RunningLines
 pub mod RunningWords
+pub mod RunningTargets
 pub mod RunningComes
 pub mod RunningMoves
 pub mod RunningCells

@@ -1,6 +1,6 @@
--- Lines have addresses of their own: functions stand one behind the other behind the runtime, and each line that is no label
--- is some instructions of its function.
-use Rattle.std.proofs.Common.{◌≡◌, ◌≤◌, ◌<◌, inl, inr, ℕ, zero, suc, ◌+◌, ◌*◌, ◌%◌, List, [], ◌∷◌, Some, Bool, true, false, ◌&&◌, not, cond}
+-- Lines have addresses of their own: functions stand one behind the other behind the runtime, and each line that is always
+-- an instruction is some of its function.
+use Rattle.std.proofs.Common.{◌≡◌, ◌≤◌, ◌<◌, inl, inr, ℕ, zero, suc, ◌+◌, ◌*◌, ◌%◌, List, [], ◌∷◌, Some, Bool, true, false, ◌&&◌, ◌||◌, not, cond}
 use Rattle.std.proofs.Common.{take, drop, slice_get}
 use Rattle.std.proofs.Common.{refl, sym, ap, ◌∙◌, subst, arith}
 use Rattle.std.proofs.lemmas.Bool.{cases_lt, and_parts}
@@ -8,9 +8,10 @@ use Rattle.rv_isa.specs.declared.asm.Action.{Action}
 use Rattle.rv_isa.specs.declared.asm.Action.TheVariants.{Compute, Label, Jump, Branch, Call, TailCall}
 use Rattle.rv_isa.specs.declared.asm.Action.TheVariants.{Return, Routine, Hold, Unhold}
 use Rattle.rv_isa.specs.PlacedCode.{PlacedLine, does, moves, PlacedLines}
+use Rattle.rv_isa.specs.Conventions.{gives_one}
 use Rattle.rv_isa.specs.LinePlaces.{is_no_label, is_copy, is_instruction, PlacedHasLine}
 use Rattle.rv_isa.specs.Standing.{Code}
-use Rattle.rv_place.specs.Addresses.{stands_there, is_silent, words_of_action, words_of_line, words_of_lines, forms_of, entry_words, words_of_function}
+use Rattle.rv_place.specs.Addresses.{stands_there, goes_to_one, is_silent, words_of_action, words_of_line, words_of_lines, forms_of, entry_words, words_of_function}
 use Rattle.rv_place.specs.Addresses.{entries_from, words_of_functions}
 use Rattle.rv_place.specs.LineAddresses.{address_in, line_address}
 use Rattle.rv_place.specs.Lines.{Map, FunctionsAt}
@@ -41,20 +42,21 @@ action_some forms (Routine routine) some = jump_some forms.jumps
 action_some forms Hold some = omega arith
 action_some forms Unhold some = omega arith
 
-no_copy : (copy : Bool) → not copy ≡ true → copy ≡ false
-no_copy true is = cc is
-no_copy false is = refl
+neither : (copy one there here : Bool) → (not copy && not one) ≡ true → ((copy && there) || (one && here)) ≡ false
+neither true one there here is = cc is
+neither false true there here is = cc is
+neither false false there here is = refl
 
--- and so is such a line, which is no copy
+-- and so is such a line, which is no copy and does not give 1
 line_some : (forms : Forms) (line : PlacedLine) → is_instruction line ≡ true → 1 ≤ words_of_line forms line
 line_some forms (does alive action args into) some =
-    let both = and_parts (is_no_label action) (not (is_copy action)) some in
+    let both = and_parts (is_no_label action) (not (is_copy action) && not (gives_one action)) some in
     let loud : is_silent action args into ≡ false
-    = ap (λ copy. copy && stands_there args into) (no_copy (is_copy action) both.1) in
+    = neither (is_copy action) (gives_one action) (stands_there args into) (goes_to_one into) both.1 in
     subst (λ silent. 1 ≤ cond silent 0 (words_of_action forms action)) (sym loud) (action_some forms action both.0)
 line_some forms (moves alive value way) some = omega arith
 
--- a line that is no label ends at the end of the lines at most
+-- such a line ends at the end of the lines at most
 line_ends : (forms : Forms) (j : ℕ) (lines : List PlacedLine) (line : PlacedLine)
     → slice_get lines j ≡ Some line → is_instruction line ≡ true
     → words_of_lines forms (take j lines) + 1 ≤ words_of_lines forms lines
@@ -136,7 +138,7 @@ pub address_of : (map : Map) (functions : List PlacedLines) (f j entry : ℕ) (f
 address_of map functions f j entry function entry_is function_is =
     ap (λ o. address_in map j o (slice_get functions f)) entry_is ∙ ap (address_in map j (Some entry)) function_is
 
--- a line that is no label, and its function
+-- a line that is always an instruction, and its function
 record LineThere (map : Map) (functions : List PlacedLines) (f j : ℕ) : Type 0 where
   function : PlacedLines
   function_is : slice_get functions f ≡ Some function

@@ -19,7 +19,7 @@ use Rattle.rv_isa.specs.declared.placed.Place.{Place}
 use Rattle.rv_isa.specs.declared.placed.Operand.{Operand}
 use Rattle.rv_isa.specs.PlacedCode.{PlacedLine, PlacedLines}
 use Rattle.rv_isa.specs.Arithmetic.{sum_word}
-use Rattle.rv_isa.specs.Conventions.{is_handed_out, computes_at, conforms, gives_into, take_from}
+use Rattle.rv_isa.specs.Conventions.{is_handed_out, one_register, computes_at, conforms, gives_into, take_from}
 use Rattle.rv_isa.specs.Costs.{operation_instructions}
 use Rattle.rv_isa.specs.Primitives.{stuck, or_stuck, by_token}
 use Rattle.rv_isa.specs.Frames.{Frame, all_of}
@@ -43,17 +43,18 @@ use Rattle.rv_place.specs.Instructions.{words_of_operation, RaisesCount, FreesTo
 use Rattle.rv_place.specs.Lines.{Map, register_into, ActsAt}
 use Rattle.rv_place.specs.declared.reach.Forms.{Forms}
 use Rattle.rv_place.specs.Grounds.{Ground, stack_end}
-use Rattle.rv_place.specs.Running.{GivesHandedOut, most_lines, IsIn, FramesAt, links_of, Running}
+use Rattle.rv_place.specs.Running.{most_lines, IsIn, FramesAt, links_of, Running}
 use Rattle.rv_place.specs.declared.reach.Reach.TheVariants.{Near}
 use Rattle.rv_place.proofs.RunningRows.{branch_taken, branch_passed}
 use Rattle.rv_place.proofs.RunningExecuting.{MissesFree, Done, Gets, immediate_row, addi_row, misses_done, done_then, done_on, done_as}
 use Rattle.rv_place.proofs.RunningExecuting.{plain_gets, load_gets, store_goes}
 use Rattle.rv_place.proofs.RunningFree.{apart_misses}
 use Rattle.rv_place.proofs.RunningFrames.{handed_apart, frames_kept}
-use Rattle.rv_place.proofs.RunningLinks.{is_own, roots_done}
+use Rattle.rv_place.proofs.RunningLinks.{is_fixed, roots_done}
+use Rattle.rv_place.proofs.RunningTargets.{GivesTarget}
 use Rattle.rv_place.proofs.RunningWords.{words_in, AllFit, AllHanded, InRegisters, in_registers, Computed}
 use Rattle.rv_place.proofs.RunningInside.{walks_done}
-use Rattle.rv_place.proofs.RunningComes.{NoneHanded, or_stuck_some, Comes, comes_go, runs_on, agrees_done, sp_low}
+use Rattle.rv_place.proofs.RunningComes.{NoneHanded, outside_handed, or_stuck_some, Comes, comes_go, runs_on, agrees_done, sp_low}
 use Rattle.rv_place.proofs.RunningComes.{constants_kept, stays}
 use Rattle.rv_place.proofs.RunningMoves.{gives_word, follow_words}
 
@@ -113,7 +114,7 @@ module _ {map_of : Map} {pool : Pool} {functions : List PlacedLines} {depth buff
         → HoldsCells pool next (links_of map_of running.base (f ∷ fs)) u
         → 1 ≤ n → n ≤ most → Comes map_of pool functions depth stop code parts most old
         (placed_goes behind fs known (with_cells world next)) s
-    changed_comes {n} most at v next u done outside none inside allowed fits holds some within =
+    changed_comes {n} {changed} most at v next u done outside none inside allowed fits holds some within =
         let stand = running.frames in
         let sp = running.base in
         let low = sp_low ground f fs known world s running in
@@ -124,7 +125,7 @@ module _ {map_of : Map} {pool : Pool} {functions : List PlacedLines} {depth buff
         comes_go map_of pool functions depth stop code parts most old
         (record { frames = behind ∷ fs; registers = known; shared = with_cells world next }) s u n (walks_done done)
         (runs_on map_of pool functions depth stop code parts
-        (record { frames = f ∷ fs; registers = known; shared = world }) next s u (behind ∷ fs) known sp running done
+        (record { frames = f ∷ fs; registers = known; shared = world }) next s u (behind ∷ fs) known sp running done (outside_handed changed none one_register refl)
         (constants_kept ground f fs known world s running at v allowed) running.room (done.kept 2 outside ∙ running.base_is)
         (frames_kept map_of code (most_lines functions) stop (stack_end map_of depth) ground.some_frame s.memory
         (with_number at 4 v s.memory) (s.pc + 4 * words_of_operation operation) sp (behind ∷ fs)
@@ -134,7 +135,7 @@ module _ {map_of : Map} {pool : Pool} {functions : List PlacedLines} {depth buff
     -- instructions that have changed nothing but registers that no value has
     same_comes : {n : ℕ} {changed : List ℕ} (most : ℕ) (u : Processor)
         → Done pool.cells code n changed s.memory (s.pc + 4 * words_of_operation operation) s u → IsOutside 2 changed → NoneHanded changed
-        → list_any is_own changed ≡ false
+        → list_any is_fixed changed ≡ false
         → s.pc + 4 * words_of_operation operation < 2 ^ 32 → 1 ≤ n → n ≤ most
         → Comes map_of pool functions depth stop code parts most old (placed_goes behind fs known world) s
     same_comes {n} most u done outside none apart fits some within =
@@ -374,7 +375,7 @@ module _ {map_of : Map} {pool : Pool} {functions : List PlacedLines} {depth buff
     load_by : (offset : Immediate) →
         ((next : ℕ) → s.pc + 4 * 1 ≡ next → next < 2 ^ 32 → IsIn map_of code (most_lines functions) next behind)
         → (rs : List Register)
-        → gives_into (Compute (OfOperation.Lw offset)) into ≡ true → GivesHandedOut into
+        → gives_into (Compute (OfOperation.Lw offset)) into ≡ true → GivesTarget into
         → ((rd : Register) → register_into into ≡ Some rd → Computes map_of.constants code s.pc (OfOperation.Lw offset) rs rd)
         → or_stuck (computed_in map_of.constants (OfOperation.Lw offset) (words_in s.registers rs) world)
         (λ r. placed_gives into r.0 behind fs known r.1) ≡ turn
@@ -434,7 +435,7 @@ module _ {map_of : Map} {pool : Pool} {functions : List PlacedLines} {depth buff
         subst (λ t. Comes map_of pool functions depth stop code parts 3 old t s) next.2
         (free_by is_in a handed.0 here (value s.registers a.number == 0) refl next.0 next.1)
 
-    module _ (forms : Forms) (start : ℕ) (args : List Operand) (words : List ℕ) (handed : GivesHandedOut into) where
+    module _ (forms : Forms) (start : ℕ) (args : List Operand) (words : List ℕ) (handed : GivesTarget into) where
       on_cells : {operation : Operation} → IsOnCells operation
           → ((next : ℕ) → s.pc + 4 * words_of_operation operation ≡ next → next < 2 ^ 32
           → IsIn map_of code (most_lines functions) next behind)
@@ -460,7 +461,7 @@ module _ {map_of : Map} {pool : Pool} {functions : List PlacedLines} {depth buff
       → IsIn map_of code (most_lines functions) next behind)
       → (forms : Forms) (start : ℕ) (args : List Operand) (into : Option Operand) (words : List ℕ) (turn : PlacedTurn World Ending)
       → ActsAt map_of forms code start f.whole s.pc (Compute operation) args into
-      → conforms (Compute operation) args into ≡ true → GivesHandedOut into
+      → conforms (Compute operation) args into ≡ true → GivesTarget into
       → all_of (map (λ (arg : Operand). read_at known f.cells arg.place) args) ≡ Some words
       → placed_acts (primitives map_of.constants pool) depth functions behind fs known world
       (Compute operation) args into words ≡ turn → turn ≢ stuck

@@ -3,7 +3,7 @@ use Rattle.std.proofs.Common.{◌≡◌, ◌≢◌, ◌≤◌, ◌<◌, ℕ, zer
 use Rattle.std.proofs.Math.Nat.{suc-mul, mul-le-mul_right}
 use Rattle.kk_base.specs.Memory.{Part}
 use Rattle.rv_isa.specs.PlacedCode.{PlacedLine, PlacedLines}
-use Rattle.rv_isa.specs.Conventions.{is_handed_out}
+use Rattle.rv_isa.specs.Conventions.{is_handed_out, one_register}
 use Rattle.rv_isa.specs.Primitives.{Turn, go, ended, stuck, or_stuck}
 use Rattle.rv_isa.specs.Frames.{Frame, put}
 use Rattle.rv_isa.specs.PlacedMachine.{PlacedState, PlacedTurn, placed_goes, placed_told}
@@ -26,7 +26,7 @@ use Rattle.rv_place.specs.Running.{most_lines, IsIn, FramesAt, links_of, Agrees,
 use Rattle.rv_place.proofs.RunningExecuting.{Done, Gets}
 use Rattle.rv_place.proofs.RunningInside.{Walks, walks_done}
 use Rattle.rv_place.proofs.RunningFrames.{handed_apart, agrees_put, agrees_kept, frames_sum}
-use Rattle.rv_place.proofs.RunningLinks.{is_own, roots_done, cells_done}
+use Rattle.rv_place.proofs.RunningLinks.{is_fixed, outside_fixed, none_own, roots_done, cells_done}
 
 -- ---- turns
 
@@ -155,11 +155,11 @@ module _ (map : Map) (pool : Pool) (functions : List PlacedLines) (depth stop : 
   -- ---- the relation is kept
 
   pub runs_on : {n : ℕ} {changed : List ℕ} {memory : ℕ → ℕ} {next : ℕ} (t : PlacedState World) (cells : Cells) (s u : Processor) (frames : List (Frame PlacedLine)) (known : ℕ → Option ℕ) (base : ℕ)
-      → Running map pool functions depth stop code parts t s → Done pool.cells code n changed memory next s u
+      → Running map pool functions depth stop code parts t s → Done pool.cells code n changed memory next s u → IsOutside one_register changed
       → bytes_at memory map.constants.first (constant_bytes map) ≡ bytes_at s.memory map.constants.first (constant_bytes map)
       → length frames ≤ depth → value u.registers 2 ≡ base + frame_bias map.jumps → FramesAt map code (most_lines functions) stop (stack_end map depth) memory next base frames → Agrees known u.registers
       → HoldsCells pool cells (links_of map base frames) u → Running map pool functions depth stop code parts (record { frames = frames; registers = known; shared = with_cells t.shared cells }) u
-  runs_on {memory = memory} {next = next} t cells s u frames known base running done same room base_is stand agrees holds =
+  runs_on {memory = memory} {next = next} t cells s u frames known base running done outside same room base_is stand agrees holds =
       let at_pc : FramesAt map code (most_lines functions) stop (stack_end map depth) memory u.pc base frames = subst (λ a. FramesAt map code (most_lines functions) stop (stack_end map depth) memory a base frames) (sym done.pc_is) stand in
       record {
         rests = record {
@@ -175,6 +175,7 @@ module _ (map : Map) (pool : Pool) (functions : List PlacedLines) (depth stop : 
         base_is = base_is;
         frames = subst (λ m. FramesAt map code (most_lines functions) stop (stack_end map depth) m u.pc base frames) (sym done.memory_is) at_pc;
         registers = agrees;
+        one = done.kept one_register outside ∙ running.one;
         cells = holds;
       }
 
@@ -207,11 +208,11 @@ module _ {map : Map} {pool : Pool} {functions : List PlacedLines} {depth buffer 
   constants_kept at v allowed = bytes_at-with_number_apart at 4 v s.memory map.constants.first (constant_bytes map) (ground.constants_kept at 4 allowed (lit< tt))
 
   -- instructions that change no memory lead on in the same frame
-  pub stays : (most old : ℕ) {n : ℕ} {changed : List ℕ} {next : ℕ} (u : Processor) (behind : List PlacedLine) (known' : ℕ → Option ℕ) → Done pool.cells code n changed s.memory next s u → IsOutside 2 changed → list_any is_own changed ≡ false
+  pub stays : (most old : ℕ) {n : ℕ} {changed : List ℕ} {next : ℕ} (u : Processor) (behind : List PlacedLine) (known' : ℕ → Option ℕ) → Done pool.cells code n changed s.memory next s u → IsOutside 2 changed → list_any is_fixed changed ≡ false
       → IsIn map code (most_lines functions) next (record f { code = behind }) → Agrees known' u.registers → 1 ≤ n → n ≤ most
       → Comes map pool functions depth stop code parts most old (placed_goes (record f { code = behind }) fs known' world) s
-  stays most old {n = n} u behind known' done outside none is_in agrees some within =
+  stays most old {n = n} {changed = changed} u behind known' done outside none is_in agrees some within =
       let stand = running.frames in
       comes_go map pool functions depth stop code parts most old (record { frames = record f { code = behind } ∷ fs; registers = known'; shared = world }) s u n (walks_done done)
-      (runs_on map pool functions depth stop code parts (record { frames = f ∷ fs; registers = known; shared = world }) world.cells s u (record f { code = behind } ∷ fs) known' running.base running done refl running.room
-      (done.kept 2 outside ∙ running.base_is) (is_in, stand.1, stand.2, stand.3) agrees (cells_done running.cells (roots_done done none) done.memory_is)) some within
+      (runs_on map pool functions depth stop code parts (record { frames = f ∷ fs; registers = known; shared = world }) world.cells s u (record f { code = behind } ∷ fs) known' running.base running done (outside_fixed one_register refl changed none) refl running.room
+      (done.kept 2 outside ∙ running.base_is) (is_in, stand.1, stand.2, stand.3) agrees (cells_done running.cells (roots_done done (none_own changed none)) done.memory_is)) some within

@@ -202,7 +202,7 @@ module _ {map_of : Map} {pool : Pool} {functions : List PlacedLines} {depth buff
       let gets = jump_to pool.cells ground.below running.rests.stands forms.jumps s.pc refl zero_register (function.0 + 4 * entry_words map_of.jumps) (here function.0 function.1) inside.at_word in
       subst (λ t. Comes map_of pool functions depth stop code parts 2 old t s) result.2
       (comes_go map_of pool functions depth stop code parts 2 old (record { frames = placed_entered g result.0 ∷ fs; registers = passed 0 words; shared = world }) s gets.after (words_of_jump forms.jumps) (walks_done gets.done)
-      (runs_on map_of pool functions depth stop code parts (record { frames = f ∷ fs; registers = known; shared = world }) world.cells s gets.after (placed_entered g result.0 ∷ fs) (passed 0 words) running.base running gets.done refl running.room
+      (runs_on map_of pool functions depth stop code parts (record { frames = f ∷ fs; registers = known; shared = world }) world.cells s gets.after (placed_entered g result.0 ∷ fs) (passed 0 words) running.base running gets.done ((λ e. cc), ((λ e. cc), tt)) refl running.room
       (gets.done.kept 2 ((λ e. cc), ((λ e. cc), tt)) ∙ running.base_is) (inside, (λ k w none. cc), tt, stand.3)
       (agrees_done s gets.after (passed 0 words) gets.done (refl, (refl, tt)) (passed_agree (TailCall g) args words (λ k place is_one. is_one) fit.0 words_are))
       (subst (λ links. HoldsCells pool world.cells links gets.after) (ap (λ held. links_in running.base f.cells held (links_of map_of (running.base + map_of.frame) fs)) free.0) (cells_done running.cells (roots_done gets.done refl) gets.done.memory_is))) (jump_some forms.jumps) (jump_most forms.jumps))
@@ -286,7 +286,7 @@ module _ {map_of : Map} {pool : Pool} {functions : List PlacedLines} {depth buff
       subst (λ b. FramesAt map_of code (most_lines functions) stop (stack_end map_of depth) s.memory (s.pc + 4 * words_of_jump forms.jumps) b (record left_behind { into = awaited into } ∷ fs)) base_is
       (is_behind (s.pc + 4 * words_of_jump forms.jumps) refl (omega arith), stand.1, awaits_first g into gives, stand.3) in
       comes_go map_of pool functions depth stop code parts 7 old after s takes.after (words_of_jump forms.jumps + (words_to_frame map_of.jumps + 1 + words_of_shift map_of.jumps + 1)) (walks_done done)
-      (runs_on map_of pool functions depth stop code parts (record { frames = f ∷ fs; registers = known; shared = world }) world.cells s takes.after after.frames (passed 0 words) base running done
+      (runs_on map_of pool functions depth stop code parts (record { frames = f ∷ fs; registers = known; shared = world }) world.cells s takes.after after.frames (passed 0 words) base running done ((λ e. cc), ((λ e. cc), ((λ e. cc), ((λ e. cc), tt))))
       (constants_kept ground f fs known world s running base (s.pc + 4 * words_of_jump forms.jumps) allowed) room takes.base_is
       (frames_pushed map_of code (most_lines functions) stop (stack_end map_of depth) ground.some_frame s.memory base (s.pc + 4 * words_of_jump forms.jumps) (entry + 4 * entry_words map_of.jumps) (placed_entered g callee) (record left_behind { into = awaited into } ∷ fs) (omega arith)
       (callee_in g callee entry callee_is entry_is function) (λ k w none. cc) refl waiting)
@@ -359,7 +359,7 @@ module _ {map_of : Map} {pool : Pool} {functions : List PlacedLines} {depth buff
       let goes = back (g ∷ gs) running in
       let room : length (g ∷ gs) ≤ depth = (let all = running.room in omega arith) in
       comes_go map_of pool functions depth stop code parts 4 old (record { frames = g ∷ gs; registers = known'; shared = world }) s goes.after (1 + words_of_shift map_of.jumps + 1) (walks_done goes.done)
-      (runs_on map_of pool functions depth stop code parts (state_of (g ∷ gs)) world.cells s goes.after (g ∷ gs) known' (running.base + map_of.frame) running goes.done refl room goes.base_is running.frames.3
+      (runs_on map_of pool functions depth stop code parts (state_of (g ∷ gs)) world.cells s goes.after (g ∷ gs) known' (running.base + map_of.frame) running goes.done ((λ e. cc), ((λ e. cc), ((λ e. cc), tt))) refl room goes.base_is running.frames.3
       (agrees goes.after (goes.done.kept 10 ((λ e. cc), ((λ e. cc), ((λ e. cc), tt)))))
       (subst (λ links. HoldsCells pool world.cells links goes.after) (ap (λ held. links_in running.base f.cells held (links_of map_of (running.base + map_of.frame) (g ∷ gs))) free) (cells_done running.cells (roots_done goes.done refl) goes.done.memory_is))) (omega arith) (omega (arith, shift_most map_of.jumps))
 

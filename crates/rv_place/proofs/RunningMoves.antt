@@ -1,6 +1,6 @@
 -- Labels, moves and operations of the machine of the placed form, followed by the processor.
-use Rattle.std.proofs.Common.{◌≡◌, ◌≢◌, ◌≤◌, ◌<◌, inr, ℕ, ◌+◌, ◌*◌, ◌%◌, ◌^◌, List, [], ◌∷◌, length, Option, Some, None, true, false, map, option_map, eqb-true, refl, sym, ap, ◌∙◌, subst, arith}
-use Rattle.std.proofs.lemmas.Bool.{and_parts, or_from}
+use Rattle.std.proofs.Common.{◌≡◌, ◌≢◌, ◌≤◌, ◌<◌, ◌&&◌, inl, inr, ℕ, ◌+◌, ◌*◌, ◌%◌, ◌^◌, List, [], ◌∷◌, length, Option, Some, None, true, false, map, option_map, eqb-true, refl, sym, ap, ◌∙◌, subst, arith, lit<}
+use Rattle.std.proofs.lemmas.Bool.{and_parts, or_from, or_cases}
 use Rattle.kk_base.specs.Memory.{Part}
 use Rattle.rv_isa.specs.declared.register.Register.{Register}
 use Rattle.rv_isa.specs.declared.instr.Instr.TheVariants as Instr
@@ -15,7 +15,7 @@ use Rattle.rv_isa.specs.declared.placed.Way.{Way}
 use Rattle.rv_isa.specs.declared.placed.Way.TheVariants.{Copy, Load, Store}
 use Rattle.rv_isa.specs.PlacedCode.{PlacedLine, PlacedLines, from_of, to_of}
 use Rattle.rv_isa.specs.Arithmetic.{sum_word}
-use Rattle.rv_isa.specs.Conventions.{is_handed_out, is_register, conforms, computes_at, gives_into, take_from}
+use Rattle.rv_isa.specs.Conventions.{is_handed_out, is_in, one_register, gives_one, is_register, conforms, computes_at, gives_into, take_from}
 use Rattle.rv_isa.specs.Costs.{operation_instructions}
 use Rattle.rv_isa.specs.Primitives.{stuck}
 use Rattle.rv_isa.specs.Frames.{Frame, put, all_of, is_among}
@@ -24,7 +24,7 @@ use Rattle.rv_isa.specs.PlacedMachine.{PlacedState, PlacedTurn, is_held, read_at
 use Rattle.rv_isa.specs.Bytes.{number_at, with_number}
 use Rattle.rv_isa.specs.Processor.{Processor, Ending, value, can_load, can_store}
 use Rattle.rv_isa.specs.Standing.{Code}
-use Rattle.rv_isa.proofs.Copies.{copy_is}
+use Rattle.rv_isa.proofs.Copies.{copy_is, one_is}
 use Rattle.rv_isa.proofs.Memory.{word-apart}
 use Rattle.cell_heap.specs.Known.{HoldsCells, SameRoots}
 use Rattle.cell_heap.proofs.Frames.{SameInside, SameInside-store}
@@ -34,19 +34,20 @@ use Rattle.cell_heap.specs.Pool.{Pool}
 use Rattle.cell_heap.proofs.Blocks.{mapped}
 use Rattle.rv_world.specs.World.{World, computed_in, primitives}
 use Rattle.rv_place.specs.Registers.{zero_register, sp}
-use Rattle.rv_place.specs.Addresses.{is_same_register, stands_there, is_silent, frame_bias, slot_offset}
+use Rattle.rv_place.specs.Addresses.{is_same_register, stands_there, goes_to_one, is_silent, frame_bias, slot_offset}
 use Rattle.rv_place.specs.Instructions.{form_of, words_of_form, words_of_operation}
 use Rattle.rv_place.specs.declared.constant.WordForm.{WordForm}
 use Rattle.rv_place.specs.declared.constant.WordForm.TheVariants.{Short, Upper, Both}
 use Rattle.rv_place.specs.Lines.{Map, register_into, MovesBy, ActsAt}
 use Rattle.rv_place.specs.declared.reach.Forms.{Forms}
 use Rattle.rv_place.specs.Grounds.{Ground, stack_end}
-use Rattle.rv_place.specs.Running.{IsHandedOut, GivesHandedOut, most_lines, IsIn, links_of, Running}
+use Rattle.rv_place.specs.Running.{most_lines, IsIn, links_of, Running}
 use Rattle.rv_place.proofs.RunningExecuting.{MissesFree, Gets, addi_row, plain_gets, load_gets, store_goes}
 use Rattle.rv_place.proofs.RunningFree.{behind_misses}
 use Rattle.rv_place.proofs.RunningRows.{from_pointer}
 use Rattle.rv_place.proofs.RunningFrames.{handed_apart, agrees_put, agrees_kept, frames_put}
-use Rattle.rv_place.proofs.RunningLinks.{is_own, handed_own, roots_done, links_put, slots_apart}
+use Rattle.rv_place.proofs.RunningLinks.{is_fixed, roots_done, links_put, slots_apart}
+use Rattle.rv_place.proofs.RunningTargets.{is_target, IsTarget, GivesTarget, target_handed, target_apart, target_fixed}
 use Rattle.rv_place.proofs.RunningWords.{some_cons, words_in, in_registers, Computed, computes}
 use Rattle.rv_place.proofs.RunningInside.{walks_done}
 use Rattle.rv_place.proofs.RunningComes.{or_stuck_some, Comes, comes_go, comes_idle, runs_on, agrees_got, sp_low, sp_word, sp_high, constants_kept, stays}
@@ -107,23 +108,17 @@ module _ {map_of : Map} {pool : Pool} {functions : List PlacedLines} {depth buff
         base_is = running.base_is;
         frames = (is_in, stand.1, stand.2, stand.3);
         registers = running.registers;
+        one = running.one;
         cells = running.cells;
       }) less
 
-  -- ---- copies that are no instruction
+  -- ---- copies, and 1, that are no instruction
 
   -- a register has already the word that goes to it
-  has_already : (old word : ℕ) (from to : Place) → is_same_register from to ≡ true → read_at known f.cells from ≡ Some word
+  holds_already : (old word : ℕ) (q : Register) → is_handed_out q.number ≡ true → (value s.registers q.number ≡ word) × (word < 2 ^ 32)
       → IsIn map_of code (most_lines functions) s.pc behind → 1 + length rest ≤ old
-      → Comes map_of pool functions depth stop code parts 0 old (placed_writes to (Some word) behind fs known world) s
-  has_already old word (slot k) to same read is_in less = cc same
-  has_already old word (register r) (slot k) same read is_in less = cc same
-  has_already old word (register r) (register q) same read is_in less =
-      let one : r.number ≡ q.number = eqb-true r.number q.number same in
-      let holds = running.registers r.number word read in
-      let handed : is_handed_out q.number ≡ true = subst (λ x. is_handed_out x ≡ true) one holds.0 in
-      let has : (value s.registers q.number ≡ word) × (word < 2 ^ 32)
-      = subst (λ x. (value s.registers x ≡ word) × (word < 2 ^ 32)) one (holds.1, holds.2) in
+      → Comes map_of pool functions depth stop code parts 0 old (placed_writes (register q) (Some word) behind fs known world) s
+  holds_already old word q handed has is_in less =
       let stand = running.frames in
       comes_idle map_of pool functions depth stop code parts 0 old
       (record { frames = behind ∷ fs; registers = put q.number (Some word) known; shared = world }) s (record {
@@ -138,8 +133,23 @@ module _ {map_of : Map} {pool : Pool} {functions : List PlacedLines} {depth buff
         registers = agrees_put q.number (Some word) known s.registers s.registers running.registers handed
             (λ w e. let equal : word ≡ w = cc in subst (λ v. (value s.registers q.number ≡ v) × (v < 2 ^ 32)) equal has)
             (λ x some apart. refl);
+        one = running.one;
         cells = running.cells;
       }) less
+
+  -- a copy of it, to the register where it is
+  has_already : (old word : ℕ) (from to : Place) → is_same_register from to ≡ true → read_at known f.cells from ≡ Some word
+      → IsIn map_of code (most_lines functions) s.pc behind → 1 + length rest ≤ old
+      → Comes map_of pool functions depth stop code parts 0 old (placed_writes to (Some word) behind fs known world) s
+  has_already old word (slot k) to same read is_in less = cc same
+  has_already old word (register r) (slot k) same read is_in less = cc same
+  has_already old word (register r) (register q) same read is_in less =
+      let one : r.number ≡ q.number = eqb-true r.number q.number same in
+      let holds = running.registers r.number word read in
+      let handed : is_handed_out q.number ≡ true = subst (λ x. is_handed_out x ≡ true) one holds.0 in
+      let has : (value s.registers q.number ≡ word) × (word < 2 ^ 32)
+      = subst (λ x. (value s.registers x ≡ word) × (word < 2 ^ 32)) one (holds.1, holds.2) in
+      holds_already old word q handed has is_in less
 
   stays_there : (old : ℕ) (args : List Operand) (into : Option Operand) (words : List ℕ) (turn : PlacedTurn World Ending)
       → stands_there args into ≡ true → IsIn map_of code (most_lines functions) s.pc behind → 1 + length rest ≤ old
@@ -158,16 +168,42 @@ module _ {map_of : Map} {pool : Pool} {functions : List PlacedLines} {depth buff
       (has_already old split.0 arg.place into.place stands split.2 is_in less)
   stays_there old (arg ∷ other ∷ args) into words turn stands is_in less words_are is = cc stands
 
+  -- the register that holds 1
+  one_already : (old : ℕ) (place : Place) → is_in one_register place ≡ true → IsIn map_of code (most_lines functions) s.pc behind
+      → 1 + length rest ≤ old
+      → Comes map_of pool functions depth stop code parts 0 old (placed_writes place (Some 1) behind fs known world) s
+  one_already old (slot k) there is_in less = cc there
+  one_already old (register q) there is_in less =
+      let number : q.number ≡ one_register = eqb-true q.number one_register there in
+      holds_already old 1 q (rw number refl) (rw number running.one, lit< tt) is_in less
+
+  one_is_there : (old : ℕ) (args : List Operand) (into : Option Operand) (words : List ℕ) (turn : PlacedTurn World Ending)
+      → goes_to_one into ≡ true → IsIn map_of code (most_lines functions) s.pc behind → 1 + length rest ≤ old
+      → placed_acts (primitives map_of.constants pool) depth functions behind fs known world (Compute (OfOperation.Li 1)) args into words ≡ turn → turn ≢ stuck
+      → Comes map_of pool functions depth stop code parts 0 old turn s
+  one_is_there old args into (word ∷ words) turn there is_in less is good = absurd (good (sym is))
+  one_is_there old args None [] turn there is_in less is good = cc there
+  one_is_there old args (Some into) [] turn there is_in less is good =
+      subst (λ t. Comes map_of pool functions depth stop code parts 0 old t s) is (one_already old into.place there is_in less)
+
   pub follow_silent : (old : ℕ) (action : Action) (args : List Operand) (into : Option Operand) (words : List ℕ) (turn : PlacedTurn World Ending)
       → is_silent action args into ≡ true → IsIn map_of code (most_lines functions) s.pc behind → 1 + length rest ≤ old
       → all_of (map (λ (arg : Operand). read_at known f.cells arg.place) args) ≡ Some words
-      → placed_acts (primitives map_of.constants pool) depth functions behind fs known world action args into words ≡ turn
+      → placed_acts (primitives map_of.constants pool) depth functions behind fs known world action args into words ≡ turn → turn ≢ stuck
       → Comes map_of pool functions depth stop code parts 0 old turn s
-  follow_silent old action args into words turn silent is_in less words_are is =
-      let both = and_parts (is_copy action) (stands_there args into) silent in
-      stays_there old args into words turn both.1 is_in less words_are
-      (subst (λ a. placed_acts (primitives map_of.constants pool) depth functions behind fs known world a args into words ≡ turn)
-      (copy_is action both.0) is)
+  follow_silent old action args into words turn silent is_in less words_are is good =
+      elim (or_cases (is_copy action && stands_there args into) (gives_one action && goes_to_one into) silent) [
+        | inl copies ↦
+            let both = and_parts (is_copy action) (stands_there args into) copies in
+            stays_there old args into words turn both.1 is_in less words_are
+            (subst (λ a. placed_acts (primitives map_of.constants pool) depth functions behind fs known world a args into words ≡ turn)
+            (copy_is action both.0) is)
+        | inr gives ↦
+            let both = and_parts (gives_one action) (goes_to_one into) gives in
+            one_is_there old args into words turn both.1 is_in less
+            (subst (λ a. placed_acts (primitives map_of.constants pool) depth functions behind fs known world a args into words ≡ turn)
+            (one_is action both.0) is) good
+      ]
 
   -- ---- slots
 
@@ -221,13 +257,13 @@ module _ {map_of : Map} {pool : Pool} {functions : List PlacedLines} {depth buff
         (record { same = λ slot some. ap (λ m. number_at m slot 4) stored ∙ word-apart (base + slot_offset k) v s.memory slot (slots_apart map_of base k f fs inside unheld slot some) }))
 
     -- a register gets what a place holds
-    got_stays : (rd : Register) (w : Option ℕ) (word : ℕ) → Gets pool.cells code 1 (rd.number ∷ []) rd.number word (s.pc + 4) s → s.pc + 4 < 2 ^ 32 → is_handed_out rd.number ≡ true → ((v : ℕ) → w ≡ Some v → (word ≡ v) × (v < 2 ^ 32))
+    got_stays : (rd : Register) (w : Option ℕ) (word : ℕ) → Gets pool.cells code 1 (rd.number ∷ []) rd.number word (s.pc + 4) s → s.pc + 4 < 2 ^ 32 → is_target rd.number ≡ true → ((v : ℕ) → w ≡ Some v → (word ≡ v) × (v < 2 ^ 32))
         → Comes map_of pool functions depth stop code parts 1 old (placed_goes behind fs (put rd.number w known) world) s
-    got_stays rd w word gets fits handed new =
-        stays ground f fs known world s running 1 old gets.after rest (put rd.number w known) gets.done ((λ e. handed_apart rd.number 2 refl handed (sym e)), tt) (or_from (is_own rd.number) false (handed_own rd.number handed) refl) (is_in f.cells (s.pc + 4) refl fits)
-        (agrees_got s known w gets handed new running.registers) (omega arith) (omega arith)
+    got_stays rd w word gets fits target new =
+        stays ground f fs known world s running 1 old gets.after rest (put rd.number w known) gets.done ((λ e. target_apart rd.number 2 refl target (sym e)), tt) (or_from (is_fixed rd.number) false (target_fixed rd.number target) refl) (is_in f.cells (s.pc + 4) refl fits)
+        (agrees_got s known w gets (target_handed rd.number target) new running.registers) (omega arith) (omega arith)
 
-    pub follow_move : (way : Way) → MovesBy map_of code s.pc way → IsHandedOut (to_of way) → is_held f.held (to_of way) ≡ false
+    pub follow_move : (way : Way) → MovesBy map_of code s.pc way → IsTarget (to_of way) → is_held f.held (to_of way) ≡ false
         → Comes map_of pool functions depth stop code parts 1 old (placed_writes (to_of way) (read_at known f.cells (from_of way)) behind fs known world) s
     follow_move (Copy from to) (imm, none, here) handed unheld =
         got_stays to (known from.number) (sum_word (value s.registers from.number) imm.word) (plain_gets pool.cells ground.below running.rests.stands refl (addi_row to from imm) here) (ground.below s.pc (Instr.Addi to from imm) here) handed
@@ -248,7 +284,7 @@ module _ {map_of : Map} {pool : Pool} {functions : List PlacedLines} {depth buff
         here address refl word (rw running.rests.parts_are allowed) (slot_misses to) in
         let after : PlacedState World = record { frames = record behind { cells = put to (known from.number) f.cells } ∷ fs; registers = known; shared = world } in
         comes_go map_of pool functions depth stop code parts 1 old after s goes.after 1 (walks_done goes.done)
-        (runs_on map_of pool functions depth stop code parts (record { frames = f ∷ fs; registers = known; shared = world }) world.cells s goes.after after.frames known base running goes.done
+        (runs_on map_of pool functions depth stop code parts (record { frames = f ∷ fs; registers = known; shared = world }) world.cells s goes.after after.frames known base running goes.done tt
         (constants_kept ground f fs known world s running (base + slot_offset to) (value s.registers from.number) allowed) running.room (goes.done.kept 2 tt ∙ running.base_is)
         (frames_put map_of code (most_lines functions) stop (stack_end map_of depth) ground.some_frame s.memory base to (value s.registers from.number) s.pc (s.pc + 4) (known from.number) f (record behind { cells = put to (known from.number) f.cells }) fs
         offset_is.1 (λ w is. let holds = running.registers from.number w is in (holds.1, holds.2)) refl refl
@@ -259,7 +295,7 @@ module _ {map_of : Map} {pool : Pool} {functions : List PlacedLines} {depth buff
   -- ---- operations
 
   module _ (old : ℕ) (operation : Operation) (is_in : (next : ℕ) → s.pc + 4 * words_of_operation operation ≡ next → next < 2 ^ 32 → IsIn map_of code (most_lines functions) next behind) where
-    pub gives_word : (into : Option Operand) (word : ℕ) → gives_into (Compute operation) into ≡ true → GivesHandedOut into
+    pub gives_word : (into : Option Operand) (word : ℕ) → gives_into (Compute operation) into ≡ true → GivesTarget into
         → ((rd : Register) → register_into into ≡ Some rd → Computed pool.cells ground.below running.rests.stands map_of.constants s.pc refl rd operation word)
         → Comes map_of pool functions depth stop code parts (operation_instructions operation) old (placed_gives into word behind fs known world) s
     gives_word None word gives handed computed =
@@ -273,16 +309,16 @@ module _ {map_of : Map} {pool : Pool} {functions : List PlacedLines} {depth buff
         at_place (slot k) is = let one : is_register into.place ≡ true = computes_register operation into.place gives in let none : is_register into.place ≡ false = rw is refl in cc
         at_place (register r) is =
             let result = computed r (rw is refl) in
-            let some : is_handed_out r.number ≡ true = subst (λ place. IsHandedOut place) is handed in
+            let some : is_target r.number ≡ true = subst (λ place. IsTarget place) is handed in
             let size = operation_weighs operation in
-            rw is (stays ground f fs known world s running (operation_instructions operation) old result.gets.after rest (put r.number (Some word) known) result.gets.done ((λ e. handed_apart r.number 2 refl some (sym e)), tt) (or_from (is_own r.number) false (handed_own r.number some) refl)
+            rw is (stays ground f fs known world s running (operation_instructions operation) old result.gets.after rest (put r.number (Some word) known) result.gets.done ((λ e. target_apart r.number 2 refl some (sym e)), tt) (or_from (is_fixed r.number) false (target_fixed r.number some) refl)
             (is_in (s.pc + 4 * words_of_operation operation) refl result.next_fits)
-            (agrees_got s known (Some word) result.gets some (λ v same. let e : word ≡ v = cc in (e, subst (λ w. w < 2 ^ 32) e result.fits)) running.registers) size.0 size.1)
+            (agrees_got s known (Some word) result.gets (target_handed r.number some) (λ v same. let e : word ≡ v = cc in (e, subst (λ w. w < 2 ^ 32) e result.fits)) running.registers) size.0 size.1)
 
     -- an operation on words alone
     pub follow_words : (forms : Forms) (start : ℕ) (args : List Operand) (into : Option Operand) (words : List ℕ) (turn : PlacedTurn World Ending) → ActsAt map_of forms code start f.whole s.pc (Compute operation) args into
         → ((ws : List ℕ) → computed_in map_of.constants operation ws world ≡ option_map (λ word. (word, world)) (computed map_of.constants operation ws))
-        → conforms (Compute operation) args into ≡ true → GivesHandedOut into → all_of (map (λ (arg : Operand). read_at known f.cells arg.place) args) ≡ Some words
+        → conforms (Compute operation) args into ≡ true → GivesTarget into → all_of (map (λ (arg : Operand). read_at known f.cells arg.place) args) ≡ Some words
         → placed_acts (primitives map_of.constants pool) depth functions behind fs known world (Compute operation) args into words ≡ turn → turn ≢ stuck
         → Comes map_of pool functions depth stop code parts (operation_instructions operation) old turn s
     follow_words forms start args into words turn here alone conform handed words_are is good =

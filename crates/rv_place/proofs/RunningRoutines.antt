@@ -18,7 +18,7 @@ use Rattle.rv_isa.specs.declared.placed.Place.TheVariants.{Register as register,
 use Rattle.rv_isa.specs.declared.placed.Operand.{Operand}
 use Rattle.rv_isa.specs.PlacedCode.{PlacedLine, PlacedLines}
 use Rattle.rv_isa.specs.Arithmetic.{signed}
-use Rattle.rv_isa.specs.Conventions.{is_in, is_in_any, argument, conforms, takes_at, take_from, gives_into}
+use Rattle.rv_isa.specs.Conventions.{one_register, is_in, is_in_any, argument, conforms, takes_at, take_from, gives_into}
 use Rattle.rv_isa.specs.Routines.{spoilt_by, given_by, is_spoilt_by}
 use Rattle.rv_isa.specs.Primitives.{answers, fails, go, stuck, or_stuck}
 use Rattle.rv_isa.specs.Frames.{Frame, put, all_of, top, top_taken}
@@ -93,6 +93,14 @@ outside_own_of routine x none =
     by PrintInt a b c = tt
     by PrintText a b c = tt
     by ReadByte a b c = tt
+
+-- none changes the one that holds 1
+unspoilt_one : (routine : Called) → is_spoilt_by routine one_register ≡ false
+unspoilt_one Take = refl
+unspoilt_one Drop = refl
+unspoilt_one PrintInt = refl
+unspoilt_one PrintText = refl
+unspoilt_one ReadByte = refl
 
 known_kept : (test : Bool) (other : Option ℕ) (w : ℕ) → cond test None other ≡ Some w → (test ≡ false) × (other ≡ Some w)
 known_kept true other w is = cc
@@ -255,6 +263,7 @@ module _ {map_of : Map} {pool : Pool} {functions : List PlacedLines} {depth buff
         base_is = base_is;
         frames = at_pc;
         registers = agrees;
+        one = back.kept one_register (λ e. cc) refl (unspoilt_one routine) ∙ running.one;
         cells = subst (λ c. HoldsCells pool c (links_of map_of sp (behind ∷ fs)) t) (sym same_cells) (cells_stay t roots memory);
       }) (omega (arith, jump_some forms.jumps)) (omega (arith, jump_most forms.jumps, within))
     where
@@ -481,7 +490,7 @@ module _ {map_of : Map} {pool : Pool} {functions : List PlacedLines} {depth buff
         → bytes_at t.memory map_of.constants.first (constant_bytes map_of) ≡ bytes_at s.memory map_of.constants.first (constant_bytes map_of)
         → t.trace ≡ s.trace → t.left ≡ s.left → Agrees known' t.registers → HoldsCells pool next (links_of map_of running.base frames) t
         → Comes map_of pool functions depth stop code parts most old (go (record { frames = frames; registers = known'; shared = with_cells world next })) s
-    cells_come most {count = count} next t frames known' back keeps within stand size constants trace left agrees holds =
+    cells_come most {routine} {count} next t frames known' back keeps within stand size constants trace left agrees holds =
         let base_is = back.kept 2 (λ e. cc) refl keeps ∙ running.base_is in
         let room = running.room in
         let at_pc = subst (λ a. FramesAt map_of code (most_lines functions) stop (stack_end map_of depth) t.memory a running.base frames) (sym back.pc_is) stand in
@@ -499,6 +508,7 @@ module _ {map_of : Map} {pool : Pool} {functions : List PlacedLines} {depth buff
           base_is = base_is;
           frames = at_pc;
           registers = agrees;
+          one = back.kept one_register (λ e. cc) refl (unspoilt_one routine) ∙ running.one;
           cells = holds;
         }) (omega (arith, jump_some forms.jumps)) (omega (arith, jump_most forms.jumps, within))
 

@@ -28,6 +28,7 @@ use Rattle.rv_place.specs.Running.{AllPlain, most_lines, Running, lines_left, Ne
 use Rattle.rv_place.proofs.RunningReaches.{reaches}
 use Rattle.rv_place.proofs.RunningLines.{line_at, line_plain, goes_behind}
 use Rattle.rv_place.proofs.RunningComes.{or_stuck_some, Comes}
+use Rattle.rv_place.proofs.RunningTargets.{move_target, gives_target}
 use Rattle.rv_place.proofs.RunningMoves.{follow_label, follow_silent, follow_move}
 use Rattle.rv_place.proofs.RunningCells.{follow_compute}
 use Rattle.rv_place.proofs.RunningJumps.{follow_jump, follow_branch, follow_tail_call, follow_call, follow_return}
@@ -69,7 +70,7 @@ module _ {map_of : Map} {pool : Pool} {functions : List PlacedLines} {depth buff
           comes_within (operation_instructions operation + 0) (omega arith)
           (follow_compute ground f fs known world s running rest (suc (length rest)) operation (λ next next_is below. goes_behind running.frames.0 line rest code_is next (record f { code = rest }) refl refl refl
           (ap (λ silent. s.pc + 4 * cond silent 0 (words_of_operation operation)) loud ∙ next_is) below)
-          running.frames.0.forms running.frames.0.start args into words turn (line_at running.frames.0 line rest code_is loud) conform writes.0 words_are is good)
+          running.frames.0.forms running.frames.0.start args into words turn (line_at running.frames.0 line rest code_is loud) conform (gives_target (Compute operation) args into writes.0 loud) words_are is good)
       follow_action (Label l) code_is conform loud is =
           let line = does alive (Label l) args into in
           let here : s.pc + 4 * words_of_line running.frames.0.forms line ≡ s.pc = omega arith in
@@ -114,7 +115,7 @@ module _ {map_of : Map} {pool : Pool} {functions : List PlacedLines} {depth buff
           = ap (λ quiet. s.pc + 4 * cond quiet 0 (words_of_action running.frames.0.forms action)) silent ∙ same in
           comes_within (instructions_of (primitives map_of.constants pool) action (Some words) (top (f ∷ fs)) world) (omega arith)
           (follow_silent ground f fs known world s running rest (suc (length rest)) action args into words turn silent
-          (goes_behind running.frames.0 line rest code_is s.pc (record f { code = rest }) refl refl refl here running.frames.0.below) (omega arith) words_are is)
+          (goes_behind running.frames.0 line rest code_is s.pc (record f { code = rest }) refl refl refl here running.frames.0.below) (omega arith) words_are is good)
       follow_statement false action loud code_is conform is = follow_action action code_is conform loud is
 
     follow_line : (line : PlacedLine) (turn : PlacedTurn World Ending) → f.code ≡ line ∷ rest → placed_line (primitives map_of.constants pool) depth functions f fs known world (line ∷ rest) ≡ turn → turn ≢ stuck
@@ -130,7 +131,7 @@ module _ {map_of : Map} {pool : Pool} {functions : List PlacedLines} {depth buff
         let next = cond_false (is_held f.held (to_of way)) (placed_writes (to_of way) (read_at known f.cells (from_of way)) (record f { code = rest }) fs known world) turn is good in
         subst (λ t. Comes map_of pool functions depth stop code parts 1 (suc (length rest)) t s) next.1
         (follow_move ground f fs known world s running rest (suc (length rest)) (λ cells next next_is below. goes_behind running.frames.0 line rest code_is next (record f { code = rest; cells = cells }) refl refl refl next_is below)
-        way (line_at running.frames.0 line rest code_is) (line_plain running.frames.0 line rest code_is) next.0)
+        way (line_at running.frames.0 line rest code_is) (move_target (to_of way) (line_plain running.frames.0 line rest code_is)) next.0)
 
   -- ---- one step
 

@@ -16,6 +16,7 @@ use Rattle.rv_isa.specs.declared.placed.Operand.{Operand}
 use Rattle.rv_isa.specs.PlacedCode.{PlacedLine, PlacedLines}
 use Rattle.rv_isa.specs.Arithmetic.{sum_word}
 use Rattle.rv_isa.specs.Primitives.{stuck, or_stuck, by_token}
+use Rattle.rv_isa.specs.Conventions.{one_register}
 use Rattle.rv_isa.specs.Frames.{Frame, all_of, only_of, holding, unholding, off_top, is_among}
 use Rattle.rv_isa.specs.PlacedMachine.{PlacedTurn, read_at, only_slot, slot_of, placed_goes, placed_acts}
 use Rattle.rv_isa.specs.Bytes.{number_at, bytes_at, with_number}
@@ -149,6 +150,9 @@ some_held e = cc
 -- the registers that a token taken back or held changes, ra and s1, are none of these
 out_2 : IsOutside 2 (1 ∷ 9 ∷ [])
 out_2 = ((λ e. cc), ((λ e. cc), tt))
+
+out_one : IsOutside one_register (1 ∷ 9 ∷ [])
+out_one = ((λ e. cc), ((λ e. cc), tt))
 
 out_8 : IsOutside 8 (1 ∷ 9 ∷ [])
 out_8 = ((λ e. cc), ((λ e. cc), tt))
@@ -401,7 +405,7 @@ module _ {map_of : Map} {pool : Pool} {functions : List PlacedLines} {depth buff
             shared = with_cells world (with_block word (kept words) world.cells);
           }) s t 6 (walks_done done)
           (runs_on map_of pool functions depth stop code parts (record { frames = f ∷ fs; registers = known; shared = world })
-          (with_block word (kept words) world.cells) s t (record behind { held = k ∷ f.held } ∷ fs) known base running done
+          (with_block word (kept words) world.cells) s t (record behind { held = k ∷ f.held } ∷ fs) known base running done out_one
           (links_clear inside.0 from usable) running.room (done.kept 2 out_2 ∙ running.base_is)
           (frames_kept map_of code (most_lines functions) stop (stack_end map_of depth) ground.some_frame s.memory
           (linked word newest slot_here s.memory) (s.pc + 4 * 6) base (record behind { held = k ∷ f.held } ∷ fs)
@@ -485,7 +489,7 @@ module _ {map_of : Map} {pool : Pool} {functions : List PlacedLines} {depth buff
         }) s third.after 3 (walks_done done)
         (runs_on map_of pool functions depth stop code parts (record { frames = f ∷ fs; registers = known; shared = world })
         (with_block word (own (past_links words)) world.cells) s third.after (record behind { held = held } ∷ fs) known base running
-        done refl running.room (done.kept 2 out_2 ∙ running.base_is)
+        done out_one refl running.room (done.kept 2 out_2 ∙ running.base_is)
         (is_in_again (is_behind (s.pc + 4 * 3) refl unhold_last) f.cells held, stand.1, stand.2, stand.3)
         (agrees_done s third.after known done (refl, (refl, tt)) running.registers)
         (unheld_holds holds words is memory done.memory_is)) (omega arith) (omega arith)

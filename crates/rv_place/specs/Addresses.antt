@@ -1,6 +1,6 @@
 -- Where the parts of placed code stand: how many instructions each line is, and the addresses of functions, of labels and of
 -- the runtime's routines.
-use Rattle.std.specs.Prelude.{◌==◌, ◌≡◌, ◌≢◌, ◌⊎◌, ℕ, ◌+◌, ◌*◌, max, List, [], ◌∷◌, Option, Some, None, Bool, false, ◌&&◌, cond, nat_lt}
+use Rattle.std.specs.Prelude.{◌==◌, ◌≡◌, ◌≢◌, ◌⊎◌, ℕ, ◌+◌, ◌*◌, max, List, [], ◌∷◌, Option, Some, None, Bool, false, ◌&&◌, ◌||◌, cond, nat_lt}
 use Rattle.rv_isa.specs.declared.asm.Action.{Action}
 use Rattle.rv_isa.specs.declared.asm.Action.TheVariants.{Compute, Label, Jump, Branch, Call, TailCall, Return, Routine, Hold, Unhold}
 use Rattle.rv_isa.specs.declared.placed.Place.{Place}
@@ -9,6 +9,7 @@ use Rattle.rv_isa.specs.declared.placed.Operand.{Operand}
 use Rattle.rv_isa.specs.declared.placed.Symbol.{Symbol}
 use Rattle.rv_isa.specs.PlacedCode.{PlacedLine, does, moves, PlacedLines, from_of, to_of}
 use Rattle.rv_isa.specs.PlacedMachine.{is_label_line}
+use Rattle.rv_isa.specs.Conventions.{one_register, gives_one, is_in}
 use Rattle.rv_isa.specs.LinePlaces.{is_copy}
 use Rattle.rv_isa.specs.Sizes.{reach_down, narrow_frame, wide_frame}
 use Rattle.rv_place.specs.Instructions.{words_of_operation, words_of_jump, words_of_branch}
@@ -48,9 +49,14 @@ stands_there (arg ∷ []) None = false
 stands_there (arg ∷ []) (Some into) = is_same_register arg.place into.place
 stands_there (arg ∷ other ∷ args) into = false
 
--- a copy of such an argument is no instruction
+-- whether the value goes to the register that holds 1 always
+abbrev pub goes_to_one : Option Operand → Bool
+goes_to_one None = false
+goes_to_one (Some into) = is_in one_register into.place
+
+-- a copy of such an argument is no instruction, nor is 1 for such a register
 abbrev pub is_silent : Action → List Operand → Option Operand → Bool
-is_silent action args into = is_copy action && stands_there args into
+is_silent action args into = (is_copy action && stands_there args into) || (gives_one action && goes_to_one into)
 
 abbrev pub words_of_line : Forms → PlacedLine → ℕ
 words_of_line forms (does alive action args into) = cond (is_silent action args into) 0 (words_of_action forms action)
@@ -133,6 +139,10 @@ slots_of_functions (function ∷ functions) = max (slots_of_lines function.code)
 -- the bytes of a frame: all functions have frames of one size
 abbrev pub frame_size : List PlacedLines → ℕ
 frame_size functions = 4 * slots_of_functions functions + 4
+
+-- how many slots a program may have for its frame's size to be told: some more than a frame has words for
+abbrev pub most_frame_slots : ℕ
+most_frame_slots = 1024
 
 -- the most bytes of a frame
 abbrev pub greatest_frame : Reach → ℕ

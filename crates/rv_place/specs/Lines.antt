@@ -126,7 +126,7 @@ ActsAt map forms code start whole at (Routine routine) args into = (target : ℕ
 ActsAt map forms code start whole at Hold args into = OnToken HoldsToken map code at args
 ActsAt map forms code start whole at Unhold args into = OnToken UnholdsToken map code at args
 
--- of a copy that is no instruction nothing is said
+-- of what is no instruction nothing is said
 abbrev pub LineAt : Map → Forms → Code → ℕ → List PlacedLine → ℕ → PlacedLine → Type 0
 LineAt map forms code start whole at (does alive action args into) =
     is_silent action args into ≡ false → ActsAt map forms code start whole at action args into

@@ -1,5 +1,5 @@
 -- When a processor stands for a state of the machine of the placed form: where it is in the code, its registers and the frames of its stack.
-use Rattle.std.specs.Prelude.{◌≡◌, ◌≢◌, ℕ, ◌+◌, ◌*◌, ◌%◌, ◌^◌, ◌≤◌, ◌<◌, max, List, [], ◌∷◌, length, Option, Some, None, true, All, IsSome, slice_get}
+use Rattle.std.specs.Prelude.{◌≡◌, ◌≢◌, ℕ, ◌+◌, ◌*◌, ◌%◌, ◌^◌, ◌≤◌, ◌<◌, max, List, [], ◌∷◌, length, Option, Some, None, true, false, All, IsSome, slice_get}
 use Rattle.kk_base.specs.Memory.{Part}
 use Rattle.kk_base.specs.Machines.{state}
 use Rattle.rv_isa.specs.declared.asm.Action.{Action}
@@ -8,7 +8,7 @@ use Rattle.rv_isa.specs.declared.placed.Place.{Place}
 use Rattle.rv_isa.specs.declared.placed.Place.TheVariants.{Register as register, Slot as slot}
 use Rattle.rv_isa.specs.declared.placed.Operand.{Operand}
 use Rattle.rv_isa.specs.PlacedCode.{PlacedLine, does, moves, PlacedLines, to_of}
-use Rattle.rv_isa.specs.Conventions.{is_handed_out}
+use Rattle.rv_isa.specs.Conventions.{is_handed_out, is_in, one_register, may_write}
 use Rattle.rv_isa.specs.Primitives.{go, ended, stuck}
 use Rattle.rv_isa.specs.Frames.{Frame, found}
 use Rattle.rv_isa.specs.PlacedMachine.{PlacedState, PlacedTurn, is_label_line, placed_machine}
@@ -30,14 +30,14 @@ use Rattle.rv_place.specs.declared.reach.Forms.{Forms}
 
 -- ---- what code is asked for
 
--- a register that is written is one that values may have
+-- a register that is written is one that values may have, and the one that holds 1 is written by 1 alone
 abbrev pub IsHandedOut : Place → Type 0
 IsHandedOut (register r) = is_handed_out r.number ≡ true
 IsHandedOut (slot k) = Unit {0}
 
-abbrev pub GivesHandedOut : Option Operand → Type 0
-GivesHandedOut None = Unit {0}
-GivesHandedOut (Some into) = IsHandedOut into.place
+abbrev pub GivesHandedOut : Action → Option Operand → Type 0
+GivesHandedOut action None = Unit {0}
+GivesHandedOut action (Some into) = IsHandedOut into.place × (may_write action into.place ≡ true)
 
 -- a branch is to a label of its function
 abbrev pub HasLabel : List PlacedLine → Action → Type 0
@@ -46,8 +46,8 @@ HasLabel whole _ = Unit {0}
 
 -- a line of a function, `whole`: it writes only what is handed out, and has its label
 abbrev pub IsPlain : List PlacedLine → PlacedLine → Type 0
-IsPlain whole (does alive action args into) = GivesHandedOut into × HasLabel whole action
-IsPlain whole (moves alive value way) = IsHandedOut (to_of way)
+IsPlain whole (does alive action args into) = GivesHandedOut action into × HasLabel whole action
+IsPlain whole (moves alive value way) = IsHandedOut (to_of way) × (is_in one_register (to_of way) ≡ false)
 
 abbrev pub ArePlain : List PlacedLine → List PlacedLine → Type 0
 ArePlain whole [] = Unit {0}
@@ -130,6 +130,7 @@ pub record Running (map : Map) (pool : Pool) (functions : List PlacedLines) (dep
   pub base_is : value s.registers 2 ≡ base + frame_bias map.jumps
   pub frames : FramesAt map code (most_lines functions) stop (stack_end map depth) s.memory s.pc base t.frames
   pub registers : Agrees t.registers s.registers
+  pub one : value s.registers one_register ≡ 1
   pub cells : HoldsCells pool t.shared.cells (links_of map base t.frames) s
 
 -- the lines that are left of the running frame

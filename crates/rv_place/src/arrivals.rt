@@ -21,8 +21,8 @@ ghost use Rattle.rv_place.specs.Texts.{pool_in, constants_of, map_of};
 
 /// The image of a placed text comes to the lines of its program.
 ///
-/// Where the machine of the placed form is at a line that is no label, there is a number of instructions behind which the
-/// program counter is at the address of the line, the run goes on there, the image has told the same events, and memory has the
+/// Where the machine of the placed form is at a line that is always an instruction, there is a number of instructions behind which
+/// the program counter is at the address of the line, the run goes on there, the image has told the same events, and memory has the
 /// cells of the machine's world. For each state that goes on there is such a number, where the program counter is left open. No
 /// two such lines have the same address, each address is that of a word of the text, and none is among the runtime's words. A run
 /// of the placed form must never come to a state in which it can do nothing more. It is a law, and does nothing.

@@ -3,19 +3,21 @@
 ghost use Rattle.std.specs.Prelude.{◌≡◌, ◌+◌, ◌*◌, ◌≤◌, length, map, max};
 ghost use Rattle.rv_isa.specs.Costs.{operation_instructions, action_instructions, placed_line_length, placed_code_length, placed_functions_length};
 ghost use Rattle.rv_isa.specs.PlacedCode.{placed_line_of, placed_lines_of, placed_functions, from_of, to_of};
-ghost use Rattle.rv_isa.specs.WellFormed.{most_values};
+ghost use Rattle.rv_isa.specs.Conventions.{gives_one};
 ghost use Rattle.rv_world.specs.Operations.{all_bytes};
 ghost use Rattle.cell_runtime.specs.Lines.{words_of};
 ghost use Rattle.rv_place.specs.Instructions.{words_of_operation};
 ghost use Rattle.rv_isa.specs.LinePlaces.{is_copy};
-ghost use Rattle.rv_place.specs.Addresses.{is_same_register, stands_there, is_silent, words_of_action, words_of_line, words_of_lines, words_of_function, words_of_functions, forms_of, slots_of_place, slots_of_operands, slots_of_line, slots_of_lines, slots_of_functions, frame_size};
+ghost use Rattle.rv_place.specs.Addresses.{is_same_register, stands_there, goes_to_one, is_silent, words_of_action, words_of_line, words_of_lines, words_of_function, words_of_functions, forms_of, slots_of_place, slots_of_operands, slots_of_line, slots_of_lines, slots_of_functions, frame_size, most_frame_slots};
 ghost use Rattle.rv_place.specs.Texts.{most_text_length, most_functions, most_runtime_words, most_constant_bytes};
 
 use crate::constant::WordForm;
 use crate::reach::{Forms, Reach};
 use crate::symbols::words_of_native;
 use kk_base::Text;
-use rv_isa::{Action, Item, Native, Operand, Operation, Place, Placed, PlacedFunction, Way};
+use rv_isa::{
+    Action, Item, Native, Operand, Operation, Place, Placed, PlacedFunction, Register, Way,
+};
 
 /// How many instructions an operation is.
 fn words_of_operation(operation: Operation) -> u32
@@ -75,11 +77,33 @@ fn stands_there(args: &[Operand], into: Option<Operand>) -> bool
     }
 }
 
-/// Whether the action is no instruction: a copy whose argument stands already where the value goes.
+fn gives_one(action: Action) -> bool
+    ensures { result ≡ gives_one action }
+{
+    match action {
+        Action::Compute(Operation::Li(word)) => word == 1,
+        _ => false,
+    }
+}
+
+fn goes_to_one(into: Option<Operand>) -> bool
+    ensures { result ≡ goes_to_one into }
+{
+    match into {
+        Some(into) => match into.place {
+            Place::Register(register) => register.number == Register::GP.number,
+            Place::Slot(_) => false,
+        },
+        None => false,
+    }
+}
+
+/// Whether the action is no instruction: a copy whose argument stands already where the value goes, or 1 for the register that
+/// holds it always.
 pub fn is_silent(action: Action, args: &[Operand], into: Option<Operand>) -> bool
     ensures { result ≡ is_silent action args.now into }
 {
-    is_copy(action) && stands_there(args, into)
+    is_copy(action) && stands_there(args, into) || gives_one(action) && goes_to_one(into)
 }
 
 /// How many instructions an item is.
@@ -186,7 +210,7 @@ pub fn bytes_of_constants(constants: &[Text]) -> u32
 // ---- frames
 
 fn slots_of_place(place: Place) -> u32
-    requires { slots_of_place place ≤ most_values }
+    requires { slots_of_place place ≤ most_frame_slots }
     ensures { result ≡ slots_of_place place }
 {
     match place {
@@ -196,7 +220,7 @@ fn slots_of_place(place: Place) -> u32
 }
 
 fn slots_of_operands(operands: &[Operand]) -> u32
-    requires { slots_of_operands operands.now ≤ most_values }
+    requires { slots_of_operands operands.now ≤ most_frame_slots }
     ensures { result ≡ slots_of_operands operands.now }
 {
     let mut slots = 0;
@@ -207,7 +231,7 @@ fn slots_of_operands(operands: &[Operand]) -> u32
 }
 
 fn slots_of_way(way: Way) -> u32
-    requires { max (slots_of_place (from_of way)) (slots_of_place (to_of way)) ≤ most_values }
+    requires { max (slots_of_place (from_of way)) (slots_of_place (to_of way)) ≤ most_frame_slots }
     ensures { result ≡ max (slots_of_place (from_of way)) (slots_of_place (to_of way)) }
 {
     match way {
@@ -218,7 +242,7 @@ fn slots_of_way(way: Way) -> u32
 }
 
 fn slots_of_item(item: &Item) -> u32
-    requires { slots_of_line (placed_line_of item.now) ≤ most_values }
+    requires { slots_of_line (placed_line_of item.now) ≤ most_frame_slots }
     ensures { result ≡ slots_of_line (placed_line_of item.now) }
 {
     match item {
@@ -228,7 +252,7 @@ fn slots_of_item(item: &Item) -> u32
 }
 
 fn slots_of_items(items: &[Item]) -> u32
-    requires { slots_of_lines (map placed_line_of items.now) ≤ most_values }
+    requires { slots_of_lines (map placed_line_of items.now) ≤ most_frame_slots }
     ensures { result ≡ slots_of_lines (map placed_line_of items.now) }
 {
     let mut slots = 0;
@@ -239,7 +263,7 @@ fn slots_of_items(items: &[Item]) -> u32
 }
 
 fn slots_of_functions(functions: &[PlacedFunction]) -> u32
-    requires { slots_of_functions (map placed_lines_of functions.now) ≤ most_values }
+    requires { slots_of_functions (map placed_lines_of functions.now) ≤ most_frame_slots }
     ensures { result ≡ slots_of_functions (map placed_lines_of functions.now) }
 {
     let mut slots = 0;
@@ -252,7 +276,7 @@ fn slots_of_functions(functions: &[PlacedFunction]) -> u32
 /// The bytes of a frame of a program's functions: one word for the way back, and one for each slot up to the last that any
 /// of them uses. All functions have frames of one size.
 pub fn frame_bytes(program: &Placed) -> u32
-    requires { slots_of_functions (placed_functions program.now) ≤ most_values }
+    requires { slots_of_functions (placed_functions program.now) ≤ most_frame_slots }
     ensures { result ≡ frame_size (placed_functions program.now) }
 {
     4 * slots_of_functions(&program.functions) + 4

@@ -74,8 +74,6 @@ fn same_symbol(a: Symbol, b: Symbol) -> bool
     match (a, b) {
         (Symbol::Start, Symbol::Start) => true,
         (Symbol::Routine(p), Symbol::Routine(q)) => same_routine(p, q),
-        (Symbol::Hold, Symbol::Hold) => true,
-        (Symbol::Unhold, Symbol::Unhold) => true,
         (Symbol::Stop, Symbol::Stop) => true,
         (Symbol::StackFull, Symbol::StackFull) => true,
         (Symbol::Function(f), Symbol::Function(g)) => f == g,

@@ -14,7 +14,7 @@ use Rattle.rv_isa.specs.AsmCode.{Line}
 use Rattle.rv_isa.specs.AsmMachine.{is_label}
 use Rattle.rv_isa.specs.PlacedCode.{PlacedLine, does}
 use Rattle.rv_isa.specs.PlacedMachine.{is_label_line}
-use Rattle.rv_isa.specs.Conventions.{is_handed_out, is_register, is_slot, takes_at, gives_at, take_from, gives_into, conforms}
+use Rattle.rv_isa.specs.Conventions.{is_handed_out, gives_one, is_register, is_slot, takes_at, gives_at, take_from, gives_into, conforms}
 use Rattle.rv_isa.specs.Frames.{is_among, found}
 use Rattle.rv_isa.specs.WellFormed.{is_written, is_alive, is_alive_at, is_alive_behind, most_args, has_value, may_give, hands_over, goes_straight_on, AreDistinct, IsLineFormed}
 use Rattle.rv_regs.specs.declared.slots.Loaded.{Loaded}
@@ -24,7 +24,7 @@ use Rattle.rv_regs.specs.Conditions.{IsAtPlace, IsNeeded, IsListed, IsListedIn, 
 use Rattle.rv_regs.specs.Plain.{numbered, place_in, copy_in, listing_at, stored_later, copied_in, operand_at, first_register, result_register, load_from, loaded_for, pending}
 use Rattle.rv_regs.proofs.Lists.{all_made, among_with_values}
 use Rattle.rv_regs.proofs.Aliveness.{alive_exact, alive_behind_exact, among_before, alive_distinct}
-use Rattle.rv_regs.proofs.InRegisters.{AreLoads, AreAmong, place_same, place_other, no_slot, slot_number, copies_handed, stands_in, load_values, number_is, loads_are, place_loaded, once_loaded}
+use Rattle.rv_regs.proofs.InRegisters.{IsLoadable, AreLoads, AreAmong, place_same, place_other, no_slot, slot_number, copies_handed, stands_in, load_values, number_is, loads_are, place_loaded, once_loaded}
 use Rattle.rv_regs.proofs.Held.{HoldsRight, ReadsNoneHeld, AreFree, listing_with, read_among, marked, none_behind, free_behind, result_free, held_in_slot, held_no_copy}
 use Rattle.rv_regs.proofs.Fitting.{is_listed, listed_there, stands_there, old_kept, act_fits}
 
@@ -53,6 +53,19 @@ most_registers (Routine ReadByte) = omega arith
 most_registers Hold = omega arith
 most_registers Unhold = omega arith
 
+-- nor lower registers
+some_registers : (action : Action) → 4 ≤ first_register action
+some_registers (Compute operation) = omega arith
+some_registers (Label l) = omega arith
+some_registers (Jump l) = omega arith
+some_registers (Branch condition l) = omega arith
+some_registers (Call f) = omega arith
+some_registers (TailCall f) = omega arith
+some_registers Return = omega arith
+some_registers (Routine routine) = omega arith
+some_registers Hold = omega arith
+some_registers Unhold = omega arith
+
 registers_handed : (action : Action) (k : ℕ) → first_register action ≤ k → k < first_register action + most_args action → is_handed_out k ≡ true
 registers_handed (Compute operation) k low high = handed_low k (omega arith) (omega arith)
 registers_handed (Branch condition l) k low high = handed_low k (omega arith) (omega arith)
@@ -75,7 +88,7 @@ pub action_loads : (action : Action) (args : List ℕ) → length args ≤ most_
 action_loads Hold args few = tt
 action_loads Unhold args few = tt
 action_loads action args few =
-    loads_are (first_register action) args (omega (arith, most_registers action)) (λ k low high. registers_handed action k low (omega (arith, high, few)))
+    loads_are (first_register action) args (some_registers action) (omega (arith, most_registers action)) (λ k low high. registers_handed action k low (omega (arith, high, few)))
 
 -- ---- operands stand where their action takes and gives them
 
@@ -172,10 +185,13 @@ gives_result : (action : Action) (into : Option ℕ) → (has_value into ≡ tru
 gives_result action None gives = refl
 gives_result action (Some v) gives = gives_number action (gives refl)
 
-result_handed : (action : Action) (into : Option ℕ) → WriteIsHandedOut (result_of action into)
+result_loadable : (action : Action) → IsLoadable (numbered (result_register action))
+result_loadable (Compute operation) = (refl, refl)
+result_loadable action = (refl, refl)
+
+result_handed : (action : Action) (into : Option ℕ) → WriteIsHandedOut (Some action) (result_of action into)
 result_handed action None = tt
-result_handed (Compute operation) (Some v) = refl
-result_handed action (Some v) = refl
+result_handed action (Some v) = let is = result_loadable action in (is.0, or_right (gives_one action) _ is.1)
 
 pub none_given : (action : Action) (into : Option ℕ) → may_give action ≡ false → (has_value into ≡ true → may_give action ≡ true) → into ≡ None
 none_given action None none gives = refl
@@ -194,7 +210,7 @@ lists_at l code = record { alive = alive_values_at l code; held = [] }
 pub pending_loads : (action : Action) (into : Option ℕ) (behind : List ℕ) → AreLoads (pending action into behind)
 pending_loads action None behind = tt
 pending_loads action (Some v) behind =
-    cond_both (is_among v behind) (record { value = v; register = numbered (result_register action) } ∷ []) [] AreLoads (λ t. (tt, (result_handed action (Some v), tt))) (λ t. tt)
+    cond_both (is_among v behind) (record { value = v; register = numbered (result_register action) } ∷ []) [] AreLoads (λ t. (tt, (result_loadable action, tt))) (λ t. tt)
 
 pub pending_among : (action : Action) (into : Option ℕ) (behind : List ℕ) → AreAmong behind (pending action into behind)
 pending_among action None behind = tt

@@ -97,7 +97,7 @@ module _ (place_of : ℕ → Place) (copy_of : ℕ → Option Register) where
 
   -- a line fits whose values stand apart
   pub act_fits : (before : PointLists) (reads : List Operand) (write : Option Operand) (action : Option Action) (nexts : List (List Listed))
-      → AreDistinct before.alive → Injective place_of → ((v : ℕ) → IsHandedOut (place_of v)) → ((v : ℕ) → OnCopy IsHandedOut (copy_of v)) → WriteIsHandedOut write
+      → AreDistinct before.alive → Injective place_of → ((v : ℕ) → IsHandedOut (place_of v)) → ((v : ℕ) → OnCopy IsHandedOut (copy_of v)) → WriteIsHandedOut action write
       → ((v : ℕ) → is_among v before.alive ≡ true → StaysHeld (marks action reads) nexts (listing_at place_of copy_of before.held v))
       → ((v : ℕ) → is_among v before.alive ≡ true → IsNeeded reads write nexts (listing_at place_of copy_of before.held v)) → All (IsAtPlace (listings place_of copy_of before)) reads
       → AllByRecursion (All (IsKept (listings place_of copy_of before) action reads write)) nexts
@@ -138,7 +138,7 @@ store_fits : (point : PointLists) (l : Loaded) (pending : List Loaded) (next : L
 store_fits point l pending next distinct are there free is =
     subst (λ (n : List Listed). Fits (stored_later (l ∷ pending) point) reads write None (n ∷ [])) (sym is)
     (act_fits (place_in (l ∷ pending)) (copy_in []) point reads write None (stored_later pending point ∷ []) distinct (places_apart (l ∷ pending) are)
-    (λ u. places_handed (l ∷ pending) u are) (λ u. tt) tt
+    (λ u. places_handed (l ∷ pending) u are) (λ u. tt) (tt, refl)
     (λ u among held. (
       in_slot (place_in (l ∷ pending) u) u (held_in_slot point.held (l ∷ pending) u free held),
       (refl, (listed_there (place_in pending) (copy_in []) point u among ∙ ap (λ (p : Place). Some (listing_with u p None (is_among u point.held))) (other u (not_moved point.held l.value u free.0 held)), tt)),

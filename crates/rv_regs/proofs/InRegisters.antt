@@ -1,16 +1,16 @@
 -- Where values stand of which some are in registers.
-use Rattle.std.proofs.Common.{◌≡◌, ◌≢◌, ◌==◌, ◌⊎◌, ◌<◌, ◌≤◌, ◌+◌, ℕ, suc, List, [], ◌∷◌, Option, Some, None, Bool, true, false, cond, refl, sym, ◌∙◌, ap, inl, inr, arith, eq-eqb, length}
+use Rattle.std.proofs.Common.{◌≡◌, ◌≢◌, ◌==◌, ◌⊎◌, ◌<◌, ◌≤◌, ◌+◌, ℕ, suc, List, [], ◌∷◌, Option, Some, None, Bool, true, false, not, cond, refl, sym, ◌∙◌, ap, inl, inr, arith, eq-eqb, length}
 use Rattle.std.specs.List.{AllByRecursion, filter}
 use Rattle.std.proofs.Math.Nat.{mod-eq_of_lt}
 use Rattle.std.proofs.lemmas.Bool.{eqb-true, ne_eqb, cond-true, cond-false, cases_eq, or_cases, or_right, or_left, false≢true, cases_Bool, cond_both}
 use Rattle.rv_isa.specs.declared.register.Register.{Register}
 use Rattle.rv_isa.specs.declared.placed.Place.{Place}
 use Rattle.rv_isa.specs.declared.placed.Place.TheVariants.{Register as register, Slot as slot}
-use Rattle.rv_isa.specs.Conventions.{is_handed_out, is_register, argument}
+use Rattle.rv_isa.specs.Conventions.{is_handed_out, one_register, is_register, argument}
 use Rattle.rv_isa.specs.Frames.{is_among}
 use Rattle.rv_isa.specs.PlacedMachine.{number_of}
 use Rattle.rv_regs.specs.declared.slots.Loaded.{Loaded}
-use Rattle.rv_regs.specs.Conditions.{OnCopy, IsCopyAt, IsHandedOut}
+use Rattle.rv_regs.specs.Conditions.{OnCopy, IsCopyAt, IsHandedOut, may_set}
 use Rattle.rv_regs.specs.Plain.{numbered, place_in, copy_in, load_from, alive_params}
 
 -- ---- facts of each element
@@ -38,10 +38,14 @@ all_pass {A} test (x ∷ xs) =
 abbrev pub Differ : Loaded → Loaded → Type 0
 Differ l m = (l.value ≢ m.value) × (l.register.number ≢ m.register.number)
 
--- each value once, each in another register, which values may have
+-- a register that values may have, and moves write
+abbrev pub IsLoadable : Register → Type 0
+IsLoadable r = IsHandedOut (register r) × (may_set None (register r) ≡ true)
+
+-- each value once, each in another such register
 abbrev pub AreLoads : List Loaded → Type 0
 AreLoads [] = Unit {0}
-AreLoads (l ∷ loaded) = AllByRecursion (Differ l) loaded × (IsHandedOut (register l.register) × AreLoads loaded)
+AreLoads (l ∷ loaded) = AllByRecursion (Differ l) loaded × (IsLoadable l.register × AreLoads loaded)
 
 abbrev pub AreAmong : List ℕ → List Loaded → Type 0
 AreAmong values loaded = AllByRecursion (λ (l : Loaded). is_among l.value values ≡ true) loaded
@@ -99,7 +103,7 @@ places_apart (l ∷ loaded) are u v e = go (places_apart loaded are.1.1 u v) (ca
 pub places_handed : (loaded : List Loaded) (v : ℕ) → AreLoads loaded → IsHandedOut (place_in loaded v)
 places_handed [] v are = tt
 places_handed (l ∷ loaded) v are =
-    cond_both (l.value == v) (register l.register) (place_in loaded v) IsHandedOut (λ t. are.1.0) (λ t. places_handed loaded v are.1.1)
+    cond_both (l.value == v) (register l.register) (place_in loaded v) IsHandedOut (λ t. are.1.0.0) (λ t. places_handed loaded v are.1.1)
 
 -- ---- some of the loads
 
@@ -140,7 +144,7 @@ copy_none v (m ∷ loaded) all = copy_other m loaded v (λ e. all.0 (sym e)) ∙
 pub copies_handed : (loaded : List Loaded) (v : ℕ) → AreLoads loaded → OnCopy IsHandedOut (copy_in loaded v)
 copies_handed [] v are = tt
 copies_handed (l ∷ loaded) v are =
-    cond_both (l.value == v) (Some l.register) (copy_in loaded v) (OnCopy IsHandedOut) (λ t. are.1.0) (λ t. copies_handed loaded v are.1.1)
+    cond_both (l.value == v) (Some l.register) (copy_in loaded v) (OnCopy IsHandedOut) (λ t. are.1.0.0) (λ t. copies_handed loaded v are.1.1)
 
 -- no copy is in another register
 pub copy_ne : (r : Register) (loaded : List Loaded) (v : ℕ) → AllByRecursion (λ (m : Loaded). r.number ≢ m.register.number) loaded → OnCopy (λ place. register r ≢ place) (copy_in loaded v)
@@ -180,17 +184,17 @@ number_is n small = mod-eq_of_lt small
 numbers_differ : (n k : ℕ) → k < 32 → suc n ≤ k → (numbered n).number ≢ (numbered k).number
 numbers_differ n k small less e = omega (arith, number_is n (omega arith), number_is k small, e)
 
-pub loads_are : (n : ℕ) (vs : List ℕ) → n + length vs ≤ 32 → ((k : ℕ) → n ≤ k → k < n + length vs → is_handed_out k ≡ true) → AreLoads (load_from n vs)
-loads_are n [] few handed = tt
-loads_are n (v ∷ vs) few handed =
-    let later = loads_are (suc n) vs (omega arith) (λ k low high. handed k (omega arith) (omega arith)) in
+pub loads_are : (n : ℕ) (vs : List ℕ) → 4 ≤ n → n + length vs ≤ 32 → ((k : ℕ) → n ≤ k → k < n + length vs → is_handed_out k ≡ true) → AreLoads (load_from n vs)
+loads_are n [] high few handed = tt
+loads_are n (v ∷ vs) high few handed =
+    let later = loads_are (suc n) vs (omega arith) (omega arith) (λ k low high. handed k (omega arith) (omega arith)) in
     let l : Loaded = record { value = v; register = numbered n } in
     cond_both (is_among v vs) (load_from (suc n) vs) (l ∷ load_from (suc n) vs) AreLoads (λ t. later)
     (λ t. (
       all_both (λ (m : Loaded). v ≢ m.value) (λ (m : Loaded). (numbered n).number ≢ m.register.number) (Differ l) (load_from (suc n) vs) (λ m a b. (a, b))
           (load_values (λ u. v ≢ u) (suc n) vs (λ u there same. false≢true (sym t ∙ ap (λ w. is_among w vs) same ∙ there)))
           (load_numbers (λ k. (numbered n).number ≢ k) (suc n) vs (λ k low high. numbers_differ n k (omega arith) low)),
-      (ap is_handed_out (number_is n (omega arith)) ∙ handed n (omega arith) (omega arith), later),
+      ((ap is_handed_out (number_is n (omega arith)) ∙ handed n (omega arith) (omega arith), ap not (ne_eqb (numbered n).number one_register (λ e. omega (arith, number_is n (omega arith), e)))), later),
     ))
 
 pub once_loaded : (n v : ℕ) (vs : List ℕ) → is_among v vs ≡ false → load_from n (v ∷ vs) ≡ record { value = v; register = numbered n } ∷ load_from (suc n) vs

@@ -11,7 +11,7 @@ use Rattle.rv_regs.specs.Conditions.{value_of, without_moves, ArePlacings}
 use Rattle.rv_regs.specs.LinesReached.{line_in, line_of}
 use Rattle.rv_regs.proofs.Steps.{callee_both}
 
--- a statement over values has its line, which is no label where the statement is none
+-- a statement over values has its line, which is always an instruction where the statement is
 has_line : (code : List PlacedLine) (k : ℕ) (line : Line) → slice_get (without_moves code) k ≡ Some line
     → is_always_some line.action ≡ true
     → (placed : PlacedLine) × ((slice_get code (line_in code k) ≡ Some placed) × (is_instruction placed ≡ true))
@@ -68,7 +68,7 @@ line_of_is (first ∷ functions) zero function e k =
     ap (λ (p : PlacedLines). line_in p.code k) same
 line_of_is (first ∷ functions) (suc f) function e k = line_of_is functions f function e k
 
--- each statement that is no label has a line that is an instruction
+-- each statement that is always an instruction has a line that is one
 pub lines_there : (asm : List Lines) (placed : List PlacedLines) → ArePlacings asm placed → (f k : ℕ) → AsmHasLine asm f k
     → PlacedHasLine placed f (line_of placed f k)
 lines_there asm placed all f k has =

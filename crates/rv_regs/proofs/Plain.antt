@@ -213,7 +213,7 @@ passed_in (x ∷ xs) v n place distinct few there is = go (passed_in xs v (n + 1
 param_loads : (params alive : List ℕ) → length params ≤ 8 → AreLoads (alive_params params alive)
 param_loads params alive few =
     loads_kept (λ (l : Loaded). is_among l.value alive) (load_from (argument 0) params)
-    (loads_are (argument 0) params (omega (arith, few)) (λ k low high. handed_argument k low (omega (arith, high, few))))
+    (loads_are (argument 0) params (omega arith) (omega (arith, few)) (λ k low high. handed_argument k low (omega (arith, high, few))))
 
 starts_passed : (params : List ℕ) (point : PointLists) → AreDistinct params → length params ≤ 8 → ((v : ℕ) → is_among v point.alive ≡ true → is_among v params ≡ true) → point.held ≡ []
     → All (IsPassed params) (stored_later (alive_params params point.alive) point)

@@ -1,5 +1,5 @@
 -- When code with places is the code over values that it was made of: one condition a definition.
-use Rattle.std.specs.Prelude.{◌≡◌, ◌≢◌, ◌⊎◌, ℕ, List, [], ◌∷◌, Option, Some, None, Bool, true, false, ◌==◌, map, option_map, ⊤, All, IsSome, IsTrue, IsSomeAnd}
+use Rattle.std.specs.Prelude.{◌≡◌, ◌≢◌, ◌⊎◌, ℕ, List, [], ◌∷◌, Option, Some, None, Bool, true, false, not, ◌==◌, map, option_map, ⊤, All, IsSome, IsTrue, IsSomeAnd}
 use Rattle.std.specs.List.{position_from}
 use Rattle.std.specs.List.{AllByRecursion}
 use Rattle.rv_isa.specs.AsmCode.{Line, Lines}
@@ -10,7 +10,7 @@ use Rattle.rv_isa.specs.declared.placed.Place.TheVariants.{Register as register,
 use Rattle.rv_isa.specs.declared.placed.Operand.{Operand}
 use Rattle.rv_isa.specs.declared.placed.Listed.{Listed}
 use Rattle.rv_isa.specs.PlacedCode.{PlacedLine, does, moves, PlacedLines, from_of, to_of}
-use Rattle.rv_isa.specs.Conventions.{is_handed_out, is_in, argument, conforms}
+use Rattle.rv_isa.specs.Conventions.{is_handed_out, is_in, one_register, may_write, argument, conforms}
 use Rattle.rv_regs.specs.Listings.{first_alive, alive_behind, alive_at_label, both_of, listed_as, with_copy, is_read_in, spoils_by, marks}
 
 abbrev pub value_of : Operand → ℕ
@@ -116,14 +116,18 @@ IsKept alive action reads write l =
     IsNew write l ⊎ (IsCopied alive action write l
     ⊎ (StaysListed alive (marks action reads) l × (IsClearOf write l × AtBoth (IsSafe (spoils_by action)) l)))
 
--- 9. Registers of values, and of their copies, are handed out.
+-- 9. Registers of values, and of their copies, are handed out. The one that holds 1 always is written by 1 alone, and by no move.
 abbrev pub IsHandedOut : Place → Type 0
 IsHandedOut (register r) = is_handed_out r.number ≡ true
 IsHandedOut (slot k) = ⊤
 
-abbrev pub WriteIsHandedOut : Option Operand → Type 0
-WriteIsHandedOut None = ⊤
-WriteIsHandedOut (Some into) = IsHandedOut into.place
+abbrev pub may_set : Option Action → Place → Bool
+may_set None place = not (is_in one_register place)
+may_set (Some action) place = may_write action place
+
+abbrev pub WriteIsHandedOut : Option Action → Option Operand → Type 0
+WriteIsHandedOut action None = ⊤
+WriteIsHandedOut action (Some into) = IsHandedOut into.place × (may_set action into.place ≡ true)
 
 -- 11. A token that is held behind the line stands in a slot, without a copy, and stays there, held, at each next point.
 abbrev pub IsInSlot : Place → Type 0
@@ -142,7 +146,7 @@ pub record Fits (alive : List Listed) (reads : List Operand) (write : Option Ope
   pub stand : All (IsAtPlace alive) reads
   pub kept : AllByRecursion (All (IsKept alive action reads write)) nexts
   pub handed_out : All (AtBoth IsHandedOut) alive
-  pub write_handed_out : WriteIsHandedOut write
+  pub write_handed_out : WriteIsHandedOut action write
   pub held : All (StaysHeld (marks action reads) nexts) alive
 
 -- a move goes on at the next line

@@ -1,9 +1,10 @@
 // Whether operands stand where their action takes and gives them.
 
 ghost use Rattle.std.specs.Prelude.{◌≡◌};
-ghost use Rattle.rv_isa.specs.Conventions.{is_handed_out, is_in, is_in_any, is_register, is_slot, argument, takes_at, gives_at, take_from, gives_into, conforms};
+ghost use Rattle.rv_regs.specs.Conditions.{may_set};
+ghost use Rattle.rv_isa.specs.Conventions.{is_handed_out, one_register, gives_one, is_in, is_in_any, is_register, is_slot, argument, takes_at, gives_at, take_from, gives_into, conforms};
 
-use rv_isa::{Action, Operand, Operation, Place};
+use rv_isa::{Action, Operand, Operation, Place, Register};
 
 /// Whether the register of this number is one that values may have.
 pub fn may_have_value(register: u8) -> bool
@@ -18,6 +19,32 @@ fn is_in_register(register: usize, place: Place) -> bool
     match place {
         Place::Register(other) => usize::from(other.number) == register,
         Place::Slot(_) => false,
+    }
+}
+
+fn gives_one(action: Action) -> bool
+    ensures { result ≡ gives_one action }
+{
+    match action {
+        Action::Compute(Operation::Li(word)) => word == 1,
+        _ => false,
+    }
+}
+
+// Whether the place is the register that holds 1 always.
+fn is_of_one(place: Place) -> bool
+    ensures { result ≡ is_in one_register place }
+{
+    is_in_register(usize::from(Register::GP.number), place)
+}
+
+/// Whether an action, or a move, may write at the place: at the register that holds 1 always, only an action that gives 1.
+pub fn may_set(action: Option<Action>, place: Place) -> bool
+    ensures { result ≡ may_set action place }
+{
+    match action {
+        Some(action) => gives_one(action) || !is_of_one(place),
+        None => !is_of_one(place),
     }
 }
 

@@ -111,7 +111,7 @@ fn fits(
         && behind.is_none_or(|next| keeps_all(alive, reads, write, action, next))
         && at_label.is_none_or(|next| keeps_all(alive, reads, write, action, next))
         && all_allowed(alive)
-        && write_allowed(write)
+        && write_allowed(action, write)
         && all_stay_held(alive, reads, action, behind, at_label)
 }
 

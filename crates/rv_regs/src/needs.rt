@@ -8,7 +8,7 @@ ghost use Rattle.rv_regs.specs.Conditions.{IsNeeded, IsListedIn, OnCopy, AtBoth,
 ghost use Rattle.rv_regs.specs.Views.{point_of};
 
 use crate::actions::same_listing;
-use crate::conventions::may_have_value;
+use crate::conventions::{may_have_value, may_set};
 use crate::keeping::marking;
 use crate::places::{is_listed, is_read, is_written, listing};
 use rv_isa::{Action, Listed, Operand, Place, Register};
@@ -71,12 +71,12 @@ pub fn all_allowed(alive: &[Listed]) -> bool
     alive.iter().all(|listed| is_allowed(listed.place) && is_copy_allowed(listed.copy))
 }
 
-/// Whether a register that is written is one that values may have.
-pub fn write_allowed(write: Option<Operand>) -> bool
-    ensures { IsTrue result ↔ WriteIsHandedOut write }
+/// Whether a register that is written is one that values may have, and one that the action, or the move, may write.
+pub fn write_allowed(action: Option<Action>, write: Option<Operand>) -> bool
+    ensures { IsTrue result ↔ WriteIsHandedOut action write }
 {
     match write {
-        Some(into) => is_allowed(into.place),
+        Some(into) => is_allowed(into.place) && may_set(action, into.place),
         None => true,
     }
 }

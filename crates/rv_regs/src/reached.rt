@@ -16,7 +16,7 @@ use crate::keeps::Execution;
 
 /// A valid placed form comes to each line of its assembler form.
 ///
-/// Each statement that is no label has a line of its own in the placed form, which is an instruction. Where the machine of the
+/// Each statement that is always an instruction has a line of its own in the placed form, which is one too. Where the machine of the
 /// assembler form comes to the statement, that of the placed form comes to its line, with the same events before, and their
 /// primitives share the same. For each state that goes on it comes to one that has the same events before and shares the same.
 /// It is a law, and does nothing.

@@ -1,6 +1,6 @@
 use Rattle.std.proofs.Common.{◌≡◌, ◌+◌, ◌*◌, [], refl, sym, ap, subst, arith}
 use Rattle.rv_isa.specs.declared.routine.Routine.TheVariants.{Take, Drop, PrintInt, PrintText, ReadByte}
-use Rattle.rv_isa.specs.declared.placed.Symbol.TheVariants.{Start, Routine, Hold, Unhold, Stop, StackFull}
+use Rattle.rv_isa.specs.declared.placed.Symbol.TheVariants.{Start, Routine, Stop, StackFull}
 use Rattle.cell_heap.specs.Pool.{end_of}
 use Rattle.cell_runtime.specs.Layouts.{layout_of}
 use Rattle.cell_runtime.specs.Starts.{IsStart, IsStartOf}
@@ -19,11 +19,9 @@ returns c =
     let full = composes_then StackFull c.in_ok-add-3.ensures ended c.stop-2.ensures in
     let take = composes_then (Routine Take) c.in_ok-add-4.ensures full c.take.ensures in
     let give_up = composes_then (Routine Drop) c.in_ok-add-5.ensures take c.give_up.ensures in
-    let hold = composes_then Hold c.in_ok-add-6.ensures give_up c.hold.ensures in
-    let unhold = composes_then Unhold c.in_ok-add-7.ensures hold c.unhold.ensures in
-    let print_int = composes_then (Routine PrintInt) c.in_ok-add-8.ensures unhold c.print_int.ensures in
-    let print_text = composes_then (Routine PrintText) c.in_ok-add-9.ensures print_int c.print_text.ensures in
-    let whole = composes_then (Routine ReadByte) c.in_ok-add-10.ensures print_text c.read_byte.ensures in
+    let print_int = composes_then (Routine PrintInt) c.in_ok-add-6.ensures give_up c.print_int.ensures in
+    let print_text = composes_then (Routine PrintText) c.in_ok-add-7.ensures print_int c.print_text.ensures in
+    let whole = composes_then (Routine ReadByte) c.in_ok-add-8.ensures print_text c.read_byte.ensures in
     record {
       memory = ap (λ l. record { size = l.stack_end; stack_bottom = l.stack }) c.new-layout.ensures;
       functions = c.new.ensures.items;
@@ -37,16 +35,14 @@ returns c =
           let pool = pool_of cells memory in
           let all = whole.code memory is code at spells has in
           let first : at + 4 * 0 ≡ at = omega arith in
-          let starts = subst (λ l. IsStartOf l memory code (at + 4 * 0)) c.new-layout.ensures all.0.0.0.0.0.0.0.0.0.1 in
+          let starts = subst (λ l. IsStartOf l memory code (at + 4 * 0)) c.new-layout.ensures all.0.0.0.0.0.0.0.1 in
           let end : end_of pool ≡ memory + layout.cells_end = omega arith in
           record {
-            start = subst (λ a. IsStart pool (memory + layout.stack_end) (a + 4 * 110) code a) first (starts pool refl end);
-            ended = all.0.0.0.0.0.0.0.0.1;
-            stack_full = all.0.0.0.0.0.0.0.1;
-            take = all.0.0.0.0.0.0.1 pool;
-            give_up = all.0.0.0.0.0.1;
-            hold = all.0.0.0.0.1 pool;
-            unhold = all.0.0.0.1 pool;
+            start = subst (λ a. IsStart pool (memory + layout.stack_end) (a + 4 * 101) code a) first (starts pool refl end);
+            ended = all.0.0.0.0.0.0.1;
+            stack_full = all.0.0.0.0.0.1;
+            take = all.0.0.0.0.1 pool;
+            give_up = all.0.0.0.1;
             print_int = all.0.0.1;
             print_text = all.0.1;
             read_byte = all.1;

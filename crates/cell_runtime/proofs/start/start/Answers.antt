@@ -11,5 +11,6 @@ returns c =
     (then_address_of c.address-3.ensures refl refl
     (then_set c.set.ensures refl refl refl
     (then_set c.set-2.ensures refl refl refl
-    (then_plain c.jal.ensures (same_jal refl c.new.ensures) refl))))))
+    (then_set c.set-3.ensures refl refl refl
+    (then_plain c.jal.ensures (same_jal refl c.new.ensures) refl)))))))
     (start_makes c.args.layout)
