@@ -1,14 +1,17 @@
 -- The condition of a branch tells whether a comparison holds: what it decides, and what stands there of a case that does its work.
-use Rattle.std.proofs.Common.{◌≡◌, ◌≢◌, ◌⊎◌, inl, inr, ℕ, ◌+◌, ◌^◌, ◌<◌, ◌≤◌, Bool, true, false, not, List, [], ◌∷◌, ◌++◌, Option, Some, None, nat_eq, int_lt, int_le, int_eq, refl, sym, ◌∙◌, ap, subst, arith}
+use Rattle.std.proofs.Common.{◌≡◌, ◌≢◌, ◌⊎◌, inl, inr, ℕ, ◌+◌, ◌^◌, ◌<◌, ◌≤◌, Bool, true, false, not, List, [], ◌∷◌, ◌++◌, Option}
+use Rattle.std.proofs.Common.{Some, None, nat_eq, int_lt, int_le, int_eq, refl, sym, ◌∙◌, ap, subst, arith}
 use Rattle.std.specs.Prelude.{if◌then◌else◌}
 use Rattle.std.proofs.lemmas.List.{append-nil}
 use Rattle.std.proofs.Math.Path.{path_j, subst_refl}
 use Rattle.std.proofs.lemmas.Bool.Decides.{same_from_decides, Decides-int_eq}
 use Rattle.std.proofs.Common.{eqb-true, eq-eqb}
 use Rattle.kk_syntax.specs.declared.operator.BinaryOperator.{BinaryOperator}
-use Rattle.kk_syntax.specs.declared.operator.BinaryOperator.TheVariants.{Add, Subtract, Multiply, Divide, Remainder, Equal, NotEqual, Less, LessEqual, Greater, GreaterEqual}
+use Rattle.kk_syntax.specs.declared.operator.BinaryOperator.TheVariants.{Add, Subtract, Multiply, Divide, Remainder, Equal}
+use Rattle.kk_syntax.specs.declared.operator.BinaryOperator.TheVariants.{NotEqual, Less, LessEqual, Greater, GreaterEqual}
 use Rattle.kk_syntax.specs.declared.program.Form.{Form}
-use Rattle.kk_syntax.specs.declared.program.Form.TheVariants.{Number, Unit as Nothing, ReadByte, PrintText, Unary, Binary, Print, Construct, Call}
+use Rattle.kk_syntax.specs.declared.program.Form.TheVariants.{Number, Unit as Nothing, ReadByte, PrintText, Unary, Binary, Print}
+use Rattle.kk_syntax.specs.declared.program.Form.TheVariants.{Construct, Call}
 use Rattle.kk_syntax.specs.Shapes.{is_among}
 use Rattle.kk_source.specs.FormEffects.{truth, number_result}
 use Rattle.kk_source.specs.Live.{value_of}
@@ -21,6 +24,9 @@ use Rattle.kk_counted.specs.Marks.{CellMarks, AreUnmarked, HasMark}
 use Rattle.kk_counted.specs.TokenedCodes.{Tokened, TokenedArms}
 use Rattle.rv_isa.specs.Arithmetic.{signed}
 use Rattle.rv_isa.specs.declared.asm.Action.TheVariants.{Branch, Routine as Calls}
+use Rattle.rv_isa.specs.declared.asm.Condition.{Condition}
+use Rattle.rv_isa.specs.declared.asm.Condition.TheVariants.{Equal as Same, NotEqual as NotSame, Less as Below}
+use Rattle.rv_isa.specs.declared.asm.Condition.TheVariants.{GreaterEqual as AtLeast}
 use Rattle.rv_isa.specs.declared.routine.Routine.TheVariants.{Drop}
 use Rattle.rv_isa.specs.AsmCode.{Line}
 use Rattle.rv_world.specs.Operations.{compares}
@@ -62,6 +68,23 @@ twice_not : (b : Bool) → b ≡ not (not b)
 twice_not true = refl
 twice_not false = refl
 
+-- by a branch on two values, whose condition is the opposite
+decides : (operator : BinaryOperator) (first second : ℕ) (values : ℕ → Option ℕ) (branch : Branching) (x y : ℕ)
+    (condition : Condition) (one other : ℕ) (test : Bool) → values x ≡ Some one → values y ≡ Some other
+    → number_result operator (signed first) (signed second) ≡ truth test → compares condition one other ≡ not test
+    → Some (record { condition = condition; first = x; second = y }) ≡ Some branch
+    → IsDecided operator first second values branch
+decides operator first second values branch x y condition one other test is also value opposite from =
+    subst (IsDecided operator first second values) (some-is from) (record {
+      test = test;
+      value = value;
+      one = one;
+      one_is = is;
+      other = other;
+      other_is = also;
+      opposite = opposite;
+    })
+
 pub decided : (operator : BinaryOperator) (a b first second : ℕ) (values : ℕ → Option ℕ) (branch : Branching)
     → values a ≡ Some first → values b ≡ Some second → first < 2 ^ 32 → second < 2 ^ 32 → branch_unless operator a b ≡ Some branch
     → IsDecided operator first second values branch
@@ -71,67 +94,22 @@ decided Multiply a b first second values branch is also few few_too from = cc fr
 decided Divide a b first second values branch is also few few_too from = cc from
 decided Remainder a b first second values branch is also few few_too from = cc from
 decided Equal a b first second values branch is also few few_too from =
-    subst (IsDecided Equal first second values) (some-is from) (record {
-      test = int_eq (signed first) (signed second);
-      value = refl;
-      one = first;
-      one_is = is;
-      other = second;
-      other_is = also;
-      opposite = ap not (equal_words first second few few_too);
-    })
+    decides Equal first second values branch a b NotSame first second (int_eq (signed first) (signed second)) is also refl
+    (ap not (equal_words first second few few_too)) from
 decided NotEqual a b first second values branch is also few few_too from =
-    subst (IsDecided NotEqual first second values) (some-is from) (record {
-      test = not (int_eq (signed first) (signed second));
-      value = refl;
-      one = first;
-      one_is = is;
-      other = second;
-      other_is = also;
-      opposite = equal_words first second few few_too ∙ twice_not (int_eq (signed first) (signed second));
-    })
+    decides NotEqual first second values branch a b Same first second (not (int_eq (signed first) (signed second))) is also refl
+    (equal_words first second few few_too ∙ twice_not (int_eq (signed first) (signed second))) from
 decided Less a b first second values branch is also few few_too from =
-    subst (IsDecided Less first second values) (some-is from) (record {
-      test = int_lt (signed first) (signed second);
-      value = refl;
-      one = first;
-      one_is = is;
-      other = second;
-      other_is = also;
-      opposite = refl;
-    })
+    decides Less first second values branch a b AtLeast first second (int_lt (signed first) (signed second)) is also refl refl from
 decided GreaterEqual a b first second values branch is also few few_too from =
-    subst (IsDecided GreaterEqual first second values) (some-is from) (record {
-      test = int_le (signed second) (signed first);
-      value = refl;
-      one = first;
-      one_is = is;
-      other = second;
-      other_is = also;
-      opposite = twice_not (int_lt (signed first) (signed second))
-          ∙ ap not (at_most_follows (signed second) (signed first));
-    })
+    decides GreaterEqual first second values branch a b Below first second (int_le (signed second) (signed first)) is also refl
+    (twice_not (int_lt (signed first) (signed second)) ∙ ap not (at_most_follows (signed second) (signed first))) from
 decided Greater a b first second values branch is also few few_too from =
-    subst (IsDecided Greater first second values) (some-is from) (record {
-      test = int_lt (signed second) (signed first);
-      value = refl;
-      one = second;
-      one_is = also;
-      other = first;
-      other_is = is;
-      opposite = refl;
-    })
+    decides Greater first second values branch b a AtLeast second first (int_lt (signed second) (signed first)) also is refl refl
+    from
 decided LessEqual a b first second values branch is also few few_too from =
-    subst (IsDecided LessEqual first second values) (some-is from) (record {
-      test = int_le (signed first) (signed second);
-      value = refl;
-      one = second;
-      one_is = also;
-      other = first;
-      other_is = is;
-      opposite = twice_not (int_lt (signed second) (signed first))
-          ∙ ap not (at_most_follows (signed first) (signed second));
-    })
+    decides LessEqual first second values branch b a Below second first (int_le (signed first) (signed second)) also is refl
+    (twice_not (int_lt (signed second) (signed first)) ∙ ap not (at_most_follows (signed first) (signed second))) from
 
 -- whether there is a branch
 pub either_left : (left : Option Branching) → (left ≡ None) ⊎ ((branch : Branching) × (left ≡ Some branch))

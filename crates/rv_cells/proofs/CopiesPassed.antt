@@ -1,5 +1,6 @@
 -- The assembler's machine goes past the copies, and constants 1, that lines begin with: it stays in its function, and tells nothing.
-use Rattle.std.proofs.Common.{◌≡◌, ◌≢◌, ℕ, zero, suc, ◌≤◌, Bool, true, false, ◌⊎◌, inl, inr, cond, List, [], ◌∷◌, ◌++◌, drop, length, Option, Some, None, map}
+use Rattle.std.proofs.Common.{◌≡◌, ◌≢◌, ℕ, zero, suc, ◌≤◌, Bool, true, false, ◌⊎◌, inl, inr, cond, List, [], ◌∷◌, ◌++◌, drop, length}
+use Rattle.std.proofs.Common.{Option, Some, None, map}
 use Rattle.std.proofs.Common.{refl, sym, ◌∙◌, ap, subst, arith}
 use Rattle.std.proofs.Math.Seq.{drop-length}
 use Rattle.kk_base.specs.Machines.{Machine, state, trace}
@@ -40,7 +41,8 @@ module _ (constants : Constants) (pool : Pool) (depth : ℕ) (functions : List L
   next turn = asm_next (primitives constants pool) depth functions turn
 
   -- a turn goes on in a frame of the same function, with these lines left
-  record GoesOn (f : Frame Line) (left : List Line) (fs : List (Frame Line)) (world : World) (turn : AsmTurn World Ending) : Type 0 where
+  record GoesOn (f : Frame Line) (left : List Line) (fs : List (Frame Line)) (world : World) (turn : AsmTurn World Ending)
+      : Type 0 where
     frame : Frame Line
     is : turn ≡ asm_goes frame fs world
     function : frame.function ≡ f.function
@@ -48,8 +50,10 @@ module _ (constants : Constants) (pool : Pool) (depth : ℕ) (functions : List L
     code : frame.code ≡ left
 
   -- behind a copy
-  copied : (f : Frame Line) (fs : List (Frame Line)) (world : World) (args : List ℕ) (into : Option ℕ) (rest : List Line) (words : List ℕ)
-      → asm_acts (primitives constants pool) depth functions (record f { code = rest }) fs world (Compute Mv) args into words ≢ stuck
+  copied : (f : Frame Line) (fs : List (Frame Line)) (world : World) (args : List ℕ) (into : Option ℕ) (rest : List Line)
+      (words : List ℕ)
+      → asm_acts (primitives constants pool) depth functions (record f { code = rest }) fs world (Compute Mv) args into words
+      ≢ stuck
       → GoesOn f rest fs world
       (asm_acts (primitives constants pool) depth functions (record f { code = rest }) fs world (Compute Mv) args into words)
   copied f fs world args into rest [] good = absurd (good refl)

@@ -1,9 +1,11 @@
 -- Code that does not name a variable is marked and numbered where that variable is not bound.
-use Rattle.std.proofs.Common.{◌≡◌, ℕ, ◌==◌, ◌||◌, ◌⊎◌, inl, inr, Bool, true, false, List, [], ◌∷◌, ◌++◌, map, refl, sym, ap, subst, ◌∙◌}
+use Rattle.std.proofs.Common.{◌≡◌, ℕ, ◌==◌, ◌||◌, ◌⊎◌, inl, inr, Bool, true, false, List, [], ◌∷◌, ◌++◌, map, refl, sym, ap, subst}
+use Rattle.std.proofs.Common.{◌∙◌}
 use Rattle.std.proofs.lemmas.Bool.{or_cases, or_left, or_right, or_parts, or_from, eq-eqb, eqb-true}
 use Rattle.kk_syntax.specs.Shapes.{is_among}
 use Rattle.kk_core.specs.Sizes.{AreBound}
-use Rattle.kk_counted.specs.CountedCodes.{Counted, give, tail_call, case, compute, inside, read, open_cell, if_unique, dup, drop, CountedArms, no_arm, arm}
+use Rattle.kk_counted.specs.CountedCodes.{Counted, give, tail_call, case, compute, inside, read, open_cell, if_unique, dup, drop}
+use Rattle.kk_counted.specs.CountedCodes.{CountedArms, no_arm, arm}
 use Rattle.kk_counted.specs.Lowerable.{AreBelow, AreNumbered, AreArmsNumbered}
 use Rattle.kk_counted.specs.Marks.{CellMarks, parameter_marks, result_mark, HaveMarks, IsFormMarked, Opens, HasMark, HaveMark}
 use Rattle.kk_counted.specs.TokenedCodes.{Tokened, TokenedArms}
@@ -14,7 +16,8 @@ use Rattle.kk_counted.specs.declared.tokened.TokenedStep.TheVariants as OfStep
 use Rattle.kk_counted.specs.BareForms.{bare, bare_arms}
 use Rattle.kk_counted.proofs.TokenedViews.{tokened_block_is, drop_step}
 use Rattle.rv_cells.specs.declared.compare.Branching.{Branching}
-use Rattle.rv_cells.specs.Comparing.{names, name_arms, names_behind, arms_name_behind, steps_name, IsTested, IsCompared, IsBranchBetween}
+use Rattle.rv_cells.specs.Comparing.{names, name_arms, names_behind, arms_name_behind, steps_name, IsTested, IsCompared}
+use Rattle.rv_cells.specs.Comparing.{IsBranchBetween}
 use Rattle.rv_cells.proofs.Bound.{AreWithin, below_among}
 
 -- ---- lists
@@ -360,26 +363,6 @@ block_named block x first last first_is last_is =
     ap (λ b. b || last) first_is ∙ ap (λ b. steps_name x (map tokened_move block.steps.items) || b) last_is
     ∙ sym (plug_names x (map tokened_move block.steps.items) (tokened_last_code block.last))
     ∙ ap (λ code. names x (bare code)) (sym (tokened_block_is block))
-
--- what does not name a variable does not behind its first step
-pub names_less : (x : ℕ) (code : Tokened) → names x (bare code) ≡ false → names_behind x code ≡ false
-names_less x (Tokened.drop y rest) none = (or_parts (y == x) (names x (bare rest)) none).1
-names_less x (Tokened.give y) none = none
-names_less x (Tokened.tail_call f arguments) none = none
-names_less x (Tokened.case y decisions arms) none = none
-names_less x (Tokened.compute y form arguments others rest) none = none
-names_less x (Tokened.inside y block rest) none = none
-names_less x (Tokened.read y c fields rest) none = none
-names_less x (Tokened.open_cell y c fields used z rest) none = none
-names_less x (Tokened.if_unique y c fields used z rest) none = none
-names_less x (Tokened.dup y rest) none = none
-names_less x (Tokened.fill y z c first arguments kept others rest) none = none
-names_less x (Tokened.free y rest) none = none
-names_less x (Tokened.null y rest) none = none
-names_less x (Tokened.move to of rest) none = none
-names_less x (Tokened.hold y rest) none = none
-names_less x (Tokened.unhold y rest) none = none
-names_less x (Tokened.if_token y there absent) none = none
 
 -- Code that names a variable at most in its first step gives the variable up, or does not name it.
 pub drops_or_not : (x : ℕ) (code : Tokened) → names_behind x code ≡ false

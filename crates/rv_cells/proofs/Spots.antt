@@ -73,8 +73,9 @@ pub record Did (known : Known) (most : ℕ) (lines rest : List Line) (fs : List 
   pub held : t.frame.held ≡ s.frame.held
   pub into : t.frame.into ≡ s.frame.into
 
-pub did_none : (known : Known) (rest : List Line) (fs : List (Frame Line)) (s : Spot) → Here known s → Did known 0 [] rest fs s s
-did_none known rest fs s here = record {
+did_idle : (known : Known) (most : ℕ) (rest : List Line) (fs : List (Frame Line)) (s : Spot) → Here known s
+    → Did known most [] rest fs s s
+did_idle known most rest fs s here = record {
   cost = 0;
   steps = 0;
   within = omega arith;
@@ -91,6 +92,9 @@ did_none known rest fs s here = record {
   held = refl;
   into = refl;
 }
+
+pub did_none : (known : Known) (rest : List Line) (fs : List (Frame Line)) (s : Spot) → Here known s → Did known 0 [] rest fs s s
+did_none known rest fs s here = did_idle known 0 rest fs s here
 
 pub did_then : (known : Known) (most others : ℕ) (lines more rest : List Line) (fs : List (Frame Line)) (s t u : Spot)
     → Did known most lines (more ++ rest) fs s t → Did known others more rest fs t u → Did known (most + others)
@@ -250,24 +254,7 @@ same_did : (known : Known) (most : ℕ) (rest : List Line) (fs : List (Frame Lin
 same_did known most rest fs s next here same = (
   s.owners,
   s.world.cells,
-  subst (λ h. Did known most [] rest fs s (with_heap s h s.owners s.world.cells)) same
-      (record {
-        cost = 0;
-        steps = 0;
-        within = omega arith;
-        runs = runs_none known.target (turn_of rest s.frame fs s.world);
-        here = here;
-        aside = λ at is. refl;
-        was = λ at is. refl;
-        grown = λ z none. none;
-        spared = λ z low none. refl;
-        left = refl;
-        trace = refl;
-        whole = refl;
-        function = refl;
-        held = refl;
-        into = refl;
-      }),
+  subst (λ h. Did known most [] rest fs s (with_heap s h s.owners s.world.cells)) same (did_idle known most rest fs s here),
 )
 
 module _ (known : Known) (rest : List Line) (fs : List (Frame Line)) (s : Spot) (here : Here known s) (x : ℕ)

@@ -20,10 +20,6 @@ pub and_over : (a b c : Bool) → ((a && b) && c) ≡ (a && (b && c))
 and_over true b c = refl
 and_over false b c = refl
 
-pub and_last : (a : Bool) → (a && true) ≡ a
-and_last true = refl
-and_last false = refl
-
 first_of : (a b : Bool) → (a && b) ≡ true → a ≡ true
 first_of true b is = refl
 first_of false b is = cc is

@@ -1,6 +1,7 @@
 -- A comparison and the case behind it are one branch: the machine with tokens does the comparison at no line, and the case at the
 -- branch.
-use Rattle.std.proofs.Common.{◌≡◌, ◌⊎◌, inl, inr, ℕ, zero, suc, ◌+◌, ◌≤◌, Bool, true, false, not, List, [], ◌∷◌, ◌++◌, Some, refl, sym, ◌∙◌, ap, subst, arith, append_assoc}
+use Rattle.std.proofs.Common.{◌≡◌, ◌⊎◌, inl, inr, ℕ, zero, suc, ◌+◌, ◌≤◌, Bool, true, false, not, List, [], ◌∷◌, ◌++◌, Some, refl}
+use Rattle.std.proofs.Common.{sym, ◌∙◌, ap, subst, arith, append_assoc}
 use Rattle.std.specs.Prelude.{if◌then◌else◌}
 use Rattle.std.proofs.lemmas.List.{append-nil}
 use Rattle.kk_syntax.specs.declared.operator.BinaryOperator.{BinaryOperator}
@@ -44,18 +45,22 @@ use Rattle.rv_cells.specs.TokenedLines.{HasSlots, Keeps, CodeLines}
 use Rattle.rv_cells.specs.CountedLines.{Setting}
 use Rattle.rv_cells.proofs.Acting.{label_runs, falls_runs, branch_runs}
 use Rattle.rv_cells.proofs.Bound.{within_one}
-use Rattle.rv_cells.proofs.Comparisons.{IsDecided, decided, values_stay, drops_before, drops_marked, drops_numbered, drops_slots, drops_keep, drops_forms, IsJoined, joined_lines, given_up}
-use Rattle.rv_cells.proofs.FormPlaces.{Tree, tree, IsPart, StandsAt, arms_in, tree_behind, tree_in, stands_behind, stands_behind_three}
+use Rattle.rv_cells.proofs.Comparisons.{IsDecided, decided, values_stay, drops_before, drops_marked, drops_numbered, drops_slots}
+use Rattle.rv_cells.proofs.Comparisons.{drops_keep, drops_forms, IsJoined, joined_lines, given_up}
+use Rattle.rv_cells.proofs.FormPlaces.{Tree, tree, IsPart, StandsAt, arms_in, tree_behind, tree_in, stands_behind}
+use Rattle.rv_cells.proofs.FormPlaces.{stands_behind_three}
 use Rattle.rv_cells.proofs.FormWords.{number_word}
 use Rattle.rv_cells.proofs.LineCosts.{most_moves}
 use Rattle.rv_cells.proofs.Naming.{first_spared, marked_without, numbered_fewer, drops_or_not}
 use Rattle.rv_cells.proofs.Runs.{turn_of, Runs, runs_none, runs_then, runs_within}
 use Rattle.rv_cells.proofs.Spots.{Spot, saved}
 use Rattle.rv_cells.proofs.Values.{among_by, value_same}
-use Rattle.rv_cells.proofs.TokenDeciding.{ArmAt, arm_stands, arm_first, arm_part, arm_bare, arm_short, arm_numbered, arm_marked, arm_slots, arm_keeps, tree_moved, case_there}
+use Rattle.rv_cells.proofs.TokenDeciding.{ArmAt, arm_stands, arm_first, arm_part, arm_bare, arm_short, arm_numbered, arm_marked}
+use Rattle.rv_cells.proofs.TokenDeciding.{arm_slots, arm_keeps, tree_moved, case_there}
 use Rattle.rv_cells.proofs.TokenLanding.{machine_at, token_at, seen_action, does_by, kept_after}
 use Rattle.rv_cells.proofs.TokenLineCosts.{forms}
-use Rattle.rv_cells.proofs.TokenStanding.{Lowering, target, texts, setting, upper, At, GivesUp, ComesTo, IsAhead, IsBehind, IsNear, MayStandFor, IsFitFrom, by_near, finds, Follows_step}
+use Rattle.rv_cells.proofs.TokenStanding.{Lowering, target, texts, setting, upper, At, GivesUp, ComesTo, IsAhead, IsBehind, IsNear}
+use Rattle.rv_cells.proofs.TokenStanding.{MayStandFor, IsFitFrom, by_near, finds, Follows_step}
 
 -- ---- arms
 
@@ -97,10 +102,10 @@ all_ahead program environment x arms bound (y ∷ ys) marks holds result given p
 
 module _ (program : Lowering) where
   -- No line gives it up, and the lists stay.
-  module _ (y : ℕ) (rest : Tokened) (inner : List TokenJoin) (frames : List TokenFrame) (tokens : Tokens) (input : List ℕ) (s : Spot)
-      (lists : Lists) (plain : FitsField false (value_of s.environment y))
-      (judged : IsJudged program.pool.cells lists.left lists.unspent lists.held lists.older (Tokened.drop y rest) inner frames s.heap
-      tokens)
+  module _ (y : ℕ) (rest : Tokened) (inner : List TokenJoin) (frames : List TokenFrame) (tokens : Tokens) (input : List ℕ)
+      (s : Spot) (lists : Lists) (plain : FitsField false (value_of s.environment y))
+      (judged : IsJudged program.pool.cells lists.left lists.unspent lists.held lists.older (Tokened.drop y rest) inner frames
+      s.heap tokens)
       (fit : IsFitFrom program (token_at program (Tokened.drop y rest) s.environment inner frames s.heap tokens input)) where
     drop_step : token_code_step (setting program) (Tokened.drop y rest) s.environment inner
         (machine_at program (Tokened.drop y rest) s.environment inner frames s.heap tokens)
@@ -191,8 +196,8 @@ module _ (program : Lowering) where
       → ((body : Tokened) → tokened_arm_at arms (if test then 0 else 1) ≡ Some body
       → IsJudged program.pool.cells lists.left lists.unspent lists.held lists.older body inner frames s.heap tokens
       → ComesTo program body inner frames tokens input s fs left)
-      → IsJudged program.pool.cells lists.left lists.unspent lists.held lists.older (Tokened.case x truth_decisions arms) inner frames
-      s.heap tokens
+      → IsJudged program.pool.cells lists.left lists.unspent lists.held lists.older (Tokened.case x truth_decisions arms) inner
+      frames s.heap tokens
       → idle ≡ forms (Tokened.case x truth_decisions arms)
       → IsFitFrom program
       (token_at program (Tokened.case x truth_decisions arms) s.environment inner frames s.heap tokens input)
@@ -258,7 +263,8 @@ module _ (program : Lowering) where
   behind_step (Tokened.case y decisions others) idle inner frames tokens input s fs left is idle_is fit =
       let same : Tokened.case is.x truth_decisions is.arms ≡ Tokened.case y decisions others
       = sym (λ i. Tokened.case (is.ahead.0 i) (is.ahead.1.0 i) (is.ahead.1.1 i)) in
-      subst (λ c. IsJudged program.pool.cells is.lists.left is.lists.unspent is.lists.held is.lists.older c inner frames s.heap tokens
+      subst (λ c. IsJudged program.pool.cells is.lists.left is.lists.unspent is.lists.held is.lists.older c inner frames s.heap
+      tokens
       → idle ≡ forms c → IsFitFrom program (token_at program c s.environment inner frames s.heap tokens input)
       → Follows_step program idle (token_at program c s.environment inner frames s.heap tokens input)
       (turn_of left s.frame fs s.world)) same
@@ -266,13 +272,15 @@ module _ (program : Lowering) where
       idle_is fit
   behind_step (Tokened.give y) idle inner frames tokens input s fs left is idle_is fit = absurd is.ahead
   behind_step (Tokened.tail_call f arguments) idle inner frames tokens input s fs left is idle_is fit = absurd is.ahead
-  behind_step (Tokened.compute y form arguments others rest) idle inner frames tokens input s fs left is idle_is fit = absurd is.ahead
+  behind_step (Tokened.compute y form arguments others rest) idle inner frames tokens input s fs left is idle_is fit =
+      absurd is.ahead
   behind_step (Tokened.inside y block rest) idle inner frames tokens input s fs left is idle_is fit = absurd is.ahead
   behind_step (Tokened.read y c fields rest) idle inner frames tokens input s fs left is idle_is fit = absurd is.ahead
   behind_step (Tokened.open_cell y c fields used z rest) idle inner frames tokens input s fs left is idle_is fit = absurd is.ahead
   behind_step (Tokened.if_unique y c fields used z rest) idle inner frames tokens input s fs left is idle_is fit = absurd is.ahead
   behind_step (Tokened.dup y rest) idle inner frames tokens input s fs left is idle_is fit = absurd is.ahead
-  behind_step (Tokened.fill y z c first arguments kept others rest) idle inner frames tokens input s fs left is idle_is fit = absurd is.ahead
+  behind_step (Tokened.fill y z c first arguments kept others rest) idle inner frames tokens input s fs left is idle_is fit =
+      absurd is.ahead
   behind_step (Tokened.free y rest) idle inner frames tokens input s fs left is idle_is fit = absurd is.ahead
   behind_step (Tokened.null y rest) idle inner frames tokens input s fs left is idle_is fit = absurd is.ahead
   behind_step (Tokened.move to of rest) idle inner frames tokens input s fs left is idle_is fit = absurd is.ahead
@@ -324,14 +332,14 @@ module _ (program : Lowering) (x : ℕ) (operator : BinaryOperator) (a b : ℕ) 
     (frames : List TokenFrame) (tokens : Tokens) (input : List ℕ) (s : Spot) (fs : List (Frame Line)) (left : List Line)
     (idle_is : idle
     ≡ forms (Tokened.compute x (Binary operator) (a ∷ b ∷ []) others (drops_before ys (Tokened.case x truth_decisions arms))))
-    (at : At program (Tokened.compute x (Binary operator) (a ∷ b ∷ []) others (drops_before ys (Tokened.case x truth_decisions arms))) inner frames
-    tokens input s fs left)
+    (at : At program (Tokened.compute x (Binary operator) (a ∷ b ∷ []) others
+    (drops_before ys (Tokened.case x truth_decisions arms))) inner frames tokens input s fs left)
     (joined : branch_of (Binary operator) (a ∷ b ∷ []) at.does.placed.lines.3 ≡ Some branch)
     (decides : branch_unless operator a b ≡ Some branch)
     (plain_ys : AreUnmarked at.shape.holds ys)
     (fit : IsFitFrom program
-    (token_at program (Tokened.compute x (Binary operator) (a ∷ b ∷ []) others (drops_before ys (Tokened.case x truth_decisions arms))) s.environment
-    inner frames s.heap tokens input)) where
+    (token_at program (Tokened.compute x (Binary operator) (a ∷ b ∷ []) others
+    (drops_before ys (Tokened.case x truth_decisions arms))) s.environment inner frames s.heap tokens input)) where
   abbrev lines_setting : Setting
   lines_setting = record {
     layout = program.layout;
@@ -370,9 +378,10 @@ module _ (program : Lowering) (x : ℕ) (operator : BinaryOperator) (a b : ℕ) 
 
   parts : IsJoined lines_setting at.shape.variables at.does.goal at.does.placed.low middle at.does.placed.high x arms branch
       at.does.placed.lines.0 at.does.placed.lines.1 rest_tree
-  parts = joined_lines lines_setting at.shape.variables (branch_of (Binary operator) (a ∷ b ∷ []) at.does.placed.lines.3) branch joined
-      at.does.goal at.does.placed.low middle at.does.placed.high x (Binary operator) (a ∷ b ∷ []) others ys arms at.does.placed.lines.0
-      at.does.placed.lines.1 plain_ys at.does.placed.lines.4 at.does.placed.lines.5
+  parts = joined_lines lines_setting at.shape.variables (branch_of (Binary operator) (a ∷ b ∷ []) at.does.placed.lines.3) branch
+      joined
+      at.does.goal at.does.placed.low middle at.does.placed.high x (Binary operator) (a ∷ b ∷ []) others ys arms
+      at.does.placed.lines.0 at.does.placed.lines.1 plain_ys at.does.placed.lines.4 at.does.placed.lines.5
 
   left_is : left ≡ parts.choice ++ (parts.bodies ++ after)
   left_is = at.does.placed.left_is
@@ -575,8 +584,8 @@ module _ (program : Lowering) (x : ℕ) (operator : BinaryOperator) (a b : ℕ) 
         → IsJudged program.pool.cells at.lists.left at.lists.unspent at.lists.held at.lists.older body inner frames s.heap tokens
         → GivesUp program body inner frames tokens input later_spot fs behind
     gives_at rest body_is none fits judged =
-        let lines = subst (λ c. CodeLines lines_setting at.shape.variables at.does.goal stands.low c stands.first stands.high) body_is
-        stands.code in
+        let lines = subst (λ c. CodeLines lines_setting at.shape.variables at.does.goal stands.low c stands.first stands.high)
+        body_is stands.code in
         let there : StandsAt at.shape.root (((at.does.placed.before ++ parts.choice) ++ stands.before) ++ (label ∷ []))
         (tree_in lines_setting at.shape.variables at.does.goal stands.low (Tokened.drop x rest) stands.first stands.high lines)
         = subst (λ t. StandsAt at.shape.root (((at.does.placed.before ++ parts.choice) ++ stands.before) ++ (label ∷ [])) t)
@@ -591,8 +600,8 @@ module _ (program : Lowering) (x : ℕ) (operator : BinaryOperator) (a b : ℕ) 
           code_is = body_is;
           plain = fits;
           follows = at.follows;
-          judged = subst (λ c. IsJudged program.pool.cells at.lists.left at.lists.unspent at.lists.held at.lists.older c inner frames
-              s.heap tokens) body_is judged;
+          judged = subst (λ c. IsJudged program.pool.cells at.lists.left at.lists.unspent at.lists.held at.lists.older c inner
+              frames s.heap tokens) body_is judged;
           at = λ later. stands_there rest later_lines.0 (later_lines.1 at.shape.root
               (((at.does.placed.before ++ parts.choice) ++ stands.before) ++ (label ∷ [])) there)
               (marked_without program.marks at.shape.holds at.shape.result x (bare rest) (x ∷ s.bound) s.bound at.does.given
@@ -632,8 +641,8 @@ module _ (program : Lowering) (x : ℕ) (operator : BinaryOperator) (a b : ℕ) 
       let bodies : parts.bodies ++ after ≡ label 0 body arm_is ∷ behind 0 body arm_is
       = bodies_are 0 body arm_is
       ∙ ap (λ ls. ls ++ (label 0 body arm_is ∷ behind 0 body arm_is))
-      (arm_first lines_setting at.shape.variables at.does.goal middle parts.from at.does.placed.high arms parts.bodies body parts.are
-      arm_is) in
+      (arm_first lines_setting at.shape.variables at.does.goal middle parts.from at.does.placed.high arms parts.bodies body
+      parts.are arm_is) in
       comes_at 0 body arm_is value_fits
       (subst (λ ls. Runs (target program) (most_moves + 3) 1 (turn_of ls s.frame fs s.world)
       (turn_of (label 0 body arm_is ∷ behind 0 body arm_is) s.frame fs s.world)) (sym line_first)
@@ -653,7 +662,8 @@ module _ (program : Lowering) (x : ℕ) (operator : BinaryOperator) (a b : ℕ) 
       (place 1 body arm_is)))) judged
 
   pub at_joined : Follows_step program idle
-      (token_at program (Tokened.compute x (Binary operator) (a ∷ b ∷ []) others (drops_before ys (Tokened.case x truth_decisions arms))) s.environment
+      (token_at program (Tokened.compute x (Binary operator) (a ∷ b ∷ []) others
+      (drops_before ys (Tokened.case x truth_decisions arms))) s.environment
       inner frames s.heap tokens input) (turn_of left s.frame fs s.world)
   at_joined =
       let rest = drops_before ys (Tokened.case x truth_decisions arms) in

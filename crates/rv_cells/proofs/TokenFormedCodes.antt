@@ -35,7 +35,7 @@ use Rattle.rv_cells.specs.declared.standing.Standing.{Standing}
 use Rattle.rv_lower.proofs.Operations.{Leads}
 use Rattle.rv_lower.proofs.Codes.{Fits, fits_weaker, fits_give, fits_tail_call, fits_inside, fits_split}
 use Rattle.rv_cells.specs.Layout.{Layout, header_of}
-use Rattle.rv_cells.specs.CellLines.{drop_lines}
+use Rattle.rv_cells.specs.CellLines.{drop_lines, TokenUniqueLines}
 use Rattle.rv_cells.specs.CountedLines.{Setting, ComputeLines}
 use Rattle.rv_cells.specs.declared.compare.Branching.{Branching}
 use Rattle.rv_cells.specs.Comparing.{branch_of, IsTested, MayJoin}
@@ -279,6 +279,28 @@ module _ (layout : Layout) (holds : ℕ → Bool) (texts : Texts) (standing : St
         (fits_weaker base inside (x ∷ inside) outer goal (low + 1) high more
         (λ v there. or_right (x == v) (is_among inside v) there) behind))))
 
+  -- an opening, before the code behind it
+  opening_fits : (x : ℕ) (fields used : List ℕ) (y : ℕ) (bound outer unspent left held : List ℕ) (goal : Goal) (low high : ℕ)
+      (lines own more : List Line) → HasRoom variables bound → held ≡ [] → is_among bound x ≡ true → AreBelow variables fields
+      → y < slots → TokenUniqueLines (variables + slots) holds low (low + 1) x fields used (variables + y) own
+      → lines ≡ own ++ more
+      → HeldFits [] (reads (y ∷ unspent) (fields ++ bound)) (reads left outer) goal (low + 2) high more
+      → HeldFits held (reads unspent bound) (reads left outer) goal low high lines
+  opening_fits x fields used y bound outer unspent left held goal low high lines own more has none there below few unique lines_are
+      later =
+      none_held held (reads unspent bound) (reads left outer) goal low high lines none
+      (subst (FitsCode (reads unspent bound) (reads left outer) goal low high) (sym lines_are)
+      (fits_token_unique (variables + slots) (reads unspent bound) (reads left outer) (has_room unspent bound has) holds x
+      (variable_there variables slots unspent bound x there) fields used (below_more variables slots fields below)
+      (variables + y) (omega (arith, few)) goal low high own more unique
+      (fits_weaker (variables + slots) (reads (y ∷ unspent) (fields ++ bound))
+      ((variables + y) ∷ bound_list fields (reads unspent bound)) (reads left outer) goal (low + 2) high more
+      (slot_more y unspent (fields ++ bound) (bound_list fields (reads unspent bound))
+      (λ v there. bound_behind_fields fields unspent bound v (variable_there variables slots unspent (fields ++ bound) v there))
+      (λ z less there. kept_list (reads unspent bound) fields (variables + z)
+      (slot_there variables slots unspent bound z less there)))
+      (fits_held (variables + slots) (reads (y ∷ unspent) (fields ++ bound)) (reads left outer) goal (low + 2) high more later))))
+
   -- ---- codes
 
   mutual
@@ -386,38 +408,18 @@ module _ (layout : Layout) (holds : ℕ → Bool) (texts : Texts) (standing : St
         arities few at.1 spends.1 tt tt is.3)))))
     code_fits (Tokened.open_cell x c fields used y rest) bound outer unspent left held given goal low high lines has within marked
         numbered arms some arities few at spends below apart is =
-        none_held held (reads unspent bound) (reads left outer) goal low high lines at.0
-        (subst (FitsCode (reads unspent bound) (reads left outer) goal low high) (sym is.4)
-        (fits_token_unique (variables + slots) (reads unspent bound) (reads left outer) (has_room unspent bound has) holds x
-        (variable_there variables slots unspent bound x marked.0.0) fields used (below_more variables slots fields numbered.0.0)
-        (variables + y) (let less = few.0 in omega (arith, less)) goal low high is.0 is.1 is.2
-        (fits_weaker (variables + slots) (reads (y ∷ unspent) (fields ++ bound))
-        ((variables + y) ∷ bound_list fields (reads unspent bound)) (reads left outer) goal (low + 2) high is.1
-        (slot_more y unspent (fields ++ bound) (bound_list fields (reads unspent bound))
-        (λ v there. bound_behind_fields fields unspent bound v (variable_there variables slots unspent (fields ++ bound) v there))
-        (λ z less there. kept_list (reads unspent bound) fields (variables + z)
-        (slot_there variables slots unspent bound z less there)))
-        (fits_held (variables + slots) (reads (y ∷ unspent) (fields ++ bound)) (reads left outer) goal (low + 2) high is.1
+        opening_fits x fields used y bound outer unspent left held goal low high lines is.0 is.1 has at.0 marked.0.0 numbered.0.0
+        few.0 is.2 is.4
         (code_fits rest (fields ++ bound) outer (y ∷ unspent) left [] given goal (low + 2) high is.1
         (room_front variables bound fields has numbered.0.0) (behind fields bound outer within) marked.1 numbered.1 arms some
-        arities few.1 at.1 spends.1.1 tt tt is.3)))))
+        arities few.1 at.1 spends.1.1 tt tt is.3)
     code_fits (Tokened.if_unique x c fields used y rest) bound outer unspent left held given goal low high lines has within marked
         numbered arms some arities few at spends below apart is =
-        none_held held (reads unspent bound) (reads left outer) goal low high lines at.0
-        (subst (FitsCode (reads unspent bound) (reads left outer) goal low high) (sym is.4)
-        (fits_token_unique (variables + slots) (reads unspent bound) (reads left outer) (has_room unspent bound has) holds x
-        (variable_there variables slots unspent bound x marked.0.0) fields used (below_more variables slots fields numbered.0.0)
-        (variables + y) (let less = few.0 in omega (arith, less)) goal low high is.0 is.1 is.2
-        (fits_weaker (variables + slots) (reads (y ∷ unspent) (fields ++ bound))
-        ((variables + y) ∷ bound_list fields (reads unspent bound)) (reads left outer) goal (low + 2) high is.1
-        (slot_more y unspent (fields ++ bound) (bound_list fields (reads unspent bound))
-        (λ v there. bound_behind_fields fields unspent bound v (variable_there variables slots unspent (fields ++ bound) v there))
-        (λ z less there. kept_list (reads unspent bound) fields (variables + z)
-        (slot_there variables slots unspent bound z less there)))
-        (fits_held (variables + slots) (reads (y ∷ unspent) (fields ++ bound)) (reads left outer) goal (low + 2) high is.1
+        opening_fits x fields used y bound outer unspent left held goal low high lines is.0 is.1 has at.0 marked.0.0 numbered.0.0
+        few.0 is.2 is.4
         (code_fits rest (fields ++ bound) outer (y ∷ unspent) left [] given goal (low + 2) high is.1
         (room_front variables bound fields has numbered.0.0) (behind fields bound outer within) marked.1 numbered.1 arms some
-        arities few.1 at.1 spends.1.1 tt tt is.3)))))
+        arities few.1 at.1 spends.1.1 tt tt is.3)
     code_fits (Tokened.dup x rest) bound outer unspent left held given goal low high lines has within marked numbered arms some
         arities few at spends below apart is =
         none_held held (reads unspent bound) (reads left outer) goal low high lines at.0

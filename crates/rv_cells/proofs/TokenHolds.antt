@@ -5,13 +5,15 @@ use Rattle.kk_syntax.specs.Shapes.{is_among}
 use Rattle.kk_source.specs.Actions.{goes}
 use Rattle.kk_counted.specs.TokenKeeping.{chain_of, Lists, IsJudged}
 use Rattle.kk_counted.specs.TokenMachine.{token_code_step, at_code, to_tokens}
+use Rattle.kk_counted.specs.TokenStates.{TokenJoin, TokenFrame}
 use Rattle.kk_counted.specs.TokenedCodes.{Tokened}
 use Rattle.kk_counted.specs.Tokens.{Slot, token, is_token, Link, Tokens, is_linked, hold_link, unlinked, with_chain, unheld, held as holds_slot}
 use Rattle.kk_counted.proofs.Chaining.{frames_many, not_linked}
 use Rattle.kk_counted.proofs.Pooling.{by_null, by_cell}
 use Rattle.kk_counted.proofs.TokenForms.{Has, is_null, has_cell, unspent_has}
 use Rattle.rv_isa.specs.declared.asm.Action.TheVariants.{Hold, Unhold}
-use Rattle.rv_isa.specs.Frames.{is_among as is_out}
+use Rattle.rv_isa.specs.AsmCode.{Line}
+use Rattle.rv_isa.specs.Frames.{Frame, is_among as is_out}
 use Rattle.cell_heap.specs.Blocks.{past_links}
 use Rattle.kk_counted.specs.Spending.{AreApart}
 use Rattle.rv_world.specs.World.{with_cells}
@@ -22,12 +24,11 @@ use Rattle.rv_cells.proofs.Words.{hand_owned, aside_owned}
 use Rattle.rv_cells.proofs.HeldTokens.{holding_now, hold_runs, hold_null_runs, unhold_runs, unhold_null_runs}
 use Rattle.rv_cells.proofs.Runs.{turn_of}
 use Rattle.rv_cells.proofs.Spots.{Spot}
-use Rattle.rv_cells.proofs.Bound.{within_itself}
 use Rattle.rv_cells.proofs.TokenCells.{cell_turns}
 use Rattle.rv_cells.proofs.TokenFields.{past_from}
-use Rattle.rv_cells.proofs.TokenStanding.{SlotIs, IsTokenCell, token_words, HaveSlotValues, held_values, Lowering, AllWait, target, setting, Follows_step}
+use Rattle.rv_cells.proofs.TokenStanding.{SlotIs, IsTokenCell, token_words, HaveSlotValues, held_values, Lowering, AllWait, target, setting, At, Follows_step}
 use Rattle.rv_cells.proofs.TokenStands.{nothing_stands}
-use Rattle.rv_cells.proofs.TokenLanding.{token_at, machine_at, CodeSteps, silent_goes, seen_action, goes_on, kept_quiet}
+use Rattle.rv_cells.proofs.TokenLanding.{token_at, machine_at, CodeSteps, kept_quiet, ActsOnTokens, acts_on_tokens}
 
 -- a slot that is not among the held ones has a value that is not held
 held_out : (slots : ℕ → Slot) (variables y : ℕ) (ys : List ℕ) → is_among ys y ≡ false
@@ -74,6 +75,23 @@ cell_same : {a b : ℕ} → token a ≡ token b → a ≡ b
 cell_same e = cc
 
 module _ (program : Lowering) (y : ℕ) (rest : Tokened) where
+  hold_acts : (inner : List TokenJoin) (frames : List TokenFrame) (tokens : Tokens) (input : List ℕ) (s : Spot)
+      (fs : List (Frame Line)) (left : List Line) (at : At program (Tokened.hold y rest) inner frames tokens input s fs left)
+      → ActsOnTokens program (Tokened.hold y rest) inner frames tokens input s fs left at rest
+      (acts Hold ((at.shape.variables + y) ∷ [])) at.does.placed.lines.0
+  hold_acts inner frames tokens input s fs left at =
+      let p = at.does.placed in
+      record {
+        forms_are = refl;
+        parts = p.lines.2;
+        lines = p.lines.1;
+        part_is = record { way = []; is_part = inl refl; code_is = refl };
+        marked = p.marked;
+        numbered = p.numbered;
+        has = p.has.1;
+        keeps = p.keeps.1;
+      }
+
   pub at_hold : CodeSteps program (Tokened.hold y rest)
   at_hold idle inner frames tokens input s fs left idle_is at fit =
       by (unspent_has (tokens.slots (length at.lists.older) y) (at.judged.slots_are y ∙ at.judged.spends.0))
@@ -100,9 +118,9 @@ module _ (program : Lowering) (y : ℕ) (rest : Tokened) where
           ∙ by_null program.pool.cells None (Some tokens) (λ q. hold_link n y tokens) n y tokens empty) in
           let kept = kept_quiet program (Tokened.hold y rest) inner frames tokens input s fs left at
           (machine_at program rest s.environment inner frames s.heap tokens) step refl in
-          let few = p.short in
-          goes_on program (Tokened.hold y rest) inner frames tokens input s fs left at idle fit rest (line ∷ []) p.lines.0 s fs tokens
-          s.bound (record at.lists { held = y ∷ at.lists.held }) 12 goes
+          acts_on_tokens program (Tokened.hold y rest) inner frames tokens input s fs left at idle idle_is fit rest line
+          p.lines.0 (hold_acts inner frames tokens input s fs left at) s.frame s.owners s.world tokens
+          (record at.lists { held = y ∷ at.lists.held }) 12
           (record {
             cost = 11;
             steps = 1;
@@ -114,17 +132,6 @@ module _ (program : Lowering) (y : ℕ) (rest : Tokened) where
             function = refl;
           })
           (record {
-            parts = p.lines.2;
-            low = p.low;
-            lines = p.lines.1;
-            part_is = record { way = []; is_part = inl refl; code_is = refl };
-            within = within_itself s.bound;
-            older = within_itself s.bound;
-            below = at.has.below;
-            marked = p.marked;
-            numbered = p.numbered;
-            has = p.has.1;
-            keeps = p.keeps.1;
             judged = subst (λ (l : Lists). IsJudged program.pool.cells l.left l.unspent l.held l.older rest inner frames s.heap tokens)
                 kept.1.0 kept.1.1;
             cells = at.cells;
@@ -135,8 +142,7 @@ module _ (program : Lowering) (y : ℕ) (rest : Tokened) where
                 held_values slots v at.lists.held) empty);
             waits = at.waits;
           })
-          (silent_goes program) (omega arith)
-          (ap (λ action. seen_action program action input) step) (omega (arith, idle_is)) (omega arith)
+          (omega arith) step
       by (has_cell q has) =
           let p = at.does.placed in
           let v = at.shape.variables in
@@ -174,9 +180,9 @@ module _ (program : Lowering) (y : ℕ) (rest : Tokened) where
             frame = holding_now ((v + y) ∷ s.frame.held) s.frame;
             world = with_cells s.world put.now;
           } in
-          let few = p.short in
-          goes_on program (Tokened.hold y rest) inner frames tokens input s fs left at idle fit rest (line ∷ []) p.lines.0 to fs after
-          s.bound (record at.lists { held = y ∷ at.lists.held }) 12 goes
+          acts_on_tokens program (Tokened.hold y rest) inner frames tokens input s fs left at idle idle_is fit rest line
+          p.lines.0 (hold_acts inner frames tokens input s fs left at) to.frame to.owners to.world after
+          (record at.lists { held = y ∷ at.lists.held }) 12
           (record {
             cost = 11;
             steps = 1;
@@ -189,17 +195,6 @@ module _ (program : Lowering) (y : ℕ) (rest : Tokened) where
             function = refl;
           })
           (record {
-            parts = p.lines.2;
-            low = p.low;
-            lines = p.lines.1;
-            part_is = record { way = []; is_part = inl refl; code_is = refl };
-            within = within_itself s.bound;
-            older = within_itself s.bound;
-            below = at.has.below;
-            marked = p.marked;
-            numbered = p.numbered;
-            has = p.has.1;
-            keeps = p.keeps.1;
             judged = subst (λ (l : Lists). IsJudged program.pool.cells l.left l.unspent l.held l.older rest inner frames s.heap after)
                 kept.1.0 kept.1.1;
             stand = nothing_stands program.layout at.shape.standing s.address to.owners (after.slots n) p.keeps.0;
@@ -213,8 +208,24 @@ module _ (program : Lowering) (y : ℕ) (rest : Tokened) where
                 held_values slots v at.lists.held) has);
             waits = at.waits;
           })
-          (silent_goes program) (omega arith)
-          (ap (λ action. seen_action program action input) step) (omega (arith, idle_is)) (omega arith)
+          (omega arith) step
+
+  unhold_acts : (inner : List TokenJoin) (frames : List TokenFrame) (tokens : Tokens) (input : List ℕ) (s : Spot)
+      (fs : List (Frame Line)) (left : List Line) (at : At program (Tokened.unhold y rest) inner frames tokens input s fs left)
+      → ActsOnTokens program (Tokened.unhold y rest) inner frames tokens input s fs left at rest
+      (acts Unhold ((at.shape.variables + y) ∷ [])) at.does.placed.lines.0
+  unhold_acts inner frames tokens input s fs left at =
+      let p = at.does.placed in
+      record {
+        forms_are = refl;
+        parts = p.lines.2;
+        lines = p.lines.1;
+        part_is = record { way = []; is_part = inl refl; code_is = refl };
+        marked = p.marked;
+        numbered = p.numbered;
+        has = p.has.1;
+        keeps = p.keeps.1;
+      }
 
   pub at_unhold : CodeSteps program (Tokened.unhold y rest)
   at_unhold idle inner frames tokens input s fs left idle_is at fit =
@@ -250,9 +261,8 @@ module _ (program : Lowering) (y : ℕ) (rest : Tokened) where
           ∙ held_out slots v y next.held fresh in
           let value : s.frame.cells (v + y) ≡ Some 0 = subst (λ slot. SlotIs s.address slot (s.frame.cells (v + y))) empty
           (at.has.tokens.are y) in
-          let few = p.short in
-          goes_on program (Tokened.unhold y rest) inner frames tokens input s fs left at idle fit rest (line ∷ []) p.lines.0 s fs tokens
-          s.bound next 12 goes
+          acts_on_tokens program (Tokened.unhold y rest) inner frames tokens input s fs left at idle idle_is fit rest line
+          p.lines.0 (unhold_acts inner frames tokens input s fs left at) s.frame s.owners s.world tokens next 12
           (record {
             cost = 9;
             steps = 1;
@@ -264,17 +274,6 @@ module _ (program : Lowering) (y : ℕ) (rest : Tokened) where
             function = refl;
           })
           (record {
-            parts = p.lines.2;
-            low = p.low;
-            lines = p.lines.1;
-            part_is = record { way = []; is_part = inl refl; code_is = refl };
-            within = within_itself s.bound;
-            older = within_itself s.bound;
-            below = at.has.below;
-            marked = p.marked;
-            numbered = p.numbered;
-            has = p.has.1;
-            keeps = p.keeps.1;
             judged = kept.1.1;
             cells = at.cells;
             stand = nothing_stands program.layout at.shape.standing s.address s.owners (tokens.slots (length next.older)) p.keeps.0;
@@ -284,8 +283,7 @@ module _ (program : Lowering) (y : ℕ) (rest : Tokened) where
                 (at.has.held_is ∙ left_held);
             waits = subst (λ o. AllWait program s.address (length s.heap) tokens.slots o frames fs at.shape.result) parts.1 at.waits;
           })
-          (silent_goes program) (omega arith)
-          (ap (λ action. seen_action program action input) step) (omega (arith, idle_is)) (omega arith)
+          (omega arith) step
       by (has_cell q has) =
           let p = at.does.placed in
           let v = at.shape.variables in
@@ -335,9 +333,8 @@ module _ (program : Lowering) (y : ℕ) (rest : Tokened) where
             frame = holding_now (held_values slots v older_held) s.frame;
             world = with_cells s.world back.now;
           } in
-          let few = p.short in
-          goes_on program (Tokened.unhold y rest) inner frames tokens input s fs left at idle fit rest (line ∷ []) p.lines.0 to fs after
-          s.bound next 12 goes
+          acts_on_tokens program (Tokened.unhold y rest) inner frames tokens input s fs left at idle idle_is fit rest line
+          p.lines.0 (unhold_acts inner frames tokens input s fs left at) to.frame to.owners to.world after next 12
           (record {
             cost = 9;
             steps = 1;
@@ -350,17 +347,6 @@ module _ (program : Lowering) (y : ℕ) (rest : Tokened) where
             function = refl;
           })
           (record {
-            parts = p.lines.2;
-            low = p.low;
-            lines = p.lines.1;
-            part_is = record { way = []; is_part = inl refl; code_is = refl };
-            within = within_itself s.bound;
-            older = within_itself s.bound;
-            below = at.has.below;
-            marked = p.marked;
-            numbered = p.numbered;
-            has = p.has.1;
-            keeps = p.keeps.1;
             judged = kept.1.1;
             stand = nothing_stands program.layout at.shape.standing s.address to.owners (after.slots (length next.older)) p.keeps.0;
             cells = cell_turns at.cells program.aligned n y q owner links cell mark
@@ -375,5 +361,4 @@ module _ (program : Lowering) (y : ℕ) (rest : Tokened) where
                 parts.1 (ap (held_values slots v) same_held);
             waits = subst (λ o. AllWait program s.address (length s.heap) tokens.slots o frames fs at.shape.result) parts.1 at.waits;
           })
-          (silent_goes program) (omega arith)
-          (ap (λ action. seen_action program action input) step) (omega (arith, idle_is)) (omega arith)
+          (omega arith) step

@@ -54,7 +54,8 @@ joins_move setting variables goal low high lines (TokenedMove.opens x c fields u
 joins_move setting variables goal low high lines (TokenedMove.opens_unique x c fields used y) last branch is are = absurd is
 joins_move setting variables goal low high lines (TokenedMove.dups x) last branch is are = absurd is
 joins_move setting variables goal low high lines (TokenedMove.drops x) last branch is are = absurd is
-joins_move setting variables goal low high lines (TokenedMove.fills x y c first arguments kept others) last branch is are = absurd is
+joins_move setting variables goal low high lines (TokenedMove.fills x y c first arguments kept others) last branch is are =
+    absurd is
 joins_move setting variables goal low high lines (TokenedMove.frees y) last branch is are = absurd is
 joins_move setting variables goal low high lines (TokenedMove.nulls y) last branch is are = absurd is
 joins_move setting variables goal low high lines (TokenedMove.moves to of) last branch is are = absurd is
@@ -201,7 +202,8 @@ branches_given {a} {b} {c} {d} facts variables goal branch x decisions arms targ
     bodies =
     branches_written facts variables goal branch x (decisions_of decisions) (map tokened_code arms) targets negative
     (subst (λ n. TookTargets n (length (decisions_of decisions)) targets a b) (count_is ∙ sym (length-map arms tokened_code))
-    (subst (λ n. TookTargets count n targets a b) (sym (length-map decisions.nodes.items node_tree)) took)) negative_is choice bodies
+    (subst (λ n. TookTargets count n targets a b) (sym (length-map decisions.nodes.items node_tree)) took)) negative_is choice
+    bodies
 
 plug_two : (first second : List TokenedMove) (last : Tokened)
     → plug_tokened (first ++ second) last ≡ plug_tokened first (plug_tokened second last)

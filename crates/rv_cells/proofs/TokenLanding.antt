@@ -1,5 +1,5 @@
 -- Lines of one form lead to those of the code behind it, in the same function: what is to be shown of the place where it goes on.
-use Rattle.std.proofs.Common.{◌≡◌, ℕ, suc, ◌+◌, ◌<◌, ◌≤◌, true, false, List, [], ◌++◌, length, flat_map, refl, sym, ◌∙◌, ap, subst, arith, append_assoc}
+use Rattle.std.proofs.Common.{◌≡◌, ℕ, suc, ◌+◌, ◌<◌, ◌≤◌, true, false, List, [], ◌∷◌, ◌++◌, length, flat_map, refl, sym, ◌∙◌, ap, subst, arith, append_assoc}
 use Rattle.kk_base.specs.Trace.{Event}
 use Rattle.kk_syntax.specs.Shapes.{is_among}
 use Rattle.kk_source.specs.State.{Environment}
@@ -29,7 +29,8 @@ use Rattle.rv_cells.specs.TokenedLines.{CodeLines, HasSlots, Keeps}
 use Rattle.rv_cells.proofs.Runs.{turn_of, Runs}
 use Rattle.rv_cells.proofs.Spots.{Spot, Known, Here, Did, saved}
 use Rattle.rv_cells.proofs.TokenOpenings.{Leads}
-use Rattle.rv_cells.proofs.Bound.{AreWithin, has_fewer}
+use Rattle.rv_cells.specs.Follows.{Owner}
+use Rattle.rv_cells.proofs.Bound.{AreWithin, has_fewer, within_itself}
 use Rattle.rv_cells.proofs.FormPlaces.{tree_in, Next, stands_behind}
 use Rattle.rv_cells.proofs.TokenLineCosts.{forms}
 use Rattle.rv_cells.proofs.TokenStanding.{lines_setting}
@@ -261,3 +262,62 @@ module _ (program : Lowering) where
             bytes = at.bytes;
           };
         }))
+
+    -- What is known of a code that does something with tokens alone, by one line: the code behind it has the same variables.
+    pub record ActsOnTokens (rest : Tokened) (line : Line) (more : List Line) : Type 0 where
+      pub forms_are : forms code ≡ suc (forms rest)
+      pub parts : at.does.placed.own ≡ line ∷ more
+      pub lines : CodeLines (lines_setting program at.shape)
+          at.shape.variables at.does.goal at.does.placed.low rest more at.does.placed.high
+      pub part_is : GoesTo rest (line ∷ []) more at.does.placed.low lines
+      pub marked : HasMark program.marks at.shape.holds at.shape.result s.bound at.does.given (bare rest)
+      pub numbered : AreNumbered at.shape.variables s.bound (bare rest)
+      pub has : HasSlots at.shape.slots rest
+      pub keeps : Keeps at.shape.standing rest
+
+    -- what is to be shown of the tokens behind it, by their lists, where a spot has this heap still
+    pub record HasTokens (rest : Tokened) (to : Spot) (after : Tokens) (next : Lists) : Type 0 where
+      pub judged : IsJudged program.pool.cells next.left next.unspent next.held next.older rest inner frames s.heap after
+      pub cells : HaveTokenCells program.pool program.layout to.address to.owners s.heap after
+      pub stand : AllStand program.layout at.shape.standing to.address to.owners (after.slots (length next.older))
+      pub slots_are : HaveSlotValues to.address (after.slots (length next.older)) at.shape.variables at.shape.slots to.frame.cells
+      pub held_is : to.frame.held ≡ held_values (after.slots (length next.older)) at.shape.variables next.held
+      pub waits : AllWait program to.address (length s.heap) after.slots next.older frames fs at.shape.result
+
+    pub acts_on_tokens : (idle : ℕ) → idle ≡ forms code
+        → (fit : IsFitFrom program (token_at code s.environment inner frames s.heap tokens input))
+        → (rest : Tokened) (line : Line) (more : List Line) → ActsOnTokens rest line more
+        → (frame : Frame Line) (owners : ℕ → Owner) (world : World) (after : Tokens) (next : Lists) (most : ℕ)
+        → Lands (known_of program at.shape) most (line ∷ []) (more ++ at.does.placed.after) fs fs s
+        (record s { frame = frame; owners = owners; world = world })
+        → HasTokens rest (record s { frame = frame; owners = owners; world = world }) after next
+        → most ≤ (upper program).weight (token_at code s.environment inner frames s.heap tokens input)
+        → token_code_step (setting program) code s.environment inner (machine_at code s.environment inner frames s.heap tokens)
+        ≡ goes (machine_at rest s.environment inner frames s.heap after)
+        → Follows_step program idle (token_at code s.environment inner frames s.heap tokens input) (turn_of left s.frame fs s.world)
+    acts_on_tokens idle idle_is fit rest line more acts frame owners world after next most lands has cheap step =
+        let few = at.does.placed.short in
+        let forms_are = acts.forms_are in
+        goes_on idle fit rest (line ∷ []) more (record s { frame = frame; owners = owners; world = world }) fs after s.bound
+        next most goes lands
+        (record {
+          parts = acts.parts;
+          low = at.does.placed.low;
+          lines = acts.lines;
+          part_is = acts.part_is;
+          within = within_itself s.bound;
+          older = within_itself s.bound;
+          below = at.has.below;
+          marked = acts.marked;
+          numbered = acts.numbered;
+          has = acts.has;
+          keeps = acts.keeps;
+          judged = has.judged;
+          cells = has.cells;
+          stand = has.stand;
+          slots_are = has.slots_are;
+          held_is = has.held_is;
+          waits = has.waits;
+        })
+        silent_goes cheap (ap (λ action. seen_action action input) step) (omega (arith, idle_is, forms_are))
+        (omega (arith, few, forms_are))

@@ -18,7 +18,6 @@ use Rattle.rv_lower.specs.Lines.{copies_to}
 use Rattle.rv_cells.specs.Follows.{Owner}
 use Rattle.rv_cells.proofs.Acting.{put_in}
 use Rattle.rv_cells.specs.Layout.{Layout}
-use Rattle.rv_cells.proofs.Bound.{within_itself}
 use Rattle.rv_cells.proofs.Runs.{turn_of}
 use Rattle.rv_cells.proofs.Spots.{Spot, Here}
 use Rattle.rv_cells.proofs.TokenForms.{moves_token}
@@ -26,7 +25,7 @@ use Rattle.rv_cells.proofs.TokenFrames.{none_behind, slots_put, all_wait_at}
 use Rattle.rv_cells.proofs.TokenLineCosts.{forms}
 use Rattle.rv_cells.proofs.TokenStanding.{SlotIs, IsTokenCell, token_words, HaveTokenCells, HaveSlotValues, held_values, Lowering, AllWait, setting, known_of, At, IsFitFrom, Follows_step}
 use Rattle.rv_cells.proofs.TokenStands.{nothing_stands}
-use Rattle.rv_cells.proofs.TokenLanding.{lands_leads, token_at, machine_at, CodeSteps, silent_goes, seen_action, goes_on, kept_quiet}
+use Rattle.rv_cells.proofs.TokenLanding.{lands_leads, token_at, machine_at, CodeSteps, kept_quiet, ActsOnTokens, acts_on_tokens}
 use Rattle.rv_cells.proofs.TokenUniques.{slots_set, another}
 
 -- the cell of a token becomes that of another slot, which is linked where the first one is
@@ -84,6 +83,21 @@ module _ (program : Lowering) (to of : ℕ) (rest : Tokened) where
       (fs : List (Frame Line)) (left : List Line) (idle_is : idle ≡ suc (forms rest))
       (at : At program (Tokened.move to of rest) inner frames tokens input s fs left)
       (fit : IsFitFrom program (token_at program (Tokened.move to of rest) s.environment inner frames s.heap tokens input)) where
+    move_acts : ActsOnTokens program (Tokened.move to of rest) inner frames tokens input s fs left at rest
+        (copies_to (at.shape.variables + of) (at.shape.variables + to)) at.does.placed.lines.0
+    move_acts =
+        let p = at.does.placed in
+        record {
+          forms_are = refl;
+          parts = p.lines.2;
+          lines = p.lines.1;
+          part_is = record { way = []; is_part = inl refl; code_is = refl };
+          marked = p.marked;
+          numbered = p.numbered;
+          has = p.has.1.1;
+          keeps = p.keeps.1;
+        }
+
     -- the slot has this token with this word
     moves_it : (word : ℕ) (slot : Slot) (after : Tokens) → s.frame.cells (at.shape.variables + of) ≡ Some word
         → moved (length at.lists.older) to of tokens ≡ Some after
@@ -110,24 +124,12 @@ module _ (program : Lowering) (to of : ℕ) (rest : Tokened) where
         (λ z differ low. refl) in
         let second = slots_put {others = slots_with n to slot without_it n} first to word slot p.has.0 (slot_here n to slot without_it) slot_is
         (λ z differ. slot_there n to n z slot without_it (another n to z differ)) in
-        let few = p.short in
-        goes_on program (Tokened.move to of rest) inner frames tokens input s fs left at idle fit rest
-        (copies_to (v + of) (v + to) ∷ []) p.lines.0 (record s { frame = put_in (v + to) word s.frame }) fs
-        after s.bound (record at.lists { unspent = to ∷ without (of ∷ []) at.lists.unspent }) 4 goes
+        acts_on_tokens program (Tokened.move to of rest) inner frames tokens input s fs left at idle idle_is fit rest
+        (copies_to (v + of) (v + to)) p.lines.0 move_acts (put_in (v + to) word s.frame) s.owners s.world after
+        (record at.lists { unspent = to ∷ without (of ∷ []) at.lists.unspent }) 4
         (lands_leads (moves_token (known_of program at.shape) (p.lines.0 ++ p.after) fs s here (v + of) (v + to) word
         (none_behind s.bound v to at.has.below) value))
         (record {
-          parts = p.lines.2;
-          low = p.low;
-          lines = p.lines.1;
-          part_is = record { way = []; is_part = inl refl; code_is = refl };
-          within = within_itself s.bound;
-          older = within_itself s.bound;
-          below = at.has.below;
-          marked = p.marked;
-          numbered = p.numbered;
-          has = p.has.1.1;
-          keeps = p.keeps.1;
           judged = subst (λ (l : Lists). IsJudged program.pool.cells l.left l.unspent l.held l.older rest inner frames s.heap after)
               kept.1.0 kept.1.1;
           cells = cells;
@@ -142,8 +144,7 @@ module _ (program : Lowering) (to of : ℕ) (rest : Tokened) where
               (all_wait_at program s.address (length s.heap) tokens.slots without_it at.lists.older frames fs at.shape.result
               (equal_one n n of spent tokens.slots (omega arith)) at.waits));
         })
-        (silent_goes program) (omega arith)
-        (ap (λ action. seen_action program action input) step) (omega (arith, idle_is)) (omega arith)
+        (omega arith) step
 
     steps_move : Follows_step program idle (token_at program (Tokened.move to of rest) s.environment inner frames s.heap tokens input)
         (turn_of left s.frame fs s.world)

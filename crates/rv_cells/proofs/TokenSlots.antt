@@ -4,6 +4,7 @@ use Rattle.kk_syntax.specs.Shapes.{is_among, without}
 use Rattle.kk_source.specs.Actions.{goes}
 use Rattle.kk_counted.specs.TokenKeeping.{Lists, IsJudged}
 use Rattle.kk_counted.specs.TokenMachine.{token_code_step, at_code, to_tokens}
+use Rattle.kk_counted.specs.TokenStates.{TokenJoin, TokenFrame}
 use Rattle.kk_counted.specs.TokenedCodes.{Tokened}
 use Rattle.kk_counted.specs.Tokens.{spent, null, token, token_of, Tokens, is_linked, blanked, released, freed}
 use Rattle.kk_counted.proofs.Chaining.{equal_one, frames_many, not_linked}
@@ -11,11 +12,12 @@ use Rattle.kk_counted.proofs.Pooling.{slot_here, slot_there, by_null, by_cell}
 use Rattle.kk_counted.proofs.TokenForms.{Has, is_null, has_cell, unspent_has}
 use Rattle.rv_isa.specs.declared.asm.Action.TheVariants.{Compute}
 use Rattle.rv_isa.specs.declared.asm.Operation.TheVariants as Op
+use Rattle.rv_isa.specs.AsmCode.{Line}
+use Rattle.rv_isa.specs.Frames.{Frame}
 use Rattle.rv_lower.specs.Lines.{sets, acts}
 use Rattle.rv_world.specs.World.{with_cells}
 use Rattle.rv_cells.specs.Follows.{nobody, is_aside, with_owner}
 use Rattle.rv_cells.proofs.Acting.{put_in}
-use Rattle.rv_cells.proofs.Bound.{within_itself}
 use Rattle.rv_cells.proofs.Owners.{chosen_same, chosen_other}
 use Rattle.rv_cells.proofs.Runs.{turn_of}
 use Rattle.rv_cells.proofs.Spots.{Spot, Here}
@@ -23,9 +25,9 @@ use Rattle.rv_cells.proofs.TokenForms.{nulls_token, frees_token, frees_null}
 use Rattle.rv_cells.proofs.Words.{hand_owned}
 use Rattle.rv_cells.proofs.TokenCells.{cell_goes}
 use Rattle.rv_cells.proofs.TokenFrames.{none_behind, slots_put, all_wait_at}
-use Rattle.rv_cells.proofs.TokenStanding.{SlotIs, IsTokenCell, token_words, held_values, Lowering, setting, known_of, Follows_step}
+use Rattle.rv_cells.proofs.TokenStanding.{SlotIs, IsTokenCell, token_words, held_values, Lowering, setting, known_of, At, Follows_step}
 use Rattle.rv_cells.proofs.TokenStands.{stand_set}
-use Rattle.rv_cells.proofs.TokenLanding.{lands_leads, token_at, machine_at, CodeSteps, silent_goes, seen_action, goes_on, kept_quiet}
+use Rattle.rv_cells.proofs.TokenLanding.{lands_leads, token_at, machine_at, CodeSteps, kept_quiet, ActsOnTokens, acts_on_tokens}
 use Rattle.rv_cells.proofs.TokenUniques.{slots_set, another}
 
 -- a mark tells its slot
@@ -33,6 +35,23 @@ same_slot : {f g y z : ℕ} → token_of f y ≡ token_of g z → y ≡ z
 same_slot e = cc e
 
 module _ (program : Lowering) (y : ℕ) (rest : Tokened) where
+  null_acts : (inner : List TokenJoin) (frames : List TokenFrame) (tokens : Tokens) (input : List ℕ) (s : Spot)
+      (fs : List (Frame Line)) (left : List Line) (at : At program (Tokened.null y rest) inner frames tokens input s fs left)
+      → ActsOnTokens program (Tokened.null y rest) inner frames tokens input s fs left at rest
+      (sets 0 (at.shape.variables + y)) at.does.placed.lines.0
+  null_acts inner frames tokens input s fs left at =
+      let p = at.does.placed in
+      record {
+        forms_are = refl;
+        parts = p.lines.2;
+        lines = p.lines.1;
+        part_is = record { way = []; is_part = inl refl; code_is = refl };
+        marked = p.marked;
+        numbered = p.numbered;
+        has = p.has.1;
+        keeps = p.keeps;
+      }
+
   pub at_null : CodeSteps program (Tokened.null y rest)
   at_null idle inner frames tokens input s fs left idle_is at fit =
       let p = at.does.placed in
@@ -47,25 +66,13 @@ module _ (program : Lowering) (y : ℕ) (rest : Tokened) where
       = ap (λ f. goes (to_tokens (Some (blanked f y null tokens)) from (at_code rest s.environment inner from))) many in
       let kept = kept_quiet program (Tokened.null y rest) inner frames tokens input s fs left at
       (machine_at program rest s.environment inner frames s.heap after) step refl in
-      let to : Spot = record s { frame = put_in (v + y) 0 s.frame } in
       let nothing = at.judged.spends.0 in
-      let few = p.short in
-      goes_on program (Tokened.null y rest) inner frames tokens input s fs left at idle fit rest (sets 0 (v + y) ∷ []) p.lines.0 to fs
-      after s.bound (record at.lists { unspent = y ∷ at.lists.unspent }) 4 goes
+      acts_on_tokens program (Tokened.null y rest) inner frames tokens input s fs left at idle idle_is fit rest (sets 0 (v + y))
+      p.lines.0 (null_acts inner frames tokens input s fs left at) (put_in (v + y) 0 s.frame) s.owners s.world after
+      (record at.lists { unspent = y ∷ at.lists.unspent }) 4
       (lands_leads (nulls_token (known_of program at.shape) (p.lines.0 ++ p.after) fs s here (v + y)
       (none_behind s.bound v y at.has.below)))
       (record {
-        parts = p.lines.2;
-        low = p.low;
-        lines = p.lines.1;
-        part_is = record { way = []; is_part = inl refl; code_is = refl };
-        within = within_itself s.bound;
-        older = within_itself s.bound;
-        below = at.has.below;
-        marked = p.marked;
-        numbered = p.numbered;
-        has = p.has.1;
-        keeps = p.keeps;
         judged = subst (λ (l : Lists). IsJudged program.pool.cells l.left l.unspent l.held l.older rest inner frames s.heap after)
             kept.1.0 kept.1.1;
         cells = record { are = at.cells.are; apart = at.cells.apart; number = at.cells.number };
@@ -79,8 +86,24 @@ module _ (program : Lowering) (y : ℕ) (rest : Tokened) where
         waits = all_wait_at program s.address (length s.heap) tokens.slots after.slots at.lists.older frames fs at.shape.result
             (equal_one n n y null tokens.slots (omega arith)) at.waits;
       })
-      (silent_goes program) (omega arith)
-      (ap (λ action. seen_action program action input) step) (omega (arith, idle_is)) (omega arith)
+      (omega arith) step
+
+  free_acts : (inner : List TokenJoin) (frames : List TokenFrame) (tokens : Tokens) (input : List ℕ) (s : Spot)
+      (fs : List (Frame Line)) (left : List Line) (at : At program (Tokened.free y rest) inner frames tokens input s fs left)
+      → ActsOnTokens program (Tokened.free y rest) inner frames tokens input s fs left at rest
+      (acts (Compute Op.Free) ((at.shape.variables + y) ∷ [])) at.does.placed.lines.0
+  free_acts inner frames tokens input s fs left at =
+      let p = at.does.placed in
+      record {
+        forms_are = refl;
+        parts = p.lines.2;
+        lines = p.lines.1;
+        part_is = record { way = []; is_part = inl refl; code_is = refl };
+        marked = p.marked;
+        numbered = p.numbered;
+        has = p.has.1;
+        keeps = p.keeps;
+      }
 
   pub at_free : CodeSteps program (Tokened.free y rest)
   at_free idle inner frames tokens input s fs left idle_is at fit =
@@ -107,23 +130,11 @@ module _ (program : Lowering) (y : ℕ) (rest : Tokened) where
           let value : s.frame.cells (v + y) ≡ Some 0 = subst (λ slot. SlotIs s.address slot (s.frame.cells (v + y))) empty
           (at.has.tokens.are y) in
           let nothing = at.judged.spends.0 in
-          let few = p.short in
-          goes_on program (Tokened.free y rest) inner frames tokens input s fs left at idle fit rest
-          (acts (Compute Op.Free) ((v + y) ∷ []) ∷ []) p.lines.0 s fs
-          after s.bound (record at.lists { unspent = without (y ∷ []) at.lists.unspent }) 7 goes
+          acts_on_tokens program (Tokened.free y rest) inner frames tokens input s fs left at idle idle_is fit rest
+          (acts (Compute Op.Free) ((v + y) ∷ [])) p.lines.0 (free_acts inner frames tokens input s fs left at) s.frame s.owners s.world after
+          (record at.lists { unspent = without (y ∷ []) at.lists.unspent }) 7
           (lands_leads (frees_null (known_of program at.shape) (p.lines.0 ++ p.after) fs s here (v + y) value))
           (record {
-            parts = p.lines.2;
-            low = p.low;
-            lines = p.lines.1;
-            part_is = record { way = []; is_part = inl refl; code_is = refl };
-            within = within_itself s.bound;
-            older = within_itself s.bound;
-            below = at.has.below;
-            marked = p.marked;
-            numbered = p.numbered;
-            has = p.has.1;
-            keeps = p.keeps;
             judged = subst (λ (l : Lists). IsJudged program.pool.cells l.left l.unspent l.held l.older rest inner frames s.heap after)
                 kept.1.0 kept.1.1;
             cells = record { are = at.cells.are; apart = at.cells.apart; number = at.cells.number };
@@ -137,8 +148,7 @@ module _ (program : Lowering) (y : ℕ) (rest : Tokened) where
             waits = all_wait_at program s.address (length s.heap) tokens.slots after.slots at.lists.older frames fs at.shape.result
                 (equal_one n n y spent tokens.slots (omega arith)) at.waits;
           })
-          (silent_goes program) (omega arith)
-          (ap (λ action. seen_action program action input) step) (omega (arith, idle_is)) (omega arith)
+          (omega arith) step
       by (has_cell q has) =
           let p = at.does.placed in
           let v = at.shape.variables in
@@ -167,23 +177,11 @@ module _ (program : Lowering) (y : ℕ) (rest : Tokened) where
           let done = frees_token (known_of program at.shape) (p.lines.0 ++ p.after) fs s here (v + y) (s.address q) hand.0 value hand.1
           program.some in
           let to : Spot = record s { owners = with_owner (s.address q) nobody s.owners; world = with_cells s.world done.0 } in
-          let few = p.short in
-          goes_on program (Tokened.free y rest) inner frames tokens input s fs left at idle fit rest
-          (acts (Compute Op.Free) ((v + y) ∷ []) ∷ []) p.lines.0 to fs
-          after s.bound (record at.lists { unspent = without (y ∷ []) at.lists.unspent }) 7 goes
+          acts_on_tokens program (Tokened.free y rest) inner frames tokens input s fs left at idle idle_is fit rest
+          (acts (Compute Op.Free) ((v + y) ∷ [])) p.lines.0 (free_acts inner frames tokens input s fs left at) s.frame to.owners to.world after
+          (record at.lists { unspent = without (y ∷ []) at.lists.unspent }) 7
           (lands_leads done.1)
           (record {
-            parts = p.lines.2;
-            low = p.low;
-            lines = p.lines.1;
-            part_is = record { way = []; is_part = inl refl; code_is = refl };
-            within = within_itself s.bound;
-            older = within_itself s.bound;
-            below = at.has.below;
-            marked = p.marked;
-            numbered = p.numbered;
-            has = p.has.1;
-            keeps = p.keeps;
             judged = subst (λ (l : Lists). IsJudged program.pool.cells l.left l.unspent l.held l.older rest inner frames s.heap after)
                 kept.1.0 kept.1.1;
             cells = cell_goes at.cells program.aligned n y q s.address (with_owner (s.address q) nobody s.owners) s.heap after
@@ -206,5 +204,4 @@ module _ (program : Lowering) (y : ℕ) (rest : Tokened) where
             waits = all_wait_at program s.address (length s.heap) tokens.slots after.slots at.lists.older frames fs at.shape.result
                 (equal_one n n y spent tokens.slots (omega arith)) at.waits;
           })
-          (silent_goes program) (omega arith)
-          (ap (λ action. seen_action program action input) step) (omega (arith, idle_is)) (omega arith)
+          (omega arith) step

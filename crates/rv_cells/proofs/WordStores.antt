@@ -1,5 +1,6 @@
 -- Some words of a cell in hand are stored: those that a token's cell has already, and the others.
-use Rattle.std.proofs.Common.{◌≡◌, ◌≢◌, ◌<◌, ◌≤◌, ℕ, ◌+◌, Bool, true, false, not, List, [], ◌∷◌, ◌++◌, length, Option, Some, refl, sym, ◌∙◌, ap, subst, arith, append_assoc}
+use Rattle.std.proofs.Common.{◌≡◌, ◌≢◌, ◌<◌, ◌≤◌, ℕ, ◌+◌, Bool, true, false, not, List, [], ◌∷◌, ◌++◌, length, Option, Some, refl}
+use Rattle.std.proofs.Common.{sym, ◌∙◌, ap, subst, arith, append_assoc}
 use Rattle.kk_counted.specs.Heaps.{Heap}
 use Rattle.kk_counted.specs.Spending.{AllAmong}
 use Rattle.rv_isa.specs.AsmCode.{Line}
@@ -14,7 +15,8 @@ use Rattle.rv_cells.specs.Follows.{AreFrom, Owner}
 use Rattle.rv_cells.specs.CellLines.{SetIf, SomeWords, is_kept}
 use Rattle.rv_cells.proofs.Acting.{put_in, sets_runs}
 use Rattle.rv_cells.proofs.Constructing.{Hands, stored, store_hand}
-use Rattle.rv_cells.proofs.KeptStores.{picked, word_if, word_other, with_some, AreSome, some_below, some_later, some_written, all_written, some_run}
+use Rattle.rv_cells.proofs.KeptStores.{picked, word_if, word_other, with_some, AreSome, some_below, some_later, some_written}
+use Rattle.rv_cells.proofs.KeptStores.{all_written, some_run}
 use Rattle.rv_cells.proofs.LineCosts.{most_moves, row_cost}
 use Rattle.rv_cells.proofs.Owners.{chosen_same}
 use Rattle.rv_cells.proofs.Runs.{Target, turn_of, Runs, runs_none, runs_then}
