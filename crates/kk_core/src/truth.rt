@@ -1,4 +1,4 @@
-ghost use Rattle.std.specs.Prelude.{◌≡◌, map, IfOk};
+ghost use Rattle.std.specs.Prelude.{◌≡◌, false, map, IfOk};
 ghost use Rattle.kk_core.specs.Decisions.{node_tree};
 ghost use Rattle.kk_core.specs.Truths as Truths;
 
@@ -9,7 +9,10 @@ use std::alloc::Global;
 
 /// The decisions of a truth, among the rows `True` and `False`: one test, with one edge.
 pub fn truth_decisions(alloc: Global) -> Result<Decisions, NoMemory>
-    ensures { IfOk result (λ decisions. map node_tree decisions.nodes.items ≡ Truths.truth_decisions) }
+    ensures nodes { IfOk result (λ decisions. map node_tree decisions.nodes.items ≡ Truths.truth_decisions) }
+    ensures rows { IfOk result (λ decisions. decisions.rows ≡ 2) }
+    ensures tests { IfOk result (λ decisions. decisions.tests ≡ 1) }
+    ensures by_rows { IfOk result (λ decisions. decisions.by_rows ≡ false) }
 {
     let is_false = Edge {
         found: Answer::Constructor(Program::FALSE),
