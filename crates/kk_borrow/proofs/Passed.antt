@@ -29,10 +29,14 @@ abbrev pub Tells : (ℕ → Bool) → List Binding → List ℕ → Type 0
 Tells owned scope lent = (x : ℕ) → is_among lent x ≡ some_lent owned (origins_of scope x)
 
 origins-append : (xs ys : List Binding) (x : ℕ) → origins_of (xs ++ ys) x ≡ origins_of xs x ++ origins_of ys x
-origins-append xs ys x = ap (map (λ b. b.parameter)) (filter-append (λ b. b.variable == x) xs ys) ∙ map-append (λ b. b.parameter) (filter (λ b. b.variable == x) xs) (filter (λ b. b.variable == x) ys)
+origins-append xs ys x =
+    ap (map (λ b. b.parameter)) (filter-append (λ b. b.variable == x) xs ys)
+    ∙ map-append (λ b. b.parameter) (filter (λ b. b.variable == x) xs) (filter (λ b. b.variable == x) ys)
 
-lent-append : (owned : ℕ → Bool) (xs ys : List Binding) (x : ℕ) → some_lent owned (origins_of (xs ++ ys) x) ≡ (some_lent owned (origins_of xs x) || some_lent owned (origins_of ys x))
-lent-append owned xs ys x = ap (some_lent owned) (origins-append xs ys x) ∙ list_any-append (λ p. not (owned p)) (origins_of xs x) (origins_of ys x)
+lent-append : (owned : ℕ → Bool) (xs ys : List Binding) (x : ℕ)
+    → some_lent owned (origins_of (xs ++ ys) x) ≡ (some_lent owned (origins_of xs x) || some_lent owned (origins_of ys x))
+lent-append owned xs ys x =
+    ap (some_lent owned) (origins-append xs ys x) ∙ list_any-append (λ p. not (owned p)) (origins_of xs x) (origins_of ys x)
 
 kept_if : (c : Bool) (os : List ℕ) (owned : ℕ → Bool) → some_lent owned (cond c os []) ≡ (c && some_lent owned os)
 kept_if true os owned = refl
@@ -44,12 +48,15 @@ hung_is y x [] false is = refl
 hung_is y x (o ∷ os) true is = rw is (ap (λ (ps : List ℕ). o ∷ ps) (hung_is y x os true is))
 hung_is y x (o ∷ os) false is = rw is (hung_is y x os false is)
 
-all_hung_lent : (owned : ℕ → Bool) (ys : List ℕ) (os : List ℕ) (x : ℕ) → some_lent owned (origins_of (all_hung ys os) x) ≡ (is_among ys x && some_lent owned os)
+all_hung_lent : (owned : ℕ → Bool) (ys : List ℕ) (os : List ℕ) (x : ℕ)
+    → some_lent owned (origins_of (all_hung ys os) x) ≡ (is_among ys x && some_lent owned os)
 all_hung_lent owned [] os x = refl
 all_hung_lent owned (y ∷ ys) os x =
     lent-append owned (hung y os) (all_hung ys os) x
-    ∙ (ap (λ b. b || some_lent owned (origins_of (all_hung ys os) x)) (ap (some_lent owned) (hung_is y x os (y == x) refl) ∙ kept_if (y == x) os owned)
-    ∙ (ap (λ b. (y == x && some_lent owned os) || b) (all_hung_lent owned ys os x) ∙ spread (y == x) (is_among ys x) (some_lent owned os)))
+    ∙ (ap (λ b. b || some_lent owned (origins_of (all_hung ys os) x))
+    (ap (some_lent owned) (hung_is y x os (y == x) refl) ∙ kept_if (y == x) os owned)
+    ∙ (ap (λ b. (y == x && some_lent owned os) || b) (all_hung_lent owned ys os x)
+    ∙ spread (y == x) (is_among ys x) (some_lent owned os)))
   where
     spread : (a b c : Bool) → ((a && c) || (b && c)) ≡ ((a || b) && c)
     spread true true true = refl
@@ -59,11 +66,13 @@ all_hung_lent owned (y ∷ ys) os x =
     spread true false false = refl
 
 -- the scope in a row
-row_tells : (owned : ℕ → Bool) (scope : List Binding) (lent : List ℕ) → Tells owned scope lent → (opened : Bool) (os : List ℕ) → opened ≡ some_lent owned os → (p : Pattern) → Tells owned (scope ++ all_hung (bound p) os) (lent_in_row lent opened p)
+row_tells : (owned : ℕ → Bool) (scope : List Binding) (lent : List ℕ) → Tells owned scope lent → (opened : Bool) (os : List ℕ)
+    → opened ≡ some_lent owned os → (p : Pattern) → Tells owned (scope ++ all_hung (bound p) os) (lent_in_row lent opened p)
 row_tells owned scope lent tells true os is p x =
     list_any-append (λ y. y == x) lent (bound p)
     ∙ (ap (λ b. b || is_among (bound p) x) (tells x)
-    ∙ (ap (λ b. some_lent owned (origins_of scope x) || b) (sym (all_hung_lent owned (bound p) os x ∙ (ap (λ b. is_among (bound p) x && b) (sym is) ∙ and_true (is_among (bound p) x))))
+    ∙ (ap (λ b. some_lent owned (origins_of scope x) || b) (sym
+    (all_hung_lent owned (bound p) os x ∙ (ap (λ b. is_among (bound p) x && b) (sym is) ∙ and_true (is_among (bound p) x))))
     ∙ sym (lent-append owned scope (all_hung (bound p) os) x)))
   where
     and_true : (b : Bool) → (b && true) ≡ b
@@ -72,7 +81,8 @@ row_tells owned scope lent tells true os is p x =
 row_tells owned scope lent tells false os is p x =
     tells x
     ∙ sym (lent-append owned scope (all_hung (bound p) os) x
-    ∙ (ap (λ b. some_lent owned (origins_of scope x) || b) (all_hung_lent owned (bound p) os x ∙ (ap (λ b. is_among (bound p) x && b) (sym is) ∙ and_false (is_among (bound p) x)))
+    ∙ (ap (λ b. some_lent owned (origins_of scope x) || b) (all_hung_lent owned (bound p) os x
+    ∙ (ap (λ b. is_among (bound p) x && b) (sym is) ∙ and_false (is_among (bound p) x)))
     ∙ or_false (some_lent owned (origins_of scope x))))
   where
     and_false : (b : Bool) → (b && false) ≡ false
@@ -93,14 +103,17 @@ parameters_tell owned (suc count) x =
     (last (owned count) refl (count == x) refl)
     ∙ sym (lent-append owned (parameters count) (record { variable = count; parameter = count } ∷ []) x)))
   where
-    last : (o : Bool) → owned count ≡ o → (c : Bool) → (count == x) ≡ c → is_among (cond (owned count) [] (count ∷ [])) x ≡ some_lent owned (origins_of (record { variable = count; parameter = count } ∷ []) x)
+    last : (o : Bool) → owned count ≡ o → (c : Bool) → (count == x) ≡ c
+        → is_among (cond (owned count) [] (count ∷ [])) x ≡ some_lent owned
+        (origins_of (record { variable = count; parameter = count } ∷ []) x)
     last true is true same = rw (is, same) (rw is refl)
     last true is false same = rw (is, same) refl
     last false is true same = rw (is, same) (rw is refl)
     last false is false same = rw (is, same) refl
 
 -- an expression is a lent variable if one of the parameters on which it hangs is lent
-is_lent_tells : (owned : ℕ → Bool) (scope : List Binding) (lent : List ℕ) → Tells owned scope lent → (t : Tree) → is_lent_variable lent t ≡ some_lent owned (origins_in scope t)
+is_lent_tells : (owned : ℕ → Bool) (scope : List Binding) (lent : List ℕ) → Tells owned scope lent → (t : Tree)
+    → is_lent_variable lent t ≡ some_lent owned (origins_in scope t)
 is_lent_tells owned scope lent tells (variable of) = tells of
 is_lent_tells owned scope lent tells other = refl
 
@@ -120,7 +133,8 @@ each_has set f (o ∷ os) = (
       ((each_has set f os).1 (All-tail (Has set) (position f o) (map (position f) os) all)),
 )
 
-one_same : (program : ProgramTree) (set : PositionSet) (f : ℕ) (os : List ℕ) (p : Position) (lent : Bool) → lent ≡ some_lent (set f) os
+one_same : (program : ProgramTree) (set : PositionSet) (f : ℕ) (os : List ℕ) (p : Position) (lent : Bool)
+    → lent ≡ some_lent (set f) os
     → Keeps program set (record { premises = map (position f) os; conclusion = p }) ↔ All (Asks program set) (cond lent [] (p ∷ []))
 one_same program set f os p true is = (
   λ keeps. All-nil (Asks program set),
@@ -131,7 +145,8 @@ one_same program set f os p false is = (
   λ all has. All-head (Asks program set) p [] all,
 )
 
-join : {X Y : Type 0} (P : X → Type 0) (Q : Y → Type 0) (xs ys : List X) (zs ws : List Y) → (All P xs ↔ All Q zs) → (All P ys ↔ All Q ws) → All P (xs ++ ys) ↔ All Q (zs ++ ws)
+join : {X Y : Type 0} (P : X → Type 0) (Q : Y → Type 0) (xs ys : List X) (zs ws : List Y) → (All P xs ↔ All Q zs)
+    → (All P ys ↔ All Q ws) → All P (xs ++ ys) ↔ All Q (zs ++ ws)
 join P Q xs ys zs ws a b = (
   λ all. All-append Q zs ws (a.0 (all_left P xs ys all)) (b.0 (all_right P xs ys all)),
   λ all. All-append P xs ys (a.1 (all_left Q zs ws all)) (b.1 (all_right Q zs ws all)),
@@ -143,30 +158,45 @@ none P Q = (λ all. All-nil Q, λ all. All-nil P)
 one : {X : Type 0} (P : X → Type 0) (x : X) (B : Type 0) → (P x ↔ B) → All P (x ∷ []) ↔ B
 one P x B same = (λ all. same.0 (All-head P x [] all), λ b. All-cons P x [] (same.1 b) (All-nil P))
 
-passed_same : (program : ProgramTree) (set : PositionSet) (f : ℕ) (scope : List Binding) (lent : List ℕ) → Tells (set f) scope lent → (g index : ℕ) (ts : Trees)
+passed_same : (program : ProgramTree) (set : PositionSet) (f : ℕ) (scope : List Binding) (lent : List ℕ) → Tells (set f) scope lent
+    → (g index : ℕ) (ts : Trees)
     → All (Keeps program set) (passed f scope g index ts) ↔ All (Asks program set) (handed_to lent g index ts)
 passed_same program set f scope lent tells g index no_tree = none (Keeps program set) (Asks program set)
 passed_same program set f scope lent tells g index (tree first rest) =
-    join (Keeps program set) (Asks program set) (record { premises = map (position f) (origins_in scope first); conclusion = position g index } ∷ []) (passed f scope g (index + 1) rest)
+    join (Keeps program set) (Asks program set) (record {
+      premises = map (position f)
+          (origins_in scope first);
+      conclusion = position g index;
+    } ∷ []) (passed f scope g (index + 1) rest)
     (cond (is_lent_variable lent first) [] (position g index ∷ [])) (handed_to lent g (index + 1) rest)
-    (one (Keeps program set) (record { premises = map (position f) (origins_in scope first); conclusion = position g index }) (All (Asks program set) (cond (is_lent_variable lent first) [] (position g index ∷ [])))
-    (one_same program set f (origins_in scope first) (position g index) (is_lent_variable lent first) (is_lent_tells (set f) scope lent tells first)))
+    (one (Keeps program set) (record { premises = map (position f) (origins_in scope first); conclusion = position g index })
+    (All (Asks program set) (cond (is_lent_variable lent first) [] (position g index ∷ [])))
+    (one_same program set f (origins_in scope first) (position g index) (is_lent_variable lent first)
+    (is_lent_tells (set f) scope lent tells first)))
     (passed_same program set f scope lent tells g (index + 1) rest)
 
-passed_by_same : (program : ProgramTree) (set : PositionSet) (f : ℕ) (scope : List Binding) (lent : List ℕ) → Tells (set f) scope lent → (form : Form) (ts : Trees)
+passed_by_same : (program : ProgramTree) (set : PositionSet) (f : ℕ) (scope : List Binding) (lent : List ℕ)
+    → Tells (set f) scope lent → (form : Form) (ts : Trees)
     → All (Keeps program set) (passed_by f scope form ts) ↔ All (Asks program set) (handed_by lent (apply form ts))
 passed_by_same program set f scope lent tells (Call function) ts = passed_same program set f scope lent tells function 0 ts
 passed_by_same program set f scope lent tells form ts = none (Keeps program set) (Asks program set)
 
-passed_at_same : (program : ProgramTree) (set : PositionSet) (f : ℕ) (scope : List Binding) (lent : List ℕ) → Tells (set f) scope lent → (t : Tree)
+passed_at_same : (program : ProgramTree) (set : PositionSet) (f : ℕ) (scope : List Binding) (lent : List ℕ)
+    → Tells (set f) scope lent → (t : Tree)
     → All (Keeps program set) (passed_at f scope t) ↔ All (Asks program set) (handed_by lent t)
 passed_at_same program set f scope lent tells (apply form ts) = passed_by_same program set f scope lent tells form ts
 passed_at_same program set f scope lent tells _ = none (Keeps program set) (Asks program set)
 
-pub tail_same : (program : ProgramTree) (set : PositionSet) (f : ℕ) (scope : List Binding) (lent : List ℕ) → Tells (set f) scope lent → (t : Tree) → All (Keeps program set) (tail_rules f scope t) ↔ All (Asks program set) (handed_in lent t)
+pub tail_same : (program : ProgramTree) (set : PositionSet) (f : ℕ) (scope : List Binding) (lent : List ℕ)
+    → Tells (set f) scope lent → (t : Tree) → All (Keeps program set) (tail_rules f scope t) ↔ All (Asks program set)
+    (handed_in lent t)
 tail_same program set f scope lent tells t =
-    tails_agree (to_tail_rules f) to_handed (λ (rules : List RuleTree) (ps : List Position). All (Keeps program set) rules ↔ All (Asks program set) ps)
-    (none (Keeps program set) (Asks program set)) (join (Keeps program set) (Asks program set)) (Tells (set f)) (passed_at_same program set f)
+    tails_agree (to_tail_rules f) to_handed (λ (rules : List RuleTree) (ps : List Position). All (Keeps program set) rules ↔ All
+    (Asks program set) ps)
+    (none (Keeps program set) (Asks program set)) (join (Keeps program set) (Asks program set)) (Tells (set f))
+    (passed_at_same program set f)
+    (λ bindings ns tells binder. none (Keeps program set) (Asks program set))
     (λ bindings ns os opened. opened ≡ some_lent (set f) os) (is_lent_tells (set f))
+    (λ bindings ns tells os opened is p. none (Keeps program set) (Asks program set))
     (λ bindings ns told os opened is p. row_tells (set f) bindings ns told opened os is p)
     scope lent tells t

@@ -4,8 +4,7 @@ use Rattle.std.specs.Prelude.{ℕ, zero, suc, ◌+◌, Bool, ◌==◌, List, [],
 use Rattle.kk_syntax.specs.declared.program.Form.{Form}
 use Rattle.kk_syntax.specs.declared.program.Form.TheVariants.{Construct, Call}
 use Rattle.kk_syntax.specs.Programs.{FunctionTree}
-use Rattle.kk_syntax.specs.Shapes.{bound}
-use Rattle.kk_syntax.specs.OwnedSearch.{TailWalk, tail_walked, tail_walked_rows}
+use Rattle.kk_syntax.specs.Shapes.{bound, TailWalk, tail_walked, tail_walked_rows}
 use Rattle.kk_syntax.specs.Trees.{Tree, variable, apply, branch, match, sequence, Trees, no_tree, tree, Rows, no_row, row}
 use Rattle.kk_syntax.specs.declared.positions.Position.{Position}
 use Rattle.kk_borrow.specs.declared.owned_place.Place.{Place}
@@ -87,7 +86,13 @@ passed_at f scope other = []
 
 -- o5: the rules for the tail calls of an expression in a scope
 abbrev pub to_tail_rules : ℕ → TailWalk (List Binding) (List ℕ) RuleTree
-to_tail_rules f = record { at = passed_at f; told = origins_in; enter = λ scope origins pattern. scope ++ all_hung (bound pattern) origins }
+to_tail_rules f = record {
+  at = passed_at f;
+  at_binder = λ scope binder. [];
+  at_row = λ scope origins pattern. [];
+  told = origins_in;
+  enter = λ scope origins pattern. scope ++ all_hung (bound pattern) origins;
+}
 
 abbrev pub tail_rules : ℕ → List Binding → Tree → List RuleTree
 tail_rules f = tail_walked (to_tail_rules f)

@@ -12,7 +12,8 @@ use Rattle.kk_syntax.specs.Patterns as pattern
 use Rattle.kk_syntax.specs.Patterns.{Pattern, Patterns}
 use Rattle.kk_syntax.specs.PositionsOf.{PositionTable}
 use Rattle.kk_syntax.specs.Programs.{FunctionTree, ProgramTree}
-use Rattle.kk_syntax.specs.Shapes.{bound, bound_all, bound_by, is_among}
+use Rattle.kk_syntax.proofs.Elements.{each_both}
+use Rattle.kk_syntax.specs.Shapes.{bound, bound_all, bound_by, is_among, tail_walked, tail_walked_rows}
 use Rattle.kk_syntax.specs.Surface.{WrittenPattern, anything, pattern_variable, exactly, constructor, WrittenPatterns, no_part, part, Written, number, unit, variable, call, dot_call, construct, unary, binary, both, either, print_text, branch, branch_alone, match, sequence, Writtens, no_written, written, WrittenRows, no_row, row, WrittenDeclaration, type_declaration, function_declaration}
 use Rattle.kk_syntax.specs.Trees as program
 use Rattle.kk_names.specs.declared.table.Callee.{Callee}
@@ -20,7 +21,7 @@ use Rattle.kk_names.specs.Expressions.{alone, variable_or_unit, applied, pattern
 use Rattle.kk_names.specs.Names.{before_body, function_of, with_texts, functions_of, MeansProgram}
 use Rattle.kk_names.specs.Scopes.{Scope, binder_of, with_binder, in_row, with_parameters, Before, past_binder, past_pattern, past_parts, past, past_all, past_rows}
 use Rattle.kk_names.specs.Tables.{Known, known_in, meaning_in}
-use Rattle.kk_middle.specs.LentNames.{AreOthers, KeepsLent, KeepLent, AllKeepLent}
+use Rattle.kk_middle.specs.LentNames.{AreOthers, Bound, to_bound, AreApart, KeepsLent, KeepLent, AllKeepLent}
 
 -- ---- numbers below another
 
@@ -95,10 +96,22 @@ mutual
   grows (either left right) before = omega (arith, grows left before, grows right (past left before))
   grows (print_text form text) before = omega arith
   grows (branch condition positive negative) before =
-      omega (arith, grows condition before, grows positive (past condition before), grows negative (past positive (past condition before)))
+      omega (
+        arith,
+        grows condition before,
+        grows positive (past condition before),
+        grows negative
+            (past positive (past condition before)),
+      )
   grows (branch_alone condition positive) before = omega (arith, grows condition before, grows positive (past condition before))
   grows (sequence binder first rest) before =
-      omega (arith, binder_grows binder before, grows first (past_binder binder before), grows rest (past first (past_binder binder before)))
+      omega (
+        arith,
+        binder_grows binder before,
+        grows first (past_binder binder before),
+        grows rest
+            (past first (past_binder binder before)),
+      )
   grows (match scrutinee rows) before = omega (arith, grows scrutinee before, rows_grow rows (past scrutinee before))
 
   all_grow : (es : Writtens) (before : Before) → before.variables ≤ (past_all es before).variables
@@ -119,7 +132,8 @@ Fresh low xs high = From low xs × Below high xs
 none_fresh : (low high : ℕ) → Fresh low [] high
 none_fresh low high = ((λ x is. absurd (cc)), (λ x is. absurd (cc)))
 
-of_form : (form : Form) (parts : Patterns) (low high : ℕ) → Fresh low (bound_all parts) high → Fresh low (bound (pattern_of form parts)) high
+of_form : (form : Form) (parts : Patterns) (low high : ℕ) → Fresh low (bound_all parts) high
+    → Fresh low (bound (pattern_of form parts)) high
 of_form (Construct by) parts low high fresh = fresh
 of_form (Number n) parts low high fresh = none_fresh low high
 of_form Nothing parts low high fresh = none_fresh low high
@@ -137,23 +151,27 @@ of_callee (Some callee) parts low high fresh = of_form callee.form parts low hig
 
 module _ (known : Known) where
   mutual
-    fresh : (before : Before) (p : WrittenPattern) → Fresh before.variables (bound (pattern_meant known before p)) (past_pattern p before).variables
+    fresh : (before : Before) (p : WrittenPattern) → Fresh before.variables (bound (pattern_meant known before p))
+        (past_pattern p before).variables
     fresh before anything = none_fresh before.variables before.variables
     fresh before (pattern_variable name) =
         ((λ x is. omega (arith, the_one before.variables x is)), (λ x is. omega (arith, the_one before.variables x is)))
     fresh before (exactly value) = none_fresh before.variables before.variables
     fresh before (constructor name parts) =
-        of_callee (meaning_in known.constructors name.name) (parts_meant known before parts) before.variables (past_parts parts before).variables
+        of_callee (meaning_in known.constructors name.name) (parts_meant known before parts) before.variables
+        (past_parts parts before).variables
         (all_fresh before parts)
 
-    all_fresh : (before : Before) (ps : WrittenPatterns) → Fresh before.variables (bound_all (parts_meant known before ps)) (past_parts ps before).variables
+    all_fresh : (before : Before) (ps : WrittenPatterns) → Fresh before.variables (bound_all (parts_meant known before ps))
+        (past_parts ps before).variables
     all_fresh before no_part = none_fresh before.variables before.variables
     all_fresh before (part first rest) =
         let one = fresh before first in
         let two = all_fresh (past_pattern first before) rest in
         let middle = pattern_grows first before in
         let high = parts_grow rest (past_pattern first before) in (
-          from_both before.variables (bound (pattern_meant known before first)) (bound_all (parts_meant known (past_pattern first before) rest)) one.0
+          from_both before.variables (bound (pattern_meant known before first))
+              (bound_all (parts_meant known (past_pattern first before) rest)) one.0
               (λ x is. omega (arith, middle, two.0 x is)),
           below_both (past_parts rest (past_pattern first before)).variables (bound (pattern_meant known before first))
               (bound_all (parts_meant known (past_pattern first before) rest)) (λ x is. omega (arith, high, one.1 x is)) two.1,
@@ -180,6 +198,15 @@ module _ (known : Known) where
   row_below n high lent false p le below own = below_more n high lent le below
   row_below n high lent true p le below own = below_both high lent (bound p) (below_more n high lent le below) own
 
+  -- what is bound in two parts, and in a row
+  both_apart : (xs ys : List Bound) → AreApart xs → AreApart ys → AreApart (xs ++ ys)
+  both_apart = each_both (λ b. AreOthers b.variables b.lent)
+
+  row_apart : (lent : List ℕ) (opened : Bool) (xs : List ℕ) → AreOthers xs lent
+      → AreApart (if opened then [] else record { variables = xs; lent = lent } ∷ [])
+  row_apart lent true xs others = tt
+  row_apart lent false xs others = (others, tt)
+
   mutual
     keeps : (scope : Scope) (before : Before) (e : Written) (lent : List ℕ) → Below before.variables lent
         → KeepsLent lent (meant known scope before e)
@@ -192,20 +219,26 @@ module _ (known : Known) where
     keeps scope before (unary operator operand) lent below = tt
     keeps scope before (binary operator left right) lent below = tt
     keeps scope before (both left right) lent below =
-        (keeps scope (past left before) right lent (below_more before.variables (past left before).variables lent (grows left before) below), tt)
+        both_apart (tail_walked to_bound lent (meant known scope (past left before) right)) []
+        (keeps scope (past left before) right lent (below_more before.variables (past left before).variables lent
+        (grows left before) below)) tt
     keeps scope before (either left right) lent below =
-        (tt, keeps scope (past left before) right lent (below_more before.variables (past left before).variables lent (grows left before) below))
+        keeps scope (past left before) right lent (below_more before.variables (past left before).variables lent
+        (grows left before) below)
     keeps scope before (print_text form text) lent below = tt
     keeps scope before (branch condition positive negative) lent below =
         let first = past condition before in
         let le = grows condition before in
-        let later = grows positive first in (
-          keeps scope first positive lent (below_more before.variables first.variables lent le below),
-          keeps scope (past positive first) negative lent
-              (below_more before.variables (past positive first).variables lent (omega (arith, le, later)) below),
-        )
+        let later = grows positive first in
+        both_apart (tail_walked to_bound lent (meant known scope first positive))
+        (tail_walked to_bound lent (meant known scope (past positive first) negative))
+        (keeps scope first positive lent (below_more before.variables first.variables lent le below))
+        (keeps scope (past positive first) negative lent
+        (below_more before.variables (past positive first).variables lent (omega (arith, le, later)) below))
     keeps scope before (branch_alone condition positive) lent below =
-        (keeps scope (past condition before) positive lent (below_more before.variables (past condition before).variables lent (grows condition before) below), tt)
+        both_apart (tail_walked to_bound lent (meant known scope (past condition before) positive)) []
+        (keeps scope (past condition before) positive lent
+        (below_more before.variables (past condition before).variables lent (grows condition before) below)) tt
     keeps scope before (sequence binder first rest) lent below =
         let behind = past_binder binder before in
         let le = binder_grows binder before in
@@ -218,22 +251,26 @@ module _ (known : Known) where
         rows_keep scope (past scrutinee before) rows lent (is_lent_variable lent (meant known scope before scrutinee))
         (below_more before.variables (past scrutinee before).variables lent (grows scrutinee before) below)
 
-    rows_keep : (scope : Scope) (before : Before) (rows : WrittenRows) (lent : List ℕ) (scrutinee : Bool) → Below before.variables lent
+    rows_keep : (scope : Scope) (before : Before) (rows : WrittenRows) (lent : List ℕ) (scrutinee : Bool)
+        → Below before.variables lent
         → KeepLent lent scrutinee (meant_rows known scope before rows)
     rows_keep scope before no_row lent scrutinee below = tt
     rows_keep scope before (row p body rest) lent scrutinee below =
         let own = fresh before p in
         let middle = past_pattern p before in
         let le = pattern_grows p before in
-        let later = grows body middle in (
-          (λ is. others before.variables (bound (pattern_meant known before p)) lent own.0 below),
-          (
-            keeps (in_row p before scope) middle body (lent_in_row lent scrutinee (pattern_meant known before p))
-                (row_below before.variables middle.variables lent scrutinee (pattern_meant known before p) le below own.1),
-            rows_keep scope (past body middle) rest lent scrutinee
-                (below_more before.variables (past body middle).variables lent (omega (arith, le, later)) below),
-          ),
-        )
+        let later = grows body middle in
+        let made = pattern_meant known before p in
+        let here : List Bound = if scrutinee then [] else record { variables = bound made; lent = lent } ∷ [] in
+        let inner = lent_in_row lent scrutinee made in
+        let inside = tail_walked to_bound inner (meant known (in_row p before scope) middle body) in
+        both_apart (here ++ inside) (tail_walked_rows to_bound lent scrutinee (meant_rows known scope (past body middle) rest))
+        (both_apart here inside
+        (row_apart lent scrutinee (bound made) (others before.variables (bound made) lent own.0 below))
+        (keeps (in_row p before scope) middle body inner
+        (row_below before.variables middle.variables lent scrutinee made le below own.1)))
+        (rows_keep scope (past body middle) rest lent scrutinee
+        (below_more before.variables (past body middle).variables lent (omega (arith, le, later)) below))
 
 -- ---- functions
 
@@ -247,7 +284,8 @@ parameters_below owned (suc count) x is =
     by true y there = absurd (cc)
     by false y there = omega (arith, the_one count y there)
 
-functions_keep : (known : Known) (texts : List (List ℕ)) (declarations : List WrittenDeclaration) (owned : ℕ → Bool) (f : ℕ) (function : FunctionTree)
+functions_keep : (known : Known) (texts : List (List ℕ)) (declarations : List WrittenDeclaration) (owned : ℕ → Bool) (f : ℕ)
+    (function : FunctionTree)
     → slice_get (functions_of known texts declarations) f ≡ Some function
     → KeepsLent (lent_below owned (length function.parameters)) function.body
 functions_keep known texts [] owned f function there = absurd (cc)

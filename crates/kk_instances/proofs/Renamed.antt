@@ -4,7 +4,7 @@ use Rattle.kk_syntax.specs.Patterns.{Pattern, anything, variable as pattern_vari
 use Rattle.kk_syntax.specs.Shapes.{bound, bound_all, free, free_all, free_rows}
 use Rattle.kk_syntax.specs.Trees.{Tree, Trees, Rows}
 use Rattle.kk_mono.specs.Instances.{Renaming, renames, renamed, renamed_all, renamed_rows, renamed_pattern, renamed_patterns}
-use Rattle.kk_mono.proofs.Copied.{free_replaced, all_free_replaced, row_free_replaced}
+use Rattle.kk_syntax.proofs.Walks.{free_replaced, all_free_replaced, row_free_replaced}
 
 mutual
   pub same_bound : (new : Renaming) (p : Pattern) → bound (renamed_pattern new p) ≡ bound p

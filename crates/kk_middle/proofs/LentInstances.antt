@@ -1,27 +1,28 @@
 -- The owned positions of a program's instances are closed under the rule on tail calls where the program's are.
 use Rattle.std.proofs.Common.{◌≡◌, ◌⊎◌, inl, inr, ℕ, zero, suc, ◌+◌, ◌<◌, ◌≤◌, Bool, true, false, not, List, [], ◌∷◌, ◌++◌, map, length, Some, All, arith, refl, sym, ap, ◌∙◌, subst}
 use Rattle.std.specs.Prelude.{if◌then◌else◌, slice_get, slice_index_or, IsTrue}
-use Rattle.std.specs.List.{flat_map}
-use Rattle.std.proofs.lemmas.Grind.{flat_map-append}
 use Rattle.std.proofs.lemmas.List.{map-append}
 use Rattle.std.proofs.lemmas.List.Elements.{All-nil, All-cons, All-head, All-tail}
 use Rattle.kk_syntax.specs.declared.positions.Position.{Position}
 use Rattle.kk_syntax.specs.declared.program.Form.{Form}
 use Rattle.kk_syntax.specs.declared.program.Form.TheVariants.{Number, Unit as Nothing, ReadByte, PrintText, Unary, Binary, Print, Construct, Call}
 use Rattle.kk_syntax.specs.declared.positions.Ownership.TheVariants.{Lent}
-use Rattle.kk_syntax.specs.OwnedPositions.{function_at, arity_of, lent_below, is_lent_variable, lent_in_row, lent_inside, handed_to, handed_by, handed_at, handed, owned_in, Told, OwnsHanded, ClosedUnderTailCalls}
+use Rattle.kk_syntax.specs.OwnedPositions.{function_at, arity_of, lent_below, is_lent_variable, lent_in_row, handed_to, handed_by, handed, owned_in, Told, OwnsHanded, ClosedUnderTailCalls}
 use Rattle.kk_syntax.specs.Patterns.{Pattern, anything, variable as pattern_variable, exactly, constructor, Patterns, no_part, part}
 use Rattle.kk_syntax.specs.PositionsOf.{PositionTable, lends}
 use Rattle.kk_syntax.specs.Programs.{FunctionTree, ProgramTree, no_function}
-use Rattle.kk_syntax.specs.Shapes.{bound, bound_all, Opening, tails_inside, tails_of_rows}
-use Rattle.kk_syntax.specs.Trees.{Tree, variable, apply, branch, match, sequence, Trees, no_tree, tree, Rows, no_row, row}
+use Rattle.kk_syntax.specs.OwnedSearch.{to_handed}
+use Rattle.kk_syntax.specs.Shapes.{bound, bound_all, bound_by}
+use Rattle.kk_syntax.specs.Trees.{Tree, variable, apply, Trees, no_tree, tree}
+use Rattle.kk_syntax.proofs.Elements.{each_parts, each_both}
+use Rattle.kk_syntax.proofs.TailCalls.{handed_is}
+use Rattle.kk_syntax.proofs.Walks.{tails_replaced}
 use Rattle.kk_syntax.specs.Types.{put, type_at}
 use Rattle.kk_syntax.specs.Typing.{Choice}
-use Rattle.kk_mono.specs.Instances.{InstanceTree, main_instance, Renaming, renamed_form, renamed_pattern, renamed_patterns, renamed, renamed_all, renamed_rows, function_of, origin_in, IsInstanceProgram}
+use Rattle.kk_mono.specs.Instances.{InstanceTree, main_instance, Renaming, renames, renamed_form, renamed_pattern, renamed_patterns, renamed, renamed_all, function_of, origin_in, IsInstanceProgram}
 use Rattle.kk_instances.specs.Meaning.{positions_in}
-use Rattle.kk_middle.specs.LentNames.{AreOthers, KeepsLent, KeepLent}
+use Rattle.kk_middle.specs.LentNames.{AreOthers, Bound, to_bound, AreApart, KeepsLent}
 use Rattle.kk_middle.proofs.LentPrograms.{row_length}
-use Rattle.kk_middle.proofs.LentTails.{inside_one_more}
 
 -- ---- expressions that name functions and constructors by other numbers
 
@@ -41,10 +42,7 @@ module _ (new : Renaming) where
 
   lent_same : (lent : List ℕ) (e : Tree) → is_lent_variable lent (renamed new e) ≡ is_lent_variable lent e
   lent_same lent (variable x) = refl
-  lent_same lent (apply form es) = refl
-  lent_same lent (branch e positive negative) = refl
-  lent_same lent (match e rows) = refl
-  lent_same lent (sequence binder first rest) = refl
+  lent_same lent _ = refl
 
   row_same : (lent : List ℕ) (t : Bool) (p : Pattern) → lent_in_row lent t (renamed_pattern new p) ≡ lent_in_row lent t p
   row_same lent true p = ap (λ (xs : List ℕ). lent ++ xs) (bound_same p)
@@ -60,96 +58,94 @@ module _ (new : Renaming) where
   given_same lent f i (tree first rest) =
       ap (λ (t : Bool). (if t then [] else record { function = new.functions f; parameter = i } ∷ [])
       ++ handed_to lent (new.functions f) (i + 1) (renamed_all new rest)) (lent_same lent first)
-      ∙ ap (λ (ps : List Position). (if is_lent_variable lent first then [] else record { function = new.functions f; parameter = i } ∷ []) ++ ps)
+      ∙ ap (λ (ps : List Position). (if is_lent_variable lent first then [] else record {
+        function = new.functions f;
+        parameter =
+            i;
+      } ∷ []) ++ ps)
       (given_same lent f (i + 1) rest)
       ∙ by (is_lent_variable lent first)
     where
       by : (t : Bool)
-          → (if t then [] else record { function = new.functions f; parameter = i } ∷ []) ++ map moved (handed_to lent f (i + 1) rest)
+          → (if t then [] else record { function = new.functions f; parameter = i } ∷ []) ++ map moved
+          (handed_to lent f (i + 1) rest)
           ≡ map moved ((if t then [] else record { function = f; parameter = i } ∷ []) ++ handed_to lent f (i + 1) rest)
       by true = refl
       by false = refl
 
-  form_same : (lent other : List ℕ) (form : Form) (es : Trees) → other ≡ lent
-      → handed_by other (apply (renamed_form new form) (renamed_all new es)) ++ [] ≡ map moved (handed_by lent (apply form es) ++ [])
-  form_same lent other (Number n) es same = refl
-  form_same lent other Nothing es same = refl
-  form_same lent other ReadByte es same = refl
-  form_same lent other (PrintText form text) es same = refl
-  form_same lent other (Unary operator) es same = refl
-  form_same lent other (Binary operator) es same = refl
-  form_same lent other (Print form) es same = refl
-  form_same lent other (Construct c) es same = refl
-  form_same lent other (Call f) es same =
-      ap (λ (xs : List ℕ). handed_to xs (new.functions f) 0 (renamed_all new es) ++ []) same
-      ∙ ap (λ (ps : List Position). ps ++ []) (given_same lent f 0 es)
-      ∙ sym (map-append moved (handed_to lent f 0 es) [])
+  form_same : (lent : List ℕ) (form : Form) (es : Trees)
+      → handed_by lent (apply (renamed_form new form) (renamed_all new es)) ≡ map moved (handed_by lent (apply form es))
+  form_same lent (Number n) es = refl
+  form_same lent Nothing es = refl
+  form_same lent ReadByte es = refl
+  form_same lent (PrintText form text) es = refl
+  form_same lent (Unary operator) es = refl
+  form_same lent (Binary operator) es = refl
+  form_same lent (Print form) es = refl
+  form_same lent (Construct c) es = refl
+  form_same lent (Call f) es = given_same lent f 0 es
 
-  module _ (own : List ℕ) where
-    abbrev given : List Opening → Tree → List Position
-    given around e = flat_map (handed_at own) (tails_inside around e)
+  part_same : (lent : List ℕ) (e : Tree) → handed_by lent (renamed new e) ≡ map moved (handed_by lent e)
+  part_same lent (apply form es) = form_same lent form es
+  part_same lent _ = refl
 
-    abbrev given_by_rows : List Opening → Tree → Rows → List Position
-    given_by_rows around e rows = flat_map (handed_at own) (tails_of_rows around e rows)
+  -- other numbers that are the new ones
+  abbrev AreNew : Renaming → Type 0
+  AreNew other = other ≡ new
 
-    mutual
-      handed_same : (e : Tree) (around others : List Opening) → lent_inside own others ≡ lent_inside own around
-          → given others (renamed new e) ≡ map moved (given around e)
-      handed_same (variable x) around others same = refl
-      handed_same (apply form es) around others same =
-          form_same (lent_inside own around) (lent_inside own others) form es same
-      handed_same (branch e positive negative) around others same =
-          flat_map-append (handed_at own) (tails_inside others (renamed new positive)) (tails_inside others (renamed new negative))
-          ∙ ap (λ (ps : List Position). ps ++ given others (renamed new negative)) (handed_same positive around others same)
-          ∙ ap (λ (ps : List Position). map moved (given around positive) ++ ps) (handed_same negative around others same)
-          ∙ sym (map-append moved (given around positive) (given around negative))
-          ∙ ap (map moved) (sym (flat_map-append (handed_at own) (tails_inside around positive) (tails_inside around negative)))
-      handed_same (match e rows) around others same = handed_rows_same rows e around others same
-      handed_same (sequence binder first rest) around others same = handed_same rest around others same
+  lent_so : (other : Renaming) → AreNew other → (ns ms : List ℕ) → ms ≡ ns → (e : Tree)
+      → is_lent_variable ms (renamed other e) ≡ is_lent_variable ns e
+  lent_so other is ns ms same e =
+      ap (λ (r : Renaming). is_lent_variable ms (renamed r e)) is
+      ∙ (lent_same ms e ∙ ap (λ (xs : List ℕ). is_lent_variable xs e) same)
 
-      handed_rows_same : (rows : Rows) (e : Tree) (around others : List Opening) → lent_inside own others ≡ lent_inside own around
-          → given_by_rows others (renamed new e) (renamed_rows new rows) ≡ map moved (given_by_rows around e rows)
-      handed_rows_same no_row e around others same = refl
-      handed_rows_same (row pattern body rest) e around others same =
-          let o : Opening = record { scrutinee = e; pattern = pattern } in
-          let other : Opening = record { scrutinee = renamed new e; pattern = renamed_pattern new pattern } in
-          let equal : lent_inside own (others ++ other ∷ []) ≡ lent_inside own (around ++ o ∷ []) =
-          inside_one_more own others other
-          ∙ ap (λ (xs : List ℕ). lent_in_row xs (is_lent_variable xs (renamed new e)) (renamed_pattern new pattern)) same
-          ∙ ap (λ (t : Bool). lent_in_row (lent_inside own around) t (renamed_pattern new pattern))
-          (lent_same (lent_inside own around) e)
-          ∙ row_same (lent_inside own around) (is_lent_variable (lent_inside own around) e) pattern
-          ∙ sym (inside_one_more own around o) in
-          flat_map-append (handed_at own) (tails_inside (others ++ other ∷ []) (renamed new body))
-          (tails_of_rows others (renamed new e) (renamed_rows new rest))
-          ∙ ap (λ (ps : List Position). ps ++ given_by_rows others (renamed new e) (renamed_rows new rest))
-          (handed_same body (around ++ o ∷ []) (others ++ other ∷ []) equal)
-          ∙ ap (λ (ps : List Position). map moved (given (around ++ o ∷ []) body) ++ ps) (handed_rows_same rest e around others same)
-          ∙ sym (map-append moved (given (around ++ o ∷ []) body) (given_by_rows around e rest))
-          ∙ ap (map moved)
-          (sym (flat_map-append (handed_at own) (tails_inside (around ++ o ∷ []) body) (tails_of_rows around e rest)))
+  row_so : (other : Renaming) → AreNew other → (ns ms : List ℕ) → ms ≡ ns → (t u : Bool) → u ≡ t → (p : Pattern)
+      → lent_in_row ms u (renamed_pattern other p) ≡ lent_in_row ns t p
+  row_so other is ns ms same t u alike p =
+      ap (λ (r : Renaming). lent_in_row ms u (renamed_pattern r p)) is
+      ∙ (ap (λ (xs : List ℕ). lent_in_row xs u (renamed_pattern new p)) same
+      ∙ (ap (λ (b : Bool). lent_in_row ns b (renamed_pattern new p)) alike ∙ row_same ns t p))
 
-  mutual
-    pub keeps_back : (lent : List ℕ) (e : Tree) → KeepsLent lent (renamed new e) → KeepsLent lent e
-    keeps_back lent (variable x) keeps = keeps
-    keeps_back lent (apply form es) keeps = keeps
-    keeps_back lent (branch e positive negative) keeps =
-        (keeps_back lent positive keeps.0, keeps_back lent negative keeps.1)
-    keeps_back lent (match e rows) keeps =
-        keep_back lent (is_lent_variable lent e) rows
-        (subst (λ (t : Bool). KeepLent lent t (renamed_rows new rows)) (lent_same lent e) keeps)
-    keeps_back lent (sequence binder first rest) keeps = (keeps.0, keeps_back lent rest keeps.1)
+  -- what tail calls are given
+  handed_same : (own : List ℕ) (e : Tree) → handed own (renamed new e) ≡ map moved (handed own e)
+  handed_same own e =
+      handed_is own (renamed new e)
+      ∙ (tails_replaced renames AreNew (λ other is e. is) (λ other is p. is) (λ other is p e. is) to_handed to_handed
+      (λ (ps qs : List Position). qs ≡ map moved ps) refl
+      (λ xs ys us vs left right. (λ i. left i ++ right i) ∙ sym (map-append moved xs ys))
+      (λ ns ms. ms ≡ ns)
+      (λ other is ns ms same e.
+      ap (λ (r : Renaming). handed_by ms (renamed r e)) is ∙
+      (part_same ms e ∙ ap (λ (xs : List ℕ). map moved (handed_by xs e)) same))
+      (λ ns ms same binder. refl)
+      (λ ns ms t u. u ≡ t) lent_so (λ other is ns ms same t u alike p. refl) row_so
+      new refl own own refl e
+      ∙ ap (map moved) (sym (handed_is own e)))
 
-    pub keep_back : (lent : List ℕ) (t : Bool) (rows : Rows) → KeepLent lent t (renamed_rows new rows) → KeepLent lent t rows
-    keep_back lent t no_row keep = keep
-    keep_back lent t (row pattern body rest) keep = (
-      λ other. subst (λ (xs : List ℕ). AreOthers xs lent) (bound_same pattern) (keep.0 other),
-      (
-        keeps_back (lent_in_row lent t pattern) body
-            (subst (λ (xs : List ℕ). KeepsLent xs (renamed new body)) (row_same lent t pattern) keep.1.0),
-        keep_back lent t rest keep.1.1,
-      ),
-    )
+  -- what is bound on the way to them
+  row_apart : (ns ms : List ℕ) → ms ≡ ns → (t u : Bool) → u ≡ t → (p : Pattern)
+      → AreApart (if u then [] else record { variables = bound (renamed_pattern new p); lent = ms } ∷ [])
+      → AreApart (if t then [] else record { variables = bound p; lent = ns } ∷ [])
+  row_apart ns ms same t u alike p =
+      subst (λ (bs : List Bound). AreApart bs)
+      (ap (λ (xs : List ℕ). if u then [] else record { variables = xs; lent = ms } ∷ []) (bound_same p)
+      ∙ (ap (λ (xs : List ℕ). if u then [] else record { variables = bound p; lent = xs } ∷ []) same
+      ∙ ap (λ (b : Bool). if b then [] else record { variables = bound p; lent = ns } ∷ []) alike))
+
+  pub keeps_back : (lent : List ℕ) (e : Tree) → KeepsLent lent (renamed new e) → KeepsLent lent e
+  keeps_back lent e =
+      tails_replaced renames AreNew (λ other is e. is) (λ other is p. is) (λ other is p e. is) to_bound to_bound
+      (λ (bs cs : List Bound). AreApart cs → AreApart bs) (λ none. none)
+      (λ xs ys us vs left right whole.
+      let parts = each_parts (λ b. AreOthers b.variables b.lent) us vs whole in
+      each_both (λ b. AreOthers b.variables b.lent) xs ys (left parts.0) (right parts.1))
+      (λ ns ms. ms ≡ ns) (λ other is ns ms same e none. none)
+      (λ ns ms same binder. subst (λ (xs : List ℕ). AreApart (record { variables = bound_by binder; lent = xs } ∷ [])) same)
+      (λ ns ms t u. u ≡ t) lent_so
+      (λ other is ns ms same t u alike p.
+      subst (λ (r : Renaming). AreApart (if u then [] else record { variables = bound (renamed_pattern r p); lent = ms } ∷ [])
+      → AreApart (if t then [] else record { variables = bound p; lent = ns } ∷ [])) (sym is) (row_apart ns ms same t u alike p))
+      row_so new refl lent lent refl e
 
 -- ---- lists
 
@@ -194,7 +190,8 @@ same_numbers (x ∷ xs) (y ∷ ys) same each =
     ap (λ (n : ℕ). n ∷ xs) (each 0 (omega arith))
     ∙ ap (λ (ns : List ℕ). y ∷ ns) (same_numbers xs ys (omega (arith, same)) (λ i less. each (suc i) (omega (arith, less))))
 
-map_at : {X : Type 0} (f : X → ℕ) (xs : List X) (i : ℕ) (d : X) → i < length xs → slice_index_or (map f xs) i 0 ≡ f (slice_index_or xs i d)
+map_at : {X : Type 0} (f : X → ℕ) (xs : List X) (i : ℕ) (d : X) → i < length xs
+    → slice_index_or (map f xs) i 0 ≡ f (slice_index_or xs i d)
 map_at f [] i d less = absurd (omega (arith, less))
 map_at f (x ∷ xs) zero d less = refl
 map_at f (x ∷ xs) (suc i) d less = map_at f xs i d (omega (arith, less))
@@ -209,7 +206,8 @@ map_length : {X Y : Type 0} (f : X → Y) (xs : List X) → length (map f xs) �
 map_length f [] = refl
 map_length f (x ∷ xs) = ap suc (map_length f xs)
 
-within : (functions : List FunctionTree) (f : ℕ) (function : FunctionTree) → slice_get functions f ≡ Some function → f < length functions
+within : (functions : List FunctionTree) (f : ℕ) (function : FunctionTree) → slice_get functions f ≡ Some function
+    → f < length functions
 within [] f function there = absurd (cc)
 within (first ∷ functions) zero function there = omega arith
 within (first ∷ functions) (suc f) function there = let less = within functions f function there in omega (arith, less)
@@ -240,7 +238,8 @@ module _ (program made : ProgramTree) (typings : List (List Choice)) (instances 
 
   pair : (n : ℕ) → n < length made.functions → Pair n
   pair n less =
-      let one : Found instances n (main_instance 0) = found instances n (main_instance 0) (subst (λ (m : ℕ). n < m) is.as_many less) in
+      let one : Found instances n (main_instance 0) = found instances n (main_instance 0)
+      (subst (λ (m : ℕ). n < m) is.as_many less) in
       let other : Found made.functions n no_function = found made.functions n no_function less in
       let both = is.each n one.one other.one one.there other.there in
       let same : function_of instances n ≡ one.one.function = ap (λ (i : InstanceTree). i.function) one.is in
@@ -257,7 +256,8 @@ module _ (program made : ProgramTree) (typings : List (List Choice)) (instances 
   arity_same n less =
       let one : Pair n = pair n less in one.count ∙ ap (λ (f : FunctionTree). length f.parameters) (sym one.at)
 
-  owned_same : (n i : ℕ) → n < length made.functions → owned_in (positions_in instances table) n i ≡ owned_in table (function_of instances n) i
+  owned_same : (n i : ℕ) → n < length made.functions → owned_in (positions_in instances table) n i ≡ owned_in table
+      (function_of instances n) i
   owned_same n i less =
       ap (λ row. not (lends (slice_index_or row i Lent))) (row_at table instances n (subst (λ (m : ℕ). n < m) is.as_many less))
 
@@ -306,7 +306,8 @@ module _ (program made : ProgramTree) (typings : List (List Choice)) (instances 
           let no = ap (λ (f : FunctionTree). length f.parameters) (past made.functions p.function no_function none) in
           absurd (omega (arith, less, no))
 
-  pub instances_closed : ClosedUnderTailCalls program (owned_in table) → ClosedUnderTailCalls made (owned_in (positions_in instances table))
+  pub instances_closed : ClosedUnderTailCalls program (owned_in table)
+      → ClosedUnderTailCalls made (owned_in (positions_in instances table))
   instances_closed closed n less =
       let one : Pair n = pair n less in
       let f : ℕ = function_of instances n in
@@ -316,13 +317,15 @@ module _ (program made : ProgramTree) (typings : List (List Choice)) (instances 
       ∙ ap (lent_below (owned_in table f)) one.count in
       let all : OwnsHanded program (owned_in table) f one.function =
       subst (OwnsHanded program (owned_in table) f) one.at (closed f (within program.functions f one.function one.there)) in
-      subst (λ (xs : List ℕ). All (λ p. p.parameter < arity_of made p.function → IsTrue (owned_in (positions_in instances table) p.function p.parameter))
+      subst (λ (xs : List ℕ). All (λ p. p.parameter < arity_of made p.function
+      → IsTrue (owned_in (positions_in instances table) p.function p.parameter))
       (handed xs (function_at made n).body)) (sym lents)
-      (all_moved (λ p. p.parameter < arity_of made p.function → IsTrue (owned_in (positions_in instances table) p.function p.parameter))
+      (all_moved (λ p. p.parameter < arity_of made p.function
+      → IsTrue (owned_in (positions_in instances table) p.function p.parameter))
       (λ p. p.parameter < arity_of program p.function → IsTrue (owned_in table p.function p.parameter)) (moved origin)
       (handed own (function_at made n).body) owned_back
       (subst (All (λ p. p.parameter < arity_of program p.function → IsTrue (owned_in table p.function p.parameter)))
-      (ap (handed own) (sym one.body) ∙ handed_same origin own (function_at made n).body [] [] refl) all))
+      (ap (handed own) (sym one.body) ∙ handed_same origin own (function_at made n).body) all))
 
   pub instances_keep : ((f : ℕ) (function : FunctionTree) → slice_get program.functions f ≡ Some function
       → KeepsLent (lent_below (owned_in table f) (length function.parameters)) function.body)

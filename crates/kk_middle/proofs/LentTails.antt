@@ -3,7 +3,7 @@ use Rattle.std.proofs.Common.{◌≡◌, ◌⊎◌, inl, inr, ℕ, suc, ◌+◌,
 use Rattle.std.specs.Prelude.{if◌then◌else◌, IsTrue}
 use Rattle.std.specs.List.{flat_map}
 use Rattle.std.proofs.lemmas.Grind.{flat_map-append}
-use Rattle.std.proofs.lemmas.List.Elements.{All-nil, All-cons, All-head, All-tail}
+use Rattle.std.proofs.lemmas.List.Elements.{All-head}
 use Rattle.kk_syntax.specs.declared.positions.Position.{Position}
 use Rattle.kk_syntax.specs.declared.program.Binder.{Binder}
 use Rattle.kk_syntax.specs.declared.program.Binder.TheVariants as OfBinder
@@ -13,7 +13,10 @@ use Rattle.kk_syntax.specs.OwnedPositions.{arity_of, is_lent_variable, lent_in_r
 use Rattle.kk_syntax.specs.Patterns.{Pattern, anything, variable as pattern_variable, exactly, constructor, Patterns, no_part, part}
 use Rattle.kk_syntax.specs.PositionsOf.{PositionTable, is_lent}
 use Rattle.kk_syntax.specs.Programs.{ConstructorTree, ProgramTree}
-use Rattle.kk_syntax.specs.Shapes.{bound, bound_all, bound_by, is_among, variable_of, Opening, tails_inside, tails_of_rows}
+use Rattle.kk_syntax.proofs.Elements.{each_parts}
+use Rattle.kk_syntax.proofs.Lists.{all_left, all_right}
+use Rattle.kk_syntax.proofs.TailCalls.{inside_push}
+use Rattle.kk_syntax.specs.Shapes.{bound, bound_all, bound_by, is_among, variable_of, Opening, tails_inside, tails_of_rows, tail_walked, tail_walked_rows}
 use Rattle.kk_syntax.specs.Trees.{Tree, variable, apply, branch, match, sequence, Trees, no_tree, tree, Rows, no_row, row}
 use Rattle.kk_core.specs.Codes.{Code, give, tail_call, case, compute, use_of, unpack, inside, Arms, no_arm, arm}
 use Rattle.kk_core.specs.Truths.{truth_case}
@@ -23,7 +26,7 @@ use Rattle.kk_counted.specs.Spending.{AllAmong, at_positions}
 use Rattle.kk_insert.specs.Insertion.{lent_in, lent_in_arms}
 use Rattle.kk_insert.specs.Promise.{LendsTails, AllLendTails}
 use Rattle.kk_insert.proofs.Sets.{Part, in_front, in_back, in_either, no_both, among_first, among_next}
-use Rattle.kk_middle.specs.LentNames.{AreOthers, KeepsLent, KeepLent}
+use Rattle.kk_middle.specs.LentNames.{AreOthers, Bound, to_bound, AreApart, KeepsLent, KeepLent}
 use Rattle.kk_middle.proofs.Passing.{part_then, grows, grow_arms, Lent, Passes, passes, pass_all, opened_passes}
 
 -- ---- names
@@ -86,7 +89,8 @@ mutual
       → name_of (parts_names a n parts names) x ≡ name_of names x
   parts_keep no_part a n x names other = refl
   parts_keep (part first others) a n x names other =
-      parts_keep others (a + 1) (n + pattern_size first) x (pattern_names a n first names) (not_back (bound first) (bound_all others) x other)
+      parts_keep others (a + 1) (n + pattern_size first) x (pattern_names a n first names)
+      (not_back (bound first) (bound_all others) x other)
       ∙ pattern_keeps first a n x names (not_front (bound first) (bound_all others) x other)
 
 -- ---- openings of lent variables
@@ -168,7 +172,8 @@ mutual
     where
       both : (old : Names) (x : ℕ) → (is_among (bound_all others) x ≡ true) ⊎ (is_among (bound_all others) x ≡ false)
           → (is_among (bound first) x ≡ true) ⊎ (is_among (bound_all others) x ≡ true)
-          → (one : Opens before (bound first) (pattern_names a n first) (opened a n first (opened_all (a + 1) (n + pattern_size first) others later))
+          → (one : Opens before (bound first) (pattern_names a n first)
+          (opened a n first (opened_all (a + 1) (n + pattern_size first) others later))
           (opened_all (a + 1) (n + pattern_size first) others later))
           → (two : Opens one.next (bound_all others) (parts_names (a + 1) (n + pattern_size first) others)
           (opened_all (a + 1) (n + pattern_size first) others later) later)
@@ -179,7 +184,8 @@ mutual
           (sym (parts_keep others (a + 1) (n + pattern_size first) x (pattern_names a n first old) other))
           (two.more (name_of (pattern_names a n first old) x) (one.named old x is))
       both old x (inr other) (inr is) one two =
-          no_both (is_among two.next (name_of (parts_names (a + 1) (n + pattern_size first) others (pattern_names a n first old)) x) ≡ true)
+          no_both (is_among two.next (name_of (parts_names (a + 1) (n + pattern_size first) others (pattern_names a n first old)) x)
+          ≡ true)
           (is_among (bound_all others) x) is other
 
 -- ---- names of lent variables behind a binder and behind a pattern
@@ -202,7 +208,8 @@ abbrev Ahead : (code : Code) (before : List ℕ) (names : Names) (lent : List �
 Ahead code before names lent later =
     (next : List ℕ) × ((lent_in before code ≡ lent_in next later) × NamesIn names lent next)
 
-row_ahead : (t : Bool) {whole : Bool} → whole ≡ t → (pattern : Pattern) (names : Names) (a n : ℕ) (code : Code) (before lent : List ℕ)
+row_ahead : (t : Bool) {whole : Bool} → whole ≡ t → (pattern : Pattern) (names : Names) (a n : ℕ) (code : Code)
+    (before lent : List ℕ)
     → NamesIn names lent before → (whole ≡ true → is_among before a ≡ true) → (whole ≡ false → AreOthers (bound pattern) lent)
     → Ahead (opened a n pattern code) before (pattern_names a n pattern names) (lent_in_row lent t pattern) code
 row_ahead true same pattern names a n code before lent named cell others =
@@ -246,14 +253,6 @@ IsOwnedAt program positions p =
 abbrev AreOwned : ProgramTree → PositionTable → List Position → Type 0
 AreOwned program positions given = All (IsOwnedAt program positions) given
 
-all_front : (P : Position → Type 0) (xs ys : List Position) → All P (xs ++ ys) → All P xs
-all_front P [] ys all = All-nil P
-all_front P (x ∷ xs) ys all = All-cons P x xs (All-head P x (xs ++ ys) all) (all_front P xs ys (All-tail P x (xs ++ ys) all))
-
-all_back : (P : Position → Type 0) (xs ys : List Position) → All P (xs ++ ys) → All P ys
-all_back P [] ys all = all
-all_back P (x ∷ xs) ys all = all_back P xs ys (All-tail P x (xs ++ ys) all)
-
 -- a lent variable is one
 lent_variable : (lent : List ℕ) (e : Tree) → is_lent_variable lent e ≡ true
     → (x : ℕ) × ((e ≡ variable x) × (is_among lent x ≡ true))
@@ -263,12 +262,15 @@ lent_variable lent (branch e positive negative) is = absurd (cc)
 lent_variable lent (match e rows) is = absurd (cc)
 lent_variable lent (sequence binder first rest) is = absurd (cc)
 
-pub inside_one_more : (lent : List ℕ) (around : List Opening) (o : Opening)
-    → lent_inside lent (around ++ o ∷ [])
-    ≡ lent_in_row (lent_inside lent around) (is_lent_variable (lent_inside lent around) o.scrutinee) o.pattern
-inside_one_more lent [] o = refl
-inside_one_more lent (first ∷ around) o =
-    inside_one_more (lent_in_row lent (is_lent_variable lent first.scrutinee) first.pattern) around o
+-- what is bound in a part of an expression is apart from what is lent
+apart_parts : (xs ys : List Bound) → AreApart (xs ++ ys) → AreApart xs × AreApart ys
+apart_parts = each_parts (λ b. AreOthers b.variables b.lent)
+
+apart_row : (lent : List ℕ) (opened : Bool) (pattern : Pattern)
+    → AreApart (if opened then [] else record { variables = bound pattern; lent = lent } ∷ []) → opened ≡ false
+    → AreOthers (bound pattern) lent
+apart_row lent true pattern apart never = absurd (cc)
+apart_row lent false pattern apart same = apart.0
 
 module _ (program : ProgramTree) (positions : PositionTable)
     (in_range : (f i : ℕ) → is_lent positions f i ≡ true → i < arity_of program f)
@@ -276,11 +278,13 @@ module _ (program : ProgramTree) (positions : PositionTable)
   -- an argument at a lent position is a lent variable
   argument_lent : (first : Tree) (lent : List ℕ) (names : Names) (n f i : ℕ) (before : List ℕ) (behind : List Position)
       → NamesIn names lent before
-      → AreOwned program positions ((if is_lent_variable lent first then [] else record { function = f; parameter = i } ∷ []) ++ behind)
+      → AreOwned program positions ((if is_lent_variable lent first then [] else record { function = f; parameter = i } ∷ [])
+      ++ behind)
       → is_lent positions f i ≡ true → is_among before (atom names n first) ≡ true
   argument_lent first lent names n f i before behind named owned at = by (decided (is_lent_variable lent first))
     where
-      by : (is_lent_variable lent first ≡ true) ⊎ (is_lent_variable lent first ≡ false) → is_among before (atom names n first) ≡ true
+      by : (is_lent_variable lent first ≡ true) ⊎ (is_lent_variable lent first ≡ false)
+          → is_among before (atom names n first) ≡ true
       by (inl is) =
           let one = lent_variable lent first is in
           subst (λ (e : Tree). is_among before (atom names n e) ≡ true) (sym one.1.0) (named one.0 one.1.1)
@@ -288,7 +292,8 @@ module _ (program : ProgramTree) (positions : PositionTable)
           absurd
           (apart f i at
           (All-head (IsOwnedAt program positions) (record { function = f; parameter = i }) behind
-          (subst (λ (t : Bool). AreOwned program positions ((if t then [] else record { function = f; parameter = i } ∷ []) ++ behind)) other
+          (subst (λ (t : Bool). AreOwned program positions ((if t then [] else record { function = f; parameter = i } ∷ [])
+          ++ behind)) other
           owned) (in_range f i at)))
 
   -- the arguments of a tail call at lent positions are lent
@@ -299,8 +304,9 @@ module _ (program : ProgramTree) (positions : PositionTable)
   arguments_lent (tree first rest) lent names n f i before named owned =
       by (is_lent positions f i) refl
       (arguments_lent rest lent names (n + size first) f (i + 1) before named
-      (all_back (IsOwnedAt program positions)
-      (if is_lent_variable lent first then [] else record { function = f; parameter = i } ∷ []) (handed_to lent f (i + 1) rest) owned))
+      (all_right (IsOwnedAt program positions)
+      (if is_lent_variable lent first then [] else record { function = f; parameter = i } ∷ [])
+      (handed_to lent f (i + 1) rest) owned))
     where
       by : (t : Bool) → is_lent positions f i ≡ t
           → AllAmong (at_positions (is_lent positions f) (i + 1) (atoms names (n + size first) rest)) before
@@ -360,24 +366,27 @@ module _ (program : ProgramTree) (positions : PositionTable)
           (form_lends form es around own names n m ahead.next lent (λ x there. ahead.more (name_of names x) (named x there))
           (part_then ahead.next (lent_in ahead.next last) lent (grows last ahead.next)
           (subst (λ (xs : List ℕ). Part xs lent) ahead.are low))
-          (all_front (IsOwnedAt program positions) (handed_by (lent_inside own around) (apply form es)) [] owned))
+          (all_left (IsOwnedAt program positions) (handed_by (lent_inside own around) (apply form es)) [] owned))
       tail_lends (branch e positive negative) around names n code before lent is named low keeps owned =
           let block : Code = truth_case (atom names n e) is.0 is.1 in
           let passed : Passes positions code block = passes positions constructors e names n block code is.4 in
           let ahead : Lent before code block = passed.lent before in
           let all : Part (lent_in (lent_in ahead.next is.0) is.1) lent = subst (λ (xs : List ℕ). Part xs lent) ahead.are low in
+          let keep = apart_parts (tail_walked to_bound (lent_inside own around) positive)
+          (tail_walked to_bound (lent_inside own around) negative) keeps in
           let both : AreOwned program positions (given around positive ++ given around negative) =
           subst (AreOwned program positions)
           (flat_map-append (handed_at own) (tails_inside around positive) (tails_inside around negative)) owned in
           passed.tails lent (
             tail_lends positive around names (n + size e) is.0 ahead.next lent is.2
                 (λ x there. ahead.more (name_of names x) (named x there))
-                (part_then (lent_in ahead.next is.0) (lent_in (lent_in ahead.next is.0) is.1) lent (grows is.1 (lent_in ahead.next is.0)) all)
-                keeps.0 (all_front (IsOwnedAt program positions) (given around positive) (given around negative) both),
+                (part_then (lent_in ahead.next is.0) (lent_in (lent_in ahead.next is.0) is.1) lent
+                (grows is.1 (lent_in ahead.next is.0)) all)
+                keep.0 (all_left (IsOwnedAt program positions) (given around positive) (given around negative) both),
             (
               tail_lends negative around names (n + size e + size positive) is.1 (lent_in ahead.next is.0) lent is.3
-                  (λ x there. grows is.0 ahead.next (name_of names x) (ahead.more (name_of names x) (named x there))) all keeps.1
-                  (all_back (IsOwnedAt program positions) (given around positive) (given around negative) both),
+                  (λ x there. grows is.0 ahead.next (name_of names x) (ahead.more (name_of names x) (named x there))) all keep.1
+                  (all_right (IsOwnedAt program positions) (given around positive) (given around negative) both),
               tt,
             ),
           )
@@ -398,7 +407,8 @@ module _ (program : ProgramTree) (positions : PositionTable)
           passed.tails lent
           (tail_lends rest around (named_by binder names n first) (n + size first) is.0 ahead.next lent is.1
           (λ x there. ahead.more (name_of (named_by binder names n first) x)
-          (subst (λ (y : ℕ). is_among before y ≡ true) (sym (binder_keeps binder names (atom names n first) x (lent_inside own around) keeps.0 there))
+          (subst (λ (y : ℕ). is_among before y ≡ true) (sym (binder_keeps binder names (atom names n first) x
+          (lent_inside own around) keeps.0 there))
           (named x there)))
           (subst (λ (xs : List ℕ). Part xs lent) ahead.are low) keeps.1 owned)
 
@@ -413,22 +423,31 @@ module _ (program : ProgramTree) (positions : PositionTable)
       arms_lend (row pattern body rest) e around names a n arms before lent is named cell low keeps owned =
           let o : Opening = record { scrutinee = e; pattern = pattern } in
           let code : Code = opened a n pattern is.0 in
+          let inner : List ℕ = lent_inside own around in
+          let opens : Bool = is_lent_variable inner e in
+          let here : List Bound = if opens then [] else record { variables = bound pattern; lent = inner } ∷ [] in
+          let row_inside : List Bound = tail_walked to_bound (lent_in_row inner opens pattern) body in
+          let keep = apart_parts (here ++ row_inside) (tail_walked_rows to_bound inner opens rest) keeps in
+          let own_keep = apart_parts here row_inside keep.0 in
           let all : Part (lent_in_arms (lent_in before code) is.1) lent =
           subst (λ (arms : Arms). Part (lent_in_arms before arms) lent) is.2 low in
           let both : AreOwned program positions (given (around ++ o ∷ []) body ++ given_by_rows around e rest) =
           subst (AreOwned program positions)
           (flat_map-append (handed_at own) (tails_inside (around ++ o ∷ []) body) (tails_of_rows around e rest)) owned in
           let ahead = row_ahead (is_lent_variable (lent_inside own around) e) refl pattern names a n is.0 before
-          (lent_inside own around) named cell keeps.0 in
+          (lent_inside own around) named cell (apart_row inner opens pattern own_keep.0) in
           subst (AllLendTails positions lent) (sym is.2) (
             (opened_passes positions pattern a n is.0).tails lent
-                (tail_lends body (around ++ o ∷ []) (pattern_names a n pattern names) (n + pattern_size pattern) is.0 ahead.0 lent is.3
-                (subst (λ (xs : List ℕ). NamesIn (pattern_names a n pattern names) xs ahead.0) (sym (inside_one_more own around o)) ahead.1.1)
+                (tail_lends body (around ++ o ∷ []) (pattern_names a n pattern names)
+                (n + pattern_size pattern) is.0 ahead.0 lent is.3
+                (subst (λ (xs : List ℕ). NamesIn (pattern_names a n pattern names) xs ahead.0)
+                (sym (inside_push own around o)) ahead.1.1)
                 (subst (λ (xs : List ℕ). Part xs lent) ahead.1.0
-                (part_then (lent_in before code) (lent_in_arms (lent_in before code) is.1) lent (grow_arms is.1 (lent_in before code)) all))
-                (subst (λ (xs : List ℕ). KeepsLent xs body) (sym (inside_one_more own around o)) keeps.1.0)
-                (all_front (IsOwnedAt program positions) (given (around ++ o ∷ []) body) (given_by_rows around e rest) both)),
+                (part_then (lent_in before code) (lent_in_arms (lent_in before code) is.1) lent
+                (grow_arms is.1 (lent_in before code)) all))
+                (subst (λ (xs : List ℕ). KeepsLent xs body) (sym (inside_push own around o)) own_keep.1)
+                (all_left (IsOwnedAt program positions) (given (around ++ o ∷ []) body) (given_by_rows around e rest) both)),
             arms_lend rest e around names a (n + pattern_size pattern + size body) is.1 (lent_in before code) lent is.4
-                (λ x there. grows code before (name_of names x) (named x there)) (λ t. grows code before a (cell t)) all keeps.1.1
-                (all_back (IsOwnedAt program positions) (given (around ++ o ∷ []) body) (given_by_rows around e rest) both),
+                (λ x there. grows code before (name_of names x) (named x there)) (λ t. grows code before a (cell t)) all keep.1
+                (all_right (IsOwnedAt program positions) (given (around ++ o ∷ []) body) (given_by_rows around e rest) both),
           )

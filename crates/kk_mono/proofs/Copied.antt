@@ -1,13 +1,14 @@
 -- A copy of a body with labels is the body, where each label stands for the function or constructor of which it is one; and it
--- names the labels. And what stays in an expression with other forms and patterns.
+-- names the labels.
 use Rattle.std.proofs.Common.{◌≡◌, ℕ, ◌+◌, List, [], ◌∷◌, ◌++◌, length, map, get_or, take, drop, refl, sym, ap, ◌∙◌, subst, append_assoc, arith}
 use Rattle.std.proofs.lemmas.List.{length-map, take-append-drop, take-map, drop-map, take_at, drop_at}
 use Rattle.kk_syntax.specs.declared.program.Form.{Form}
 use Rattle.kk_syntax.specs.declared.program.Form.TheVariants.{Call, Construct}
 use Rattle.kk_syntax.specs.Patterns.{Pattern, anything, variable as pattern_variable, exactly, constructor, Patterns, no_part, part}
-use Rattle.kk_syntax.specs.Shapes.{bound, free, free_all, free_rows, nodes_of_pattern, nodes_of_patterns, nodes_of, nodes_of_all, nodes_of_rows}
+use Rattle.kk_syntax.proofs.Walks.{nodes_replaced}
+use Rattle.kk_syntax.specs.Shapes.{nodes_of_pattern, nodes_of_patterns, nodes_of}
 use Rattle.kk_syntax.specs.Trees.{Tree, variable, apply, branch, match, sequence, Trees, no_tree, tree, Rows, no_row, row, RowTree}
-use Rattle.kk_mono.specs.Instances.{Replaces, replaced, replaced_all, replaced_rows, Renaming, renames, renamed_form, renamed_pattern, renamed_patterns, renamed, renamed_all, renamed_rows}
+use Rattle.kk_mono.specs.Instances.{Renaming, renames, renamed_form, renamed_pattern, renamed_patterns, renamed, renamed_all, renamed_rows}
 use Rattle.kk_mono.specs.Labels.{Names, both, no_names, names_of_form, names_of_pattern, names_of_patterns, names, names_of_all, names_of_rows, behind, labelled_form, only_constructor, labelled_pattern, labelled_patterns, labelled, labelled_all, labelled_rows, row_names, labelled_row}
 use Rattle.kk_mono.proofs.Labelled.{both_assoc}
 
@@ -256,62 +257,6 @@ module _ (origin : Renaming) where
         let halves = both_are (λ ls. labelled_row ls first) (λ ls. labelled_rows ls rest) (IsCopiedRow first) (AreCopied rest)
         (row_names first) (names_of_rows rest) (row_copied pattern body (copied body)) (rows_copied rest) labels more are in
         ((λ i. row (halves.3.0 i) (halves.3.1 i) (halves.4.0 i)), (λ i. both (halves.3.2 i) (halves.4.1 i)) ∙ sym halves.2)
-
--- ---- nodes and free variables
-
--- an expression with other forms and patterns has the nodes, and the free variables, of the first, where its patterns do
-module _ {Known : Type 0} (with : Replaces Known) where
-  module _ (same : (known : Known) (p : Pattern) → nodes_of_pattern (with.pattern known p) ≡ nodes_of_pattern p) where
-    mutual
-      pub nodes_replaced : (known : Known) (t : Tree) → nodes_of (replaced with known t) ≡ nodes_of t
-      nodes_replaced known (variable of) = refl
-      nodes_replaced known (apply form es) = omega (arith, all_nodes_replaced (with.behind_form known form) es)
-      nodes_replaced known (branch e positive negative) =
-          omega (
-            arith,
-            nodes_replaced known e,
-            nodes_replaced (with.behind known e) positive,
-            nodes_replaced (with.behind (with.behind known e) positive) negative,
-          )
-      nodes_replaced known (match e rows) = omega (arith, nodes_replaced known e, row_nodes_replaced (with.behind known e) rows)
-      nodes_replaced known (sequence binder first rest) =
-          omega (arith, nodes_replaced known first, nodes_replaced (with.behind known first) rest)
-
-      all_nodes_replaced : (known : Known) (ts : Trees) → nodes_of_all (replaced_all with known ts) ≡ nodes_of_all ts
-      all_nodes_replaced known no_tree = refl
-      all_nodes_replaced known (tree first rest) =
-          omega (arith, nodes_replaced known first, all_nodes_replaced (with.behind known first) rest)
-
-      row_nodes_replaced : (known : Known) (rs : Rows) → nodes_of_rows (replaced_rows with known rs) ≡ nodes_of_rows rs
-      row_nodes_replaced known no_row = refl
-      row_nodes_replaced known (row pattern body rest) =
-          omega (
-            arith,
-            same known pattern,
-            nodes_replaced (with.behind_pattern known pattern) body,
-            row_nodes_replaced (with.behind_row known pattern body) rest,
-          )
-
-  module _ (same : (known : Known) (p : Pattern) → bound (with.pattern known p) ≡ bound p) where
-    mutual
-      pub free_replaced : (known : Known) (t : Tree) → free (replaced with known t) ≡ free t
-      free_replaced known (variable of) = refl
-      free_replaced known (apply form es) = all_free_replaced (with.behind_form known form) es
-      free_replaced known (branch e positive negative) =
-          rw (free_replaced known e, free_replaced (with.behind known e) positive, free_replaced (with.behind (with.behind known e) positive) negative) refl
-      free_replaced known (match e rows) = rw (free_replaced known e, row_free_replaced (with.behind known e) rows) refl
-      free_replaced known (sequence binder first rest) =
-          rw (free_replaced known first, free_replaced (with.behind known first) rest) refl
-
-      pub all_free_replaced : (known : Known) (ts : Trees) → free_all (replaced_all with known ts) ≡ free_all ts
-      all_free_replaced known no_tree = refl
-      all_free_replaced known (tree first rest) =
-          rw (free_replaced known first, all_free_replaced (with.behind known first) rest) refl
-
-      pub row_free_replaced : (known : Known) (rs : Rows) → free_rows (replaced_rows with known rs) ≡ free_rows rs
-      row_free_replaced known no_row = refl
-      row_free_replaced known (row pattern body rest) =
-          rw (same known pattern, free_replaced (with.behind_pattern known pattern) body, row_free_replaced (with.behind_row known pattern body) rest) refl
 
 -- copies have the nodes of what they copy
 mutual

@@ -30,7 +30,7 @@ use Rattle.kk_mono.specs.Tables.{AreNumbers}
 use Rattle.kk_mono.specs.Told.{told, PassesNone}
 use Rattle.kk_mono.specs.Views.{types_in}
 use Rattle.kk_mono.proofs.Answered.{each_few}
-use Rattle.kk_mono.proofs.Copied.{nodes_replaced}
+use Rattle.kk_syntax.proofs.Walks.{nodes_replaced}
 use Rattle.kk_mono.proofs.Quantities.{KeepsLimits, each_constructor_keeps, few_parameters}
 use Rattle.kk_mono.proofs.Told.{none_large}
 

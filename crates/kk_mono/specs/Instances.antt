@@ -5,8 +5,8 @@ use Rattle.kk_syntax.specs.declared.program.Form.{Form}
 use Rattle.kk_syntax.specs.declared.program.Form.TheVariants.{Construct, Call}
 use Rattle.kk_syntax.specs.OfType.{fields_of}
 use Rattle.kk_syntax.specs.Patterns.{Pattern, anything, variable as pattern_variable, exactly, constructor as made_pattern, Patterns, no_part, part}
-use Rattle.kk_syntax.specs.Shapes.{Gathers, gathered, gathered_all, gathered_rows}
-use Rattle.kk_syntax.specs.Trees.{Tree, variable, apply, branch, match, sequence, Trees, no_tree, tree, Rows, no_row, row}
+use Rattle.kk_syntax.specs.Shapes.{Gathers, gathered, gathered_all, gathered_rows, Replaces, replaced, replaced_all, replaced_rows}
+use Rattle.kk_syntax.specs.Trees.{Tree, Trees, Rows}
 use Rattle.kk_syntax.specs.Types.{TypeTree, TypeTrees, types_of, put, type_at}
 use Rattle.kk_syntax.specs.Typing.{Choice, constructing, calling, holding}
 use Rattle.kk_syntax.specs.Programs.{ConstructorTree, FunctionTree, ProgramTree, constructor_in}
@@ -35,13 +35,15 @@ called_in typings instance = called_at instance.at (slice_index_or typings insta
 -- what is an instance: `main`, and what is called in the body of an instance
 pub data IsInstance (main : ℕ) (typings : List (List Choice)) : InstanceTree → Type 0 where
   main_is : IsInstance main typings (main_instance main)
-  called_is : {caller called : InstanceTree} → IsInstance main typings caller → Contains (called_in typings caller) called → IsInstance main typings called
+  called_is : {caller called : InstanceTree} → IsInstance main typings caller → Contains (called_in typings caller) called
+      → IsInstance main typings called
 
 -- which of some things are seen for the first time, in their order, where others have been seen before
 pub data FirstSights {X : Type 0} : List X → List X → List X → Type 0 where
   none_left : {seen : List X} → FirstSights seen [] []
   again : {seen : List X} {x : X} {xs new : List X} → Contains seen x → FirstSights seen xs new → FirstSights seen (x ∷ xs) new
-  new_one : {seen : List X} {x : X} {xs new : List X} → ¬ Contains seen x → FirstSights (seen ++ (x ∷ [])) xs new → FirstSights seen (x ∷ xs) (x ∷ new)
+  new_one : {seen : List X} {x : X} {xs new : List X} → ¬ Contains seen x → FirstSights (seen ++ (x ∷ [])) xs new
+      → FirstSights seen (x ∷ xs) (x ∷ new)
 
 -- These are all instances, each once, in the order of first sight: `main` first, then those that its body calls, those
 -- that the body of the second one calls, and so on.
@@ -181,37 +183,6 @@ abbrev mutual
   renamed_patterns new no_part = no_part
   renamed_patterns new (part first rest) = part (renamed_pattern new first) (renamed_patterns new rest)
 
--- What stands in place of the forms and patterns of an expression, by what is known where they stand; and what is known
--- behind a form, a pattern, an expression and a row.
-pub record Replaces (Known : Type 0) : Type 0 where
-  pub form : Known → Form → Form
-  pub pattern : Known → Pattern → Pattern
-  pub behind_form : Known → Form → Known
-  pub behind_pattern : Known → Pattern → Known
-  pub behind : Known → Tree → Known
-  pub behind_row : Known → Pattern → Tree → Known
-
--- an expression with other forms and patterns, in the order of the text
-abbrev mutual
-  pub replaced : {Known : Type 0} → Replaces Known → Known → Tree → Tree
-  replaced with known (variable of) = variable of
-  replaced with known (apply form arguments) = apply (with.form known form) (replaced_all with (with.behind_form known form) arguments)
-  replaced with known (branch condition positive negative) =
-      branch (replaced with known condition) (replaced with (with.behind known condition) positive)
-      (replaced with (with.behind (with.behind known condition) positive) negative)
-  replaced with known (match scrutinee rows) = match (replaced with known scrutinee) (replaced_rows with (with.behind known scrutinee) rows)
-  replaced with known (sequence binder first rest) = sequence binder (replaced with known first) (replaced with (with.behind known first) rest)
-
-  pub replaced_all : {Known : Type 0} → Replaces Known → Known → Trees → Trees
-  replaced_all with known no_tree = no_tree
-  replaced_all with known (tree first rest) = tree (replaced with known first) (replaced_all with (with.behind known first) rest)
-
-  pub replaced_rows : {Known : Type 0} → Replaces Known → Known → Rows → Rows
-  replaced_rows with known no_row = no_row
-  replaced_rows with known (row pattern body rest) =
-      row (with.pattern known pattern) (replaced with (with.behind_pattern known pattern) body)
-      (replaced_rows with (with.behind_row known pattern body) rest)
-
 -- an expression that names functions and constructors by other numbers, the same ones everywhere
 abbrev pub renames : Replaces Renaming
 renames = record {
@@ -258,13 +229,16 @@ pub record IsAtTypes (instances : List InstanceTree) (grounds : List GroundConst
 
 -- These instances of a program are the functions of another, in which `main` is the first. It has the program's types and
 -- string literals, and the ground constructors of the instances.
-pub record IsInstanceProgram (program : ProgramTree) (typings : List (List Choice)) (instances : List InstanceTree) (made : ProgramTree) : Type 0 where
+pub record IsInstanceProgram (program : ProgramTree) (typings : List (List Choice)) (instances : List InstanceTree)
+    (made : ProgramTree) : Type 0 where
   pub are : AreInstances program.main typings instances
   pub grounds : List GroundConstructorTree
   pub grounds_are : AreGroundConstructors program typings instances grounds
   pub as_many : length made.functions ≡ length instances
-  pub each : (n : ℕ) (instance : InstanceTree) (function_made : FunctionTree) → slice_get instances n ≡ Some instance → slice_get made.functions n ≡ Some function_made
-      → (function : FunctionTree) × (slice_get program.functions instance.function ≡ Some function) × IsAtTypes instances grounds instance.at (slice_index_or typings instance.function []) function function_made
+  pub each : (n : ℕ) (instance : InstanceTree) (function_made : FunctionTree) → slice_get instances n ≡ Some instance
+      → slice_get made.functions n ≡ Some function_made
+      → (function : FunctionTree) × (slice_get program.functions instance.function ≡ Some function)
+      × IsAtTypes instances grounds instance.at (slice_index_or typings instance.function []) function function_made
   pub main : made.main ≡ 0
   pub types : made.types ≡ program.types
   pub constructors : made.constructors ≡ map (ground_constructor program) grounds

@@ -4,9 +4,10 @@ use Rattle.std.specs.Prelude.{ℕ, List, [], ◌∷◌, ◌++◌, length, drop, 
 use Rattle.kk_syntax.specs.declared.program.Form.{Form}
 use Rattle.kk_syntax.specs.declared.program.Form.TheVariants.{Construct, Call}
 use Rattle.kk_syntax.specs.Patterns.{Pattern, anything, variable as pattern_variable, exactly, constructor, Patterns, no_part, part}
+use Rattle.kk_syntax.specs.Shapes.{Replaces, replaced, replaced_all, replaced_rows}
 use Rattle.kk_syntax.specs.Trees.{Tree, Trees, Rows, RowTree, StatementTree}
 use Rattle.kk_mono.specs.declared.labels.Labels.{Labels}
-use Rattle.kk_mono.specs.Instances.{Replaces, replaced, replaced_all, replaced_rows, called_by, calls, calls_of_all, calls_of_rows, built_by, tested, tested_all, constructors_in, constructors_in_all, constructors_in_rows}
+use Rattle.kk_mono.specs.Instances.{called_by, calls, calls_of_all, calls_of_rows, built_by, tested, tested_all, constructors_in, constructors_in_all, constructors_in_rows}
 
 -- functions and constructors that are named, each in the order of the text
 pub record Names : Type 0 where
@@ -18,7 +19,11 @@ no_names = record { functions = []; constructors = [] }
 
 -- names, and those behind them
 abbrev pub both : Names → Names → Names
-both first second = record { functions = first.functions ++ second.functions; constructors = first.constructors ++ second.constructors }
+both first second = record {
+  functions = first.functions ++ second.functions;
+  constructors = first.constructors
+      ++ second.constructors;
+}
 
 -- what a form, a pattern, and an expression names
 abbrev pub names_of_form : Form → Names
@@ -41,11 +46,20 @@ names_of_rows rs = record { functions = calls_of_rows rs; constructors = constru
 
 -- the labels that are left
 abbrev pub left_in : Labels → Names
-left_in labels = record { functions = drop labels.next_function labels.functions.items; constructors = drop labels.next_constructor labels.constructors.items }
+left_in labels = record {
+  functions = drop labels.next_function labels.functions.items;
+  constructors =
+      drop labels.next_constructor labels.constructors.items;
+}
 
 -- the labels behind those of some names
 abbrev pub behind : Names → Names → Names
-behind labels named = record { functions = drop (length named.functions) labels.functions; constructors = drop (length named.constructors) labels.constructors }
+behind labels named =
+    record {
+      functions = drop (length named.functions) labels.functions;
+      constructors = drop
+          (length named.constructors) labels.constructors;
+    }
 
 abbrev pub labelled_form : Names → Form → Form
 labelled_form labels (Call function) = Call (slice_index_or labels.functions 0 function)
@@ -103,7 +117,8 @@ abbrev pub row_names : RowTree → Names
 row_names r = both (names_of_pattern r.pattern) (names r.body)
 
 abbrev pub labelled_row : Names → RowTree → RowTree
-labelled_row labels r = record { pattern = labelled_pattern labels r.pattern; body = labelled (behind labels (names_of_pattern r.pattern)) r.body }
+labelled_row labels r =
+    record { pattern = labelled_pattern labels r.pattern; body = labelled (behind labels (names_of_pattern r.pattern)) r.body }
 
 abbrev pub statement_names : StatementTree → Names
 statement_names s = names s.value

@@ -75,7 +75,7 @@ module _ (program : ProgramTree) (code : ProgramCode) (given : Bounds) (good : A
       → (Sane : State → Type 0) (heavy : State → ℕ)
       → ((s : State) → Sane s → Sane (step (setting_of program positions cells depth) s).1)
       → ((of : Rows) (environment : Environment) (fs : List Frame) (v : Value) (store : Store) (input : List ℕ)
-      → given.matches ≡ true → Sane (source_at (value v) (rows of environment ∷ fs) store input)
+      → Sane (source_at (value v) (rows of environment ∷ fs) store input)
       → RowFound given.constructors of store v)
       → ((positive negative : Tree) (environment : Environment) (fs : List Frame) (v : Value) (store : Store) (input : List ℕ)
       → Sane (source_at (value v) (branches positive negative environment ∷ fs) store input) → IsTruth v)
@@ -89,8 +89,10 @@ module _ (program : ProgramTree) (code : ProgramCode) (given : Bounds) (good : A
   agrees positions cells depth input cost weight light opening opens_for Sane heavy stays_sane row_there truth_there enough sane =
       let setting : Setting = setting_of program positions cells depth in
       simulates_agree (weighed_store_machine heavy setting) (core_machine weight (core_setting_of code positions cells depth))
-      (Steps.SaneRelated setting code given cost weight light opening opens_for good texts Sane heavy stays_sane row_there truth_there enough)
+      (Steps.SaneRelated setting code given cost weight light opening opens_for good texts Sane heavy stays_sane row_there
+      truth_there enough)
       Passing (given.most + 1)
-      (Steps.simulates setting code given cost weight light opening opens_for good texts Sane heavy stays_sane row_there truth_there enough)
+      (Steps.simulates setting code given cost weight light opening opens_for good texts Sane heavy stays_sane row_there truth_there
+      enough)
       0 given.most (first_state setting input) (core_first_state (core_setting_of code positions cells depth) input)
       (starts positions cells depth input, sane)

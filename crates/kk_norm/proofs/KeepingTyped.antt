@@ -12,8 +12,10 @@ use Rattle.kk_syntax.specs.Patterns.{Pattern, anything, variable as pattern_vari
 use Rattle.kk_syntax.specs.GroundTyping.{signature_of}
 use Rattle.kk_syntax.specs.PositionsOf.{PositionTable}
 use Rattle.kk_syntax.specs.Programs.{FunctionTree, ProgramTree, no_function}
-use Rattle.kk_syntax.specs.Shapes.{greatest_nodes, nodes_of, nodes_of_all, nodes_of_rows, nodes_of_pattern, nodes_of_patterns}
-use Rattle.kk_syntax.specs.Trees.{Tree, variable, apply, branch, match, sequence, Trees, no_tree, tree, Rows, no_row, row}
+use Rattle.kk_syntax.specs.Shapes.{greatest_nodes, nodes_of, nodes_of_pattern, nodes_of_patterns, gathered}
+use Rattle.kk_syntax.specs.Trees.{Tree, Rows}
+use Rattle.kk_syntax.proofs.Elements.{each_weaker}
+use Rattle.kk_syntax.proofs.Walks.{nodes_bound}
 use Rattle.kk_syntax.specs.Typing.{bool}
 use Rattle.kk_source.specs.State.{Setting, Value, Store, Environment, Frame, branches, rows, value}
 use Rattle.kk_source.specs.SourceAfter.{first_state, State}
@@ -33,7 +35,7 @@ use Rattle.kk_core.proofs.FewParts.{most_seen, most_cost, run_cheap}
 use Rattle.kk_norm.specs.Meaning.{KeepsMeaningByCells, CostsLittle, weighed_store_machine, core_steps, openings_at, core_setting_of, core_after, setting_of}
 use Rattle.kk_norm.specs.Normalized.{IsCoreForm}
 use Rattle.kk_norm.specs.OpenedCells.{openings, openings_all}
-use Rattle.kk_norm.proofs.Bounds.{Bounds, OpensAtMost, AllOpenAtMost, RowsOpenAtMost}
+use Rattle.kk_norm.proofs.Bounds.{Bounds, gathers_openings, OpensAtMost}
 use Rattle.kk_norm.proofs.Closed.{is_closed}
 use Rattle.kk_norm.proofs.Delivery.{source_at}
 use Rattle.kk_norm.proofs.FormByForm.{tree_some, most_by, have_few_parts}
@@ -59,40 +61,17 @@ mutual
   openings_all_small no_part = omega arith
   openings_all_small (part first rest) = omega (arith, openings_small first, openings_all_small rest)
 
-mutual
-  opens_nodes : (given : Bounds) (e : Tree) → given.matches ≡ true → nodes_of e ≤ given.cells + 1 → OpensAtMost given e
-  opens_nodes given (variable x) some le = tt
-  opens_nodes given (apply form es) some le = all_open_nodes given es some (omega arith)
-  opens_nodes given (branch e positive negative) some le = (
-    opens_nodes given e some (omega arith),
-    opens_nodes given positive some (omega arith),
-    opens_nodes given negative some
-        (omega arith),
-  )
-  opens_nodes given (match e of) some le =
-      (some, opens_nodes given e some (omega arith), rows_open_nodes given of some (omega arith))
-  opens_nodes given (sequence binder first rest) some le =
-      (opens_nodes given first some (omega arith), opens_nodes given rest some (omega arith))
-
-  all_open_nodes : (given : Bounds) (es : Trees) → given.matches ≡ true → nodes_of_all es ≤ given.cells + 1 → AllOpenAtMost given es
-  all_open_nodes given no_tree some le = tt
-  all_open_nodes given (tree first rest) some le =
-      (opens_nodes given first some (omega arith), all_open_nodes given rest some (omega arith))
-
-  rows_open_nodes : (given : Bounds) (of : Rows) → given.matches ≡ true → nodes_of_rows of ≤ given.cells + 1 → RowsOpenAtMost given of
-  rows_open_nodes given no_row some le = tt
-  rows_open_nodes given (row pattern body rest) some le = (
-    omega (arith, openings_small pattern),
-    opens_nodes given body some (omega arith),
-    rows_open_nodes given rest some
-        (omega arith),
-  )
+opens_nodes : (given : Bounds) (e : Tree) → nodes_of e ≤ given.cells + 1 → OpensAtMost given e
+opens_nodes given e le =
+    each_weaker (λ n. n + 1 ≤ nodes_of e) (λ n. n ≤ given.cells) (λ n small. omega (arith, le, small)) (gathered gathers_openings e)
+    (nodes_bound gathers_openings (λ m n. n + 1 ≤ m) (λ m n le x small. omega (arith, le, small)) (λ form. tt)
+    (λ p. (openings_small p, tt)) (λ rows. tt) e)
 
 -- ---- typed programs
 
 abbrev typed_bounds : ProgramTree → Bounds
 typed_bounds program =
-    record { constructors = program.constructors; matches = true; most = greatest_nodes program; cells = greatest_nodes program - 1 }
+    record { constructors = program.constructors; most = greatest_nodes program; cells = greatest_nodes program - 1 }
 
 are_good : (program : ProgramTree) (code : ProgramCode) → IsGroundTyped program → IsCoreForm program code
     → AreGood (typed_bounds program) program.functions code.functions
@@ -106,7 +85,7 @@ are_good program code typed form =
             found = one.1;
             is = one.2;
             closed = is_closed (table_of program) function (typed.functions f function is);
-            open_few = opens_nodes (typed_bounds program) function.body refl (omega (arith, small));
+            open_few = opens_nodes (typed_bounds program) function.body (omega (arith, small));
             small = small;
           };
       none = λ f is. no_core_at_number program.constructors program.functions code.functions form.functions f is;
@@ -176,7 +155,7 @@ typed_agrees program code typed form positions cells depth input cost opening mo
     (λ s. IsStateTyped (table_of program) s.machine) heavy
     (λ s sane. performed_keeps (IsStateTyped (table_of program)) (step_of setting s.machine) s.input
     (step_safe setting typed s.machine sane))
-    (λ of environment fs v store rest some sane. typed_row program of environment fs v store rest sane)
+    (λ of environment fs v store rest sane. typed_row program of environment fs v store rest sane)
     (typed_truth program typed.truths)
     enough (start_typed setting typed))
 

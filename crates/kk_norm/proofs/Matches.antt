@@ -27,7 +27,7 @@ use Rattle.kk_norm.specs.OpenedCells.{openings}
 use Rattle.kk_norm.specs.Meaning.{openings_if, openings_of_rows}
 use Rattle.kk_norm.specs.Names.{Names}
 use Rattle.kk_norm.specs.Normalized.{Then, final, next, size, size_rows, pattern_size, pattern_names, opened, atom, within, joined, patterns_in}
-use Rattle.kk_norm.proofs.Bounds.{Bounds, RowsOpenAtMost}
+use Rattle.kk_norm.proofs.Bounds.{Bounds, RowsOpenAtMost, of_match}
 use Rattle.kk_norm.proofs.Delivery as Delivery
 use Rattle.kk_norm.proofs.Delivery.{source_at, AtTree, Related}
 use Rattle.kk_norm.proofs.Openings as Openings
@@ -49,7 +49,7 @@ pub rows_open_few : (given : Bounds) (of : Rows) (v : Value) (store : Store) (en
     → openings_of_rows store of v environment ≤ given.cells
 rows_open_few given no_row v store environment few = omega arith
 rows_open_few given (row pattern body rest) v store environment few =
-    by_match (matched store pattern v environment) (rows_open_few given rest v store environment few.2)
+    by_match (matched store pattern v environment) (rows_open_few given rest v store environment (of_match given body rest few.1).1)
   where
     by_match : (found : Option Environment) → openings_of_rows store rest v environment ≤ given.cells
         → openings_if found (openings pattern) (openings_of_rows store rest v environment) ≤ given.cells
@@ -161,13 +161,12 @@ module _ (setting : Setting) (side : CoreSetting) (given : Bounds) (cost : ℕ) 
       (core : Environment) (frames : List CallFrame) (v : Value) (store : Store) (input : List ℕ) (w idle : ℕ)
       → value_of core x ≡ v → x < high → low ≤ high → Waits given (rows of environment ∷ fs)
       (goes_on rest x joins) core low high frames
-      → (given.matches ≡ true → RowFound given.constructors of store v)
+      → RowFound given.constructors of store v
       → (openings_of_rows store of v environment ≤ given.cells → 2 * cost + openings_of_rows store of v environment * opening ≤ w)
       → Follows w idle (step setting (source_at (value v) (rows of environment ∷ fs) store input)).0
       (step setting (source_at (value v) (rows of environment ∷ fs) store input)).1 (core_at rest core joins frames store input)
-  rows_step of environment fs rest x low high joins core frames v store input w idle has less le waits there paid =
+  rows_step of environment fs rest x low high joins core frames v store input w idle has less le waits found paid =
       let n : ℕ = waits.at.n in
-      let found : RowFound given.constructors of store v = there waits.allowed in
       let picked : Picked given (within waits.at.k) waits.at.names x n of waits.arms store v environment core low found.number
       = picks given (within waits.at.k) waits.at.names x n of waits.arms store v environment core low found.number waits.arms_are
       waits.open_few waits.stands found.first in

@@ -13,7 +13,7 @@ use Rattle.kk_norm.specs.OpenedCells.{openings}
 use Rattle.kk_norm.specs.Meaning.{openings_if, openings_of_rows}
 use Rattle.kk_norm.specs.Names.{Names}
 use Rattle.kk_norm.specs.Normalized.{Then, size, size_rows, pattern_size, pattern_names, opened, IsCode, AreArms, patterns_in}
-use Rattle.kk_norm.proofs.Bounds.{Bounds, OpensAtMost, RowsOpenAtMost}
+use Rattle.kk_norm.proofs.Bounds.{Bounds, OpensAtMost, RowsOpenAtMost, of_match}
 use Rattle.kk_norm.proofs.Openings.{same_some}
 use Rattle.kk_norm.proofs.Variables.{Stands, stands_left, stands_right}
 
@@ -136,7 +136,7 @@ picked_first given k names a n pattern body rest arms store v environment core l
       coded = are.3;
       opens = ap (λ (o : Option Environment). openings_if o (openings pattern) (openings_of_rows store rest v environment)) found;
       open_few = open_few.0;
-      body_opens = open_few.1;
+      body_opens = (of_match given body rest open_few.1).0;
       starts = omega arith;
       ends = omega arith;
       small = omega arith;
@@ -179,7 +179,7 @@ picks_row given k names a n no_row arms store v environment core low i are open_
 picks_row given k names a n (row pattern body rest) arms store v environment core low i are open_few stands is =
     by_match (matched store pattern v environment) refl (matched store pattern v []) refl is
     (λ j later_is. picks_row given k names a (n + pattern_size pattern + size body) rest are.1 store v environment core low j are.4
-    open_few.2
+    (of_match given body rest open_few.1).1
     (stands_right names environment core low (without (bound pattern) (free body)) (free_rows rest) stands) later_is)
   where
     Goal : ℕ → Type 0

@@ -60,7 +60,8 @@ pub record Place : Type 0 where
 
 -- In the records: the variables that are read are below `low`, those that are still written from `high` on; the bounds
 -- of the program hold.
-pub record ArgumentsWait (given : Bounds) (form : Form) (vs : List Value) (es : Trees) (environment : Environment) (rest : Code) (a : ℕ) (joins : List Join) (core : Environment) (low high : ℕ) (Later : Goal → ℕ → Type 0) : Type 0 where
+pub record ArgumentsWait (given : Bounds) (form : Form) (vs : List Value) (es : Trees) (environment : Environment) (rest : Code)
+    (a : ℕ) (joins : List Join) (core : Environment) (low high : ℕ) (Later : Goal → ℕ → Type 0) : Type 0 where
   pub at : Place
   pub m : ℕ
   pub held : List ℕ
@@ -75,7 +76,8 @@ pub record ArgumentsWait (given : Bounds) (form : Form) (vs : List Value) (es : 
   pub fresh : Fresh at.k joins (m + 1) at.top
   pub later : Later (goal_of at.k m joins) at.top
 
-pub record BranchesWait (given : Bounds) (positive negative : Tree) (environment : Environment) (rest : Code) (a : ℕ) (joins : List Join) (core : Environment) (low high : ℕ) (Later : Goal → ℕ → Type 0) : Type 0 where
+pub record BranchesWait (given : Bounds) (positive negative : Tree) (environment : Environment) (rest : Code) (a : ℕ)
+    (joins : List Join) (core : Environment) (low high : ℕ) (Later : Goal → ℕ → Type 0) : Type 0 where
   pub at : Place
   pub first : Code
   pub second : Code
@@ -90,11 +92,11 @@ pub record BranchesWait (given : Bounds) (positive negative : Tree) (environment
   pub fresh : Fresh at.k joins (at.n + size positive + size negative + 1) at.top
   pub later : Later (goal_of at.k (at.n + size positive + size negative) joins) at.top
 
-pub record RowsWait (given : Bounds) (of : Rows) (environment : Environment) (rest : Code) (a : ℕ) (joins : List Join) (core : Environment) (low high : ℕ) (Later : Goal → ℕ → Type 0) : Type 0 where
+pub record RowsWait (given : Bounds) (of : Rows) (environment : Environment) (rest : Code) (a : ℕ) (joins : List Join)
+    (core : Environment) (low high : ℕ) (Later : Goal → ℕ → Type 0) : Type 0 where
   pub at : Place
   pub decisions : List NodeTree
   pub arms : Arms
-  pub allowed : given.matches ≡ true
   pub decide : Decides given.constructors (patterns_in of) decisions
   pub arms_are : AreArms given.constructors (within at.k) at.names a at.n of arms
   pub rest_is : rest ≡ joined at.k (at.n + size_rows of) (case a decisions arms)
@@ -105,7 +107,8 @@ pub record RowsWait (given : Bounds) (of : Rows) (environment : Environment) (re
   pub fresh : Fresh at.k joins (at.n + size_rows of + 1) at.top
   pub later : Later (goal_of at.k (at.n + size_rows of) joins) at.top
 
-pub record StatementWait (given : Bounds) (w : Option ℕ) (e : Tree) (environment : Environment) (rest : Code) (a : ℕ) (joins : List Join) (core : Environment) (low high : ℕ) (Later : Goal → ℕ → Type 0) : Type 0 where
+pub record StatementWait (given : Bounds) (w : Option ℕ) (e : Tree) (environment : Environment) (rest : Code) (a : ℕ)
+    (joins : List Join) (core : Environment) (low high : ℕ) (Later : Goal → ℕ → Type 0) : Type 0 where
   pub at : Place
   pub rest_is : IsCode given.constructors at.k (named w a at.names) at.n e rest
   pub stands : Stands at.names environment core low (without (awaited w) (free e))
@@ -131,7 +134,8 @@ abbrev pub Waits : Bounds → List Frame → Goal → Environment → ℕ → �
 Waits given (arguments form vs es environment ∷ fs) (goes_on rest a joins) core low high frames =
     ArgumentsWait given form vs es environment rest a joins core low high (λ goal top. Waits given fs goal core low top frames)
 Waits given (branches positive negative environment ∷ fs) (goes_on rest a joins) core low high frames =
-    BranchesWait given positive negative environment rest a joins core low high (λ goal top. Waits given fs goal core low top frames)
+    BranchesWait given positive negative environment rest a joins core low high
+    (λ goal top. Waits given fs goal core low top frames)
 Waits given (rows of environment ∷ fs) (goes_on rest a joins) core low high frames =
     RowsWait given of environment rest a joins core low high (λ goal top. Waits given fs goal core low top frames)
 Waits given (statement w e environment ∷ fs) (goes_on rest a joins) core low high frames =
@@ -142,10 +146,12 @@ Waits given (call lent ∷ fs) returns core low high (frame ∷ frames) =
 Waits given fs goal core low high frames = ⊥
 
 -- the frames wait as well where more is bound, from `low` on
-pub waits_move : (given : Bounds) (fs : List Frame) (goal : Goal) (core after_it : Environment) (low low_after high high_after : ℕ) (frames : List CallFrame)
+pub waits_move : (given : Bounds) (fs : List Frame) (goal : Goal) (core after_it : Environment) (low low_after high high_after : ℕ)
+    (frames : List CallFrame)
     → SameBelow low core after_it → low ≤ low_after → high_after ≤ high
     → Waits given fs goal core low high frames → Waits given fs goal after_it low_after high_after frames
-waits_move given (arguments form vs es environment ∷ fs) (goes_on rest a joins) core after_it low low_after high high_after frames same le ge waits =
+waits_move given (arguments form vs es environment ∷ fs)
+    (goes_on rest a joins) core after_it low low_after high high_after frames same le ge waits =
     record {
       at = waits.at;
       m = waits.m;
@@ -159,9 +165,12 @@ waits_move given (arguments form vs es environment ∷ fs) (goes_on rest a joins
       small = waits.small;
       from = omega (arith, waits.from);
       fresh = waits.fresh;
-      later = waits_move given fs (goal_of waits.at.k waits.m joins) core after_it low low_after waits.at.top waits.at.top frames same le (omega arith) waits.later;
+      later = waits_move given fs
+          (goal_of waits.at.k waits.m joins) core after_it low low_after waits.at.top waits.at.top frames same le
+          (omega arith) waits.later;
     }
-waits_move given (branches positive negative environment ∷ fs) (goes_on rest a joins) core after_it low low_after high high_after frames same le ge waits =
+waits_move given (branches positive negative environment ∷ fs)
+    (goes_on rest a joins) core after_it low low_after high high_after frames same le ge waits =
     record {
       at = waits.at;
       first = waits.first;
@@ -169,20 +178,22 @@ waits_move given (branches positive negative environment ∷ fs) (goes_on rest a
       first_is = waits.first_is;
       second_is = waits.second_is;
       rest_is = waits.rest_is;
-      stands = stands_later waits.at.names environment core after_it low low_after (free positive ++ free negative) same le waits.stands;
+      stands = stands_later waits.at.names environment core after_it low low_after
+          (free positive ++ free negative) same le waits.stands;
       positive_opens = waits.positive_opens;
       negative_opens = waits.negative_opens;
       small = waits.small;
       from = omega (arith, waits.from);
       fresh = waits.fresh;
-      later = waits_move given fs (goal_of waits.at.k (waits.at.n + size positive + size negative) joins) core after_it low low_after waits.at.top waits.at.top frames same le (omega arith) waits.later;
+      later = waits_move given fs (goal_of waits.at.k (waits.at.n + size positive
+          + size negative) joins) core after_it low low_after waits.at.top waits.at.top frames same le (omega arith) waits.later;
     }
-waits_move given (rows of environment ∷ fs) (goes_on rest a joins) core after_it low low_after high high_after frames same le ge waits =
+waits_move given (rows of environment ∷ fs)
+    (goes_on rest a joins) core after_it low low_after high high_after frames same le ge waits =
     record {
       at = waits.at;
       decisions = waits.decisions;
       arms = waits.arms;
-      allowed = waits.allowed;
       decide = waits.decide;
       arms_are = waits.arms_are;
       rest_is = waits.rest_is;
@@ -191,35 +202,51 @@ waits_move given (rows of environment ∷ fs) (goes_on rest a joins) core after_
       small = waits.small;
       from = omega (arith, waits.from);
       fresh = waits.fresh;
-      later = waits_move given fs (goal_of waits.at.k (waits.at.n + size_rows of) joins) core after_it low low_after waits.at.top waits.at.top frames same le (omega arith) waits.later;
+      later = waits_move given fs (goal_of waits.at.k (waits.at.n
+          + size_rows of) joins) core after_it low low_after waits.at.top waits.at.top frames same le (omega arith) waits.later;
     }
-waits_move given (statement w e environment ∷ fs) (goes_on rest a joins) core after_it low low_after high high_after frames same le ge waits =
+waits_move given (statement w e environment ∷ fs)
+    (goes_on rest a joins) core after_it low low_after high high_after frames same le ge waits =
     record {
       at = waits.at;
       rest_is = waits.rest_is;
-      stands = stands_later waits.at.names environment core after_it low low_after (without (awaited w) (free e)) same le waits.stands;
+      stands = stands_later waits.at.names environment core after_it low low_after
+          (without (awaited w) (free e)) same le waits.stands;
       open_few = waits.open_few;
       small = waits.small;
       from = omega (arith, waits.from);
       fresh = waits.fresh;
-      later = waits_move given fs (goal_of waits.at.k (atom (named w a waits.at.names) waits.at.n e) joins) core after_it low low_after waits.at.top waits.at.top frames same le (omega arith) waits.later;
+      later = waits_move given fs
+          (goal_of waits.at.k (atom
+          (named w a waits.at.names) waits.at.n e) joins) core after_it low low_after waits.at.top waits.at.top frames same le
+          (omega arith) waits.later;
     }
 waits_move given (call lent ∷ fs) returns core after_it low low_after high high_after [] same le ge waits = waits
 waits_move given (call lent ∷ fs) returns core after_it low low_after high high_after (frame ∷ frames) same le ge waits = waits
 waits_move given [] goal core after_it low low_after high high_after frames same le ge waits = absurd waits
-waits_move given (arguments form vs es environment ∷ fs) returns core after_it low low_after high high_after frames same le ge waits = absurd waits
-waits_move given (arguments form vs es environment ∷ fs) nowhere core after_it low low_after high high_after frames same le ge waits = absurd waits
-waits_move given (branches positive negative environment ∷ fs) returns core after_it low low_after high high_after frames same le ge waits = absurd waits
-waits_move given (branches positive negative environment ∷ fs) nowhere core after_it low low_after high high_after frames same le ge waits = absurd waits
-waits_move given (statement w e environment ∷ fs) returns core after_it low low_after high high_after frames same le ge waits = absurd waits
-waits_move given (statement w e environment ∷ fs) nowhere core after_it low low_after high high_after frames same le ge waits = absurd waits
+waits_move given (arguments form vs es environment
+    ∷ fs) returns core after_it low low_after high high_after frames same le ge waits = absurd waits
+waits_move given (arguments form vs es environment
+    ∷ fs) nowhere core after_it low low_after high high_after frames same le ge waits = absurd waits
+waits_move given (branches positive negative environment
+    ∷ fs) returns core after_it low low_after high high_after frames same le ge waits = absurd waits
+waits_move given (branches positive negative environment
+    ∷ fs) nowhere core after_it low low_after high high_after frames same le ge waits = absurd waits
+waits_move given (statement w e environment ∷ fs) returns core after_it low low_after high high_after frames same le ge waits =
+    absurd waits
+waits_move given (statement w e environment ∷ fs) nowhere core after_it low low_after high high_after frames same le ge waits =
+    absurd waits
 waits_move given (call lent ∷ fs) nowhere core after_it low low_after high high_after frames same le ge waits = absurd waits
-waits_move given (call lent ∷ fs) (goes_on rest a joins) core after_it low low_after high high_after frames same le ge waits = absurd waits
-waits_move given (rows of environment ∷ fs) returns core after_it low low_after high high_after frames same le ge waits = absurd waits
-waits_move given (rows of environment ∷ fs) nowhere core after_it low low_after high high_after frames same le ge waits = absurd waits
+waits_move given (call lent ∷ fs) (goes_on rest a joins) core after_it low low_after high high_after frames same le ge waits =
+    absurd waits
+waits_move given (rows of environment ∷ fs) returns core after_it low low_after high high_after frames same le ge waits =
+    absurd waits
+waits_move given (rows of environment ∷ fs) nowhere core after_it low low_after high high_after frames same le ge waits =
+    absurd waits
 
 -- no frames wait for a value that goes nowhere
-pub waits_nowhere : (given : Bounds) (fs : List Frame) (core : Environment) (low high : ℕ) (frames : List CallFrame) → Waits given fs nowhere core low high frames → ⊥
+pub waits_nowhere : (given : Bounds) (fs : List Frame) (core : Environment) (low high : ℕ) (frames : List CallFrame)
+    → Waits given fs nowhere core low high frames → ⊥
 waits_nowhere given [] core low high frames waits = waits
 waits_nowhere given (arguments form vs es environment ∷ fs) core low high frames waits = waits
 waits_nowhere given (branches positive negative environment ∷ fs) core low high frames waits = waits
@@ -228,14 +255,23 @@ waits_nowhere given (statement w e environment ∷ fs) core low high frames wait
 waits_nowhere given (call lent ∷ fs) core low high frames waits = waits
 
 -- as many call frames stand: the running one, and those of the functions that wait
-pub calls_are : (given : Bounds) (fs : List Frame) (goal : Goal) (core : Environment) (low high : ℕ) (frames : List CallFrame) → Waits given fs goal core low high frames → call_frames fs ≡ suc (length frames)
+pub calls_are : (given : Bounds) (fs : List Frame) (goal : Goal) (core : Environment) (low high : ℕ) (frames : List CallFrame)
+    → Waits given fs goal core low high frames → call_frames fs ≡ suc (length frames)
 calls_are given [] goal core low high frames waits = absurd waits
-calls_are given (arguments form vs es environment ∷ fs) (goes_on rest a joins) core low high frames waits = calls_are given fs (goal_of waits.at.k waits.m joins) core low waits.at.top frames waits.later
-calls_are given (branches positive negative environment ∷ fs) (goes_on rest a joins) core low high frames waits = calls_are given fs (goal_of waits.at.k (waits.at.n + size positive + size negative) joins) core low waits.at.top frames waits.later
-calls_are given (rows of environment ∷ fs) (goes_on rest a joins) core low high frames waits = calls_are given fs (goal_of waits.at.k (waits.at.n + size_rows of) joins) core low waits.at.top frames waits.later
-calls_are given (statement w e environment ∷ fs) (goes_on rest a joins) core low high frames waits = calls_are given fs (goal_of waits.at.k (atom (named w a waits.at.names) waits.at.n e) joins) core low waits.at.top frames waits.later
+calls_are given (arguments form vs es environment ∷ fs) (goes_on rest a joins) core low high frames waits =
+    calls_are given fs (goal_of waits.at.k waits.m joins) core low waits.at.top frames waits.later
+calls_are given (branches positive negative environment ∷ fs) (goes_on rest a joins) core low high frames waits =
+    calls_are given fs (goal_of waits.at.k (waits.at.n + size positive
+    + size negative) joins) core low waits.at.top frames waits.later
+calls_are given (rows of environment ∷ fs) (goes_on rest a joins) core low high frames waits =
+    calls_are given fs (goal_of waits.at.k (waits.at.n + size_rows of) joins) core low waits.at.top frames waits.later
+calls_are given (statement w e environment ∷ fs) (goes_on rest a joins) core low high frames waits =
+    calls_are given fs (goal_of waits.at.k
+    (atom (named w a waits.at.names) waits.at.n e) joins) core low waits.at.top frames waits.later
 calls_are given (call lent ∷ fs) returns core low high [] waits = rw waits.0 refl
-calls_are given (call lent ∷ fs) returns core low high (frame ∷ frames) waits = ap suc (calls_are given fs (goal_of waits.k frame.variable frame.joins) frame.environment waits.low waits.top frames waits.later)
+calls_are given (call lent ∷ fs) returns core low high (frame ∷ frames) waits =
+    ap suc (calls_are given fs
+    (goal_of waits.k frame.variable frame.joins) frame.environment waits.low waits.top frames waits.later)
 calls_are given (arguments form vs es environment ∷ fs) returns core low high frames waits = absurd waits
 calls_are given (arguments form vs es environment ∷ fs) nowhere core low high frames waits = absurd waits
 calls_are given (branches positive negative environment ∷ fs) returns core low high frames waits = absurd waits
@@ -253,9 +289,11 @@ due (arguments form vs (tree e es) environment ∷ fs) = nodes_of e + 1
 due (statement w e environment ∷ fs) = nodes_of e + 1
 due fs = 0
 
-pub due_small : (given : Bounds) (fs : List Frame) (goal : Goal) (core : Environment) (low high : ℕ) (frames : List CallFrame) → Waits given fs goal core low high frames → due fs ≤ given.most
+pub due_small : (given : Bounds) (fs : List Frame) (goal : Goal) (core : Environment) (low high : ℕ) (frames : List CallFrame)
+    → Waits given fs goal core low high frames → due fs ≤ given.most
 due_small given [] goal core low high frames waits = absurd waits
-due_small given (arguments form vs (tree e es) environment ∷ fs) (goes_on rest a joins) core low high frames waits = omega (arith, waits.small)
+due_small given (arguments form vs (tree e es) environment ∷ fs) (goes_on rest a joins) core low high frames waits =
+    omega (arith, waits.small)
 due_small given (arguments form vs (tree e es) environment ∷ fs) returns core low high frames waits = absurd waits
 due_small given (arguments form vs (tree e es) environment ∷ fs) nowhere core low high frames waits = absurd waits
 due_small given (arguments form vs no_tree environment ∷ fs) goal core low high frames waits = omega arith
@@ -266,7 +304,8 @@ due_small given (statement w e environment ∷ fs) returns core low high frames 
 due_small given (statement w e environment ∷ fs) nowhere core low high frames waits = absurd waits
 due_small given (call lent ∷ fs) goal core low high frames waits = omega arith
 
-pub due_returns : (given : Bounds) (fs : List Frame) (core : Environment) (low high : ℕ) (frames : List CallFrame) → Waits given fs returns core low high frames → due fs ≡ 0
+pub due_returns : (given : Bounds) (fs : List Frame) (core : Environment) (low high : ℕ) (frames : List CallFrame)
+    → Waits given fs returns core low high frames → due fs ≡ 0
 due_returns given [] core low high frames waits = refl
 due_returns given (arguments form vs es environment ∷ fs) core low high frames waits = absurd waits
 due_returns given (branches positive negative environment ∷ fs) core low high frames waits = refl

@@ -26,42 +26,51 @@ and_grows false b c grows is = absurd (both_ways false refl is)
 
 -- ---- o1 to o4
 
-takes_grows : (set other : PositionSet) → Within set other → (form : Form) (index : ℕ) → IsTrue (takes set form index) → IsTrue (takes other form index)
+takes_grows : (set other : PositionSet) → Within set other → (form : Form) (index : ℕ) → IsTrue (takes set form index)
+    → IsTrue (takes other form index)
 takes_grows set other within (Construct of) index is = refl
 takes_grows set other within (Call function) index is = within function index is
 takes_grows set other within form index is = absurd (both_ways false refl is)
 
 mutual
-  pub uses_grows : (set other : PositionSet) → Within set other → (x : ℕ) (a b : Bool) → (IsTrue a → IsTrue b) → (t : Tree) → IsTrue (uses set a x t) → IsTrue (uses other b x t)
+  pub uses_grows : (set other : PositionSet) → Within set other → (x : ℕ) (a b : Bool) → (IsTrue a → IsTrue b) → (t : Tree)
+      → IsTrue (uses set a x t) → IsTrue (uses other b x t)
   uses_grows set other within x a b grows (variable of) is = and_grows a (x == of) b grows is
   uses_grows set other within x a b grows (apply form arguments) is = uses_any_grows set other within x form 0 arguments is
   uses_grows set other within x a b grows (branch condition positive negative) is =
-      or_grows (uses set false x condition) (uses set true x positive || uses set true x negative) (uses other false x condition) (uses other true x positive || uses other true x negative)
+      or_grows (uses set false x condition) (uses set true x positive || uses set true x negative) (uses other false x condition)
+      (uses other true x positive || uses other true x negative)
       (uses_grows set other within x false false (λ y. y) condition)
       (or_grows (uses set true x positive) (uses set true x negative) (uses other true x positive) (uses other true x negative)
       (uses_grows set other within x true true (λ y. y) positive)
       (uses_grows set other within x true true (λ y. y) negative))
       is
   uses_grows set other within x a b grows (match scrutinee rows) is =
-      or_grows (uses set (reuses rows) x scrutinee) (uses_rows set x rows) (uses other (reuses rows) x scrutinee) (uses_rows other x rows)
+      or_grows (uses set (reuses rows) x scrutinee) (uses_rows set x rows) (uses other (reuses rows) x scrutinee)
+      (uses_rows other x rows)
       (uses_grows set other within x (reuses rows) (reuses rows) (λ y. y) scrutinee)
       (uses_rows_grows set other within x rows)
       is
   uses_grows set other within x a b grows (sequence binder first rest) is =
-      or_grows (uses set (is_val binder) x first) (uses set true x rest) (uses other (is_val binder) x first) (uses other true x rest)
+      or_grows (uses set (is_val binder) x first) (uses set true x rest) (uses other (is_val binder) x first)
+      (uses other true x rest)
       (uses_grows set other within x (is_val binder) (is_val binder) (λ y. y) first)
       (uses_grows set other within x true true (λ y. y) rest)
       is
 
-  uses_any_grows : (set other : PositionSet) → Within set other → (x : ℕ) (form : Form) (index : ℕ) (ts : Trees) → IsTrue (uses_any set form x index ts) → IsTrue (uses_any other form x index ts)
+  uses_any_grows : (set other : PositionSet) → Within set other → (x : ℕ) (form : Form) (index : ℕ) (ts : Trees)
+      → IsTrue (uses_any set form x index ts) → IsTrue (uses_any other form x index ts)
   uses_any_grows set other within x form index no_tree is = absurd (both_ways false refl is)
   uses_any_grows set other within x form index (tree first rest) is =
-      or_grows (uses set (takes set form index) x first) (uses_any set form x (index + 1) rest) (uses other (takes other form index) x first) (uses_any other form x (index + 1) rest)
-      (uses_grows set other within x (takes set form index) (takes other form index) (takes_grows set other within form index) first)
+      or_grows (uses set (takes set form index) x first) (uses_any set form x (index + 1) rest)
+      (uses other (takes other form index) x first) (uses_any other form x (index + 1) rest)
+      (uses_grows set other within x (takes set form index) (takes other form index)
+      (takes_grows set other within form index) first)
       (uses_any_grows set other within x form (index + 1) rest)
       is
 
-  uses_rows_grows : (set other : PositionSet) → Within set other → (x : ℕ) (rs : Rows) → IsTrue (uses_rows set x rs) → IsTrue (uses_rows other x rs)
+  uses_rows_grows : (set other : PositionSet) → Within set other → (x : ℕ) (rs : Rows) → IsTrue (uses_rows set x rs)
+      → IsTrue (uses_rows other x rs)
   uses_rows_grows set other within x no_row is = absurd (both_ways false refl is)
   uses_rows_grows set other within x (row pattern body rest) is =
       or_grows (uses set true x body) (uses_rows set x rest) (uses other true x body) (uses_rows other x rest)
@@ -75,56 +84,70 @@ mutual
 abbrev pub Fewer : List ℕ → List ℕ → Type 0
 Fewer small large = (x : ℕ) → IsTrue (is_among small x) → IsTrue (is_among large x)
 
-lent_variable_more : (small large : List ℕ) → Fewer small large → (t : Tree) → IsTrue (is_lent_variable small t) → IsTrue (is_lent_variable large t)
+lent_variable_more : (small large : List ℕ) → Fewer small large → (t : Tree) → IsTrue (is_lent_variable small t)
+    → IsTrue (is_lent_variable large t)
 lent_variable_more small large fewer (variable of) is = fewer of is
 lent_variable_more small large fewer other is = absurd (both_ways false refl is)
 
 append_more : (small large bs cs : List ℕ) → Fewer small large → Fewer bs cs → Fewer (small ++ bs) (large ++ cs)
 append_more small large bs cs left right x is =
     list_any-append (λ y. y == x) large cs
-    ∙ or_grows (is_among small x) (is_among bs x) (is_among large x) (is_among cs x) (left x) (right x) (sym (list_any-append (λ y. y == x) small bs) ∙ is)
+    ∙ or_grows (is_among small x) (is_among bs x) (is_among large x) (is_among cs x) (left x) (right x)
+    (sym (list_any-append (λ y. y == x) small bs) ∙ is)
 
-row_more : (small large : List ℕ) → Fewer small large → (a b : Bool) → (IsTrue a → IsTrue b) → (p : Pattern) → Fewer (lent_in_row small a p) (lent_in_row large b p)
+row_more : (small large : List ℕ) → Fewer small large → (a b : Bool) → (IsTrue a → IsTrue b) → (p : Pattern)
+    → Fewer (lent_in_row small a p) (lent_in_row large b p)
 row_more small large fewer false false grows p x is = fewer x is
-row_more small large fewer false true grows p x is = list_any-append (λ y. y == x) large (bound p) ∙ or_left (is_among large x) (is_among (bound p) x) (fewer x is)
+row_more small large fewer false true grows p x is =
+    list_any-append (λ y. y == x) large (bound p) ∙ or_left (is_among large x) (is_among (bound p) x) (fewer x is)
 row_more small large fewer true false grows p x is = absurd (both_ways false refl (grows refl))
 row_more small large fewer true true grows p x is = append_more small large (bound p) (bound p) fewer (λ y there. there) x is
 
-one_less : (P : Position → Type 0) (q : Position) (a b : Bool) → (IsTrue a → IsTrue b) → All P (cond a [] (q ∷ [])) → All P (cond b [] (q ∷ []))
+one_less : (P : Position → Type 0) (q : Position) (a b : Bool) → (IsTrue a → IsTrue b) → All P (cond a [] (q ∷ []))
+    → All P (cond b [] (q ∷ []))
 one_less P q a true grows all = All-nil P
 one_less P q true false grows all = absurd (both_ways false refl (grows refl))
 one_less P q false false grows all = all
 
-handed_to_less : (P : Position → Type 0) (small large : List ℕ) → Fewer small large → (f index : ℕ) (ts : Trees) → All P (handed_to small f index ts) → All P (handed_to large f index ts)
+handed_to_less : (P : Position → Type 0) (small large : List ℕ) → Fewer small large → (f index : ℕ) (ts : Trees)
+    → All P (handed_to small f index ts) → All P (handed_to large f index ts)
 handed_to_less P small large fewer f index no_tree all = all
 handed_to_less P small large fewer f index (tree first rest) all =
     let p : Position = record { function = f; parameter = index } in
     let few = is_lent_variable small first in
     let many = is_lent_variable large first in
     All-append P (cond many [] (p ∷ [])) (handed_to large f (index + 1) rest)
-    (one_less P p few many (lent_variable_more small large fewer first) (all_left P (cond few [] (p ∷ [])) (handed_to small f (index + 1) rest) all))
-    (handed_to_less P small large fewer f (index + 1) rest (all_right P (cond few [] (p ∷ [])) (handed_to small f (index + 1) rest) all))
+    (one_less P p few many (lent_variable_more small large fewer first)
+    (all_left P (cond few [] (p ∷ [])) (handed_to small f (index + 1) rest) all))
+    (handed_to_less P small large fewer f (index + 1) rest (all_right P (cond few [] (p ∷ []))
+    (handed_to small f (index + 1) rest) all))
 
-handed_by_less : (P : Position → Type 0) (small large : List ℕ) → Fewer small large → (form : Form) (ts : Trees) → All P (handed_by small (apply form ts)) → All P (handed_by large (apply form ts))
+handed_by_less : (P : Position → Type 0) (small large : List ℕ) → Fewer small large → (form : Form) (ts : Trees)
+    → All P (handed_by small (apply form ts)) → All P (handed_by large (apply form ts))
 handed_by_less P small large fewer (Call function) ts all = handed_to_less P small large fewer function 0 ts all
 handed_by_less P small large fewer form ts all = All-nil P
 
-handed_at_less : (P : Position → Type 0) (small large : List ℕ) → Fewer small large → (t : Tree) → All P (handed_by small t) → All P (handed_by large t)
+handed_at_less : (P : Position → Type 0) (small large : List ℕ) → Fewer small large → (t : Tree) → All P (handed_by small t)
+    → All P (handed_by large t)
 handed_at_less P small large fewer (apply form ts) all = handed_by_less P small large fewer form ts all
 handed_at_less P small large fewer _ all = all
 
-pub handed_less : (P : Position → Type 0) (small large : List ℕ) → Fewer small large → (t : Tree) → All P (handed_in small t) → All P (handed_in large t)
+pub handed_less : (P : Position → Type 0) (small large : List ℕ) → Fewer small large → (t : Tree) → All P (handed_in small t)
+    → All P (handed_in large t)
 handed_less P small large fewer t all =
     tails_agree to_handed to_handed (λ (ps qs : List Position). All P ps → All P qs) (λ none. none)
     (λ xs ys us vs left right whole. All-append P us vs (left (all_left P xs ys whole)) (right (all_right P xs ys whole)))
-    Fewer (handed_at_less P) (λ ns ms a b. IsTrue a → IsTrue b) lent_variable_more (λ ns ms more a b grows p. row_more ns ms more a b grows p)
+    Fewer (handed_at_less P) (λ ns ms more b none. none) (λ ns ms a b. IsTrue a → IsTrue b) lent_variable_more
+    (λ ns ms more a b grows p none. none) (λ ns ms more a b grows p. row_more ns ms more a b grows p)
     small large fewer t all
 
 -- the parameters that are lent where more are owned
-pub below_less : (owned other : ℕ → Bool) → ((x : ℕ) → IsTrue (owned x) → IsTrue (other x)) → (count : ℕ) → Fewer (lent_below other count) (lent_below owned count)
+pub below_less : (owned other : ℕ → Bool) → ((x : ℕ) → IsTrue (owned x) → IsTrue (other x)) → (count : ℕ)
+    → Fewer (lent_below other count) (lent_below owned count)
 below_less owned other grows zero = λ x is. is
 below_less owned other grows (suc count) =
-    append_more (lent_below other count) (lent_below owned count) (cond (other count) [] (count ∷ [])) (cond (owned count) [] (count ∷ []))
+    append_more (lent_below other count) (lent_below owned count) (cond (other count) [] (count ∷ []))
+    (cond (owned count) [] (count ∷ []))
     (below_less owned other grows count)
     (last (other count) (owned count) (grows count))
   where

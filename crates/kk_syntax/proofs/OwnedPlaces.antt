@@ -1,10 +1,10 @@
--- Constructions and patterns with fields, told by whether a list of parts is empty; and the owned places of a block, by
--- its statements and its last expression.
+-- Constructions and patterns with fields, told by whether a list of parts is empty; and the constructions of a block, by its
+-- statements and its last expression.
 use Rattle.std.proofs.Common.{◌≡◌, ℕ, ◌==◌, Bool, true, false, not, ◌||◌, List, [], ◌∷◌, length, map, refl, sym, ap, ◌∙◌, arith}
 use Rattle.std.proofs.lemmas.Bool.{eqb-true, false_from_ne_true}
 use Rattle.kk_syntax.specs.declared.program.Form.TheVariants.{Construct}
-use Rattle.kk_syntax.specs.OwnedPositions.{PositionSet, is_val, opens, makes, builds, uses}
-use Rattle.kk_syntax.specs.OwnedSearch.{builds_statements, uses_statements}
+use Rattle.kk_syntax.specs.OwnedPositions.{opens, makes, builds}
+use Rattle.kk_syntax.specs.OwnedSearch.{builds_statements}
 use Rattle.kk_syntax.specs.Patterns.{Pattern, constructor, patterns_of}
 use Rattle.kk_syntax.specs.Trees.{Tree, trees_of, StatementTree, block_of}
 
@@ -34,26 +34,7 @@ or_assoc : (a b c : Bool) → (a || (b || c)) ≡ ((a || b) || c)
 or_assoc true b c = refl
 or_assoc false b c = refl
 
-or_false : (b : Bool) → (b || false) ≡ b
-or_false true = refl
-or_false false = refl
-
-or_true : (b : Bool) → (b || true) ≡ true
-or_true true = refl
-or_true false = refl
-
 pub builds_block : (ss : List StatementTree) (last : Tree) → builds (block_of ss last) ≡ (builds_statements ss || builds last)
 builds_block [] last = refl
-builds_block (s ∷ ss) last = ap (λ b. builds s.value || b) (builds_block ss last) ∙ or_assoc (builds s.value) (builds_statements ss) (builds last)
-
-uses_rest : (set : PositionSet) (x : ℕ) (ss : List StatementTree) (last : Tree) → uses set true x (block_of ss last) ≡ (uses_statements set x ss || uses set true x last)
-uses_rest set x [] last = refl
-uses_rest set x (s ∷ ss) last =
-    ap (λ b. uses set (is_val s.binder) x s.value || b) (uses_rest set x ss last)
-    ∙ or_assoc (uses set (is_val s.binder) x s.value) (uses_statements set x ss) (uses set true x last)
-
--- a block's last expression stands at an owned place where the block does, or where it has a statement
-pub uses_block : (set : PositionSet) (owned : Bool) (x : ℕ) (ss : List StatementTree) (last : Tree) → uses set owned x (block_of ss last) ≡ (uses_statements set x ss || uses set (owned || not (is_none ss)) x last)
-uses_block set owned x [] last = ap (λ b. uses set b x last) (sym (or_false owned))
-uses_block set owned x (s ∷ ss) last =
-    uses_rest set x (s ∷ ss) last ∙ ap (λ b. uses_statements set x (s ∷ ss) || uses set b x last) (sym (or_true owned))
+builds_block (s ∷ ss) last = ap (λ b. builds s.value || b) (builds_block ss last)
+    ∙ or_assoc (builds s.value) (builds_statements ss) (builds last)

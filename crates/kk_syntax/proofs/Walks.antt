@@ -3,61 +3,115 @@
 use Rattle.std.proofs.Common.{◌≡◌, ◌≤◌, ℕ, ◌+◌, List, [], ◌∷◌, ◌++◌, length, map, Some, refl, sym, subst, arith}
 use Rattle.kk_syntax.proofs.Elements.{each_both, each_weaker}
 use Rattle.kk_syntax.specs.Covered.{Each}
+use Rattle.kk_syntax.specs.declared.program.Binder.{Binder}
 use Rattle.kk_syntax.specs.declared.program.Form.{Form}
-use Rattle.kk_syntax.specs.OwnedSearch.{TailWalk, tail_walked, tail_walked_rows}
 use Rattle.kk_syntax.specs.Patterns.{Pattern}
 use Rattle.kk_syntax.specs.Programs.{ProgramTree}
-use Rattle.kk_syntax.specs.Shapes.{Gathers, gathered, gathered_all, gathered_rows, nodes_of, nodes_of_all, nodes_of_rows, nodes_of_pattern, Opening, Tail, tails_inside, tails_of_rows}
+use Rattle.kk_syntax.specs.Shapes.{bound, free, free_all, free_rows, nodes_of, nodes_of_all, nodes_of_rows, nodes_of_pattern}
+use Rattle.kk_syntax.specs.Shapes.{TailWalk, tail_walked, tail_walked_rows, Gathers, gathered, gathered_all, gathered_rows}
+use Rattle.kk_syntax.specs.Shapes.{Replaces, replaced, replaced_all, replaced_rows}
 use Rattle.kk_syntax.specs.Trees.{Tree, variable, apply, branch, match, sequence, Trees, no_tree, tree, Rows, no_row, row}
 use Rattle.kk_syntax.specs.Types.{TypeTree, put, type_at}
-use Rattle.kk_syntax.specs.Typing.{Scope, Scheme, Choice, holding, form_scheme, chosen_at, IsPatternTyped, IsTypedBy, AreTypedBy, AreRowsTypedBy}
+use Rattle.kk_syntax.specs.Typing.{Scope, Scheme, Choice, holding, form_scheme, chosen_at}
+use Rattle.kk_syntax.specs.Typing.{IsPatternTyped, IsTypedBy, AreTypedBy, AreRowsTypedBy}
 
--- Two walks over the tail positions of an expression agree, where they agree at each such position.
+-- Two walks over the tail positions of an expression agree, where they agree at each such position, and at each binder and row
+-- on the way.
 module _ {Known Told A Other Heard B : Type 0} (first : TailWalk Known Told A) (second : TailWalk Other Heard B)
     (Agree : List A → List B → Type 0) (none : Agree [] [])
     (both : (xs ys : List A) (us vs : List B) → Agree xs us → Agree ys vs → Agree (xs ++ ys) (us ++ vs))
     (Same : Known → Other → Type 0) (at : (k : Known) (o : Other) → Same k o → (t : Tree) → Agree (first.at k t) (second.at o t))
+    (binder : (k : Known) (o : Other) → Same k o → (b : Binder) → Agree (first.at_binder k b) (second.at_binder o b))
     (Alike : Known → Other → Told → Heard → Type 0)
     (told : (k : Known) (o : Other) → Same k o → (t : Tree) → Alike k o (first.told k t) (second.told o t))
-    (enter : (k : Known) (o : Other) → Same k o → (u : Told) (v : Heard) → Alike k o u v → (p : Pattern) → Same (first.enter k u p) (second.enter o v p)) where
+    (at_row : (k : Known) (o : Other) → Same k o → (u : Told) (v : Heard) → Alike k o u v → (p : Pattern)
+    → Agree (first.at_row k u p) (second.at_row o v p))
+    (enter : (k : Known) (o : Other) → Same k o → (u : Told) (v : Heard) → Alike k o u v → (p : Pattern)
+    → Same (first.enter k u p) (second.enter o v p)) where
   mutual
     pub tails_agree : (k : Known) (o : Other) → Same k o → (t : Tree) → Agree (tail_walked first k t) (tail_walked second o t)
     tails_agree k o same (variable of) = at k o same (variable of)
     tails_agree k o same (apply form es) = at k o same (apply form es)
     tails_agree k o same (branch e positive negative) =
-        both (tail_walked first k positive) (tail_walked first k negative) (tail_walked second o positive) (tail_walked second o negative)
+        both (tail_walked first k positive) (tail_walked first k negative) (tail_walked second o positive)
+        (tail_walked second o negative)
         (tails_agree k o same positive) (tails_agree k o same negative)
     tails_agree k o same (match e rows) = tail_rows_agree k o same (first.told k e) (second.told o e) (told k o same e) rows
-    tails_agree k o same (sequence binder e rest) = tails_agree k o same rest
+    tails_agree k o same (sequence b e rest) =
+        both (first.at_binder k b) (tail_walked first k rest) (second.at_binder o b) (tail_walked second o rest)
+        (binder k o same b) (tails_agree k o same rest)
 
-    pub tail_rows_agree : (k : Known) (o : Other) → Same k o → (u : Told) (v : Heard) → Alike k o u v → (rows : Rows)
+    tail_rows_agree : (k : Known) (o : Other) → Same k o → (u : Told) (v : Heard) → Alike k o u v → (rows : Rows)
         → Agree (tail_walked_rows first k u rows) (tail_walked_rows second o v rows)
     tail_rows_agree k o same u v alike no_row = none
     tail_rows_agree k o same u v alike (row p body rest) =
-        both (tail_walked first (first.enter k u p) body) (tail_walked_rows first k u rest)
-        (tail_walked second (second.enter o v p) body) (tail_walked_rows second o v rest)
-        (tails_agree (first.enter k u p) (second.enter o v p) (enter k o same u v alike p) body) (tail_rows_agree k o same u v alike rest)
+        let one = tail_walked first (first.enter k u p) body in
+        let other = tail_walked second (second.enter o v p) body in
+        both (first.at_row k u p ++ one) (tail_walked_rows first k u rest) (second.at_row o v p ++ other)
+        (tail_walked_rows second o v rest)
+        (both (first.at_row k u p) one (second.at_row o v p) other (at_row k o same u v alike p)
+        (tails_agree (first.enter k u p) (second.enter o v p) (enter k o same u v alike p) body))
+        (tail_rows_agree k o same u v alike rest)
 
--- the tail positions of an expression, each with the rows that it stands in, are found so
-abbrev pub to_tails : TailWalk (List Opening) Tree Tail
-to_tails = record {
-  at = λ inside part. record { inside = inside; part = part } ∷ [];
-  told = λ inside scrutinee. scrutinee;
-  enter = λ inside scrutinee pattern. inside ++ record { scrutinee = scrutinee; pattern = pattern } ∷ [];
-}
+-- The same of two walks, the second over the expression with other forms and patterns, where something holds of all that is known
+-- for these.
+module _ {Known Told A Other Heard B From : Type 0} (with : Replaces From) (Fits : From → Type 0)
+    (behind : (from : From) → Fits from → (e : Tree) → Fits (with.behind from e))
+    (behind_pattern : (from : From) → Fits from → (p : Pattern) → Fits (with.behind_pattern from p))
+    (behind_row : (from : From) → Fits from → (p : Pattern) (e : Tree) → Fits (with.behind_row from p e))
+    (first : TailWalk Known Told A) (second : TailWalk Other Heard B)
+    (Agree : List A → List B → Type 0) (none : Agree [] [])
+    (both : (xs ys : List A) (us vs : List B) → Agree xs us → Agree ys vs → Agree (xs ++ ys) (us ++ vs))
+    (Same : Known → Other → Type 0)
+    (at : (from : From) → Fits from → (k : Known) (o : Other) → Same k o → (t : Tree)
+    → Agree (first.at k t) (second.at o (replaced with from t)))
+    (binder : (k : Known) (o : Other) → Same k o → (b : Binder) → Agree (first.at_binder k b) (second.at_binder o b))
+    (Alike : Known → Other → Told → Heard → Type 0)
+    (told : (from : From) → Fits from → (k : Known) (o : Other) → Same k o → (t : Tree)
+    → Alike k o (first.told k t) (second.told o (replaced with from t)))
+    (at_row : (from : From) → Fits from → (k : Known) (o : Other) → Same k o → (u : Told) (v : Heard) → Alike k o u v
+    → (p : Pattern)
+    → Agree (first.at_row k u p) (second.at_row o v (with.pattern from p)))
+    (enter : (from : From) → Fits from → (k : Known) (o : Other) → Same k o → (u : Told) (v : Heard) → Alike k o u v → (p : Pattern)
+    → Same (first.enter k u p) (second.enter o v (with.pattern from p))) where
+  mutual
+    pub tails_replaced : (from : From) → Fits from → (k : Known) (o : Other) → Same k o → (t : Tree)
+        → Agree (tail_walked first k t) (tail_walked second o (replaced with from t))
+    tails_replaced from fits k o same (variable of) = at from fits k o same (variable of)
+    tails_replaced from fits k o same (apply form es) = at from fits k o same (apply form es)
+    tails_replaced from fits k o same (branch e positive negative) =
+        let before = with.behind from e in
+        let after = with.behind before positive in
+        let ready = behind from fits e in
+        both (tail_walked first k positive) (tail_walked first k negative)
+        (tail_walked second o (replaced with before positive)) (tail_walked second o (replaced with after negative))
+        (tails_replaced before ready k o same positive) (tails_replaced after (behind before ready positive) k o same negative)
+    tails_replaced from fits k o same (match e rows) =
+        tail_rows_replaced (with.behind from e) (behind from fits e) k o same (first.told k e)
+        (second.told o (replaced with from e))
+        (told from fits k o same e) rows
+    tails_replaced from fits k o same (sequence b e rest) =
+        let after = with.behind from e in
+        both (first.at_binder k b) (tail_walked first k rest) (second.at_binder o b)
+        (tail_walked second o (replaced with after rest))
+        (binder k o same b) (tails_replaced after (behind from fits e) k o same rest)
 
-mutual
-  pub tails_walked : (inside : List Opening) (t : Tree) → tail_walked to_tails inside t ≡ tails_inside inside t
-  tails_walked inside (variable of) = refl
-  tails_walked inside (apply form es) = refl
-  tails_walked inside (branch e positive negative) = λ i. tails_walked inside positive i ++ tails_walked inside negative i
-  tails_walked inside (match e rows) = tail_rows_walked inside e rows
-  tails_walked inside (sequence binder e rest) = tails_walked inside rest
-
-  tail_rows_walked : (inside : List Opening) (e : Tree) (rows : Rows) → tail_walked_rows to_tails inside e rows ≡ tails_of_rows inside e rows
-  tail_rows_walked inside e no_row = refl
-  tail_rows_walked inside e (row p body rest) =
-      λ i. tails_walked (inside ++ record { scrutinee = e; pattern = p } ∷ []) body i ++ tail_rows_walked inside e rest i
+    tail_rows_replaced : (from : From) → Fits from → (k : Known) (o : Other) → Same k o → (u : Told) (v : Heard) → Alike k o u v
+        → (rows : Rows)
+        → Agree (tail_walked_rows first k u rows) (tail_walked_rows second o v (replaced_rows with from rows))
+    tail_rows_replaced from fits k o same u v alike no_row = none
+    tail_rows_replaced from fits k o same u v alike (row p body rest) =
+        let within = with.behind_pattern from p in
+        let after = with.behind_row from p body in
+        let q = with.pattern from p in
+        let one = tail_walked first (first.enter k u p) body in
+        let other = tail_walked second (second.enter o v q) (replaced with within body) in
+        both (first.at_row k u p ++ one) (tail_walked_rows first k u rest)
+        (second.at_row o v q ++ other) (tail_walked_rows second o v (replaced_rows with after rest))
+        (both (first.at_row k u p) one (second.at_row o v q) other (at_row from fits k o same u v alike p)
+        (tails_replaced within (behind_pattern from fits p) (first.enter k u p) (second.enter o v q)
+        (enter from fits k o same u v alike p) body))
+        (tail_rows_replaced after (behind_row from fits p body) k o same u v alike rest)
 
 -- What is gathered from an expression agrees with what is chosen in its typing, where that is so of forms, patterns and
 -- matches.
@@ -66,8 +120,10 @@ module _ (program : ProgramTree) {A : Type 0} (from : Gathers A) (Agree : List C
     (held : (t : TypeTree) (xs : List Choice) (us : List A) → Agree xs us → Agree (holding t ∷ xs) us)
     (forms : (form : Form) (of : Scheme) (at : List TypeTree) → form_scheme program form ≡ Some of → length at ≡ of.variables
     → Agree (chosen_at form at) (from.at_form form))
-    (patterns : (scope : Scope) (p : Pattern) (t : TypeTree) (choices : List Choice) → IsPatternTyped program scope p t choices → Agree choices (from.at_pattern p))
-    (matches : (scope : Scope) (rows : Rows) (u t : TypeTree) (choices : List Choice) → AreRowsTypedBy program scope rows u t choices
+    (patterns : (scope : Scope) (p : Pattern) (t : TypeTree) (choices : List Choice) → IsPatternTyped program scope p t choices
+    → Agree choices (from.at_pattern p))
+    (matches : (scope : Scope) (rows : Rows) (u t : TypeTree) (choices : List Choice)
+    → AreRowsTypedBy program scope rows u t choices
     → Agree (holding u ∷ []) (from.at_rows rows)) where
   same : (xs ys : List Choice) (us : List A) → xs ≡ ys → Agree ys us → Agree xs us
   same xs ys us is agree = subst (λ cs. Agree cs us) (sym is) agree
@@ -77,41 +133,49 @@ module _ (program : ProgramTree) {A : Type 0} (from : Gathers A) (Agree : List C
   all_held (t ∷ ts) xs us agree = held t (map holding ts ++ xs) us (all_held ts xs us agree)
 
   mutual
-    pub typing_agrees : (scope : Scope) (e : Tree) (t : TypeTree) (choices : List Choice) → IsTypedBy program scope e t choices → Agree choices (gathered from e)
+    pub typing_agrees : (scope : Scope) (e : Tree) (t : TypeTree) (choices : List Choice) → IsTypedBy program scope e t choices
+        → Agree choices (gathered from e)
     typing_agrees scope (variable x) t choices typed = same choices [] [] typed.1 none
     typing_agrees scope (apply form es) t choices uses =
         same choices (chosen_at form uses.at ++ uses.rest) (gathered from (apply form es)) uses.choices_are
-        (both (chosen_at form uses.at) uses.rest (from.at_form form) (gathered_all from es) (forms form uses.of uses.at uses.is uses.each)
+        (both (chosen_at form uses.at) uses.rest (from.at_form form) (gathered_all from es)
+        (forms form uses.of uses.at uses.is uses.each)
         (typings_agree scope es (map (put (type_at uses.at)) uses.of.parameters) uses.rest uses.arguments))
     typing_agrees scope (branch e positive negative) t choices (one, other, is, condition, (two, three, rest_is, first, second)) =
         same choices (one ++ other) (gathered from (branch e positive negative)) is
         (both one other (gathered from e) (gathered from positive ++ gathered from negative) (typing_agrees scope e _ one condition)
         (same other (two ++ three) (gathered from positive ++ gathered from negative) rest_is
-        (both two three (gathered from positive) (gathered from negative) (typing_agrees scope positive t two first) (typing_agrees scope negative t three second))))
+        (both two three (gathered from positive) (gathered from negative) (typing_agrees scope positive t two first)
+        (typing_agrees scope negative t three second))))
     typing_agrees scope (match e rows) t choices holds =
         let parts = holds.inside in
         let others = gathered from e ++ gathered_rows from rows in
         same choices (holding holds.of ∷ holds.rest) (from.at_rows rows ++ others) holds.choices_are
         (both (holding holds.of ∷ []) holds.rest (from.at_rows rows) others (matches scope rows holds.of t parts.1 parts.4)
         (same holds.rest (parts.0 ++ parts.1) others parts.2
-        (both parts.0 parts.1 (gathered from e) (gathered_rows from rows) (typing_agrees scope e holds.of parts.0 parts.3) (row_typings_agree scope rows holds.of t parts.1 parts.4))))
+        (both parts.0 parts.1 (gathered from e) (gathered_rows from rows) (typing_agrees scope e holds.of parts.0 parts.3)
+        (row_typings_agree scope rows holds.of t parts.1 parts.4))))
     typing_agrees scope (sequence binder first rest) t choices holds =
         let parts = holds.inside in
         let others = gathered from first ++ gathered from rest in
         same choices (holding holds.of ∷ holds.rest) others holds.choices_are
         (held holds.of holds.rest others
         (same holds.rest (parts.0 ++ parts.1) others parts.2
-        (both parts.0 parts.1 (gathered from first) (gathered from rest) (typing_agrees scope first holds.of parts.0 parts.3) (typing_agrees _ rest t parts.1 parts.4))))
+        (both parts.0 parts.1 (gathered from first) (gathered from rest) (typing_agrees scope first holds.of parts.0 parts.3)
+        (typing_agrees _ rest t parts.1 parts.4))))
 
-    typings_agree : (scope : Scope) (es : Trees) (ts : List TypeTree) (choices : List Choice) → AreTypedBy program scope es ts choices → Agree choices (gathered_all from es)
+    typings_agree : (scope : Scope) (es : Trees) (ts : List TypeTree) (choices : List Choice)
+        → AreTypedBy program scope es ts choices → Agree choices (gathered_all from es)
     typings_agree scope no_tree [] choices is = same choices [] [] is none
     typings_agree scope no_tree (t ∷ ts) choices typed = absurd typed
     typings_agree scope (tree first rest) [] choices typed = absurd typed
     typings_agree scope (tree first rest) (t ∷ ts) choices (one, other, is, first_typed, rest_typed) =
         same choices (one ++ other) (gathered from first ++ gathered_all from rest) is
-        (both one other (gathered from first) (gathered_all from rest) (typing_agrees scope first t one first_typed) (typings_agree scope rest ts other rest_typed))
+        (both one other (gathered from first) (gathered_all from rest) (typing_agrees scope first t one first_typed)
+        (typings_agree scope rest ts other rest_typed))
 
-    row_typings_agree : (scope : Scope) (rows : Rows) (u t : TypeTree) (choices : List Choice) → AreRowsTypedBy program scope rows u t choices → Agree choices (gathered_rows from rows)
+    row_typings_agree : (scope : Scope) (rows : Rows) (u t : TypeTree) (choices : List Choice)
+        → AreRowsTypedBy program scope rows u t choices → Agree choices (gathered_rows from rows)
     row_typings_agree scope no_row u t choices is = same choices [] [] is none
     row_typings_agree scope (row pattern body rest) u t choices (one, other, is, binds, rest_typed) =
         let parts = binds.inside in
@@ -121,48 +185,122 @@ module _ (program : ProgramTree) {A : Type 0} (from : Gathers A) (Agree : List C
         (same one (map holding binds.at ++ binds.rest) here binds.choices_are
         (all_held binds.at binds.rest here
         (same binds.rest (parts.0 ++ parts.1) here parts.2
-        (both parts.0 parts.1 (from.at_pattern pattern) (gathered from body) (patterns _ pattern u parts.0 parts.3) (typing_agrees _ body t parts.1 parts.4)))))
+        (both parts.0 parts.1 (from.at_pattern pattern) (gathered from body) (patterns _ pattern u parts.0 parts.3)
+        (typing_agrees _ body t parts.1 parts.4)))))
         (row_typings_agree scope rest u t other rest_typed))
 
 -- Each thing that is gathered from an expression is as small as the expression's nodes are few, where that is so at forms,
 -- patterns and matches.
 module _ {A : Type 0} (from : Gathers A) (Within : ℕ → A → Type 0) (wider : (m n : ℕ) → m ≤ n → (x : A) → Within m x → Within n x)
-    (forms : (form : Form) → Each (Within 1) (from.at_form form)) (patterns : (p : Pattern) → Each (Within (nodes_of_pattern p)) (from.at_pattern p))
+    (forms : (form : Form) → Each (Within 1) (from.at_form form))
+    (patterns : (p : Pattern) → Each (Within (nodes_of_pattern p)) (from.at_pattern p))
     (matches : (rows : Rows) → Each (Within (nodes_of_rows rows)) (from.at_rows rows)) where
   two : (k m n : ℕ) (xs ys : List A) → k ≤ n → m ≤ n → Each (Within k) xs → Each (Within m) ys → Each (Within n) (xs ++ ys)
   two k m n xs ys one other first rest =
-      each_both (Within n) xs ys (each_weaker (Within k) (Within n) (wider k n one) xs first) (each_weaker (Within m) (Within n) (wider m n other) ys rest)
+      each_both (Within n) xs ys (each_weaker (Within k) (Within n) (wider k n one) xs first)
+      (each_weaker (Within m) (Within n) (wider m n other) ys rest)
 
   mutual
     pub nodes_bound : (e : Tree) → Each (Within (nodes_of e)) (gathered from e)
     nodes_bound (variable x) = tt
     nodes_bound (apply form es) =
-        two 1 (nodes_of_all es) (nodes_of (apply form es)) (from.at_form form) (gathered_all from es) (omega arith) (omega arith) (forms form) (all_nodes_bound es)
+        two 1 (nodes_of_all es) (nodes_of (apply form es)) (from.at_form form) (gathered_all from es) (omega arith) (omega arith)
+        (forms form) (all_nodes_bound es)
     nodes_bound (branch e positive negative) =
-        two (nodes_of e) (nodes_of positive + nodes_of negative) (nodes_of (branch e positive negative)) (gathered from e) (gathered from positive ++ gathered from negative)
+        two (nodes_of e) (nodes_of positive + nodes_of negative) (nodes_of (branch e positive negative)) (gathered from e)
+        (gathered from positive ++ gathered from negative)
         (omega arith) (omega arith) (nodes_bound e)
-        (two (nodes_of positive) (nodes_of negative) (nodes_of positive + nodes_of negative) (gathered from positive) (gathered from negative) (omega arith) (omega arith)
+        (two (nodes_of positive) (nodes_of negative) (nodes_of positive + nodes_of negative) (gathered from positive)
+        (gathered from negative) (omega arith) (omega arith)
         (nodes_bound positive) (nodes_bound negative))
     nodes_bound (match e rows) =
-        two (nodes_of_rows rows) (nodes_of e + nodes_of_rows rows) (nodes_of (match e rows)) (from.at_rows rows) (gathered from e ++ gathered_rows from rows)
+        two (nodes_of_rows rows) (nodes_of e + nodes_of_rows rows) (nodes_of (match e rows)) (from.at_rows rows)
+        (gathered from e ++ gathered_rows from rows)
         (omega arith) (omega arith) (matches rows)
-        (two (nodes_of e) (nodes_of_rows rows) (nodes_of e + nodes_of_rows rows) (gathered from e) (gathered_rows from rows) (omega arith) (omega arith)
+        (two (nodes_of e) (nodes_of_rows rows) (nodes_of e + nodes_of_rows rows) (gathered from e) (gathered_rows from rows)
+        (omega arith) (omega arith)
         (nodes_bound e) (row_nodes_bound rows))
     nodes_bound (sequence binder first rest) =
-        two (nodes_of first) (nodes_of rest) (nodes_of (sequence binder first rest)) (gathered from first) (gathered from rest) (omega arith) (omega arith)
+        two (nodes_of first) (nodes_of rest) (nodes_of (sequence binder first rest)) (gathered from first) (gathered from rest)
+        (omega arith) (omega arith)
         (nodes_bound first) (nodes_bound rest)
 
     all_nodes_bound : (es : Trees) → Each (Within (nodes_of_all es)) (gathered_all from es)
     all_nodes_bound no_tree = tt
     all_nodes_bound (tree first rest) =
-        two (nodes_of first) (nodes_of_all rest) (nodes_of_all (tree first rest)) (gathered from first) (gathered_all from rest) (omega arith) (omega arith)
+        two (nodes_of first) (nodes_of_all rest) (nodes_of_all (tree first rest)) (gathered from first) (gathered_all from rest)
+        (omega arith) (omega arith)
         (nodes_bound first) (all_nodes_bound rest)
 
     row_nodes_bound : (rows : Rows) → Each (Within (nodes_of_rows rows)) (gathered_rows from rows)
     row_nodes_bound no_row = tt
     row_nodes_bound (row pattern body rest) =
-        two (nodes_of_pattern pattern + nodes_of body) (nodes_of_rows rest) (nodes_of_rows (row pattern body rest)) (from.at_pattern pattern ++ gathered from body) (gathered_rows from rest)
+        two (nodes_of_pattern pattern + nodes_of body) (nodes_of_rows rest) (nodes_of_rows (row pattern body rest))
+        (from.at_pattern pattern ++ gathered from body) (gathered_rows from rest)
         (omega arith) (omega arith)
-        (two (nodes_of_pattern pattern) (nodes_of body) (nodes_of_pattern pattern + nodes_of body) (from.at_pattern pattern) (gathered from body) (omega arith) (omega arith)
+        (two (nodes_of_pattern pattern) (nodes_of body) (nodes_of_pattern pattern + nodes_of body) (from.at_pattern pattern)
+        (gathered from body) (omega arith) (omega arith)
         (patterns pattern) (nodes_bound body))
         (row_nodes_bound rest)
+
+-- an expression with other forms and patterns has the nodes, and the free variables, of the first, where its patterns do
+module _ {Known : Type 0} (with : Replaces Known) where
+  module _ (same : (known : Known) (p : Pattern) → nodes_of_pattern (with.pattern known p) ≡ nodes_of_pattern p) where
+    mutual
+      pub nodes_replaced : (known : Known) (t : Tree) → nodes_of (replaced with known t) ≡ nodes_of t
+      nodes_replaced known (variable of) = refl
+      nodes_replaced known (apply form es) = omega (arith, all_nodes_replaced (with.behind_form known form) es)
+      nodes_replaced known (branch e positive negative) =
+          omega (
+            arith,
+            nodes_replaced known e,
+            nodes_replaced (with.behind known e) positive,
+            nodes_replaced (with.behind (with.behind known e) positive) negative,
+          )
+      nodes_replaced known (match e rows) = omega (arith, nodes_replaced known e, row_nodes_replaced (with.behind known e) rows)
+      nodes_replaced known (sequence binder first rest) =
+          omega (arith, nodes_replaced known first, nodes_replaced (with.behind known first) rest)
+
+      all_nodes_replaced : (known : Known) (ts : Trees) → nodes_of_all (replaced_all with known ts) ≡ nodes_of_all ts
+      all_nodes_replaced known no_tree = refl
+      all_nodes_replaced known (tree first rest) =
+          omega (arith, nodes_replaced known first, all_nodes_replaced (with.behind known first) rest)
+
+      row_nodes_replaced : (known : Known) (rs : Rows) → nodes_of_rows (replaced_rows with known rs) ≡ nodes_of_rows rs
+      row_nodes_replaced known no_row = refl
+      row_nodes_replaced known (row pattern body rest) =
+          omega (
+            arith,
+            same known pattern,
+            nodes_replaced (with.behind_pattern known pattern) body,
+            row_nodes_replaced (with.behind_row known pattern body) rest,
+          )
+
+  module _ (same : (known : Known) (p : Pattern) → bound (with.pattern known p) ≡ bound p) where
+    mutual
+      pub free_replaced : (known : Known) (t : Tree) → free (replaced with known t) ≡ free t
+      free_replaced known (variable of) = refl
+      free_replaced known (apply form es) = all_free_replaced (with.behind_form known form) es
+      free_replaced known (branch e positive negative) =
+          rw (
+            free_replaced known e,
+            free_replaced (with.behind known e) positive,
+            free_replaced (with.behind (with.behind known e) positive) negative,
+          ) refl
+      free_replaced known (match e rows) = rw (free_replaced known e, row_free_replaced (with.behind known e) rows) refl
+      free_replaced known (sequence binder first rest) =
+          rw (free_replaced known first, free_replaced (with.behind known first) rest) refl
+
+      pub all_free_replaced : (known : Known) (ts : Trees) → free_all (replaced_all with known ts) ≡ free_all ts
+      all_free_replaced known no_tree = refl
+      all_free_replaced known (tree first rest) =
+          rw (free_replaced known first, all_free_replaced (with.behind known first) rest) refl
+
+      pub row_free_replaced : (known : Known) (rs : Rows) → free_rows (replaced_rows with known rs) ≡ free_rows rs
+      row_free_replaced known no_row = refl
+      row_free_replaced known (row pattern body rest) =
+          rw (
+            same known pattern,
+            free_replaced (with.behind_pattern known pattern) body,
+            row_free_replaced (with.behind_row known pattern body) rest,
+          ) refl

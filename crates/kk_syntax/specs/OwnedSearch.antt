@@ -3,11 +3,11 @@
 use Rattle.std.specs.Prelude.{◌≡◌, ◌<◌, ℕ, Bool, true, false, ◌||◌, if◌then◌else◌, IsTrue, Option, Some, None, List, [], ◌∷◌, ◌++◌, map, length, replicate, set, slice_index_or}
 use Rattle.kk_syntax.specs.declared.positions.Ownership.TheVariants.{Owned, Lent}
 use Rattle.kk_syntax.specs.declared.positions.Position.{Position}
-use Rattle.kk_syntax.specs.OwnedPositions.{PositionSet, is_val, builds, uses, OwnsUsed, is_lent_variable, lent_in_row, handed_by, OwnsHanded, Closed, Within, owned_in}
-use Rattle.kk_syntax.specs.Patterns.{Pattern}
+use Rattle.kk_syntax.specs.OwnedPositions.{PositionSet, builds, uses, OwnsUsed, is_lent_variable, lent_in_row, handed_by, OwnsHanded, Closed, Within, owned_in}
 use Rattle.kk_syntax.specs.PositionsOf.{PositionTable, is_lent}
 use Rattle.kk_syntax.specs.Programs.{FunctionTree, ProgramTree}
-use Rattle.kk_syntax.specs.Trees.{Tree, variable, apply, branch, match, sequence, Rows, no_row, row, StatementTree}
+use Rattle.kk_syntax.specs.Shapes.{TailWalk, tail_walked}
+use Rattle.kk_syntax.specs.Trees.{Tree, StatementTree}
 
 -- the table that has each parameter lent
 abbrev pub each_lent : List FunctionTree → PositionTable
@@ -17,46 +17,23 @@ each_lent functions = map (λ f. replicate (length f.parameters) Lent) functions
 abbrev pub with_owned : PositionTable → Position → PositionTable
 with_owned table p = set table p.function (set (slice_index_or table p.function []) p.parameter Owned)
 
--- the constructions of statements alone, and their variables at owned places
+-- whether statements hold a construction with fields
 abbrev pub builds_statements : List StatementTree → Bool
 builds_statements [] = false
 builds_statements (s ∷ ss) = builds s.value || builds_statements ss
 
-abbrev pub uses_statements : PositionSet → ℕ → List StatementTree → Bool
-uses_statements set x [] = false
-uses_statements set x (s ∷ ss) = uses set (is_val s.binder) x s.value || uses_statements set x ss
-
--- What is found at the parts of a body that are in tail position and are no `if`, match or block themselves, in the order of
--- the text, by what is known there. On the way, the scrutinee of a match tells something, with which each of its rows is
--- entered.
-pub record TailWalk (Known Told A : Type 0) : Type 0 where
-  pub at : Known → Tree → List A
-  pub told : Known → Tree → Told
-  pub enter : Known → Told → Pattern → Known
-
-abbrev mutual
-  pub tail_walked : {Known Told A : Type 0} → TailWalk Known Told A → Known → Tree → List A
-  tail_walked walk known (variable of) = walk.at known (variable of)
-  tail_walked walk known (apply form arguments) = walk.at known (apply form arguments)
-  tail_walked walk known (branch condition positive negative) = tail_walked walk known positive ++ tail_walked walk known negative
-  tail_walked walk known (match scrutinee rows) = tail_walked_rows walk known (walk.told known scrutinee) rows
-  tail_walked walk known (sequence binder first rest) = tail_walked walk known rest
-
-  pub tail_walked_rows : {Known Told A : Type 0} → TailWalk Known Told A → Known → Told → Rows → List A
-  tail_walked_rows walk known told no_row = []
-  tail_walked_rows walk known told (row pattern body rest) =
-      tail_walked walk (walk.enter known told pattern) body ++ tail_walked_rows walk known told rest
-
 -- What tail calls are given, found by a walk over the body: proved to be the positions of `handed`.
 abbrev pub to_handed : TailWalk (List ℕ) Bool Position
-to_handed = record { at = handed_by; told = is_lent_variable; enter = lent_in_row }
+to_handed = record {
+  at = handed_by;
+  at_binder = λ lent binder. [];
+  at_row = λ lent opened pattern. [];
+  told = is_lent_variable;
+  enter = lent_in_row;
+}
 
 abbrev pub handed_in : List ℕ → Tree → List Position
 handed_in = tail_walked to_handed
-
--- the flag tells whether the match is on a lent variable
-abbrev pub handed_in_rows : List ℕ → Bool → Rows → List Position
-handed_in_rows = tail_walked_rows to_handed
 
 -- a position is lent
 abbrev pub IsLent : PositionTable → Position → Type 0
@@ -83,10 +60,12 @@ FindsUsed table number function (Some p) = IsUsed table number function p
 -- A lent position that each set has which has the owned positions and what the rules ask of a function; none where the
 -- owned positions are such a set.
 abbrev pub AsksIn : ProgramTree → PositionTable → ℕ → FunctionTree → Option Position → Type 0
-AsksIn program table number function None = OwnsUsed (owned_in table) number function × OwnsHanded program (owned_in table) number function
+AsksIn program table number function None = OwnsUsed (owned_in table) number function
+    × OwnsHanded program (owned_in table) number function
 AsksIn program table number function (Some p) =
     IsLent table p
-    × ((set : PositionSet) → OwnsUsed set number function → OwnsHanded program set number function → Within (owned_in table) set → IsTrue (set p.function p.parameter))
+    × ((set : PositionSet) → OwnsUsed set number function → OwnsHanded program set number function → Within (owned_in table) set
+    → IsTrue (set p.function p.parameter))
 
 -- The same for a program: a lent position that each closed set has which has the owned positions; none where these are
 -- a closed set.

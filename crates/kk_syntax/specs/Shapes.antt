@@ -120,19 +120,44 @@ pub record Tail : Type 0 where
 
 -- The parts of a body that are in tail position and are no `if`, match or block themselves: the value of each is the
 -- value of the body. In an `if` they are those of its branches, in a match those of its rows, and in a block those of its
--- last expression. Here of a part of the body that stands in some rows itself.
-abbrev mutual
-  pub tails_inside : List Opening → Tree → List Tail
-  tails_inside inside (variable of) = record { inside = inside; part = variable of } ∷ []
-  tails_inside inside (apply form arguments) = record { inside = inside; part = apply form arguments } ∷ []
-  tails_inside inside (branch condition positive negative) = tails_inside inside positive ++ tails_inside inside negative
-  tails_inside inside (match scrutinee rows) = tails_of_rows inside scrutinee rows
-  tails_inside inside (sequence binder first rest) = tails_inside inside rest
+-- last expression. Here what is found at them, and at the binders and the rows on the way, in the order of the text, by what
+-- is known there. The scrutinee of a match tells something, with which each of its rows is entered.
+pub record TailWalk (Known Told A : Type 0) : Type 0 where
+  pub at : Known → Tree → List A
+  pub at_binder : Known → Binder → List A
+  pub at_row : Known → Told → Pattern → List A
+  pub told : Known → Tree → Told
+  pub enter : Known → Told → Pattern → Known
 
-  pub tails_of_rows : List Opening → Tree → Rows → List Tail
-  tails_of_rows inside scrutinee no_row = []
-  tails_of_rows inside scrutinee (row pattern body rest) =
-      tails_inside (inside ++ record { scrutinee = scrutinee; pattern = pattern } ∷ []) body ++ tails_of_rows inside scrutinee rest
+abbrev mutual
+  pub tail_walked : {Known Told A : Type 0} → TailWalk Known Told A → Known → Tree → List A
+  tail_walked walk known (variable of) = walk.at known (variable of)
+  tail_walked walk known (apply form arguments) = walk.at known (apply form arguments)
+  tail_walked walk known (branch condition positive negative) = tail_walked walk known positive ++ tail_walked walk known negative
+  tail_walked walk known (match scrutinee rows) = tail_walked_rows walk known (walk.told known scrutinee) rows
+  tail_walked walk known (sequence binder first rest) = walk.at_binder known binder ++ tail_walked walk known rest
+
+  pub tail_walked_rows : {Known Told A : Type 0} → TailWalk Known Told A → Known → Told → Rows → List A
+  tail_walked_rows walk known told no_row = []
+  tail_walked_rows walk known told (row pattern body rest) =
+      (walk.at_row known told pattern ++ tail_walked walk (walk.enter known told pattern) body)
+      ++ tail_walked_rows walk known told rest
+
+-- each of these parts, with the rows that it stands in, where the body stands in some rows itself
+abbrev pub to_tails : TailWalk (List Opening) Tree Tail
+to_tails = record {
+  at = λ inside part. record { inside = inside; part = part } ∷ [];
+  at_binder = λ inside binder. [];
+  at_row = λ inside scrutinee pattern. [];
+  told = λ inside scrutinee. scrutinee;
+  enter = λ inside scrutinee pattern. inside ++ record { scrutinee = scrutinee; pattern = pattern } ∷ [];
+}
+
+abbrev pub tails_inside : List Opening → Tree → List Tail
+tails_inside = tail_walked to_tails
+
+abbrev pub tails_of_rows : List Opening → Tree → Rows → List Tail
+tails_of_rows = tail_walked_rows to_tails
 
 abbrev pub tails : Tree → List Tail
 tails body = tails_inside [] body
@@ -159,3 +184,37 @@ abbrev mutual
   pub gathered_rows : {A : Type 0} → Gathers A → Rows → List A
   gathered_rows from no_row = []
   gathered_rows from (row pattern body rest) = (from.at_pattern pattern ++ gathered from body) ++ gathered_rows from rest
+
+-- What stands in place of the forms and patterns of an expression, by what is known where they stand; and what is known
+-- behind a form, a pattern, an expression and a row.
+pub record Replaces (Known : Type 0) : Type 0 where
+  pub form : Known → Form → Form
+  pub pattern : Known → Pattern → Pattern
+  pub behind_form : Known → Form → Known
+  pub behind_pattern : Known → Pattern → Known
+  pub behind : Known → Tree → Known
+  pub behind_row : Known → Pattern → Tree → Known
+
+-- an expression with other forms and patterns, in the order of the text
+abbrev mutual
+  pub replaced : {Known : Type 0} → Replaces Known → Known → Tree → Tree
+  replaced with known (variable of) = variable of
+  replaced with known (apply form arguments) = apply (with.form known form)
+      (replaced_all with (with.behind_form known form) arguments)
+  replaced with known (branch condition positive negative) =
+      branch (replaced with known condition) (replaced with (with.behind known condition) positive)
+      (replaced with (with.behind (with.behind known condition) positive) negative)
+  replaced with known (match scrutinee rows) = match (replaced with known scrutinee)
+      (replaced_rows with (with.behind known scrutinee) rows)
+  replaced with known (sequence binder first rest) = sequence binder (replaced with known first)
+      (replaced with (with.behind known first) rest)
+
+  pub replaced_all : {Known : Type 0} → Replaces Known → Known → Trees → Trees
+  replaced_all with known no_tree = no_tree
+  replaced_all with known (tree first rest) = tree (replaced with known first) (replaced_all with (with.behind known first) rest)
+
+  pub replaced_rows : {Known : Type 0} → Replaces Known → Known → Rows → Rows
+  replaced_rows with known no_row = no_row
+  replaced_rows with known (row pattern body rest) =
+      row (with.pattern known pattern) (replaced with (with.behind_pattern known pattern) body)
+      (replaced_rows with (with.behind_row known pattern body) rest)
