@@ -53,6 +53,7 @@ pub mod Working
 pub mod Seeing
 pub mod Programs
 pub mod TokenedViews
+pub mod TokenDrafting
 pub mod Knowing
 pub mod KnownSteps
 pub mod KnownRuns

@@ -26,6 +26,9 @@ pub mod References
 pub mod Shaping
 pub mod Spending
 pub mod TokenCosts
+pub mod TokenDrafts
+pub mod TokenEmissions
+pub mod TokenEmitting
 pub mod TokenKeeping
 pub mod TokenLengths
 pub mod TokenLowerable

@@ -1,5 +1,6 @@
 ghost use Rattle.std.specs.Prelude.{◌≡◌, true, false, ◌∷◌, ◌++◌, [], IfSome, IfNone, OnOk, OnErr, IfErr};
 ghost use Rattle.kk_counted.specs.Drafts.{AreOf};
+ghost use Rattle.kk_counted.specs.TokenDrafts.{with_token};
 
 use kk_base::NoMemory;
 use std::alloc::Global;
@@ -96,6 +97,29 @@ impl Debts {
     }
 }
 
+/// The token of an opened cell, or one that is null, which its path must fill or free. It cannot be let go.
+pub struct Spare {
+    pub(crate) emitter: u32,
+    pub(crate) slot: u32,
+}
+
+impl Spare {
+    /// The slot in which the token stands.
+    pub fn slot(&self) -> u32
+        ensures { result ≡ self.now.slot }
+    {
+        self.slot
+    }
+
+    // It is spent by what has been written of it.
+    pub(crate) fn spend(self) {
+        let Spare {
+            emitter: _,
+            slot: _,
+        } = self;
+    }
+}
+
 /// A branch whose arms are not yet joined. It holds what each arm is to spend that is not entered. It cannot be let go.
 pub struct Arms {
     pub(crate) emitter: u32,
@@ -118,6 +142,9 @@ pub enum Held {
     One(Owed),
     Many(Debts),
     Branch(Arms),
+    Token(Spare),
+    /// A token and the fields that were to stand in its cell.
+    Filling(Spare, Debts),
 }
 
 /// The values that were handed to a call that found no memory. It cannot be let go: `Emitter::abandon` takes it, or
@@ -169,6 +196,44 @@ impl Kept {
         }
     }
 
+    pub(crate) fn of_token(spare: Spare) -> Self
+        ensures held { result.held ≡ Held.Token spare }
+        ensures ended { result.ended ≡ false }
+    {
+        Kept {
+            held: Held::Token(spare),
+            ended: false,
+        }
+    }
+
+    pub(crate) fn of_filling(spare: Spare, debts: Debts) -> Self
+        ensures held { result.held ≡ Held.Filling spare debts }
+        ensures ended { result.ended ≡ false }
+    {
+        Kept {
+            held: Held::Filling(spare, debts),
+            ended: false,
+        }
+    }
+
+    // The same with a token, of a call that was handed it with debts.
+    pub(crate) fn with_token(self, spare: Spare) -> Self
+        ensures held { result.held ≡ with_token spare self.held }
+        ensures ended { result.ended ≡ self.ended }
+    {
+        let Kept { held, ended } = self;
+        match held {
+            Held::Many(debts) => Kept {
+                held: Held::Filling(spare, debts),
+                ended,
+            },
+            held => {
+                spare.spend();
+                Kept { held, ended }
+            }
+        }
+    }
+
     // The same, of a call that was to end its function.
     pub(crate) fn as_ended(self) -> Self
         ensures held { result.held ≡ self.held }
@@ -196,6 +261,11 @@ impl Kept {
                     depth: _,
                     left: _,
                 } = arms;
+            }
+            Held::Token(spare) => spare.spend(),
+            Held::Filling(spare, debts) => {
+                spare.spend();
+                debts.spend();
             }
         }
     }

@@ -1,4 +1,4 @@
-ghost use Rattle.std.specs.Prelude.{◌≡◌, ◌+◌, ◌<◌, ◌∷◌, ◌++◌, [], false, true, length, IfOk, IfErr, OnOk, OnErr};
+ghost use Rattle.std.specs.Prelude.{◌≡◌, ◌+◌, ◌<◌, ◌∷◌, ◌++◌, [], false, true, length, slice_index_or, IfOk, IfErr, OnOk, OnErr};
 ghost use Rattle.kk_counted.specs.Drafts.{begun, fallen, given, duplicated, dropped, unpacked, looked, fields_given, computed, Writes, Awaits, Reaches, IsLentTo, IsAtHand, Owns, OwnsAll, HoldsAll, HasConstructor, HasField, HasFields, IsPlain, Takes, used_in, LendsAll};
 ghost use Rattle.kk_counted.specs.Shaping.{positions_in, fields_in};
 ghost use Rattle.kk_counted.specs.Emissions.{state};
@@ -298,7 +298,7 @@ impl<'a> Emitter<'a> {
     }
 
     // Opens a cell of that constructor, by its count or not.
-    fn opened(
+    pub(crate) fn opened(
         &mut self,
         owed: Owed,
         constructor: u32,
@@ -429,6 +429,35 @@ impl<'a> Emitter<'a> {
                 return Err(Kept::of_nothing());
             }
         }
+    }
+
+    // The instance whose function is written.
+    pub(crate) fn instance(&self) -> u32
+        ensures { result ≡ (state self.now).instance }
+    {
+        self.work.instance
+    }
+
+    // Whether a call has found no memory.
+    pub(crate) fn has_failed(&self) -> bool
+        ensures { result ≡ (state self.now).failed }
+    {
+        self.work.failed
+    }
+
+    // The number of the next variable.
+    pub(crate) fn next_variable(&self) -> u32
+        ensures { result ≡ (state self.now).next }
+    {
+        self.work.next
+    }
+
+    // How many fields a constructor has.
+    pub(crate) fn field_count(&self, constructor: u32) -> usize
+        requires { HasConstructor (state self.now) constructor }
+        ensures { result ≡ slice_index_or (state self.now).field_counts constructor 0 }
+    {
+        self.shape.constructors()[constructor as usize].fields.len()
     }
 
     /// Spends the values of a call that found no memory. The emitter has failed from then on.

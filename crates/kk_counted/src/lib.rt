@@ -11,12 +11,14 @@ mod form;
 mod law;
 mod lists;
 mod shape;
+mod token_emitter;
+mod token_work;
 mod tokened;
 mod work;
 
 pub use copies::copied_decisions;
 pub use counted::{Counted, CountedFun, counted_programs_are_judged};
-pub use debts::{ArmEnd, Arms, Debts, Kept, Owed, give_up};
+pub use debts::{ArmEnd, Arms, Debts, Kept, Owed, Spare, give_up};
 pub use emitter::Emitter;
 pub use form::{Block, Last, Step};
 pub use law::{
@@ -27,4 +29,5 @@ pub use law::{
     tokens_cost_what_they_have_room_for, tokens_follow_their_forms, tokens_keep_runs_the_same,
 };
 pub use shape::{InstanceShape, Parameter, Shape};
+pub use token_emitter::TokenEmitter;
 pub use tokened::{Tokened, TokenedBlock, TokenedFun, TokenedLast, TokenedStep};
