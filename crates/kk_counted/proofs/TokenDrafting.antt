@@ -1,5 +1,5 @@
 -- What calls of an emitter of code with tokens change of what it has written leaves it such code.
-use Rattle.std.proofs.Common.{◌≡◌, ◌⊎◌, inl, inr, ℕ, suc, ◌<◌, ◌==◌, ◌||◌, Bool, true, false, not, List, [], ◌∷◌, ◌++◌, map, reverse, length, append_assoc, arith, refl, sym, ap, ◌∙◌, subst}
+use Rattle.std.proofs.Common.{◌≡◌, ℕ, suc, ◌<◌, ◌==◌, ◌||◌, Bool, true, false, not, List, [], ◌∷◌, ◌++◌, map, reverse, length, append_assoc, arith, refl, sym, ap, ◌∙◌, subst}
 use Rattle.std.specs.Prelude.{filter, if◌then◌else◌}
 use Rattle.std.proofs.lemmas.Grind.{reverse_onto}
 use Rattle.std.proofs.lemmas.Bool.Decides.{nat_tests}
@@ -17,11 +17,11 @@ use Rattle.kk_syntax.specs.PositionsOf.{PositionTable}
 use Rattle.kk_counted.specs.Arms.{HasArms}
 use Rattle.kk_counted.specs.Programs.{IsFunctionOf}
 use Rattle.kk_counted.specs.CountedCodes.{Counted, tail_call, compute, inside, read, open_cell, if_unique, dup, drop}
-use Rattle.kk_counted.specs.CountedForms.{Move, computes, reads, dups, plug, block_code}
+use Rattle.kk_counted.specs.CountedForms.{computes, reads, dups, plug, block_code}
 use Rattle.kk_counted.specs.Spending.{AreApart}
 use Rattle.kk_counted.specs.TokenedCodes.{Tokened}
 use Rattle.kk_counted.specs.TokenedForms.{TokenedMove, put_tokened, plug_tokened, tokened_move, tokened_code}
-use Rattle.kk_counted.specs.TokenSpending.{AreSame, AtForm, SpendsTokens}
+use Rattle.kk_counted.specs.TokenSpending.{SpendsTokens}
 use Rattle.kk_counted.specs.BareForms.{bare}
 use Rattle.kk_counted.specs.KeptFields.{KnownFields, fields_in, forget_variable, forget_variables, KeepsKnown, LeavesKnown}
 use Rattle.kk_counted.specs.Drafts.{Draft, given, duplicated, dropped, unpacked, looked, fields_given, computed, opens_by, end_code, finished, IsPlain}

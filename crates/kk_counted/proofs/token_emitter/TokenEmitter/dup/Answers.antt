@@ -1,13 +1,8 @@
-use Rattle.std.proofs.Common.{◌∷◌, [], ap, sym, subst, refl, ◌∙◌}
-use Rattle.kk_syntax.specs.declared.program.Form.TheVariants.{Construct, Call}
-use Rattle.kk_syntax.specs.Shapes.{without}
-use Rattle.kk_counted.specs.Drafts.{fields_given}
+use Rattle.std.proofs.Common.{ap, ◌∙◌}
 use Rattle.kk_counted.specs.Emissions.{state}
-use Rattle.kk_counted.specs.TokenDrafts.{token_draft, next_slot, under_holds, opens_with, reads_with, fills_with}
+use Rattle.kk_counted.specs.TokenDrafts.{token_draft}
 use Rattle.kk_counted.specs.TokenedForms.{TokenedMove}
-use Rattle.kk_counted.specs.TokenEmissions.{counted_of, tokens_of}
-use Rattle.kk_counted.specs.TokenEmitting.{HasSpare, HasKnown, fields_at}
-use Rattle.kk_counted.proofs.TokenedViews.{dup_step, drop_step, free_step}
+use Rattle.kk_counted.proofs.TokenedViews.{dup_step}
 use Rattle.kk_counted.proofs.TokenDrafting.{dup_keeps, put_on}
 use Rattle.kk_counted.proofs.token_emitter.TokenEmitter.dup.Goals as goal
 

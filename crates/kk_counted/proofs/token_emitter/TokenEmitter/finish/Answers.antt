@@ -1,6 +1,4 @@
-use Rattle.std.proofs.Common.{◌≡◌, false, rules, map, sym, ap, ◌∙◌, subst}
-use Rattle.kk_counted.specs.CountedCodes.{tail_call}
-use Rattle.kk_counted.specs.CountedForms.{plug}
+use Rattle.std.proofs.Common.{◌≡◌, false, map, sym, ap, ◌∙◌, subst}
 use Rattle.kk_counted.specs.Drafts.{finished}
 use Rattle.kk_counted.specs.Programs.{IsFunctionOf}
 use Rattle.kk_counted.specs.TokenedCodes.{Tokened}
