@@ -136,3 +136,52 @@ fn a_cell_is_held_and_filled(rt: HostRuntime) -> Result<(), NoMemory> {
     assert!(rt; matches!(steps[4], TokenedStep::Fill { slot: 0, .. }));
     Ok(())
 }
+
+/// The function `fun same(b: box): box { match b { Box(inner) -> Box(inner) } }`. It leaves the field that its cell has already.
+fn same(alloc: Global, shape: &Shape) -> Result<TokenedFun, NoMemory>
+    requires positions { positions_in shape.now.instances.items ≡ (Owned ∷ []) ∷ [] }
+    requires fields { fields_in shape.now.constructors.items ≡ 1 ∷ [] }
+    ensures { IfOk result (λ function. IsTokenedFunctionOf (positions_in shape.now.instances.items) 0 function) }
+{
+    let mut emitter = TokenEmitter::start(alloc, shape, 0)?;
+    let cell = emitter.param(0)?;
+    let (debts, spare) = match emitter.unpack_unique(cell, 0, 1) {
+        Ok(both) => both,
+        Err(kept) => {
+            emitter.abandon(kept);
+            return Err(NoMemory);
+        }
+    };
+    let built = match emitter.construct_over(spare, 0, 1, debts) {
+        Ok(built) => built,
+        Err(kept) => {
+            emitter.abandon(kept);
+            return Err(NoMemory);
+        }
+    };
+    match emitter.finish(built) {
+        Ok(function) => Ok(function),
+        Err(kept) => Err(give_up(kept)),
+    }
+}
+
+/// Whether a step builds a cell in that of the first token, and leaves its first field alone.
+fn leaves_the_first_field(step: &TokenedStep) -> bool {
+    match step {
+        TokenedStep::Fill { slot, kept, .. } => {
+            *slot == 0 && kept.len() == 1 && kept.first() == Some(&0)
+        }
+        _ => false,
+    }
+}
+
+/// It opens the cell, and builds one in its place that has the field already.
+#[test]
+fn a_field_is_left(rt: HostRuntime) -> Result<(), NoMemory> {
+    let shape = shape_of_one_function(rt.alloc())?;
+    let function = same(rt.alloc(), &shape)?;
+    let steps = &function.body.steps;
+    assert_eq!(rt; steps.len(), 2);
+    assert!(rt; leaves_the_first_field(&steps[1]));
+    Ok(())
+}
