@@ -1,4 +1,4 @@
-//! A function that opens a cell, calls itself while the token of the cell is held, and builds a cell in its place.
+//! Functions that open a cell and build one in its place: one calls itself while the token is held, one leaves a field.
 
 ghost use Rattle.std.specs.Prelude.{◌≡◌, ◌∷◌, [], true, false, None, IfOk};
 ghost use Rattle.kk_syntax.specs.Shapes.{without};
