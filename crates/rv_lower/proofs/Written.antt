@@ -58,7 +58,7 @@ print_lines {bytes = bytes} {line = line} {a = a} {b = b} {c = c} is printed wro
   are = λ later. (
     printed.lines,
     subst (λ (bs : List ℕ). PrintLines a.base (texts_written c ++ later) bs printed.lines) is
-    (subst (λ (texts : List (List ℕ)). PrintLines a.base (texts ++ later) bytes printed.lines) (sym wrote.texts) (printed.are later)),
+        (subst (λ (texts : List (List ℕ)). PrintLines a.base (texts ++ later) bytes printed.lines) (sym wrote.texts) (printed.are later)),
     ap (λ (l : Line). printed.lines ++ (l ∷ [])) same,
   );
 }
