@@ -2,6 +2,7 @@ pub mod Blocks
 pub mod Kept
 pub mod Passed
 pub mod Placed
+pub mod Readings
 pub mod Rows
 pub mod Scopes
 pub mod Search

@@ -5,12 +5,12 @@ use Rattle.kk_syntax.specs.declared.program.Form.{Form}
 use Rattle.kk_syntax.specs.declared.program.Form.TheVariants.{Construct, Call}
 use Rattle.kk_syntax.specs.Programs.{FunctionTree}
 use Rattle.kk_syntax.specs.Shapes.{bound, TailWalk, tail_walked, tail_walked_rows}
-use Rattle.kk_syntax.specs.Trees.{Tree, variable, apply, branch, match, sequence, Trees, no_tree, tree, Rows, no_row, row}
+use Rattle.kk_syntax.specs.Trees.{Tree, variable, apply, Trees, no_tree, tree, Rows}
 use Rattle.kk_syntax.specs.declared.positions.Position.{Position}
 use Rattle.kk_borrow.specs.declared.owned_place.Place.{Place}
 use Rattle.kk_borrow.specs.declared.owned_place.Place.TheVariants.{Never, Always, With}
 use Rattle.kk_borrow.specs.declared.scope.Binding.{Binding}
-use Rattle.kk_syntax.specs.OwnedPositions.{is_val, reuses}
+use Rattle.kk_syntax.specs.OwnedPositions.{PlaceWalk, place_walked, place_walked_all, place_walked_rows}
 use Rattle.kk_borrow.specs.Rules.{RuleTree}
 
 abbrev pub position : ℕ → ℕ → Position
@@ -32,22 +32,24 @@ at_place f Always x = record { premises = []; conclusion = position f x } ∷ []
 at_place f (With p) x = record { premises = p ∷ []; conclusion = position f x } ∷ []
 
 -- o1 to o4: the rules for the variables of an expression, which stands at a place itself
-abbrev mutual
-  pub placed : ℕ → Place → Tree → List RuleTree
-  placed f place (variable of) = at_place f place of
-  placed f place (apply form arguments) = placed_all f form 0 arguments
-  placed f place (branch condition positive negative) = placed f Never condition ++ (placed f Always positive ++ placed f Always negative)
-  placed f place (match scrutinee rows) = placed_rows f rows ++ placed f (place_if (reuses rows)) scrutinee
-  placed f place (sequence binder first rest) = placed f (place_if (is_val binder)) first ++ placed f Always rest
+abbrev pub to_rules : ℕ → PlaceWalk Place (List RuleTree)
+to_rules f = record {
+  at = at_place f;
+  none = [];
+  both = λ one other. one ++ other;
+  owned = place_if;
+  argument = place_in;
+}
 
-  -- arguments of a form, from one of them on, which has this number
-  pub placed_all : ℕ → Form → ℕ → Trees → List RuleTree
-  placed_all f form index no_tree = []
-  placed_all f form index (tree first rest) = placed f (place_in form index) first ++ placed_all f form (index + 1) rest
+abbrev pub placed : ℕ → Place → Tree → List RuleTree
+placed f = place_walked (to_rules f)
 
-  pub placed_rows : ℕ → Rows → List RuleTree
-  placed_rows f no_row = []
-  placed_rows f (row pattern body rest) = placed f Always body ++ placed_rows f rest
+-- those of the arguments of a form, from one of them on, which has this number
+abbrev pub placed_all : ℕ → Form → ℕ → Trees → List RuleTree
+placed_all f = place_walked_all (to_rules f)
+
+abbrev pub placed_rows : ℕ → Rows → List RuleTree
+placed_rows f = place_walked_rows (to_rules f)
 
 -- the parameters on which a variable hangs: it is lent as long as one of them is
 abbrev pub origins_of : List Binding → ℕ → List ℕ

@@ -1,5 +1,5 @@
 -- The constructors of a program in memory are declared ones.
-use Rattle.std.proofs.Common.{◌≡◌, ℕ, zero, suc, List, [], ◌∷◌, map, None, refl, sym, ap, ◌∙◌}
+use Rattle.std.proofs.Common.{◌≡◌, zero, suc, List, [], ◌∷◌, map, sym, ap}
 use Rattle.kk_syntax.specs.declared.program.Constructor.{Constructor}
 use Rattle.kk_syntax.specs.Programs.{ConstructorTree, constructor_tree, AreDeclared}
 

@@ -1,5 +1,5 @@
 -- Tables of ground types: one type for each node, and types that are not equal.
-use Rattle.std.proofs.Common.{◌≡◌, ◌≢◌, ℕ, ◌+◌, Bool, true, false, List, [], ◌∷◌, ◌++◌, length, get_or, AllPairs, refl, arith}
+use Rattle.std.proofs.Common.{◌≡◌, ◌≢◌, ◌+◌, Bool, true, false, List, [], ◌∷◌, ◌++◌, length, get_or, AllPairs, refl, arith}
 use Rattle.std.proofs.lemmas.List.{length_push}
 use Rattle.kk_syntax.specs.declared.ground.GroundType.{GroundType}
 use Rattle.kk_syntax.specs.GroundTypes.{ground_type, ground_types_behind, ground_types}

@@ -4,15 +4,15 @@ use Rattle.std.proofs.lemmas.Bool.{both_ways, or_left, or_right, or_cases}
 use Rattle.std.proofs.lemmas.List.Elements.{All-nil, All-append}
 use Rattle.std.proofs.lemmas.List.Folds.{list_any-append}
 use Rattle.kk_syntax.proofs.Lists.{all_left, all_right}
-use Rattle.kk_syntax.proofs.Walks.{tails_agree}
+use Rattle.kk_syntax.proofs.Walks.{tails_agree, places_agree}
 use Rattle.kk_syntax.specs.declared.positions.Position.{Position}
 use Rattle.kk_syntax.specs.declared.program.Form.{Form}
 use Rattle.kk_syntax.specs.declared.program.Form.TheVariants.{Construct, Call}
-use Rattle.kk_syntax.specs.OwnedPositions.{PositionSet, takes, is_val, reuses, uses, uses_any, uses_rows, lent_below, is_lent_variable, lent_in_row, handed_to, handed_by, Within}
+use Rattle.kk_syntax.specs.OwnedPositions.{PositionSet, takes, to_uses, uses, lent_below, is_lent_variable, lent_in_row, handed_to, handed_by, Within}
 use Rattle.kk_syntax.specs.OwnedSearch.{to_handed, handed_in}
 use Rattle.kk_syntax.specs.Patterns.{Pattern}
 use Rattle.kk_syntax.specs.Shapes.{bound, is_among}
-use Rattle.kk_syntax.specs.Trees.{Tree, variable, apply, branch, match, sequence, Trees, no_tree, tree, Rows, no_row, row}
+use Rattle.kk_syntax.specs.Trees.{Tree, variable, apply, Trees, no_tree, tree}
 
 or_grows : (a b c d : Bool) → (IsTrue a → IsTrue c) → (IsTrue b → IsTrue d) → IsTrue (a || b) → IsTrue (c || d)
 or_grows a b c d left right is = elim (or_cases a b is) [
@@ -32,51 +32,14 @@ takes_grows set other within (Construct of) index is = refl
 takes_grows set other within (Call function) index is = within function index is
 takes_grows set other within form index is = absurd (both_ways false refl is)
 
-mutual
-  pub uses_grows : (set other : PositionSet) → Within set other → (x : ℕ) (a b : Bool) → (IsTrue a → IsTrue b) → (t : Tree)
-      → IsTrue (uses set a x t) → IsTrue (uses other b x t)
-  uses_grows set other within x a b grows (variable of) is = and_grows a (x == of) b grows is
-  uses_grows set other within x a b grows (apply form arguments) is = uses_any_grows set other within x form 0 arguments is
-  uses_grows set other within x a b grows (branch condition positive negative) is =
-      or_grows (uses set false x condition) (uses set true x positive || uses set true x negative) (uses other false x condition)
-      (uses other true x positive || uses other true x negative)
-      (uses_grows set other within x false false (λ y. y) condition)
-      (or_grows (uses set true x positive) (uses set true x negative) (uses other true x positive) (uses other true x negative)
-      (uses_grows set other within x true true (λ y. y) positive)
-      (uses_grows set other within x true true (λ y. y) negative))
-      is
-  uses_grows set other within x a b grows (match scrutinee rows) is =
-      or_grows (uses set (reuses rows) x scrutinee) (uses_rows set x rows) (uses other (reuses rows) x scrutinee)
-      (uses_rows other x rows)
-      (uses_grows set other within x (reuses rows) (reuses rows) (λ y. y) scrutinee)
-      (uses_rows_grows set other within x rows)
-      is
-  uses_grows set other within x a b grows (sequence binder first rest) is =
-      or_grows (uses set (is_val binder) x first) (uses set true x rest) (uses other (is_val binder) x first)
-      (uses other true x rest)
-      (uses_grows set other within x (is_val binder) (is_val binder) (λ y. y) first)
-      (uses_grows set other within x true true (λ y. y) rest)
-      is
-
-  uses_any_grows : (set other : PositionSet) → Within set other → (x : ℕ) (form : Form) (index : ℕ) (ts : Trees)
-      → IsTrue (uses_any set form x index ts) → IsTrue (uses_any other form x index ts)
-  uses_any_grows set other within x form index no_tree is = absurd (both_ways false refl is)
-  uses_any_grows set other within x form index (tree first rest) is =
-      or_grows (uses set (takes set form index) x first) (uses_any set form x (index + 1) rest)
-      (uses other (takes other form index) x first) (uses_any other form x (index + 1) rest)
-      (uses_grows set other within x (takes set form index) (takes other form index)
-      (takes_grows set other within form index) first)
-      (uses_any_grows set other within x form (index + 1) rest)
-      is
-
-  uses_rows_grows : (set other : PositionSet) → Within set other → (x : ℕ) (rs : Rows) → IsTrue (uses_rows set x rs)
-      → IsTrue (uses_rows other x rs)
-  uses_rows_grows set other within x no_row is = absurd (both_ways false refl is)
-  uses_rows_grows set other within x (row pattern body rest) is =
-      or_grows (uses set true x body) (uses_rows set x rest) (uses other true x body) (uses_rows other x rest)
-      (uses_grows set other within x true true (λ y. y) body)
-      (uses_rows_grows set other within x rest)
-      is
+pub uses_grows : (set other : PositionSet) → Within set other → (x : ℕ) (a b : Bool) → (IsTrue a → IsTrue b) → (t : Tree)
+    → IsTrue (uses set a x t) → IsTrue (uses other b x t)
+uses_grows set other within x a b grows t =
+    places_agree (to_uses set) (to_uses other) (λ (p q : Bool). IsTrue p → IsTrue q)
+    (λ (u v : ℕ → Bool). (y : ℕ) → IsTrue (u y) → IsTrue (v y))
+    (λ y is. is) (λ u v w z left right y. or_grows (u y) (v y) (w y) (z y) (left y) (right y))
+    (λ owned is. is) (takes_grows set other within)
+    (λ p q of more y. and_grows p (y == of) q more) a b grows t x
 
 -- ---- o5
 

@@ -1,10 +1,13 @@
 -- Inductions over expressions, each stated once: what holds where an expression's parts end, and of two parts wherever it holds
 -- of each, holds of the whole.
-use Rattle.std.proofs.Common.{◌≡◌, ◌≤◌, ℕ, ◌+◌, List, [], ◌∷◌, ◌++◌, length, map, Some, refl, sym, subst, arith}
+use Rattle.std.proofs.Common.{◌≡◌, ◌≤◌, ℕ, Bool, true, false, ◌+◌, List, [], ◌∷◌, ◌++◌, length, map, Some, refl, sym, subst, arith}
 use Rattle.kk_syntax.proofs.Elements.{each_both, each_weaker}
-use Rattle.kk_syntax.specs.Covered.{Each}
+use Rattle.kk_syntax.specs.Covered.{Each, IsCovered, asked_by}
 use Rattle.kk_syntax.specs.declared.program.Binder.{Binder}
 use Rattle.kk_syntax.specs.declared.program.Form.{Form}
+use Rattle.kk_syntax.specs.GroundTyping.{Table, with_pattern, HasType, HaveTypes, AreRowsTyped}
+use Rattle.kk_syntax.specs.OfType.{values_of}
+use Rattle.kk_syntax.specs.OwnedPositions.{is_val, reuses, PlaceWalk, place_walked, place_walked_all, place_walked_rows}
 use Rattle.kk_syntax.specs.Patterns.{Pattern}
 use Rattle.kk_syntax.specs.Programs.{ProgramTree}
 use Rattle.kk_syntax.specs.Shapes.{bound, free, free_all, free_rows, nodes_of, nodes_of_all, nodes_of_rows, nodes_of_pattern}
@@ -12,7 +15,7 @@ use Rattle.kk_syntax.specs.Shapes.{TailWalk, tail_walked, tail_walked_rows, Gath
 use Rattle.kk_syntax.specs.Shapes.{Replaces, replaced, replaced_all, replaced_rows}
 use Rattle.kk_syntax.specs.Trees.{Tree, variable, apply, branch, match, sequence, Trees, no_tree, tree, Rows, no_row, row}
 use Rattle.kk_syntax.specs.Types.{TypeTree, put, type_at}
-use Rattle.kk_syntax.specs.Typing.{Scope, Scheme, Choice, holding, form_scheme, chosen_at}
+use Rattle.kk_syntax.specs.Typing.{Scope, with_binder, Scheme, Choice, holding, form_scheme, chosen_at}
 use Rattle.kk_syntax.specs.Typing.{IsPatternTyped, IsTypedBy, AreTypedBy, AreRowsTypedBy}
 
 -- Two walks over the tail positions of an expression agree, where they agree at each such position, and at each binder and row
@@ -112,6 +115,41 @@ module _ {Known Told A Other Heard B From : Type 0} (with : Replaces From) (Fits
         (tails_replaced within (behind_pattern from fits p) (first.enter k u p) (second.enter o v q)
         (enter from fits k o same u v alike p) body))
         (tail_rows_replaced after (behind_row from fits p body) k o same u v alike rest)
+
+-- Two walks over the variables of an expression agree, where they agree at each variable whose places are alike.
+module _ {Place Other A B : Type 0} (first : PlaceWalk Place A) (second : PlaceWalk Other B)
+    (Alike : Place → Other → Type 0) (Agree : A → B → Type 0) (none : Agree first.none second.none)
+    (both : (x y : A) (u v : B) → Agree x u → Agree y v → Agree (first.both x y) (second.both u v))
+    (owned : (b : Bool) → Alike (first.owned b) (second.owned b))
+    (argument : (form : Form) (index : ℕ) → Alike (first.argument form index) (second.argument form index))
+    (at : (p : Place) (q : Other) (of : ℕ) → Alike p q → Agree (first.at p of) (second.at q of)) where
+  mutual
+    pub places_agree : (p : Place) (q : Other) → Alike p q → (t : Tree) → Agree (place_walked first p t) (place_walked second q t)
+    places_agree p q alike (variable of) = at p q of alike
+    places_agree p q alike (apply form es) = all_places_agree form 0 es
+    places_agree p q alike (branch e positive negative) =
+        both _ _ _ _ (places_agree (first.owned false) (second.owned false) (owned false) e)
+        (both _ _ _ _ (places_agree (first.owned true) (second.owned true) (owned true) positive)
+        (places_agree (first.owned true) (second.owned true) (owned true) negative))
+    places_agree p q alike (match e rows) =
+        both _ _ _ _ (row_places_agree rows)
+        (places_agree (first.owned (reuses rows)) (second.owned (reuses rows)) (owned (reuses rows)) e)
+    places_agree p q alike (sequence b e rest) =
+        both _ _ _ _ (places_agree (first.owned (is_val b)) (second.owned (is_val b)) (owned (is_val b)) e)
+        (places_agree (first.owned true) (second.owned true) (owned true) rest)
+
+    all_places_agree : (form : Form) (index : ℕ) (es : Trees)
+        → Agree (place_walked_all first form index es) (place_walked_all second form index es)
+    all_places_agree form index no_tree = none
+    all_places_agree form index (tree e rest) =
+        both _ _ _ _
+        (places_agree (first.argument form index) (second.argument form index) (argument form index) e)
+        (all_places_agree form (index + 1) rest)
+
+    row_places_agree : (rows : Rows) → Agree (place_walked_rows first rows) (place_walked_rows second rows)
+    row_places_agree no_row = none
+    row_places_agree (row p body rest) =
+        both _ _ _ _ (places_agree (first.owned true) (second.owned true) (owned true) body) (row_places_agree rest)
 
 -- What is gathered from an expression agrees with what is chosen in its typing, where that is so of forms, patterns and
 -- matches.
@@ -242,6 +280,46 @@ module _ {A : Type 0} (from : Gathers A) (Within : ℕ → A → Type 0) (wider 
         (gathered from body) (omega arith) (omega arith)
         (patterns pattern) (nodes_bound body))
         (row_nodes_bound rest)
+
+-- Each thing that is gathered from an expression with a type has a property, where that is so at forms and patterns, and at
+-- matches, whose rows are covered.
+module _ (table : Table) {A : Type 0} (from : Gathers A) (Has : A → Type 0) (forms : (form : Form) → Each Has (from.at_form form))
+    (patterns : (p : Pattern) → Each Has (from.at_pattern p))
+    (matches : (rows : Rows) (u : TypeTree) → IsCovered (values_of table.constructors) u (asked_by rows)
+    → Each Has (from.at_rows rows)) where
+  mutual
+    pub typed_gathered : (e : Tree) (scope : Scope) (t : TypeTree) → HasType table scope e t → Each Has (gathered from e)
+    typed_gathered (variable x) scope t has = tt
+    typed_gathered (apply form es) scope t has =
+        each_both Has (from.at_form form) (gathered_all from es) (forms form) (all_typed_gathered es scope has.0 has.1)
+    typed_gathered (branch e positive negative) scope t has =
+        each_both Has (gathered from e) (gathered from positive ++ gathered from negative) (typed_gathered e scope _ has.0)
+        (each_both Has (gathered from positive) (gathered from negative) (typed_gathered positive scope t has.1)
+        (typed_gathered negative scope t has.2))
+    typed_gathered (match e rows) scope t has =
+        each_both Has (from.at_rows rows) (gathered from e ++ gathered_rows from rows) (matches rows has.0 has.3)
+        (each_both Has (gathered from e) (gathered_rows from rows) (typed_gathered e scope has.0 has.1)
+        (typed_rows_gathered rows scope has.0 t has.2))
+    typed_gathered (sequence binder first rest) scope t has =
+        each_both Has (gathered from first) (gathered from rest) (typed_gathered first scope has.0 has.1)
+        (typed_gathered rest (with_binder binder has.0 scope) t has.2)
+
+    all_typed_gathered : (es : Trees) (scope : Scope) (ts : List TypeTree) → HaveTypes table scope es ts
+        → Each Has (gathered_all from es)
+    all_typed_gathered no_tree scope ts have = tt
+    all_typed_gathered (tree first rest) scope [] have = absurd have
+    all_typed_gathered (tree first rest) scope (t ∷ ts) have =
+        each_both Has (gathered from first) (gathered_all from rest) (typed_gathered first scope t have.0)
+        (all_typed_gathered rest scope ts have.1)
+
+    typed_rows_gathered : (rows : Rows) (scope : Scope) (u t : TypeTree) → AreRowsTyped table scope rows u t
+        → Each Has (gathered_rows from rows)
+    typed_rows_gathered no_row scope u t are = tt
+    typed_rows_gathered (row pattern body rest) scope u t are =
+        each_both Has (from.at_pattern pattern ++ gathered from body) (gathered_rows from rest)
+        (each_both Has (from.at_pattern pattern) (gathered from body) (patterns pattern)
+        (typed_gathered body (with_pattern table.constructors pattern u scope) t are.1))
+        (typed_rows_gathered rest scope u t are.2)
 
 -- an expression with other forms and patterns has the nodes, and the free variables, of the first, where its patterns do
 module _ {Known : Type 0} (with : Replaces Known) where

@@ -1,6 +1,6 @@
 -- How deep expressions are in memory, as a text spells them and as a program has them: a part is one deeper than what it
 -- stands in, and each block counts, also one without statements. So deep goes a recursion over them.
-use Rattle.std.specs.Prelude.{ℕ, ◌+◌, max, List, [], ◌∷◌, Option, Some, None}
+use Rattle.std.specs.Prelude.{ℕ, ◌+◌, max, List, [], ◌∷◌, Some, None}
 use Rattle.kk_syntax.specs.declared.tree.SurfaceExpr.{SurfaceExpr}
 use Rattle.kk_syntax.specs.declared.tree.SurfaceExpr.TheOpen as OfSurface
 use Rattle.kk_syntax.specs.declared.tree.SurfaceExpr.TheFolds.{fold-SurfaceExpr, fold-SurfaceRow, fold-SurfaceStatement}

@@ -1,5 +1,5 @@
 -- What instances in memory mean: their types, and a program without type variables whose functions they are.
-use Rattle.std.specs.Prelude.{ℕ, List, [], map, Some}
+use Rattle.std.specs.Prelude.{List, [], map, Some}
 use Rattle.kk_syntax.specs.declared.ground.Ground.{Ground}
 use Rattle.kk_syntax.specs.declared.ground.GroundConstructor.{GroundConstructor}
 use Rattle.kk_syntax.specs.declared.ground.Instance.{Instance}

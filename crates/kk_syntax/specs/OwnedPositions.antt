@@ -82,24 +82,51 @@ abbrev pub reuses : Rows → Bool
 reuses no_row = false
 reuses (row pattern body rest) = (opens pattern && builds body) || reuses rest
 
--- Whether a variable stands at an owned place of an expression. The flag tells whether the expression itself stands at
--- one. o1: a branch, the body of a row and the value of a block do.
+-- What the variables of an expression give, put together in the order in which rows come before the scrutinee that they tell the
+-- place of, by the place at which each variable stands: whether it is owned, or on what that hangs. The expression stands at a
+-- place itself. o1: a branch, the body of a row and the value of a block stand at an owned one.
+pub record PlaceWalk (Place A : Type 0) : Type 0 where
+  pub at : Place → ℕ → A
+  pub none : A
+  pub both : A → A → A
+  pub owned : Bool → Place
+  pub argument : Form → ℕ → Place
+
 abbrev mutual
-  pub uses : PositionSet → Bool → ℕ → Tree → Bool
-  uses set owned x (variable of) = owned && x == of
-  uses set owned x (apply form arguments) = uses_any set form x 0 arguments
-  uses set owned x (branch condition positive negative) = uses set false x condition || (uses set true x positive || uses set true x negative)
-  uses set owned x (match scrutinee rows) = uses set (reuses rows) x scrutinee || uses_rows set x rows
-  uses set owned x (sequence binder first rest) = uses set (is_val binder) x first || uses set true x rest
+  pub place_walked : {Place A : Type 0} → PlaceWalk Place A → Place → Tree → A
+  place_walked walk place (variable of) = walk.at place of
+  place_walked walk place (apply form arguments) = place_walked_all walk form 0 arguments
+  place_walked walk place (branch condition positive negative) =
+      walk.both (place_walked walk (walk.owned false) condition)
+      (walk.both (place_walked walk (walk.owned true) positive) (place_walked walk (walk.owned true) negative))
+  place_walked walk place (match scrutinee rows) =
+      walk.both (place_walked_rows walk rows) (place_walked walk (walk.owned (reuses rows)) scrutinee)
+  place_walked walk place (sequence binder first rest) =
+      walk.both (place_walked walk (walk.owned (is_val binder)) first) (place_walked walk (walk.owned true) rest)
 
   -- arguments of a form, from one of them on, which has this number
-  pub uses_any : PositionSet → Form → ℕ → ℕ → Trees → Bool
-  uses_any set form x index no_tree = false
-  uses_any set form x index (tree first rest) = uses set (takes set form index) x first || uses_any set form x (index + 1) rest
+  pub place_walked_all : {Place A : Type 0} → PlaceWalk Place A → Form → ℕ → Trees → A
+  place_walked_all walk form index no_tree = walk.none
+  place_walked_all walk form index (tree first rest) =
+      walk.both (place_walked walk (walk.argument form index) first) (place_walked_all walk form (index + 1) rest)
 
-  pub uses_rows : PositionSet → ℕ → Rows → Bool
-  uses_rows set x no_row = false
-  uses_rows set x (row pattern body rest) = uses set true x body || uses_rows set x rest
+  pub place_walked_rows : {Place A : Type 0} → PlaceWalk Place A → Rows → A
+  place_walked_rows walk no_row = walk.none
+  place_walked_rows walk (row pattern body rest) =
+      walk.both (place_walked walk (walk.owned true) body) (place_walked_rows walk rest)
+
+-- whether a variable stands at an owned place of an expression; the flag tells whether the expression itself stands at one
+abbrev pub to_uses : PositionSet → PlaceWalk Bool (ℕ → Bool)
+to_uses set = record {
+  at = λ owned of. λ x. owned && x == of;
+  none = λ x. false;
+  both = λ one other. λ x. one x || other x;
+  owned = λ owned. owned;
+  argument = takes set;
+}
+
+abbrev pub uses : PositionSet → Bool → ℕ → Tree → Bool
+uses set owned x e = place_walked (to_uses set) owned e x
 
 -- each parameter of a function that stands at an owned place of its body, which is such a place itself, is in a set
 abbrev pub OwnsUsed : PositionSet → ℕ → FunctionTree → Type 0

@@ -1,6 +1,6 @@
 -- What a search for the owned positions goes through: it begins with no position, and while a rule asks for a lent
 -- position, that becomes owned.
-use Rattle.std.specs.Prelude.{◌≡◌, ◌<◌, ℕ, Bool, true, false, ◌||◌, if◌then◌else◌, IsTrue, Option, Some, None, List, [], ◌∷◌, ◌++◌, map, length, replicate, set, slice_index_or}
+use Rattle.std.specs.Prelude.{◌≡◌, ◌<◌, ℕ, Bool, true, false, ◌||◌, if◌then◌else◌, IsTrue, Option, Some, None, List, [], ◌∷◌, map, length, replicate, set, slice_index_or}
 use Rattle.kk_syntax.specs.declared.positions.Ownership.TheVariants.{Owned, Lent}
 use Rattle.kk_syntax.specs.declared.positions.Position.{Position}
 use Rattle.kk_syntax.specs.OwnedPositions.{PositionSet, builds, uses, OwnsUsed, is_lent_variable, lent_in_row, handed_by, OwnsHanded, Closed, Within, owned_in}
