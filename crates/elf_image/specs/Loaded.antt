@@ -6,6 +6,7 @@ use Rattle.elf_image.specs.declared.bad_image.BadImage.{BadImage}
 use Rattle.elf_image.specs.declared.bad_image.BadImage.TheVariants.{Short, NotElf, NotRv32, NotExec, BadHeaders, PartOutside, PartsOverlap, TooLarge, BadEntry, NoMemory}
 use Rattle.elf_image.specs.declared.header.ProgramHeader.{ProgramHeader}
 use Rattle.elf_image.specs.declared.part.Part.{Part}
+use Rattle.elf_image.specs.declared.reading.TheConstants.{GREATEST_FILE}
 use Rattle.elf_image.specs.Fields.{magic, class_of, encoding_of, identification_version_of, type_of, machine_of, version_of, entry_of, table_offset_of, header_size_of, header_count_of, loads_of}
 use Rattle.elf_image.specs.Parts.{memory_of, are_apart, are_in_reach, is_entry}
 
@@ -52,7 +53,7 @@ has_segments file = list_all (λ h. is_inside h (length file)) (loads_of file)
 
 -- the greatest number of a file's bytes
 abbrev pub greatest_file : ℕ
-greatest_file = 2147483648
+greatest_file = GREATEST_FILE
 
 -- what is asked of a file, in the order in which it is looked at, each with the reason that a file which fails it has
 abbrev pub conditions : List ℕ → List (BadImage × Bool)

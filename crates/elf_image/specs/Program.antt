@@ -1,11 +1,14 @@
 -- The image of a compiled program, and the file that it is written to: System V ABI, "ELF Header" and "Program Header".
-use Rattle.std.specs.Prelude.{◌≡◌, ◌<◌, ◌≤◌, ℕ, ◌+◌, ◌-◌, List, [], ◌∷◌, ◌++◌, length, replicate}
+use Rattle.std.specs.Prelude.{◌≡◌, ◌<◌, ◌≤◌, ℕ, ◌+◌, ◌-◌, ◌*◌, List, [], ◌∷◌, ◌++◌, length, replicate}
 use Rattle.std.specs.Int.{next_multiple_of}
 use Rattle.byteorder.specs.Endian.{little_bytes}
+use Rattle.elf_image.specs.declared.header.TheConstants.{FILE_HEADER_SIZE, PROGRAM_HEADER_SIZE}
 use Rattle.elf_image.specs.declared.image.TheConstants.{TEXT_START, PAGE_SIZE}
 use Rattle.elf_image.specs.declared.part.Part.{Part}
 use Rattle.elf_image.specs.declared.part.TheConstants.Part.{READ, WRITE, EXECUTE}
+use Rattle.elf_image.specs.declared.writing.TheConstants.{TEXT_OFFSET}
 use Rattle.elf_image.specs.Fields.{magic}
+use Rattle.elf_image.specs.Loaded.{greatest_file}
 
 -- the address of the first byte of the text, where the program begins
 abbrev pub text_start : ℕ
@@ -15,9 +18,20 @@ text_start = TEXT_START
 abbrev pub memory_start : ℕ → ℕ
 memory_start size = next_multiple_of (text_start + size) PAGE_SIZE
 
--- the greatest number of a text's bytes
+-- where the text stands in a file, behind the headers; the alignment of segments is the same
+abbrev pub text_offset : ℕ
+text_offset = TEXT_OFFSET
+
+-- the greatest number of a text's bytes: it stands there up to the end of the file
 abbrev pub greatest_text : ℕ
-greatest_text = 2147479552
+greatest_text = greatest_file - text_offset
+
+-- the bytes of the file header, and of a program header
+abbrev pub file_header_size : ℕ
+file_header_size = FILE_HEADER_SIZE
+
+abbrev pub program_header_size : ℕ
+program_header_size = PROGRAM_HEADER_SIZE
 
 -- the part of a text, to be read and executed
 abbrev pub text_part : List ℕ → Part
@@ -71,10 +85,10 @@ file_header entry =
     identification
     ++ (half 2 ++ half 243 ++ word 1)
     ++ word entry
-    ++ (word 52 ++ word 0)
+    ++ (word file_header_size ++ word 0)
     ++ word 0
-    ++ half 52
-    ++ (half 32 ++ half 2)
+    ++ half file_header_size
+    ++ (half program_header_size ++ half 2)
     ++ (half 0 ++ half 0 ++ half 0)
 
 -- the program header of a segment to be loaded: its type; the offset of its bytes; its virtual and its physical address;
@@ -82,17 +96,17 @@ file_header entry =
 unfoldable pub segment_header : Part → List ℕ
 segment_header p =
     word 1
-    ++ word 0x1000
+    ++ word text_offset
     ++ (word p.vaddr ++ word p.vaddr)
     ++ (word (length p.bytes) ++ word p.memsz)
     ++ word p.flags
-    ++ word 0x1000
+    ++ word text_offset
 
--- the file of a program: the headers, zeros up to the offset 4096, and the text
+-- the file of a program: the headers, zeros up to the text's offset, and the text
 unfoldable pub program_file : List ℕ → ℕ → List ℕ
 program_file text size =
     file_header text_start
     ++ segment_header (text_part text)
     ++ segment_header (memory_part text size)
-    ++ zeros (4096 - 116)
+    ++ zeros (text_offset - (file_header_size + 2 * program_header_size))
     ++ text

@@ -15,5 +15,5 @@ mod writing;
 pub use bad_image::BadImage;
 pub use image::{GREATEST_END, Image, PAGE_SIZE, TEXT_START};
 pub use part::{Part, Parts};
-pub use reading::read;
+pub use reading::{GREATEST_FILE, read};
 pub use writing::write;

@@ -11,7 +11,7 @@ use std::alloc::Global;
 /// The greatest number of program headers that are read.
 const GREATEST_HEADER_COUNT: usize = 64;
 /// The greatest number of a file's bytes.
-const GREATEST_FILE: usize = 2_147_483_648;
+pub const GREATEST_FILE: usize = 2_147_483_648;
 
 /// The image that a file loads.
 ///

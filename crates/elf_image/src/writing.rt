@@ -15,7 +15,7 @@ use std::alloc::{AllocError, Global};
 /// The offset of the program headers in the file.
 const PROGRAM_HEADERS_OFFSET: u32 = 52;
 /// The offset of the text in the file, and the alignment of the segments.
-const TEXT_OFFSET: u32 = 0x1000;
+pub const TEXT_OFFSET: u32 = 0x1000;
 
 /// The file of a compiled program's image, as [`Image::program`] makes it: the headers, zeros up to the offset 4096, and
 /// the text. [`crate::read`] gives the image again.
