@@ -1,7 +1,6 @@
 -- The table of the types that have cells, as it grows constructor by constructor.
-use Rattle.std.proofs.lemmas.List.{map-append, take_all, get_or_past, get_or-set_same, get_or-set_other, length-map, length-set}
+use Rattle.std.proofs.lemmas.List.{map-append, take_all, get_or_past, get_or-set_same, get_or-set_other, length-map, length-set, take_more}
 use Rattle.std.proofs.lemmas.List.Folds.{list_any-append}
-use Rattle.kk_norm.proofs.Writing.{take_more}
 use Rattle.std.proofs.Common.{◌≡◌, ℕ, suc, ◌+◌, ◌<◌, ◌≤◌, Bool, true, false, List, [], ◌∷◌, ◌++◌, length, map, take, get_or, refl, sym, ap, ◌∙◌, subst, inl, inr, arith}
 use Rattle.std.specs.Prelude.{slice_set, All, ◌==◌, ◌&&◌, ◌||◌, not, if◌then◌else◌, AllPairs, Option, Some, None}
 use Rattle.std.proofs.Math.Dec.{eqb-suc-zero}
@@ -27,7 +26,8 @@ use Rattle.kk_norm.specs.CellTables.{at_type, IsCellTable, AreShapesOf, TellCell
 pub record TableSoFar (given : Ground) (constructors : List GroundConstructor) (table : List Bool) : Type 0 where
   pub as_many : length table ≡ length given.types.items
   pub tells : (n : ℕ) → at_type table n
-      ≡ has_cells (map (ground_constructor_tree (ground_types given.types.items)) constructors) (type_at (ground_types given.types.items) n)
+      ≡ has_cells (map (ground_constructor_tree (ground_types given.types.items)) constructors)
+      (type_at (ground_types given.types.items) n)
 
 -- ---- lists that grow together
 
@@ -50,8 +50,10 @@ module _ (table : List Bool) where
       → x ≡ get_or xs i x → i < length xs → TellCells table (take (i + 1) xs) after
   tell_more before after one xs i x grown earlier parameters result is less = record {
     parameters = more_mapped (λ (f : CoreFunction). f.parameters_have_cells.items)
-        (λ (i : Instance). map (at_type table) i.parameters.items) before after one xs i x grown earlier.parameters parameters is less;
-    results = more_mapped (λ (f : CoreFunction). f.result_has_cells) (λ (i : Instance). at_type table i.result) before after one xs i
+        (λ (i : Instance). map
+        (at_type table) i.parameters.items) before after one xs i x grown earlier.parameters parameters is less;
+    results = more_mapped (λ (f : CoreFunction). f.result_has_cells)
+        (λ (i : Instance). at_type table i.result) before after one xs i
         x grown earlier.results result is less;
   }
 
@@ -66,11 +68,13 @@ module _ (table : List Bool) where
       → one.fields.items ≡ map (at_type table) x.fields.items → x ≡ get_or xs i x → i < length xs
       → AreShapesOf table (take (i + 1) xs) after
   shapes_more before after one xs i x grown earlier of_type tag cells fields is less = record {
-    of_types = more_mapped (λ (c : ConstructorShape). c.of_type) (λ (c : GroundConstructor). c.of_type) before after one xs i x grown
+    of_types = more_mapped (λ (c : ConstructorShape). c.of_type)
+        (λ (c : GroundConstructor). c.of_type) before after one xs i x grown
         earlier.of_types of_type is less;
     tags = more_mapped (λ (c : ConstructorShape). c.tag) (λ (c : GroundConstructor). c.tag) before after one xs i x grown
         earlier.tags tag is less;
-    types = more_mapped (λ (c : ConstructorShape). c.has_cells) (λ (c : GroundConstructor). at_type table c.of_type) before after one
+    types = more_mapped (λ (c : ConstructorShape). c.has_cells)
+        (λ (c : GroundConstructor). at_type table c.of_type) before after one
         xs i x grown earlier.types cells is less;
     fields = more_mapped (λ (c : ConstructorShape). c.fields.items) (λ (c : GroundConstructor). map (at_type table) c.fields.items)
         before after one xs i x grown earlier.fields fields is less;
@@ -93,7 +97,8 @@ module _ (ts : List TypeTree) (made : GroundConstructor) (declared : is_declared
   fields_own : fields_of (Some (ground_constructor_tree ts made)) (number_of_type own) (arguments_of_type own)
       ≡ Some (map (type_at ts) made.fields.items)
   fields_own =
-      ap (λ (b : Bool). if b then fields_with (Some (arguments_of_type own)) (map (type_at ts) made.fields.items) (arguments_of_type own) else None)
+      ap (λ (b : Bool). if b then fields_with (Some (arguments_of_type own)) (map (type_at ts) made.fields.items)
+      (arguments_of_type own) else None)
       (eq-eqb (number_of_type own) (number_of_type own) refl)
       ∙ ap (λ (b : Bool). if b then Some (map (type_at ts) made.fields.items) else None) (all_same_itself (arguments_of_type own))
 
@@ -104,7 +109,8 @@ module _ (ts : List TypeTree) (made : GroundConstructor) (declared : is_declared
   makes_own : makes_cells tree own ≡ not (length made.fields.items == 0)
   makes_own =
       ap (makes_cells tree) (declared_is own declared)
-      ∙ (ap has_any fields_own ∙ (has_some (map (type_at ts) made.fields.items) ∙ ap (λ n. not (n == 0)) (length-map made.fields.items (type_at ts))))
+      ∙ (ap has_any fields_own ∙ (has_some (map (type_at ts) made.fields.items)
+      ∙ ap (λ n. not (n == 0)) (length-map made.fields.items (type_at ts))))
 
   makes_only : (t : TypeTree) → makes_cells tree t ≡ true → own ≡ t
   makes_only int32 is = absurd (cc)
@@ -125,7 +131,8 @@ module _ (ts : List TypeTree) (made : GroundConstructor) (declared : is_declared
       elsewhere : (made.of_type == n) ≡ false → (b : Bool) → makes_cells tree (type_at ts n) ≡ b → b ≡ false
       elsewhere other false is = refl
       elsewhere other true is = elim (cases_lt n (length ts)) [
-        | inl less ↦ absurd (both_ways (made.of_type == n) other (eq-eqb made.of_type n (one_number ts once made.of_type n within less (makes_only (type_at ts n) is))))
+        | inl less ↦ absurd (both_ways (made.of_type == n) other
+            (eq-eqb made.of_type n (one_number ts once made.of_type n within less (makes_only (type_at ts n) is))))
         | inr behind ↦ absurd (not_unit (subst (λ t. makes_cells tree t ≡ true) (get_or_past ts n unit_type behind) is))
       ]
         where
@@ -135,7 +142,8 @@ module _ (ts : List TypeTree) (made : GroundConstructor) (declared : is_declared
       by_test : (same : Bool) → (made.of_type == n) ≡ same
           → makes_cells tree (type_at ts n) ≡ ((made.of_type == n) && not (length made.fields.items == 0))
       by_test true same =
-          subst (λ m. makes_cells tree (type_at ts m) ≡ not (length made.fields.items == 0)) (eqb-true made.of_type n same) makes_own
+          subst (λ m. makes_cells tree (type_at ts m) ≡ not (length made.fields.items == 0))
+          (eqb-true made.of_type n same) makes_own
           ∙ ap (λ b. b && not (length made.fields.items == 0)) (sym same)
       by_test false other =
           elsewhere other (makes_cells tree (type_at ts n)) refl ∙ ap (λ b. b && not (length made.fields.items == 0)) (sym other)
@@ -150,7 +158,8 @@ module _ (ts : List TypeTree) (made : GroundConstructor) (declared : is_declared
       → ((n : ℕ) → at_type table n ≡ has_cells constructors (type_at ts n)) → (n : ℕ)
       → at_type (marked made table) n ≡ has_cells (constructors ++ ground_constructor_tree ts made ∷ []) (type_at ts n)
   tells_more constructors table as_many tells n =
-      by_fields (length made.fields.items == 0) refl ∙ sym (list_any-append (λ c. makes_cells c (type_at ts n)) constructors (ground_constructor_tree ts made ∷ []))
+      by_fields (length made.fields.items == 0) refl ∙ sym (list_any-append (λ c. makes_cells c (type_at ts n)) constructors
+      (ground_constructor_tree ts made ∷ []))
     where
       or_not : (b c : Bool) → c ≡ false → b ≡ (b || (c || false))
       or_not true false is = refl
@@ -174,7 +183,8 @@ module _ (ts : List TypeTree) (made : GroundConstructor) (declared : is_declared
           ∙ or_so (has_cells constructors (type_at ts n)) here
           (makes_at ts made declared once within n ∙ (ap (λ b. b && not (length made.fields.items == 0)) same ∙ ap not some))
       by_test false other some =
-          get_or-set_other table made.of_type n true false (λ is. both_ways (made.of_type == n) other (eq-eqb made.of_type n (sym is)))
+          get_or-set_other table made.of_type n true false (λ is. both_ways (made.of_type == n) other
+          (eq-eqb made.of_type n (sym is)))
           ∙ (tells n ∙ or_not (has_cells constructors (type_at ts n)) here
           (makes_at ts made declared once within n ∙ ap (λ b. b && not (length made.fields.items == 0)) other))
 
@@ -233,7 +243,8 @@ table_more given xs i x table after same is less grown so_far =
     let long = types_length given.types.items in
     let marked_is = marked_length x table in
     let as_many = so_far.as_many in
-    let trees : map (ground_constructor_tree ts) (take (i + 1) xs) ≡ map (ground_constructor_tree ts) (take i xs) ++ ground_constructor_tree ts x ∷ []
+    let trees : map (ground_constructor_tree ts) (take (i + 1) xs) ≡ map (ground_constructor_tree ts)
+    (take i xs) ++ ground_constructor_tree ts x ∷ []
     = ap (map (ground_constructor_tree ts)) (take_more xs i x less)
     ∙ (map-append (ground_constructor_tree ts) (take i xs) (get_or xs i x ∷ [])
     ∙ ap (λ y. map (ground_constructor_tree ts) (take i xs) ++ ground_constructor_tree ts y ∷ []) (sym is)) in
@@ -264,20 +275,23 @@ module _ (given : Ground) (table : List Bool) (is : IsCellTable given table) whe
   made_is made declared = declared_is (type_at ts made.of_type) declared
 
   -- of each constructor
-  own_types : (some : List GroundConstructor) → All (λ (made : GroundConstructor). is_declared (type_at ts made.of_type) ≡ true) some
+  own_types : (some : List GroundConstructor) → All (λ (made : GroundConstructor). is_declared (type_at ts made.of_type)
+      ≡ true) some
       → map (λ (c : GroundConstructor). at_type table c.of_type) some
       ≡ map (λ c. has_cells constructors (made_type c)) (map (ground_constructor_tree ts) some)
   own_types [] declared = refl
   own_types (made ∷ some) declared =
       ap (λ (b : Bool). b ∷ map (λ (c : GroundConstructor). at_type table c.of_type) some)
       (is made.of_type ∙ ap (has_cells constructors) (made_is made (declared 0 made (omega arith))))
-      ∙ ap (λ bs. has_cells constructors (made_type (ground_constructor_tree ts made)) ∷ bs) (own_types some (λ i d less. declared (suc i) d (omega (arith, less))))
+      ∙ ap (λ bs. has_cells constructors (made_type (ground_constructor_tree ts made)) ∷ bs)
+      (own_types some (λ i d less. declared (suc i) d (omega (arith, less))))
 
   own_fields : (some : List GroundConstructor) → map (λ (c : GroundConstructor). map (at_type table) c.fields.items) some
       ≡ map (λ (c : ConstructorTree). map (has_cells constructors) c.fields) (map (ground_constructor_tree ts) some)
   own_fields [] = refl
   own_fields (made ∷ some) =
-      ap (λ (bs : List Bool). bs ∷ map (λ (c : GroundConstructor). map (at_type table) c.fields.items) some) (flags_are made.fields.items)
+      ap (λ (bs : List Bool). bs ∷ map (λ (c : GroundConstructor). map (at_type table) c.fields.items) some)
+      (flags_are made.fields.items)
       ∙ ap (λ bss. map (has_cells constructors) (map (type_at ts) made.fields.items) ∷ bss) (own_fields some)
 
   own_tags : (some : List GroundConstructor) → map (λ (c : GroundConstructor). c.tag) some
@@ -289,7 +303,8 @@ module _ (given : Ground) (table : List Bool) (is : IsCellTable given table) whe
       ≡ map (λ (f : FunctionTree). map (has_cells constructors) f.parameters) (map (instance_tree ts) some)
   parameters_are [] = refl
   parameters_are (i ∷ some) =
-      ap (λ (bs : List Bool). bs ∷ map (λ (i : Instance). map (at_type table) i.parameters.items) some) (flags_are i.parameters.items)
+      ap (λ (bs : List Bool). bs ∷ map (λ (i : Instance). map (at_type table) i.parameters.items) some)
+      (flags_are i.parameters.items)
       ∙ ap (λ bss. map (has_cells constructors) (map (type_at ts) i.parameters.items) ∷ bss) (parameters_are some)
 
   results_are : (some : List Instance) → map (λ (i : Instance). at_type table i.result) some

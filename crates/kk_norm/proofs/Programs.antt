@@ -1,7 +1,7 @@
 -- The functions of a program and of its core form, one by one and together.
 use Rattle.std.proofs.Common.{◌≡◌, ℕ, ◌<◌, ◌≤◌, true, zero, suc, List, [], ◌∷◌, ◌++◌, ◌+◌, length, take, Some, map, get_or, option_map, refl, sym, ap, subst, ◌∙◌, arith}
 use Rattle.std.specs.Prelude.{slice_get}
-use Rattle.std.proofs.lemmas.List.{length-map, map-append, take_all}
+use Rattle.std.proofs.lemmas.List.{length-map, map-append, take_all, take_more}
 use Rattle.std.proofs.lemmas.Option.{slice_get-map, slice_get-get_or, slice_get_within}
 use Rattle.kk_syntax.specs.declared.ground.Ground.{Ground}
 use Rattle.kk_syntax.specs.declared.ground.Instance.{Instance}
@@ -16,7 +16,6 @@ use Rattle.kk_norm.specs.declared.writer.Writer.{Writer}
 use Rattle.kk_norm.specs.Normalized.{final, IsCode, IsCoreOf, AreCoresOf}
 use Rattle.kk_norm.specs.Written.{names_of, WritesBlock}
 use Rattle.kk_norm.specs.Normal.{IsFunctionWithin, AreWithin}
-use Rattle.kk_norm.proofs.Writing.{take_more}
 
 pub within_at : (functions : List FunctionTree) (i : ℕ) (f : FunctionTree) → AreWithin functions → slice_get functions i ≡ Some f
     → IsFunctionWithin f

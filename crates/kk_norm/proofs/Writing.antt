@@ -1,6 +1,5 @@
 -- What steps that are pushed add to a code, and what the code of each form is.
 use Rattle.std.proofs.Common.{◌≡◌, ℕ, ◌+◌, ◌<◌, ◌==◌, List, [], ◌∷◌, ◌++◌, length, take, map, get_or, drop, suc, refl, sym, ap, subst, ◌∙◌, arith}
-use Rattle.std.proofs.Math.Seq.{take-suc, drop-cons}
 use Rattle.std.specs.Global.{Vec}
 use Rattle.std.specs.Prelude.{if◌then◌else◌}
 use Rattle.std.proofs.lemmas.List.{map-append}
@@ -24,48 +23,56 @@ use Rattle.kk_norm.proofs.Variables.{same_number, other_number}
 
 -- ---- names
 
-pub names_one_more : (older : Names) (names : List Named) (one : Named) → names_before older (names ++ one ∷ []) ≡ record { variable = one.variable; name = one.name } ∷ names_before older names
+pub names_one_more : (older : Names) (names : List Named) (one : Named)
+    → names_before older (names ++ one ∷ []) ≡ record { variable = one.variable; name = one.name } ∷ names_before older names
 names_one_more older [] one = refl
-names_one_more older (first ∷ names) one = names_one_more (record { variable = first.variable; name = first.name } ∷ older) names one
+names_one_more older (first ∷ names) one =
+    names_one_more (record { variable = first.variable; name = first.name } ∷ older) names one
 
 -- the name of a variable with one more name given
 pub name_here : (names : List Named) (one : Named) (x : ℕ) → one.variable ≡ x → one.name ≡ name_of (names_of (names ++ one ∷ [])) x
 name_here names one x is =
-    sym (ap (λ all. name_of all x) (names_one_more [] names one) ∙ ap (λ b. if b then one.name else name_of (names_of names) x) (ap (λ y. y == x) is ∙ same_number x))
+    sym (ap (λ all. name_of all x) (names_one_more [] names one)
+    ∙ ap (λ b. if b then one.name else name_of (names_of names) x) (ap (λ y. y == x) is ∙ same_number x))
 
-pub name_elsewhere : (names : List Named) (one : Named) (x : ℕ) → (one.variable ≡ x → ⊥) → name_of (names_of names) x ≡ name_of (names_of (names ++ one ∷ [])) x
+pub name_elsewhere : (names : List Named) (one : Named) (x : ℕ) → (one.variable ≡ x → ⊥)
+    → name_of (names_of names) x ≡ name_of (names_of (names ++ one ∷ [])) x
 name_elsewhere names one x other =
-    sym (ap (λ all. name_of all x) (names_one_more [] names one) ∙ ap (λ b. if b then one.name else name_of (names_of names) x) (other_number one.variable x other))
-
--- one more of a list is taken, and one less is left
-pub take_more : {A : Type 0} (xs : List A) (i : ℕ) (d : A) → i < length xs → take (i + 1) xs ≡ take i xs ++ get_or xs i d ∷ []
-take_more xs i d less = ap (λ j. take j xs) {x = i + 1} {y = suc i} (omega arith) ∙ take-suc xs i d less
-
-pub drop_more : {A : Type 0} (xs : List A) (i : ℕ) (d : A) → i < length xs → drop i xs ≡ get_or xs i d ∷ drop (i + 1) xs
-drop_more xs i d less = drop-cons xs i d less ∙ ap (λ j. get_or xs i d ∷ drop j xs) {x = suc i} {y = i + 1} (omega arith)
+    sym (ap (λ all. name_of all x) (names_one_more [] names one)
+    ∙ ap (λ b. if b then one.name else name_of (names_of names) x) (other_number one.variable x other))
 
 -- ---- steps
 
-plug_one_more : (pieces : List Piece) (piece : Piece) (rest : Code) → plug (pieces ++ piece ∷ []) rest ≡ plug pieces (put piece rest)
+plug_one_more : (pieces : List Piece) (piece : Piece) (rest : Code)
+    → plug (pieces ++ piece ∷ []) rest ≡ plug pieces (put piece rest)
 plug_one_more [] piece rest = refl
 plug_one_more (first ∷ pieces) piece rest = ap (put first) (plug_one_more pieces piece rest)
 
-pub steps_one_more : (steps more : List Step) (step : Step) (rest : Code) → more ≡ steps ++ step ∷ [] → plug (map step_piece more) rest ≡ plug (map step_piece steps) (put (step_piece step) rest)
+pub steps_one_more : (steps more : List Step) (step : Step) (rest : Code) → more ≡ steps ++ step ∷ []
+    → plug (map step_piece more) rest ≡ plug (map step_piece steps) (put (step_piece step) rest)
 steps_one_more steps more step rest is =
     ap (λ all. plug (map step_piece all) rest) is
-    ∙ (ap (λ pieces. plug pieces rest) (map-append step_piece steps (step ∷ [])) ∙ plug_one_more (map step_piece steps) (step_piece step) rest)
+    ∙ (ap (λ pieces. plug pieces rest) (map-append step_piece steps (step ∷ []))
+    ∙ plug_one_more (map step_piece steps) (step_piece step) rest)
 
 pub let_piece : (x : ℕ) (form : Form) (arguments : _) → step_piece (OfStep.Let x form arguments) ≡ computes x form arguments.items
-let_piece x form arguments = ap step_piece (sym (OfStep.rolls-Let x form arguments)) ∙ fold-roll-Step Code Piece ArmCode Code last_step step_step arm_step block_step _
+let_piece x form arguments =
+    ap step_piece (sym (OfStep.rolls-Let x form arguments))
+    ∙ fold-roll-Step Code Piece ArmCode Code last_step step_step arm_step block_step _
 
 pub use_piece : (x : ℕ) → step_piece (OfStep.Use x) ≡ uses x
-use_piece x = ap step_piece (sym (OfStep.rolls-Use x)) ∙ fold-roll-Step Code Piece ArmCode Code last_step step_step arm_step block_step _
+use_piece x = ap step_piece (sym (OfStep.rolls-Use x))
+    ∙ fold-roll-Step Code Piece ArmCode Code last_step step_step arm_step block_step _
 
 pub open_piece : (x c : ℕ) (fields : _) → step_piece (OfStep.Open x c fields) ≡ unpacks x c fields.items
-open_piece x c fields = ap step_piece (sym (OfStep.rolls-Open x c fields)) ∙ fold-roll-Step Code Piece ArmCode Code last_step step_step arm_step block_step _
+open_piece x c fields =
+    ap step_piece (sym (OfStep.rolls-Open x c fields))
+    ∙ fold-roll-Step Code Piece ArmCode Code last_step step_step arm_step block_step _
 
 pub inside_piece : (x : ℕ) (block : Block) → step_piece (OfStep.Inside x block) ≡ runs x (block_code block)
-inside_piece x block = ap step_piece (sym (OfStep.rolls-Inside x block)) ∙ fold-roll-Step Code Piece ArmCode Code last_step step_step arm_step block_step _
+inside_piece x block =
+    ap step_piece (sym (OfStep.rolls-Inside x block))
+    ∙ fold-roll-Step Code Piece ArmCode Code last_step step_step arm_step block_step _
 
 pub block_is : (block : Block) → block_code block ≡ plug (map step_piece block.steps.items) (last_code block.last)
 block_is block = fold_out-Block Code Piece ArmCode Code last_step step_step arm_step block_step block
@@ -73,13 +80,19 @@ block_is block = fold_out-Block Code Piece ArmCode Code last_step step_step arm_
 -- ---- ends
 
 pub return_code : (x : ℕ) → last_code (OfLast.Return x) ≡ give x
-return_code x = ap last_code (sym (OfLast.rolls-Return x)) ∙ fold-roll-Last Code Piece ArmCode Code last_step step_step arm_step block_step _
+return_code x = ap last_code (sym (OfLast.rolls-Return x))
+    ∙ fold-roll-Last Code Piece ArmCode Code last_step step_step arm_step block_step _
 
 pub tail_call_code : (f : ℕ) (arguments : _) → last_code (OfLast.TailCall f arguments) ≡ tail_call f arguments.items
-tail_call_code f arguments = ap last_code (sym (OfLast.rolls-TailCall f arguments)) ∙ fold-roll-Last Code Piece ArmCode Code last_step step_step arm_step block_step _
+tail_call_code f arguments =
+    ap last_code (sym (OfLast.rolls-TailCall f arguments))
+    ∙ fold-roll-Last Code Piece ArmCode Code last_step step_step arm_step block_step _
 
-pub case_code : (x : ℕ) (decisions : _) (arms : _) → last_code (OfLast.Case x decisions arms) ≡ case x (map node_tree decisions.nodes.items) (arms_of (map arm_code arms.items))
-case_code x decisions arms = ap last_code (sym (OfLast.rolls-Case x decisions arms)) ∙ fold-roll-Last Code Piece ArmCode Code last_step step_step arm_step block_step _
+pub case_code : (x : ℕ) (decisions : _) (arms : _) → last_code (OfLast.Case x decisions arms) ≡ case x
+    (map node_tree decisions.nodes.items) (arms_of (map arm_code arms.items))
+case_code x decisions arms =
+    ap last_code (sym (OfLast.rolls-Case x decisions arms))
+    ∙ fold-roll-Last Code Piece ArmCode Code last_step step_step arm_step block_step _
 
 pub arm_is : (arm : Arm) → arm_code arm ≡ record { pattern = pattern_tree arm.pattern; body = block_code arm.body }
 arm_is arm = fold_out-Arm Code Piece ArmCode Code last_step step_step arm_step block_step arm
@@ -98,7 +111,8 @@ truth_code x decisions arms first second positive negative decided are one two =
     ∙ ap (λ (a : ArmCode). case x truth_decisions (arms_of (record { pattern = true_pattern; body = positive } ∷ a ∷ []))) two)))
 
 -- one more arm is pushed
-pub arms_pushed : (before after : List Arm) (one : Arm) (pattern : Pattern) → after ≡ before ++ one ∷ [] → pattern_tree one.pattern ≡ pattern
+pub arms_pushed : (before after : List Arm) (one : Arm) (pattern : Pattern) → after ≡ before ++ one ∷ []
+    → pattern_tree one.pattern ≡ pattern
     → map arm_code after ≡ map arm_code before ++ record { pattern = pattern; body = block_code one.body } ∷ []
 arms_pushed before after one pattern grown is =
     ap (map arm_code) grown
@@ -108,15 +122,18 @@ arms_pushed before after one pattern grown is =
 
 -- ---- what is written, from what was pushed
 
-pub writes_piece : (old new : Writer) (pushed piece : Piece) → pushed ≡ piece → WritesPiece pushed old new → WritesPiece piece old new
+pub writes_piece : (old new : Writer) (pushed piece : Piece) → pushed ≡ piece → WritesPiece pushed old new
+    → WritesPiece piece old new
 writes_piece old new pushed piece is writes = subst (λ (one : Piece). WritesPiece one old new) is writes
 
-pub writes_step : (old pushed new : Writer) (step piece : Piece) → WritesPiece step old pushed → step ≡ piece → new.next ≡ pushed.next + 1 → new.names.items ≡ pushed.names.items → new.steps.items ≡ pushed.steps.items
+pub writes_step : (old pushed new : Writer) (step piece : Piece) → WritesPiece step old pushed → step ≡ piece
+    → new.next ≡ pushed.next + 1 → new.names.items ≡ pushed.names.items → new.steps.items ≡ pushed.steps.items
     → WritesStep piece old new old.next
 writes_step old pushed new step piece writes is number names steps =
     record {
       is = refl;
       number = omega (arith, number, writes.number);
       names = names ∙ writes.names;
-      steps = λ rest. ap (λ all. plug (map step_piece all) rest) steps ∙ (writes.steps rest ∙ ap (λ one. behind old (put one rest)) is);
+      steps = λ rest. ap (λ all. plug (map step_piece all) rest) steps
+          ∙ (writes.steps rest ∙ ap (λ one. behind old (put one rest)) is);
     }

@@ -2,7 +2,8 @@
 use Rattle.std.proofs.Common.{Result, Ok, Err, ◌≡◌, ℕ, ◌+◌, ◌<◌, ◌≤◌, Bool, zero, suc, List, [], ◌∷◌, ◌++◌, length, take, map, false, refl, sym, ap, subst, ◌∙◌, arith, append_assoc}
 use Rattle.std.specs.Prelude.{IfOk}
 use Rattle.std.proofs.lemmas.List.{append-nil}
-use Rattle.kk_syntax.specs.Shapes.{variable_of}
+use Rattle.kk_syntax.proofs.Elements.{each_parts}
+use Rattle.kk_syntax.specs.Shapes.{variable_of, gathered}
 use Rattle.kk_syntax.specs.declared.program.Form.{Form}
 use Rattle.kk_syntax.specs.declared.program.Form.TheVariants.{Call}
 use Rattle.kk_syntax.specs.Programs.{ConstructorTree}
@@ -11,13 +12,15 @@ use Rattle.kk_core.specs.Codes.{Code, give, compute, use_of, inside, computes, u
 use Rattle.kk_core.specs.Truths.{truth_case}
 use Rattle.kk_norm.specs.declared.naming.Named.{Named}
 use Rattle.kk_norm.specs.declared.writer.Writer.{Writer}
-use Rattle.kk_norm.specs.MatchRows.{MatchesHaveRows, AllMatchesHaveRows}
+use Rattle.kk_norm.specs.MatchRows.{gathers_rows, IsSomeRow, MatchesHaveRows, AllMatchesHaveRows}
+use Rattle.kk_norm.proofs.MatchRows.{of_parts, of_first}
 use Rattle.kk_norm.specs.Names.{Names, name_of, named}
 use Rattle.kk_norm.specs.Normalized.{Then, final, next, size, size_all, atom, atoms, finish, IsCode, AreCodes}
 use Rattle.kk_norm.specs.Written.{names_of, behind, WritesPiece, WritesStep, WritesValue, WritesValues, WritesStatements, KeepsNames, WritesEnd, WritesChoice, WritesBlock, IsWritten}
 
 -- what follows where a call succeeds, from what it promises
-pub if_ok_three : {A E : Type 0} (r : Result A E) (P Q R S : A → Type 0) → IfOk r P → IfOk r Q → IfOk r R → ((x : A) → P x → Q x → R x → S x) → IfOk r S
+pub if_ok_three : {A E : Type 0} (r : Result A E) (P Q R S : A → Type 0) → IfOk r P → IfOk r Q → IfOk r R
+    → ((x : A) → P x → Q x → R x → S x) → IfOk r S
 if_ok_three (Ok x) P Q R S one two three all = all x one two three
 if_ok_three (Err e) P Q R S one two three all = tt
 
@@ -29,7 +32,8 @@ pub record ValuesSoFar (constructors : List ConstructorTree) (old now : Writer) 
   pub names : now.names.items ≡ old.names.items
   pub values : xs ++ atoms (names_of old.names.items) now.next left ≡ atoms (names_of old.names.items) old.next all
   pub steps : (rest code : Code) → AreCodes constructors (names_of old.names.items) now.next left rest code
-      → (whole : Code) × AreCodes constructors (names_of old.names.items) old.next all rest whole × (behind now code ≡ behind old whole)
+      → (whole : Code) × AreCodes constructors (names_of old.names.items) old.next all rest whole
+      × (behind now code ≡ behind old whole)
   pub plain : AllMatchesHaveRows left
 
 pub values_start : {constructors : List ConstructorTree} → (writer : Writer) (all : Trees) → AllMatchesHaveRows all
@@ -53,10 +57,14 @@ values_more {constructors} old now new e left all xs x so_far writes =
           ∙ (ap (λ n. xs ++ (atom names now.next e ∷ atoms names n left)) at ∙ so_far.values));
       steps = λ rest code coded.
           let one = writes.steps code in
-          let whole = so_far.steps rest one.0
-          (code, subst (λ (n : ℕ). AreCodes constructors names n left rest code) at coded, subst (λ (some : Names). IsCode constructors (next code) some now.next e one.0) here one.1) in
+          let whole = so_far.steps rest one.0 (
+            code,
+            subst (λ (n : ℕ). AreCodes constructors names n left rest code) at coded,
+            subst
+                (λ (some : Names). IsCode constructors (next code) some now.next e one.0) here one.1,
+          ) in
           (whole.0, whole.1, one.2 ∙ whole.2);
-      plain = so_far.plain.1;
+      plain = (of_first e left so_far.plain).1;
     }
 
 pub values_done : {constructors : List ConstructorTree} → (old now : Writer) (all : Trees) (xs : List ℕ)
@@ -86,14 +94,17 @@ kept_longer first second third le one two =
 -- of all statements of a block some are left
 pub record StatementsSoFar (constructors : List ConstructorTree) (old now : Writer) (left all : List StatementTree) : Type 0 where
   pub number : (last : Tree) → now.next + size (block_of left last) ≡ old.next + size (block_of all last)
-  pub value : (last : Tree) → atom (names_of now.names.items) now.next (block_of left last) ≡ atom (names_of old.names.items) old.next (block_of all last)
-  pub steps : (last : Tree) (k : Then) (code : Code) → IsCode constructors k (names_of now.names.items) now.next (block_of left last) code
+  pub value : (last : Tree) → atom (names_of now.names.items) now.next (block_of left last) ≡ atom
+      (names_of old.names.items) old.next (block_of all last)
+  pub steps : (last : Tree) (k : Then) (code : Code) → IsCode constructors k (names_of now.names.items) now.next
+      (block_of left last) code
       → IsWritten constructors k (names_of old.names.items) old.next (block_of all last) old now code
   pub plain : (last : Tree) → MatchesHaveRows (block_of all last) → MatchesHaveRows (block_of left last)
   pub longer : length old.names.items ≤ length now.names.items
   pub kept : KeepsNames old now
 
-pub statements_start : {constructors : List ConstructorTree} → (writer : Writer) (all : List StatementTree) → KeepsNames writer writer
+pub statements_start : {constructors : List ConstructorTree} → (writer : Writer) (all : List StatementTree)
+    → KeepsNames writer writer
     → StatementsSoFar constructors writer writer all all
 statements_start {constructors} writer all kept =
     record {
@@ -106,7 +117,8 @@ statements_start {constructors} writer all kept =
     }
 
 -- a statement's value is written, and then what it binds is named
-pub statements_more : {constructors : List ConstructorTree} → (old now between new : Writer) (s : StatementTree) (left all : List StatementTree) (x : ℕ)
+pub statements_more : {constructors : List ConstructorTree} → (old now between new : Writer) (s : StatementTree)
+    (left all : List StatementTree) (x : ℕ)
     → StatementsSoFar constructors old now (s ∷ left) all → WritesValue constructors s.value now between x
     → new.next ≡ between.next → new.steps.items ≡ between.steps.items
     → names_of new.names.items ≡ named (variable_of s.binder) x (names_of between.names.items)
@@ -117,11 +129,13 @@ statements_more {constructors} old now between new s left all x so_far writes nu
     let at : new.next ≡ now.next + size s.value = number ∙ writes.number in
     let bound : Names = named (variable_of s.binder) (atom names_now now.next s.value) names_now in
     let named_so : names_of new.names.items ≡ bound
-    = names ∙ (ap (λ some. named (variable_of s.binder) x (names_of some)) writes.names ∙ ap (λ y. named (variable_of s.binder) y names_now) writes.value) in
+    = names ∙ (ap (λ some. named (variable_of s.binder) x (names_of some)) writes.names
+    ∙ ap (λ y. named (variable_of s.binder) y names_now) writes.value) in
     let lengths : length between.names.items ≡ length now.names.items = ap length writes.names in
     record {
       number = λ last. omega (arith, at, so_far.number last);
-      value = λ last. ap (λ some. atom some new.next (block_of left last)) named_so ∙ (ap (λ n. atom bound n (block_of left last)) at ∙ so_far.value last);
+      value = λ last. ap (λ some. atom some new.next (block_of left last)) named_so
+          ∙ (ap (λ n. atom bound n (block_of left last)) at ∙ so_far.value last);
       steps = λ last k code coded.
           let one = writes.steps code in
           let moved : IsCode constructors k bound (now.next + size s.value) (block_of left last) code
@@ -129,7 +143,7 @@ statements_more {constructors} old now between new s left all x so_far writes nu
           (subst (λ (some : Names). IsCode constructors k some new.next (block_of left last) code) named_so coded) in
           let whole = so_far.steps last k one.0 (code, moved, one.1) in
           (whole.0, whole.1, ap (λ items. plug (map step_piece items) code) steps ∙ (one.2 ∙ whole.2));
-      plain = λ last plain. (so_far.plain last plain).1;
+      plain = λ last plain. (of_parts s.value (block_of left last) (so_far.plain last plain)).1;
       longer = omega (arith, so_far.longer);
       kept = kept_longer old.names.items now.names.items new.names.items so_far.longer so_far.kept
           (ap (λ n. take n new.names.items) (sym lengths) ∙ (kept ∙ writes.names));
@@ -142,30 +156,47 @@ statements_done {constructors} old now all so_far last =
 
 -- ---- what is asked of the calls in the loops, and of those around them
 
-pub value_asked : {constructors : List ConstructorTree} → (old now : Writer) (left all : Trees) (xs : List ℕ) (e : Tree) (rest : Trees) → ValuesSoFar constructors old now left all xs → left ≡ tree e rest → old.next + size_all all < 4294967296
+pub value_asked : {constructors : List ConstructorTree} → (old now : Writer) (left all : Trees) (xs : List ℕ) (e : Tree)
+    (rest : Trees) → ValuesSoFar constructors old now left all xs → left ≡ tree e rest → old.next + size_all all < 4294967296
     → MatchesHaveRows e × (now.next + size e < 4294967296)
 value_asked {constructors} old now left all xs e rest so_far is room =
-    let here : ValuesSoFar constructors old now (tree e rest) all xs = subst (λ (es : Trees). ValuesSoFar constructors old now es all xs) is so_far in
-    (here.plain.0, omega (arith, here.number))
+    let here : ValuesSoFar constructors old now (tree e rest) all xs = subst
+    (λ (es : Trees). ValuesSoFar constructors old now es all xs) is so_far in
+    ((of_first e rest here.plain).0, omega (arith, here.number))
 
 abbrev pub StatementsAsked : List StatementTree → ℕ → Type 0
 StatementsAsked all n = (last : Tree) × MatchesHaveRows (block_of all last) × (n + size (block_of all last) < 4294967296)
 
-pub statement_asked : {constructors : List ConstructorTree} → (old now : Writer) (left all : List StatementTree) (s : StatementTree) (rest : List StatementTree) → StatementsSoFar constructors old now left all → left ≡ s ∷ rest → StatementsAsked all old.next
+pub statement_asked : {constructors : List ConstructorTree} → (old now : Writer) (left all : List StatementTree) (s : StatementTree)
+    (rest : List StatementTree) → StatementsSoFar constructors old now left all → left ≡ s ∷ rest → StatementsAsked all old.next
     → MatchesHaveRows s.value × (now.next + size s.value < 4294967296)
 statement_asked {constructors} old now left all s rest so_far is asked =
-    let here : StatementsSoFar constructors old now (s ∷ rest) all = subst (λ (ss : List StatementTree). StatementsSoFar constructors old now ss all) is so_far in
-    ((here.plain asked.0 asked.1).0, omega (arith, here.number asked.0, asked.2))
+    let here : StatementsSoFar constructors old now (s ∷ rest) all = subst
+    (λ (ss : List StatementTree). StatementsSoFar constructors old now ss all) is so_far in
+    ((of_parts s.value (block_of rest asked.0) (here.plain asked.0 asked.1)).0, omega (arith, here.number asked.0, asked.2))
 
-pub statements_asked : (e last : Tree) (all : List StatementTree) (n : ℕ) → e ≡ block_of all last → MatchesHaveRows e → n + size e < 4294967296 → StatementsAsked all n
+pub statements_asked : (e last : Tree) (all : List StatementTree) (n : ℕ) → e ≡ block_of all last → MatchesHaveRows e
+    → n + size e < 4294967296 → StatementsAsked all n
 statements_asked e last all n is plain room =
     (last, subst (λ (one : Tree). MatchesHaveRows one) is plain, subst (λ (one : Tree). n + size one < 4294967296) is room)
 
+pub choice_asked : (e condition positive negative : Tree) (n : ℕ) → e ≡ if_tree condition positive negative → MatchesHaveRows e
+    → n + size e < 4294967296
+    → MatchesHaveRows condition × (MatchesHaveRows positive × (MatchesHaveRows negative
+    × (n + size condition + size positive + size negative < 4294967296)))
+choice_asked e condition positive negative n is plain room =
+    let whole : MatchesHaveRows (if_tree condition positive negative) = subst (λ (one : Tree). MatchesHaveRows one) is plain in
+    let first = each_parts IsSomeRow (gathered gathers_rows condition)
+    (gathered gathers_rows positive ++ gathered gathers_rows negative) whole in
+    let branches = of_parts positive negative first.1 in
+    (first.0, (branches.0, (branches.1, omega (arith, ap size is, room))))
+
 plain_last : (all : List StatementTree) (last : Tree) → MatchesHaveRows (block_of all last) → MatchesHaveRows last
 plain_last [] last plain = plain
-plain_last (s ∷ all) last plain = plain_last all last plain.1
+plain_last (s ∷ all) last plain = plain_last all last (of_parts s.value (block_of all last) plain).1
 
-pub last_asked : {constructors : List ConstructorTree} → (e last : Tree) (all : List StatementTree) (old now : Writer) → e ≡ block_of all last → MatchesHaveRows e → old.next + size e < 4294967296 → WritesStatements constructors all last old now
+pub last_asked : {constructors : List ConstructorTree} → (e last : Tree) (all : List StatementTree) (old now : Writer)
+    → e ≡ block_of all last → MatchesHaveRows e → old.next + size e < 4294967296 → WritesStatements constructors all last old now
     → MatchesHaveRows last × (now.next + size last < 4294967296)
 last_asked {constructors} e last all old now is plain room writes =
     (plain_last all last (subst (λ (one : Tree). MatchesHaveRows one) is plain), omega (arith, writes.number, ap size is))
@@ -173,13 +204,16 @@ last_asked {constructors} e last all old now is plain room writes =
 -- ---- blocks
 
 -- behind a block the names are those before it
-pub names_back : (old now after : Writer) (bound : ℕ) (left : List Named) → bound ≡ length old.names.items → KeepsNames old now → after.names.items ≡ now.names.items → left ≡ take bound after.names.items → left ≡ old.names.items
+pub names_back : (old now after : Writer) (bound : ℕ) (left : List Named) → bound ≡ length old.names.items → KeepsNames old now
+    → after.names.items ≡ now.names.items → left ≡ take bound after.names.items → left ≡ old.names.items
 names_back old now after bound left is kept same taken =
     taken ∙ (ap (take bound) same ∙ (ap (λ n. take n now.names.items) is ∙ kept))
 
-pub block_value : {constructors : List ConstructorTree} → (e last : Tree) (all : List StatementTree) (old now after new : Writer) (x : ℕ)
+pub block_value : {constructors : List ConstructorTree} → (e last : Tree) (all : List StatementTree) (old now after new : Writer)
+    (x : ℕ)
     → e ≡ block_of all last → WritesStatements constructors all last old now → WritesValue constructors last now after x
-    → new.next ≡ after.next → new.steps.items ≡ after.steps.items → new.names.items ≡ old.names.items → WritesValue constructors e old new x
+    → new.next ≡ after.next → new.steps.items ≡ after.steps.items → new.names.items ≡ old.names.items
+    → WritesValue constructors e old new x
 block_value {constructors} e last all old now after new x is first second number steps names =
     subst (λ (one : Tree). WritesValue constructors one old new x) (sym is)
     (record {
@@ -192,9 +226,11 @@ block_value {constructors} e last all old now after new x is first second number
           (whole.0, whole.1, ap (λ items. plug (map step_piece items) rest) steps ∙ (one.2 ∙ whole.2));
     })
 
-pub block_end : {constructors : List ConstructorTree} → (tail : Bool) (e last : Tree) (all : List StatementTree) (old now after new : Writer) (end : Code)
+pub block_end : {constructors : List ConstructorTree} → (tail : Bool) (e last : Tree) (all : List StatementTree)
+    (old now after new : Writer) (end : Code)
     → e ≡ block_of all last → WritesStatements constructors all last old now → WritesEnd constructors tail last now after end
-    → new.next ≡ after.next → new.steps.items ≡ after.steps.items → new.names.items ≡ old.names.items → WritesEnd constructors tail e old new end
+    → new.next ≡ after.next → new.steps.items ≡ after.steps.items → new.names.items ≡ old.names.items
+    → WritesEnd constructors tail e old new end
 block_end {constructors} tail e last all old now after new end is first second number steps names =
     subst (λ (one : Tree). WritesEnd constructors tail one old new end) (sym is)
     (record {
@@ -208,7 +244,8 @@ block_end {constructors} tail e last all old now after new end is first second n
 
 -- ---- variables, forms and choices
 
-pub variable_value : {constructors : List ConstructorTree} → (e : Tree) (v x : ℕ) (old new : Writer) → e ≡ variable v → x ≡ name_of (names_of old.names.items) v
+pub variable_value : {constructors : List ConstructorTree} → (e : Tree) (v x : ℕ) (old new : Writer) → e ≡ variable v
+    → x ≡ name_of (names_of old.names.items) v
     → WritesPiece (uses x) old new → WritesValue constructors e old new x
 variable_value {constructors} e v x old new is name writes =
     subst (λ (one : Tree). WritesValue constructors one old new x) (sym is)
@@ -220,7 +257,8 @@ variable_value {constructors} e v x old new is name writes =
           (use_of (name_of (names_of old.names.items) v) rest, refl, writes.steps rest ∙ ap (λ y. behind old (use_of y rest)) name);
     })
 
-pub variable_end : {constructors : List ConstructorTree} → (tail : Bool) (e : Tree) (v x : ℕ) (writer : Writer) (last : Code) → e ≡ variable v
+pub variable_end : {constructors : List ConstructorTree} → (tail : Bool) (e : Tree) (v x : ℕ) (writer : Writer) (last : Code)
+    → e ≡ variable v
     → x ≡ name_of (names_of writer.names.items) v → last ≡ give x → WritesEnd constructors tail e writer writer last
 variable_end {constructors} tail e v x writer last is name last_is =
     subst (λ (one : Tree). WritesEnd constructors tail one writer writer last) (sym is)
@@ -234,8 +272,10 @@ finish_next : (rest : Code) (m : ℕ) (form : Form) (xs : List ℕ) → compute 
 finish_next rest m (Call f) xs = refl
 finish_next rest m form xs = refl
 
-pub apply_value : {constructors : List ConstructorTree} → (e : Tree) (form : Form) (es : Trees) (xs : List ℕ) (old now new : Writer) (x : ℕ)
-    → e ≡ apply form es → WritesValues constructors es old now xs → WritesStep (computes now.next form xs) now new x → WritesValue constructors e old new x
+pub apply_value : {constructors : List ConstructorTree} → (e : Tree) (form : Form) (es : Trees) (xs : List ℕ) (old now new : Writer)
+    (x : ℕ)
+    → e ≡ apply form es → WritesValues constructors es old now xs → WritesStep (computes now.next form xs) now new x
+    → WritesValue constructors e old new x
 apply_value {constructors} e form es xs old now new x is first second =
     let names : Names = names_of old.names.items in
     subst (λ (one : Tree). WritesValue constructors one old new x) (sym is)
@@ -246,18 +286,21 @@ apply_value {constructors} e form es xs old now new x is first second =
       steps = λ rest.
           let own : compute now.next form xs rest ≡ finish (next rest) (old.next + size_all es) form (atoms names old.next es)
           = ap (λ (n : ℕ). compute n form xs rest) first.number
-          ∙ (ap (λ (all : List ℕ). compute (old.next + size_all es) form all rest) first.values ∙ finish_next rest (old.next + size_all es) form (atoms names old.next es)) in
+          ∙ (ap (λ (all : List ℕ). compute (old.next + size_all es) form all rest) first.values
+          ∙ finish_next rest (old.next + size_all es) form (atoms names old.next es)) in
           let one = first.steps (compute now.next form xs rest) in
           (one.0, subst (λ (last : Code). AreCodes constructors names old.next es last one.0) own one.1, second.steps rest ∙ one.2);
     })
 
-pub apply_end : {constructors : List ConstructorTree} → (tail : Bool) (e : Tree) (form : Form) (es : Trees) (xs : List ℕ) (old now new : Writer) (last : Code)
+pub apply_end : {constructors : List ConstructorTree} → (tail : Bool) (e : Tree) (form : Form) (es : Trees) (xs : List ℕ)
+    (old now new : Writer) (last : Code)
     → e ≡ apply form es → WritesValues constructors es old now xs → new.next ≡ now.next + 1 → new.names.items ≡ now.names.items
     → behind new last ≡ behind now (finish (final tail) now.next form xs) → WritesEnd constructors tail e old new last
 apply_end {constructors} tail e form es xs old now new last is first number names_kept written =
     let names : Names = names_of old.names.items in
     let own : finish (final tail) now.next form xs ≡ finish (final tail) (old.next + size_all es) form (atoms names old.next es)
-    = ap (λ (n : ℕ). finish (final tail) n form xs) first.number ∙ ap (λ (all : List ℕ). finish (final tail) (old.next + size_all es) form all) first.values in
+    = ap (λ (n : ℕ). finish (final tail) n form xs) first.number
+    ∙ ap (λ (all : List ℕ). finish (final tail) (old.next + size_all es) form all) first.values in
     subst (λ (one : Tree). WritesEnd constructors tail one old new last) (sym is)
     (record {
       number = omega (arith, number, first.number);
@@ -268,8 +311,10 @@ apply_end {constructors} tail e form es xs old now new last is first number name
     })
 
 -- an `if` as a step, whose value the next variable takes
-pub choice_value : {constructors : List ConstructorTree} → (e condition positive negative : Tree) (old now new : Writer) (last : Code) (x : ℕ)
-    → e ≡ if_tree condition positive negative → WritesChoice constructors false condition positive negative old now last → WritesStep (runs now.next last) now new x
+pub choice_value : {constructors : List ConstructorTree} → (e condition positive negative : Tree) (old now new : Writer)
+    (last : Code) (x : ℕ)
+    → e ≡ if_tree condition positive negative → WritesChoice constructors false condition positive negative old now last
+    → WritesStep (runs now.next last) now new x
     → WritesValue constructors e old new x
 choice_value {constructors} e condition positive negative old now new last x is first second =
     let names : Names = names_of old.names.items in
@@ -284,12 +329,24 @@ choice_value {constructors} e condition positive negative old now new last x is 
           let parts = first.last_is in
           let own : inside now.next last rest ≡ inside m (truth_case a parts.0 parts.1) rest
           = ap (λ (n : ℕ). inside n last rest) first.number ∙ ap (λ (block : Code). inside m block rest) parts.4 in
-          let one = first.steps (inside now.next last rest) in
-          (one.0, (parts.0, parts.1, parts.2, parts.3, subst (λ (behind_it : Code). IsCode constructors (next behind_it) names old.next condition one.0) own one.1), second.steps rest ∙ one.2);
+          let one = first.steps (inside now.next last rest) in (
+            one.0,
+            (
+              parts.0,
+              parts.1,
+              parts.2,
+              parts.3,
+              subst
+                  (λ (behind_it : Code). IsCode constructors
+                  (next behind_it) names old.next condition one.0) own one.1,
+            ),
+            second.steps rest ∙ one.2,
+          );
     })
 
 -- an `if` as the end of a block
-pub choice_end : {constructors : List ConstructorTree} → (tail : Bool) (e condition positive negative : Tree) (old now new : Writer) (last : Code)
+pub choice_end : {constructors : List ConstructorTree} → (tail : Bool) (e condition positive negative : Tree) (old now new : Writer)
+    (last : Code)
     → e ≡ if_tree condition positive negative → WritesChoice constructors tail condition positive negative old now last
     → new.next ≡ now.next + 1 → new.names.items ≡ now.names.items → new.steps.items ≡ now.steps.items
     → WritesEnd constructors tail e old new last
@@ -301,13 +358,26 @@ choice_end {constructors} tail e condition positive negative old now new last is
       names = names_kept ∙ first.names;
       steps =
           let parts = first.last_is in
-          let one = first.steps last in
-          (one.0, (parts.0, parts.1, parts.2, parts.3, subst (λ (behind_it : Code). IsCode constructors (next behind_it) names old.next condition one.0) parts.4 one.1), ap (λ items. plug (map step_piece items) last) steps ∙ one.2);
+          let one = first.steps last in (
+            one.0,
+            (
+              parts.0,
+              parts.1,
+              parts.2,
+              parts.3,
+              subst
+                  (λ (behind_it : Code). IsCode constructors (next behind_it) names old.next condition one.0) parts.4 one.1,
+            ),
+            ap
+                (λ items. plug (map step_piece items) last) steps ∙ one.2,
+          );
     })
 
 -- a condition and two blocks
-pub choice_done : {constructors : List ConstructorTree} → (tail : Bool) (condition positive negative : Tree) (old first second third : Writer) (x : ℕ) (yes_code no_code last : Code)
-    → WritesValue constructors condition old first x → WritesBlock constructors tail positive first second yes_code → WritesBlock constructors tail negative second third no_code
+pub choice_done : {constructors : List ConstructorTree} → (tail : Bool) (condition positive negative : Tree)
+    (old first second third : Writer) (x : ℕ) (yes_code no_code last : Code)
+    → WritesValue constructors condition old first x → WritesBlock constructors tail positive first second yes_code
+    → WritesBlock constructors tail negative second third no_code
     → last ≡ truth_case x yes_code no_code → WritesChoice constructors tail condition positive negative old third last
 choice_done {constructors} tail condition positive negative old first second third x yes_code no_code last writes one two last_is =
     let names : Names = names_of old.names.items in
@@ -319,8 +389,10 @@ choice_done {constructors} tail condition positive negative old first second thi
       last_is = (
         yes_code,
         no_code,
-        subst (λ (n : ℕ). IsCode constructors (final tail) names n positive yes_code) writes.number (subst (λ (some : Names). IsCode constructors (final tail) some first.next positive yes_code) here one.block_is),
-        subst (λ (n : ℕ). IsCode constructors (final tail) names n negative no_code) (second_at writes.number one.number) (subst (λ (some : Names). IsCode constructors (final tail) some second.next negative no_code) there two.block_is),
+        subst (λ (n : ℕ). IsCode constructors (final tail) names n positive yes_code) writes.number
+            (subst (λ (some : Names). IsCode constructors (final tail) some first.next positive yes_code) here one.block_is),
+        subst (λ (n : ℕ). IsCode constructors (final tail) names n negative no_code) (second_at writes.number one.number)
+            (subst (λ (some : Names). IsCode constructors (final tail) some second.next negative no_code) there two.block_is),
         last_is ∙ ap (λ (y : ℕ). truth_case y yes_code no_code) writes.value,
       );
       steps = λ rest.
@@ -328,15 +400,18 @@ choice_done {constructors} tail condition positive negative old first second thi
           (whole.0, whole.1, ap (λ items. plug (map step_piece items) rest) (two.steps ∙ one.steps) ∙ whole.2);
     }
   where
-    second_at : first.next ≡ old.next + size condition → second.next ≡ first.next + size positive → second.next ≡ old.next + size condition + size positive
+    second_at : first.next ≡ old.next + size condition → second.next ≡ first.next + size positive
+        → second.next ≡ old.next + size condition + size positive
     second_at one two = omega arith
 
 -- a block of its own, written where there were no steps
 pub block_done : {constructors : List ConstructorTree} → (tail : Bool) (e : Tree) (old began ended new : Writer) (last block : Code)
-    → began.next ≡ old.next → began.names.items ≡ old.names.items → began.steps.items ≡ [] → WritesEnd constructors tail e began ended last
+    → began.next ≡ old.next → began.names.items ≡ old.names.items → began.steps.items ≡ []
+    → WritesEnd constructors tail e began ended last
     → block ≡ behind ended last → new.next ≡ ended.next → new.names.items ≡ ended.names.items → new.steps.items ≡ old.steps.items
     → WritesBlock constructors tail e old new block
-block_done {constructors} tail e old began ended new last block number names none writes block_is number_kept names_kept steps_kept =
+block_done {constructors} tail e old began ended new last block number names none writes block_is number_kept names_kept
+    steps_kept =
     record {
       number = omega (arith, number_kept, writes.number, number);
       names = names_kept ∙ (writes.names ∙ names);

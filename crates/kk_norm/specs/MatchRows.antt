@@ -1,30 +1,27 @@
 -- That each match has a row. The rows of a match that are covered are so.
-use Rattle.std.specs.Prelude.{◌≡◌, ℕ, List, Some, slice_get}
+use Rattle.std.specs.Prelude.{◌≡◌, ℕ, List, [], ◌∷◌, Some, slice_get}
+use Rattle.kk_syntax.specs.Covered.{Each}
 use Rattle.kk_syntax.specs.Programs.{FunctionTree}
-use Rattle.kk_syntax.specs.Trees.{Tree, variable, apply, branch, match, sequence, Trees, no_tree, tree, Rows, no_row, row}
+use Rattle.kk_syntax.specs.Shapes.{Gathers, gathered, gathered_all, gathered_rows}
+use Rattle.kk_syntax.specs.Trees.{Tree, Trees, Rows, no_row, row}
 
 abbrev pub IsSomeRow : Rows → Type 0
 IsSomeRow no_row = ⊥
 IsSomeRow (row pattern body rest) = Unit {0}
 
--- each match in an expression has a row
-abbrev mutual
-  pub MatchesHaveRows : Tree → Type 0
-  MatchesHaveRows (variable x) = Unit {0}
-  MatchesHaveRows (apply form es) = AllMatchesHaveRows es
-  MatchesHaveRows (branch e positive negative) =
-      MatchesHaveRows e × MatchesHaveRows positive × MatchesHaveRows negative
-  MatchesHaveRows (match e rows) = MatchesHaveRows e × IsSomeRow rows × BodiesHaveRows rows
-  MatchesHaveRows (sequence binder first rest) = MatchesHaveRows first × MatchesHaveRows rest
+-- the matches of an expression, each as its rows
+abbrev pub gathers_rows : Gathers Rows
+gathers_rows = record { at_form = λ form. []; at_rows = λ rows. rows ∷ []; at_pattern = λ pattern. [] }
 
-  pub AllMatchesHaveRows : Trees → Type 0
-  AllMatchesHaveRows no_tree = Unit {0}
-  AllMatchesHaveRows (tree first rest) = MatchesHaveRows first × AllMatchesHaveRows rest
+-- each match in an expression, in several ones, and in the bodies of rows has a row
+abbrev pub MatchesHaveRows : Tree → Type 0
+MatchesHaveRows e = Each IsSomeRow (gathered gathers_rows e)
 
-  -- each match in the bodies of rows
-  pub BodiesHaveRows : Rows → Type 0
-  BodiesHaveRows no_row = Unit {0}
-  BodiesHaveRows (row pattern body rest) = MatchesHaveRows body × BodiesHaveRows rest
+abbrev pub AllMatchesHaveRows : Trees → Type 0
+AllMatchesHaveRows es = Each IsSomeRow (gathered_all gathers_rows es)
+
+abbrev pub BodiesHaveRows : Rows → Type 0
+BodiesHaveRows rows = Each IsSomeRow (gathered_rows gathers_rows rows)
 
 -- each match in functions has a row
 abbrev pub FunctionsHaveRows : List FunctionTree → Type 0
