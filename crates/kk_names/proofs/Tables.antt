@@ -1,20 +1,12 @@
 -- Tables of names, and lists of names.
 use Rattle.std.proofs.Common.{◌≡◌, ℕ, ◌+◌, ◌<◌, List, [], ◌∷◌, ◌++◌, map, length, take, drop, get_or, suc, Bool, true, false, bytes_eq, Option, Some, refl, sym, ap, ◌∙◌, arith}
 use Rattle.std.specs.Prelude.{if◌then◌else◌, is_some, ◌||◌}
-use Rattle.std.proofs.Math.Seq.{take-suc, drop-cons}
 use Rattle.kk_names.specs.declared.scope.Bound.{Bound}
 use Rattle.kk_names.specs.declared.table.Declared.{Declared}
 use Rattle.kk_names.specs.declared.table.DeclaredType.{DeclaredType}
 use Rattle.kk_names.specs.Methods.{newest_before, newest_first}
 use Rattle.kk_names.specs.Scopes.{Scope, number_in, names_in, is_among}
 use Rattle.kk_names.specs.Tables.{meaning_in, type_in}
-
--- one more of a list is taken, and one less is left
-pub take_more : {A : Type 0} (xs : List A) (i : ℕ) (d : A) → i < length xs → take (i + 1) xs ≡ take i xs ++ get_or xs i d ∷ []
-take_more xs i d less = ap (λ j. take j xs) {x = i + 1} {y = suc i} (omega arith) ∙ take-suc xs i d less
-
-pub drop_more : {A : Type 0} (xs : List A) (i : ℕ) (d : A) → i < length xs → drop i xs ≡ get_or xs i d ∷ drop (i + 1) xs
-drop_more xs i d less = drop-cons xs i d less ∙ ap (λ j. get_or xs i d ∷ drop j xs) {x = suc i} {y = i + 1} (omega arith)
 
 -- one variable more is the newest
 pub newest_more : (older : Scope) (scope : List Bound) (one : Bound) → newest_before older (scope ++ one ∷ []) ≡ one ∷ newest_before older scope

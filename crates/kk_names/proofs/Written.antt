@@ -24,7 +24,7 @@ use Rattle.kk_syntax.specs.Surface.{Written, WrittenRow, WrittenStatement, writt
 use Rattle.kk_syntax.specs.Trees.{expr_tree}
 use Rattle.kk_syntax.proofs.Views.{apply_is}
 use Rattle.kk_names.specs.Expressions.{alone}
-use Rattle.kk_names.proofs.Tables.{drop_more}
+use Rattle.kk_base.proofs.Lists.{rest_at}
 
 -- ---- what is given
 
@@ -50,18 +50,15 @@ binary_written e operator left right l r is left_is right_is =
 pub statement_written : (s : SurfaceStatement) → written_statement s ≡ record { binder = s.binder; value = written_expr s.value }
 statement_written s = fold_out-SurfaceStatement Written WrittenRow WrittenStatement written.expr_step written.row_step written.statement_step s
 
-pub left_is : {A : Type 0} (xs : List A) (i : ℕ) (x : A) → x ≡ get_or xs i x → i < length xs → drop i xs ≡ x ∷ drop (i + 1) xs
-left_is xs i x is less = drop_more xs i x less ∙ ap (λ y. y ∷ drop (i + 1) xs) (sym is)
-
 -- the first of the expressions that are left
 pub next_expr : (es : List SurfaceExpr) (i : ℕ) (e : SurfaceExpr) → e ≡ get_or es i e → i < length es
     → writtens_of (map written_expr (drop i es)) ≡ written.written (written_expr e) (writtens_of (map written_expr (drop (i + 1) es)))
-next_expr es i e is less = ap (λ all. writtens_of (map written_expr all)) (left_is es i e is less)
+next_expr es i e is less = ap (λ all. writtens_of (map written_expr all)) (rest_at es i e less is)
 
 -- the first of the statements that are left
 pub next_statement : (ss : List SurfaceStatement) (i : ℕ) (s : SurfaceStatement) → s ≡ get_or ss i s → i < length ss
     → map written_statement (drop i ss) ≡ written_statement s ∷ map written_statement (drop (i + 1) ss)
-next_statement ss i s is less = ap (map written_statement) (left_is ss i s is less)
+next_statement ss i s is less = ap (map written_statement) (rest_at ss i s less is)
 
 pub variable_written : (s : SurfaceStatement) (name : Identifier) (v : SurfaceExpr) → s.binder ≡ OfSurface.Variable name → v ≡ s.value → written_statement s ≡ record { binder = OfSurface.Variable name; value = written_expr v }
 variable_written s name v is value =
@@ -77,7 +74,7 @@ pattern_written p name parts ps is items =
 -- the first of the patterns that are left
 pub next_pattern : (ps : List SurfacePattern) (i : ℕ) (p : SurfacePattern) → p ≡ get_or ps i p → i < length ps
     → patterns_of (map written_pattern (drop i ps)) ≡ written.part (written_pattern p) (patterns_of (map written_pattern (drop (i + 1) ps)))
-next_pattern ps i p is less = ap (λ all. patterns_of (map written_pattern all)) (left_is ps i p is less)
+next_pattern ps i p is less = ap (λ all. patterns_of (map written_pattern all)) (rest_at ps i p less is)
 
 pub row_written : (r : SurfaceRow) → written_row r ≡ record { pattern = written_pattern r.pattern; body = written_expr r.body }
 row_written r = fold_out-SurfaceRow Written WrittenRow WrittenStatement written.expr_step written.row_step written.statement_step r
@@ -85,7 +82,7 @@ row_written r = fold_out-SurfaceRow Written WrittenRow WrittenStatement written.
 -- the first of the rows that are left
 pub next_row : (rs : List SurfaceRow) (i : ℕ) (r : SurfaceRow) → r ≡ get_or rs i r → i < length rs
     → rows_of (map written_row (drop i rs)) ≡ written.row (written_row r).pattern (written_row r).body (rows_of (map written_row (drop (i + 1) rs)))
-next_row rs i r is less = ap (λ all. rows_of (map written_row all)) (left_is rs i r is less)
+next_row rs i r is less = ap (λ all. rows_of (map written_row all)) (rest_at rs i r less is)
 
 -- ---- what is made
 
@@ -104,13 +101,13 @@ named_written t name arguments ts is items =
 -- the first of the types that are left
 pub next_type : (ts : List SurfaceType) (i : ℕ) (t : SurfaceType) → t ≡ get_or ts i t → i < length ts
     → written.types_of (map written_type (drop i ts)) ≡ written.type (written_type t) (written.types_of (map written_type (drop (i + 1) ts)))
-next_type ts i t is less = ap (λ all. written.types_of (map written_type all)) (left_is ts i t is less)
+next_type ts i t is less = ap (λ all. written.types_of (map written_type all)) (rest_at ts i t less is)
 
 pub next_parameter : (ps : List Parameter) (i : ℕ) (p : Parameter) → p ≡ get_or ps i p → i < length ps → map written_parameter (drop i ps) ≡ written_parameter p ∷ map written_parameter (drop (i + 1) ps)
-next_parameter ps i p is less = ap (map written_parameter) (left_is ps i p is less)
+next_parameter ps i p is less = ap (map written_parameter) (rest_at ps i p less is)
 
 pub next_declaration : (ds : List Declaration) (i : ℕ) (d : Declaration) → d ≡ get_or ds i d → i < length ds → map written_declaration (drop i ds) ≡ written_declaration d ∷ map written_declaration (drop (i + 1) ds)
-next_declaration ds i d is less = ap (map written_declaration) (left_is ds i d is less)
+next_declaration ds i d is less = ap (map written_declaration) (rest_at ds i d less is)
 
 -- the size of a branch that may be left out
 abbrev pub option_size : Option (Box SurfaceExpr Global) → ℕ

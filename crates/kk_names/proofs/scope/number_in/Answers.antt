@@ -1,7 +1,8 @@
 use Rattle.std.proofs.Common.{◌≡◌, bytes_eq, take, ap, sym, ◌∙◌, ◌++◌, ◌∷◌, []}
+use Rattle.std.proofs.lemmas.List.{take_more}
 use Rattle.kk_names.specs.Methods.{newest_first}
 use Rattle.kk_names.specs.Scopes.{number_in}
-use Rattle.kk_names.proofs.Tables.{number_here, number_elsewhere, take_more}
+use Rattle.kk_names.proofs.Tables.{number_here, number_elsewhere}
 use Rattle.kk_names.proofs.scope.number_in.Goals as goal
 use Rattle.kk_names.proofs.scope.number_in.Goals.{then-eq, else-eq}
 

@@ -4,7 +4,7 @@ use Rattle.kk_syntax.specs.declared.tree.ConstructorDeclaration.{ConstructorDecl
 use Rattle.kk_syntax.specs.Programs.{ConstructorTree, constructor_tree}
 use Rattle.kk_syntax.specs.Surface.{WrittenConstructor, written_constructor}
 use Rattle.kk_names.proofs.TypesDeclared.{CasesSoFar, cases_more, cases_done}
-use Rattle.kk_names.proofs.Written.{left_is}
+use Rattle.kk_base.proofs.Lists.{rest_at}
 use Rattle.kk_names.proofs.resolver.Resolver.cases.Goals as goal
 
 pub loop-case-preserved : goal.loop-case-preserved
@@ -23,7 +23,7 @@ loop-case-preserved c =
     let constructor = c.in_ok-constructor.constructor in
     let items : c.push.new.self.items ≡ made ++ constructor ∷ [] = c.in_ok-push.ensures.items in
     let trees = ap (map constructor_tree) items ∙ map-append constructor_tree made (constructor ∷ []) in
-    let next = ap (map written_constructor) (left_is c.args.cases.now c.loop-case.case-index one c.case-item.is c.loop-case-test.true) in
+    let next = ap (map written_constructor) (rest_at c.args.cases.now c.loop-case.case-index one c.loop-case-test.true c.case-item.is) in
     subst (λ (n : _). CasesSoFar variables number old new n left all before (map constructor_tree c.push.new.self.items)) (sym c.in_ok-tag.ensures)
     (subst (λ (cs : List ConstructorTree). CasesSoFar variables number old new (tag + 1) left all before cs) (sym trees)
     (cases_more variables number old now new tag (written_constructor one) left all before (map constructor_tree made) (constructor_tree constructor)

@@ -4,7 +4,7 @@ use Rattle.std.proofs.lemmas.List.{drop_all}
 use Rattle.kk_syntax.specs.declared.tree.Identifier.{Identifier}
 use Rattle.kk_names.specs.TypeNames.{place_of}
 use Rattle.kk_names.proofs.TypesDeclared.{NamedSoFar, named_more, named_done}
-use Rattle.kk_names.proofs.Written.{left_is}
+use Rattle.kk_base.proofs.Lists.{rest_at}
 use Rattle.kk_names.proofs.resolver.Resolver.type_parameters.Goals as goal
 
 pub loop-parameter-preserved : goal.loop-parameter-preserved
@@ -19,7 +19,7 @@ loop-parameter-preserved c =
     let items = c.in_ok-push.ensures.items ∙ ap (λ n. names ++ n ∷ []) c.in_ok-name.ensures in
     subst (λ (ns : List (List ℕ)). NamedSoFar old c.note_if.new.self ns left all) (sym items)
     (named_more old now c.note_if.new.self names p left all c.is_some-is_second.result
-    (subst (λ (ps : List Identifier). NamedSoFar old now names ps all) (left_is all c.loop-parameter.parameter-index p c.parameter-item.is c.loop-parameter-test.true) c.loop-parameter.invariant)
+    (subst (λ (ps : List Identifier). NamedSoFar old now names ps all) (rest_at all c.loop-parameter.parameter-index p c.loop-parameter-test.true c.parameter-item.is) c.loop-parameter.invariant)
     (c.is_some-is_second.ensures ∙ ap is_some means)
     c.in_ok-note_if.ensures)
 
