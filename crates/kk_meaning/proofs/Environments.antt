@@ -1,6 +1,6 @@
 -- Environments are bindings that are linked to those before them.
 use Rattle.std.proofs.Common.{◌≡◌, ℕ, zero, suc, ◌+◌, ◌-◌, ◌<◌, ◌≤◌, Bool, true, false, List, [], ◌∷◌, ◌++◌, length, take, map, Some, None, arith, refl, sym, ap, ◌∙◌, add-one, cond, ◌==◌, get_or, drop}
-use Rattle.std.proofs.Math.Seq.{drop-cons}
+use Rattle.std.proofs.lemmas.List.{drop_more}
 use Rattle.std.proofs.lemmas.Option.{slice_get-get_or}
 use Rattle.std.specs.Prelude.{slice_get}
 use Rattle.kk_source.specs.State as source
@@ -141,6 +141,5 @@ pushed_one links longer bs i n m newest d link whole lt le all next longer_is bo
     ∙ (ap (environment_of (links ++ link ∷ [])) next
     ∙ (one_more links link newest n le all skips_is
     ∙ ap (λ b. bound_view b ∷ environment_of links newest) bound_is)) in
-    let rest : drop i bs ≡ get_or bs i d ∷ drop (i + 1) bs = drop-cons bs i d lt ∙ ap (λ k. get_or bs i d ∷ drop k bs) (sym (add-one i)) in
     ap (pushed (map bound_view (drop (i + 1) bs))) env
-    ∙ (ap (λ l. pushed (map bound_view l) (environment_of links newest)) (sym rest) ∙ before)
+    ∙ (ap (λ l. pushed (map bound_view l) (environment_of links newest)) (sym (drop_more bs i d lt)) ∙ before)

@@ -1,7 +1,6 @@
 -- Matching, as the code does it.
 use Rattle.std.proofs.Common.{◌≡◌, ℕ, ◌+◌, ◌<◌, List, [], ◌∷◌, ◌++◌, length, map, drop, get_or, Some, None, refl, sym, ap, ◌∙◌, arith, add-one}
-use Rattle.std.proofs.Math.Seq.{drop-cons}
-use Rattle.std.proofs.lemmas.List.{map-append}
+use Rattle.std.proofs.lemmas.List.{map-append, drop_more}
 use Rattle.kk_syntax.specs.declared.program.Row.{Row}
 use Rattle.kk_syntax.specs.declared.program.Pat.TheVariants.{Variable, rolls-Variable}
 use Rattle.kk_syntax.specs.declared.program.Pat.TheOpen as Open
@@ -45,10 +44,9 @@ bound_more bound more b environment is =
 pub parameter_more : (arguments : List Value') (bound more : List Bound) (i : ℕ) (d : Value') (environment whole : Environment) → i < length arguments → more ≡ bound ++ record { variable = i; value = get_or arguments i d } ∷ [] → bind_parameters i (map value_view (drop i arguments)) (pushed (map bound_view bound) environment) ≡ whole → bind_parameters (i + 1) (map value_view (drop (i + 1) arguments)) (pushed (map bound_view more) environment) ≡ whole
 parameter_more arguments bound more i d environment whole lt is before =
     let b : Bound = record { variable = i; value = get_or arguments i d } in
-    let rest : drop i arguments ≡ get_or arguments i d ∷ drop (i + 1) arguments = drop-cons arguments i d lt ∙ ap (λ k. get_or arguments i d ∷ drop k arguments) (sym (add-one i)) in
     ap (bind_parameters (i + 1) (map value_view (drop (i + 1) arguments))) (bound_more bound more b environment is)
     ∙ (ap (λ k. bind_parameters k (map value_view (drop (i + 1) arguments)) (bound_view b ∷ pushed (map bound_view bound) environment)) (add-one i)
-    ∙ (ap (λ l. bind_parameters i (map value_view l) (pushed (map bound_view bound) environment)) (sym rest) ∙ before))
+    ∙ (ap (λ l. bind_parameters i (map value_view l) (pushed (map bound_view bound) environment)) (sym (drop_more arguments i d lt)) ∙ before))
 
 -- a row that matches, and one that does not
 pub row_matches : (store : Store) (row : Row) (rest : List Row) (v : Value) (environment : Environment) (bound : Environment) → matched store (pattern_tree row.pattern) v environment ≡ Some bound → first_match store (rows_of (map row_tree (row ∷ rest))) v environment ≡ Some (record { body = expr_tree row.body; environment = bound })

@@ -3,7 +3,7 @@ use Rattle.kk_syntax.specs.Patterns.{pattern_tree}
 use Rattle.kk_syntax.specs.Trees.{row_tree, rows_of}
 use Rattle.kk_source.specs.Matching.{matched, first_match}
 use Rattle.kk_meaning.specs.View.{value_view, cell_view, bound_view, pushed}
-use Rattle.kk_meaning.proofs.Lists.{rest_at}
+use Rattle.kk_base.proofs.Lists.{rest_at}
 use Rattle.kk_meaning.proofs.Patterns.{row_does_not}
 use Rattle.kk_meaning.proofs.matching.first_match.Goals as goal
 

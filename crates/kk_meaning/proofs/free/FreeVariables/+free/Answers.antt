@@ -5,7 +5,8 @@ use Rattle.kk_syntax.specs.Shapes.{bound, bound_by, without, free, free_rows}
 use Rattle.kk_syntax.proofs.Views.{block_tree, row_tree_is, statement_tree_is}
 use Rattle.kk_meaning.specs.FreeOf.{free_of_statements, bound_by_statements}
 use Rattle.kk_meaning.proofs.FreeVariables.{free_of_block, found_within, found_before, found_block}
-use Rattle.kk_meaning.proofs.Lists.{rest_at, front_again}
+use Rattle.kk_base.proofs.Lists.{rest_at}
+use Rattle.kk_meaning.proofs.Lists.{front_again}
 use Rattle.kk_meaning.proofs.free.FreeVariables.+free.Goals as goal
 
 pub of_expr-returns-in_ok-of_expr-in-Block-clause-found :
