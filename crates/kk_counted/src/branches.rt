@@ -20,6 +20,7 @@ impl<'a> Emitter<'a> {
         requires called { (state self.old).failed ≡ false → (state self.old).uncalled ≡ [] }
         requires owns { OwnsAll (state self.old) debts.emitter debts.variables.items }
         requires on { (state self.old).failed ≡ false → is_among ((state self.old).lent ++ all_owed (state self.old)) on ≡ true }
+        requires spare { debts.spare.items ≡ [] }
         ensures going { OnOk result ((state self.old).failed ≡ false) }
         ensures ok { OnOk result (state self.new ≡ forked (state self.old) on (decisions_of tests.now) debts.variables.items tests.now.rows) }
         ensures arms { IfOk result (λ arms. (arms.emitter ≡ (state self.old).instance) × AreNewest (state self.new).splits arms.depth (left_in arms.left.items)) }
@@ -39,6 +40,7 @@ impl<'a> Emitter<'a> {
         requires called { (state self.old).failed ≡ false → (state self.old).uncalled ≡ [] }
         requires owns { OwnsAll (state self.old) debts.emitter debts.variables.items }
         requires on { (state self.old).failed ≡ false → is_among ((state self.old).lent ++ all_owed (state self.old)) on ≡ true }
+        requires spare { debts.spare.items ≡ [] }
         ensures going { OnOk result ((state self.old).failed ≡ false) }
         ensures ok { OnOk result (state self.new ≡ forked (state self.old) on (decisions_of tests) debts.variables.items tests.rows) }
         ensures arms { IfOk result (λ arms. (arms.emitter ≡ (state self.old).instance) × AreNewest (state self.new).splits arms.depth (left_in arms.left.items)) }
@@ -48,7 +50,11 @@ impl<'a> Emitter<'a> {
         if self.work.failed {
             return Err(Kept::of_many(debts));
         }
-        let Debts { emitter, variables } = debts;
+        let Debts {
+            emitter,
+            variables,
+            spare,
+        } = debts;
         match self.work.split(on, tests, variables) {
             Ok(left) => {
                 return Ok(Arms {
@@ -58,7 +64,11 @@ impl<'a> Emitter<'a> {
                 });
             }
             Err(variables) => {
-                return Err(Kept::of_many(Debts { emitter, variables }));
+                return Err(Kept::of_many(Debts {
+                    emitter,
+                    variables,
+                    spare,
+                }));
             }
         }
     }
@@ -74,15 +84,25 @@ impl<'a> Emitter<'a> {
         ensures left { IfSome result (λ debts. left_in arms.old.left.items ≡ debts.variables.items ∷ left_in arms.new.left.items) }
         ensures none { IfNone result (left_in arms.old.left.items ≡ []) }
         ensures emitter { IfSome result (λ debts. debts.emitter ≡ arms.old.emitter) }
+        ensures spare { IfSome result (λ debts. debts.spare.items ≡ []) }
         ensures same { (arms.new.emitter ≡ arms.old.emitter) × (arms.new.depth ≡ arms.old.depth) }
     {
         let emitter = arms.emitter;
         let variables = arms.left.pop()?;
+        let spare = Vec::new(self.work.alloc);
         if self.work.failed {
-            return Some(Debts { emitter, variables });
+            return Some(Debts {
+                emitter,
+                variables,
+                spare,
+            });
         }
         self.work.enter();
-        Some(Debts { emitter, variables })
+        Some(Debts {
+            emitter,
+            variables,
+            spare,
+        })
     }
 
     /// Ends the arm that is written. Besides a value no other reference of the arm is unspent; with a tail call, none of the

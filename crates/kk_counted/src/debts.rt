@@ -20,20 +20,24 @@ impl Owed {
     }
 }
 
-/// References of one emitter, which its path must pass on, store or drop. They cannot be let go.
+/// References and tokens of one emitter, which its path must pass on, store, drop, fill or free. They cannot be let go.
 pub struct Debts {
     pub(crate) emitter: u32,
     pub(crate) variables: Vec<u32>,
+    /// The slots of the tokens.
+    pub(crate) spare: Vec<u32>,
 }
 
 impl Debts {
-    /// No references. It takes no memory.
+    /// No references and no tokens. It takes no memory.
     pub fn new(alloc: Global) -> Self
-        ensures { result.variables.items ≡ [] }
+        ensures variables { result.variables.items ≡ [] }
+        ensures spare { result.spare.items ≡ [] }
     {
         Debts {
             emitter: 0,
             variables: Vec::new(alloc),
+            spare: Vec::new(alloc),
         }
     }
 
@@ -44,11 +48,13 @@ impl Debts {
         &self.variables
     }
 
-    /// Puts a reference behind the others, which are of the same emitter.
+    /// Puts a reference behind the others, which are of the same emitter, as the tokens are.
     pub fn put(&mut self, owed: Owed) -> Result<(), Kept>
-        requires { AreOf owed.emitter self.old.variables.items self.old.emitter }
+        requires variables { AreOf owed.emitter self.old.variables.items self.old.emitter }
+        requires spare { AreOf owed.emitter self.old.spare.items self.old.emitter }
         ensures emitter { OnOk result (self.new.emitter ≡ owed.emitter) }
         ensures variables { OnOk result (self.new.variables.items ≡ self.old.variables.items ++ owed.variable ∷ []) }
+        ensures spare { self.new.spare.items ≡ self.old.spare.items }
         ensures kept { IfErr result (λ kept. kept.held ≡ Held.One owed) }
         ensures same { OnErr result (self.new.emitter ≡ self.old.emitter) }
         ensures unchanged { OnErr result (self.new.variables.items ≡ self.old.variables.items) }
@@ -64,9 +70,29 @@ impl Debts {
         Ok(())
     }
 
+    /// Puts a token behind the others, which are of the same emitter, as the references are.
+    pub fn put_spare(&mut self, spare: Spare) -> Result<(), Kept>
+        requires variables { AreOf spare.emitter self.old.variables.items self.old.emitter }
+        requires spare { AreOf spare.emitter self.old.spare.items self.old.emitter }
+        ensures emitter { OnOk result (self.new.emitter ≡ spare.emitter) }
+        ensures spare { OnOk result (self.new.spare.items ≡ self.old.spare.items ++ spare.slot ∷ []) }
+        ensures variables { self.new.variables.items ≡ self.old.variables.items }
+        ensures kept { IfErr result (λ kept. kept.held ≡ Held.Token spare) }
+        ensures same { OnErr result (self.new.emitter ≡ self.old.emitter) }
+        ensures unchanged { OnErr result (self.new.spare.items ≡ self.old.spare.items) }
+    {
+        if self.spare.push(spare.slot).is_err() {
+            return Err(Kept::of_token(spare));
+        }
+        let Spare { emitter, slot: _ } = spare;
+        self.emitter = emitter;
+        Ok(())
+    }
+
     /// Takes the last reference, if there is one.
     pub fn take(&mut self) -> Option<Owed>
         ensures emitter { self.new.emitter ≡ self.old.emitter }
+        ensures spare { self.new.spare.items ≡ self.old.spare.items }
         ensures last { IfSome result (λ owed. self.old.variables.items ≡ self.new.variables.items ++ owed.variable ∷ []) }
         ensures of { IfSome result (λ owed. owed.emitter ≡ self.old.emitter) }
         ensures none { IfNone result (self.old.variables.items ≡ []) }
@@ -81,9 +107,28 @@ impl Debts {
         }
     }
 
-    /// Spends no references.
+    /// Takes the last token, if there is one.
+    pub fn take_spare(&mut self) -> Option<Spare>
+        ensures emitter { self.new.emitter ≡ self.old.emitter }
+        ensures variables { self.new.variables.items ≡ self.old.variables.items }
+        ensures last { IfSome result (λ spare. self.old.spare.items ≡ self.new.spare.items ++ spare.slot ∷ []) }
+        ensures of { IfSome result (λ spare. spare.emitter ≡ self.old.emitter) }
+        ensures none { IfNone result (self.old.spare.items ≡ []) }
+        ensures unchanged { IfNone result (self.new.spare.items ≡ []) }
+    {
+        match self.spare.pop() {
+            Some(slot) => Some(Spare {
+                emitter: self.emitter,
+                slot,
+            }),
+            None => None,
+        }
+    }
+
+    /// Spends no references and no tokens.
     pub fn close(self)
-        requires { self.variables.items ≡ [] }
+        requires variables { self.variables.items ≡ [] }
+        requires spare { self.spare.items ≡ [] }
     {
         self.spend();
     }
@@ -93,6 +138,7 @@ impl Debts {
         let Debts {
             emitter: _,
             variables: _,
+            spare: _,
         } = self;
     }
 }
@@ -147,7 +193,7 @@ pub enum Held {
     Filling(Spare, Debts),
 }
 
-/// The values that were handed to a call that found no memory. It cannot be let go: `Emitter::abandon` takes it, or
+/// The values that were handed to a call that found no memory. It cannot be let go: `abandon` of its emitter takes it, or
 /// `give_up` where the function was to be ended.
 pub struct Kept {
     pub(crate) held: Held,

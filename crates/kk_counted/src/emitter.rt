@@ -212,12 +212,14 @@ impl<'a> Emitter<'a> {
         ensures ok { OnOk result (state self.new ≡ looked (state self.old) variable constructor used) }
         ensures debts { IfOk result (λ debts. debts.variables.items ≡ fields_given (state self.old) constructor used) }
         ensures emitter { IfOk result (λ debts. debts.emitter ≡ (state self.old).instance) }
+        ensures spare { IfOk result (λ debts. debts.spare.items ≡ []) }
         ensures err { OnErr result (state self.new ≡ fallen (state self.old)) }
     {
         let variables = self.read(variable, constructor, used)?;
         Ok(Debts {
             emitter: self.work.instance,
             variables,
+            spare: Vec::new(self.work.alloc),
         })
     }
 
@@ -274,6 +276,7 @@ impl<'a> Emitter<'a> {
         ensures ok { OnOk result (state self.new ≡ unpacked (state self.old) false owed.variable constructor used) }
         ensures debts { IfOk result (λ debts. debts.variables.items ≡ fields_given (state self.old) constructor used) }
         ensures emitter { IfOk result (λ debts. debts.emitter ≡ (state self.old).instance) }
+        ensures spare { IfOk result (λ debts. debts.spare.items ≡ []) }
         ensures err { OnErr result (state self.new ≡ state self.old) }
         ensures kept { IfErr result (λ kept. kept.held ≡ Held.One owed) }
     {
@@ -290,6 +293,7 @@ impl<'a> Emitter<'a> {
         ensures ok { OnOk result (state self.new ≡ unpacked (state self.old) true owed.variable constructor used) }
         ensures debts { IfOk result (λ debts. debts.variables.items ≡ fields_given (state self.old) constructor used) }
         ensures emitter { IfOk result (λ debts. debts.emitter ≡ (state self.old).instance) }
+        ensures spare { IfOk result (λ debts. debts.spare.items ≡ []) }
         ensures err { OnErr result (state self.new ≡ state self.old) }
         ensures kept { IfErr result (λ kept. kept.held ≡ Held.One owed) }
     {
@@ -312,6 +316,7 @@ impl<'a> Emitter<'a> {
         ensures ok { OnOk result (state self.new ≡ unpacked (state self.old) by_count owed.variable constructor used) }
         ensures debts { IfOk result (λ debts. debts.variables.items ≡ fields_given (state self.old) constructor used) }
         ensures emitter { IfOk result (λ debts. debts.emitter ≡ (state self.old).instance) }
+        ensures spare { IfOk result (λ debts. debts.spare.items ≡ []) }
         ensures err { OnErr result (state self.new ≡ state self.old) }
         ensures kept { IfErr result (λ kept. kept.held ≡ Held.One owed) }
     {
@@ -334,16 +339,18 @@ impl<'a> Emitter<'a> {
                 return Ok(Debts {
                     emitter: self.work.instance,
                     variables,
+                    spare: Vec::new(self.work.alloc),
                 });
             }
         }
     }
 
-    /// A new cell of that constructor, which takes the references as its fields, in their order.
+    /// A new cell of that constructor, which takes the references as its fields, in their order. No token is among them.
     pub fn construct(&mut self, constructor: u32, debts: Debts) -> Result<Owed, Kept>
         requires writes { Writes (state self.old) }
         requires owns { OwnsAll (state self.old) debts.emitter debts.variables.items }
         requires fields { HasFields (state self.old) constructor (length debts.variables.items) }
+        requires spare { debts.spare.items ≡ [] }
         ensures going { OnOk result ((state self.old).failed ≡ false) }
         ensures ok { OnOk result (state self.new ≡ computed (state self.old) (Form.Construct constructor) debts.variables.items debts.variables.items) }
         ensures owed { IfOk result (λ owed. (owed.emitter ≡ (state self.old).instance) × (owed.variable ≡ (state self.old).next)) }
@@ -353,7 +360,11 @@ impl<'a> Emitter<'a> {
         if self.work.failed {
             return Err(Kept::of_many(debts));
         }
-        let Debts { emitter, variables } = debts;
+        let Debts {
+            emitter,
+            variables,
+            spare,
+        } = debts;
         match self
             .work
             .compute(Form::Construct(constructor), variables, &[])
@@ -365,7 +376,11 @@ impl<'a> Emitter<'a> {
                 });
             }
             Err(variables) => {
-                return Err(Kept::of_many(Debts { emitter, variables }));
+                return Err(Kept::of_many(Debts {
+                    emitter,
+                    variables,
+                    spare,
+                }));
             }
         }
     }

@@ -1,5 +1,6 @@
 //! The counted form of a program: core code in which references to cells are counted. Its machine and what its code owes are
-//! in specs/, with laws of its runs. An emitter writes it: what it gives spends each reference once on each path.
+//! in specs/, with laws of its runs. Emitters write functions, without tokens and with them, that spend each reference and each
+//! token once on each path.
 #![tactic(auto)]
 
 mod branches;

@@ -1,9 +1,9 @@
-ghost use Rattle.std.specs.Prelude.{◌≡◌, ◌<◌, ◌∷◌, [], false, true, map, length, IfOk, IfErr, OnOk, OnErr};
+ghost use Rattle.std.specs.Prelude.{◌≡◌, ◌+◌, ◌<◌, ◌∷◌, [], false, true, map, length, IfOk, IfErr, OnOk, OnErr};
 ghost use Rattle.kk_syntax.specs.Shapes.{without};
 ghost use Rattle.kk_counted.specs.TokenedCodes.{Tokened};
 ghost use Rattle.kk_counted.specs.TokenedForms.{TokenedMove, tokened_move, tokened_code, plug_tokened};
 ghost use Rattle.kk_counted.specs.Spending.{numbers_from};
-ghost use Rattle.kk_counted.specs.Drafts.{begun, fallen, given, duplicated, dropped, unpacked, looked, fields_given, computed, chosen_of, Writes, Awaits, Reaches, IsLentTo, IsAtHand, Owns, OwnsAll, HoldsAll, HasConstructor, HasFields, IsPlain, IsOnly, Takes, EndsByCall, used_in, LendsAll};
+ghost use Rattle.kk_counted.specs.Drafts.{begun, fallen, given, duplicated, dropped, unpacked, looked, fields_given, computed, chosen_of, Writes, Awaits, Reaches, IsLentTo, IsAtHand, Owns, OwnsAll, HoldsAll, HasConstructor, HasField, HasFields, IsPlain, IsOnly, Takes, EndsByCall, used_in, LendsAll};
 ghost use Rattle.kk_counted.specs.Shaping.{positions_in, fields_in};
 ghost use Rattle.kk_counted.specs.TokenDrafts.{no_tokens, adds, gains, spends, next_slot, under_holds, opens_with, reads_with, fills_with, kept_by};
 ghost use Rattle.kk_counted.specs.TokenEmissions.{counted_of, tokens_of};
@@ -129,6 +129,7 @@ impl<'a> TokenEmitter<'a> {
         ensures tokens { OnOk result (tokens_of self.new ≡ gains (tokens_of self.old) (opens_with false owed.variable constructor (fields_at (counted_of self.old) constructor) (fields_given (counted_of self.old) constructor used) (next_slot (tokens_of self.old).spare))) }
         ensures debts { IfOk result (λ both. both.0.variables.items ≡ fields_given (counted_of self.old) constructor used) }
         ensures emitter { IfOk result (λ both. both.0.emitter ≡ (counted_of self.old).instance) }
+        ensures alone { IfOk result (λ both. both.0.spare.items ≡ []) }
         ensures spare { IfOk result (λ both. (both.1.emitter ≡ (counted_of self.old).instance) × (both.1.slot ≡ next_slot (tokens_of self.old).spare)) }
         ensures err { OnErr result (counted_of self.new ≡ counted_of self.old) }
         ensures unwritten { OnErr result (tokens_of self.new ≡ tokens_of self.old) }
@@ -153,6 +154,7 @@ impl<'a> TokenEmitter<'a> {
         ensures tokens { OnOk result (tokens_of self.new ≡ gains (tokens_of self.old) (opens_with true owed.variable constructor (fields_at (counted_of self.old) constructor) (fields_given (counted_of self.old) constructor used) (next_slot (tokens_of self.old).spare))) }
         ensures debts { IfOk result (λ both. both.0.variables.items ≡ fields_given (counted_of self.old) constructor used) }
         ensures emitter { IfOk result (λ both. both.0.emitter ≡ (counted_of self.old).instance) }
+        ensures alone { IfOk result (λ both. both.0.spare.items ≡ []) }
         ensures spare { IfOk result (λ both. (both.1.emitter ≡ (counted_of self.old).instance) × (both.1.slot ≡ next_slot (tokens_of self.old).spare)) }
         ensures err { OnErr result (counted_of self.new ≡ counted_of self.old) }
         ensures unwritten { OnErr result (tokens_of self.new ≡ tokens_of self.old) }
@@ -178,6 +180,7 @@ impl<'a> TokenEmitter<'a> {
         ensures tokens { OnOk result (tokens_of self.new ≡ gains (tokens_of self.old) (opens_with by_count owed.variable constructor (fields_at (counted_of self.old) constructor) (fields_given (counted_of self.old) constructor used) (next_slot (tokens_of self.old).spare))) }
         ensures debts { IfOk result (λ both. both.0.variables.items ≡ fields_given (counted_of self.old) constructor used) }
         ensures emitter { IfOk result (λ both. both.0.emitter ≡ (counted_of self.old).instance) }
+        ensures alone { IfOk result (λ both. both.0.spare.items ≡ []) }
         ensures spare { IfOk result (λ both. (both.1.emitter ≡ (counted_of self.old).instance) × (both.1.slot ≡ next_slot (tokens_of self.old).spare)) }
         ensures err { OnErr result (counted_of self.new ≡ counted_of self.old) }
         ensures unwritten { OnErr result (tokens_of self.new ≡ tokens_of self.old) }
@@ -220,6 +223,7 @@ impl<'a> TokenEmitter<'a> {
         requires writes { Writes (counted_of self.old) }
         requires owns { OwnsAll (counted_of self.old) debts.emitter debts.variables.items }
         requires fields { HasFields (counted_of self.old) constructor (length debts.variables.items) }
+        requires alone { debts.spare.items ≡ [] }
         ensures going { OnOk result ((counted_of self.old).failed ≡ false) }
         ensures ok { OnOk result (counted_of self.new ≡ computed (counted_of self.old) (Form.Construct constructor) debts.variables.items debts.variables.items) }
         ensures tokens { OnOk result (tokens_of self.new ≡ adds (tokens_of self.old) (TokenedMove.computes (counted_of self.old).next (Form.Construct constructor) debts.variables.items (tokens_of self.old).spare ∷ [])) }
@@ -362,6 +366,7 @@ impl<'a> TokenEmitter<'a> {
         ensures tokens { OnOk result (tokens_of self.new ≡ adds (tokens_of self.old) (reads_with variable constructor (fields_at (counted_of self.old) constructor) (fields_given (counted_of self.old) constructor used))) }
         ensures debts { IfOk result (λ debts. debts.variables.items ≡ fields_given (counted_of self.old) constructor used) }
         ensures emitter { IfOk result (λ debts. debts.emitter ≡ (counted_of self.old).instance) }
+        ensures alone { IfOk result (λ debts. debts.spare.items ≡ []) }
         ensures err { OnErr result (counted_of self.new ≡ fallen (counted_of self.old)) }
     {
         let Ok(steps) = self.reading(variable, constructor, used) else {
@@ -373,6 +378,29 @@ impl<'a> TokenEmitter<'a> {
         let debts = self.plain.fields(variable, constructor, used)?;
         self.work.put_all(steps);
         Ok(debts)
+    }
+
+    /// Reads the fields of a cell of that constructor that a lent variable names, and gives the variable of one of them, by
+    /// its number from 0. All of them are lent from then on.
+    pub fn field(&mut self, variable: u32, constructor: u32, at: u8) -> Result<u32, NoMemory>
+        requires writes { Writes (counted_of self.old) }
+        requires lent { IsLentTo (counted_of self.old) variable }
+        requires field { HasField (counted_of self.old) constructor at }
+        ensures going { OnOk result ((counted_of self.old).failed ≡ false) }
+        ensures ok { OnOk result (counted_of self.new ≡ looked (counted_of self.old) variable constructor 0) }
+        ensures tokens { OnOk result (tokens_of self.new ≡ adds (tokens_of self.old) (reads_with variable constructor (fields_at (counted_of self.old) constructor) [])) }
+        ensures variable { IfOk result (λ field. field ≡ (counted_of self.old).next + at) }
+        ensures err { OnErr result (counted_of self.new ≡ fallen (counted_of self.old)) }
+    {
+        let Ok(steps) = self.reading(variable, constructor, 0) else {
+            return Err(self.plain.fail());
+        };
+        if self.work.reserve(steps.len()).is_err() {
+            return Err(self.plain.fail());
+        }
+        let field = self.plain.field(variable, constructor, at)?;
+        self.work.put_all(steps);
+        Ok(field)
     }
 
     // The steps that read the fields of a cell, and duplicate those that the mask names.
@@ -429,6 +457,7 @@ impl<'a> TokenEmitter<'a> {
         requires has { HasSpare (counted_of self.old) (tokens_of self.old) spare.emitter spare.slot }
         requires owns { OwnsAll (counted_of self.old) debts.emitter debts.variables.items }
         requires fields { HasFields (counted_of self.old) constructor (length debts.variables.items) }
+        requires alone { debts.spare.items ≡ [] }
         requires some { 0 < length debts.variables.items }
         ensures going { OnOk result ((counted_of self.old).failed ≡ false) }
         ensures ok { OnOk result (counted_of self.new ≡ computed (counted_of self.old) (Form.Construct constructor) debts.variables.items debts.variables.items) }
@@ -455,6 +484,7 @@ impl<'a> TokenEmitter<'a> {
         requires has { HasSpare (counted_of self.old) (tokens_of self.old) spare.emitter spare.slot }
         requires owns { OwnsAll (counted_of self.old) debts.emitter debts.variables.items }
         requires fields { HasFields (counted_of self.old) constructor (length debts.variables.items) }
+        requires alone { debts.spare.items ≡ [] }
         requires some { 0 < length debts.variables.items }
         requires known { HasKnown (counted_of self.old) (tokens_of self.old) spare.slot (kept_by keep (length debts.variables.items)) debts.variables.items }
         ensures going { OnOk result ((counted_of self.old).failed ≡ false) }
@@ -488,6 +518,7 @@ impl<'a> TokenEmitter<'a> {
         requires has { HasSpare (counted_of self.old) (tokens_of self.old) spare.emitter spare.slot }
         requires owns { OwnsAll (counted_of self.old) debts.emitter debts.variables.items }
         requires fields { HasFields (counted_of self.old) constructor (length debts.variables.items) }
+        requires alone { debts.spare.items ≡ [] }
         requires some { 0 < length debts.variables.items }
         requires known { HasKnown (counted_of self.old) (tokens_of self.old) spare.slot kept.items debts.variables.items }
         ensures going { OnOk result ((counted_of self.old).failed ≡ false) }
