@@ -2,4 +2,10 @@
 #![tactic(auto)]
 
 #[cfg(test)]
+mod expecting;
+#[cfg(test)]
+mod lists;
+#[cfg(test)]
+mod losing;
+#[cfg(test)]
 mod rebuilding;

@@ -1,0 +1,534 @@
+//! Functions on pairs and lists: each call of an emitter of code with tokens writes the steps that are expected.
+
+ghost use Rattle.std.specs.Prelude.{◌≡◌, ◌∷◌, [], true, false, None, IfOk, OnOk, OnErr};
+ghost use Rattle.kk_syntax.specs.Shapes.{without};
+ghost use Rattle.kk_syntax.specs.declared.positions.Ownership.TheVariants.{Owned, Lent};
+ghost use Rattle.kk_counted.specs.Shaping.{positions_in, fields_in};
+ghost use Rattle.kk_counted.specs.Drafts.{minus_all, Writes, Owns, OwnsAll, HasFields};
+ghost use Rattle.kk_counted.specs.TokenDrafts.{kept_by};
+ghost use Rattle.kk_counted.specs.TokenEmissions.{counted_of, tokens_of};
+ghost use Rattle.kk_counted.specs.TokenEmitting.{HasKnown, HasSpare, HasNoSpare, IsTokenedFunctionOf};
+
+use crate::expecting::{calls, computes, fills, opens, opens_by_count, reads};
+use crate::losing::{abandoned, lose, lose_only, lose_token};
+use kk_base::NoMemory;
+use kk_core::ConstructorShape;
+use kk_counted::{
+    Debts, InstanceShape, Owed, Parameter, Shape, Spare, TokenEmitter, TokenedFun, TokenedLast,
+    TokenedStep, give_up,
+};
+use kk_syntax::{BinaryOperator, Form, Ownership};
+use std::alloc::Global;
+
+/// The shape of a program with one function of one parameter. It is a cell, whose type has one constructor with two fields.
+fn shape_of_pairs(alloc: Global, ownership: Ownership) -> Result<Shape, NoMemory>
+    ensures positions { IfOk result (λ shape. positions_in shape.instances.items ≡ (ownership ∷ []) ∷ []) }
+    ensures fields { IfOk result (λ shape. fields_in shape.constructors.items ≡ 2 ∷ []) }
+{
+    let parameter = Parameter {
+        ownership,
+        has_cells: true,
+    };
+    let instance = InstanceShape {
+        parameters: vec![in alloc; parameter]?,
+        result_has_cells: true,
+    };
+    let constructor = ConstructorShape {
+        of_type: 0,
+        tag: 0,
+        has_cells: true,
+        fields: vec![in alloc; false, true]?,
+    };
+    Ok(Shape::new(vec![in alloc; instance]?, vec![in alloc; constructor]?))
+}
+
+/// The references of the two fields of a cell, in their order.
+fn two_fields(
+    alloc: Global,
+    emitter: &mut TokenEmitter<'_>,
+    first: Owed,
+    second: Owed,
+) -> Result<Debts, NoMemory>
+    requires { first.emitter ≡ second.emitter }
+    ensures same { OnOk result (emitter.new ≡ emitter.old) }
+    ensures variables { IfOk result (λ fields. fields.variables.items ≡ first.variable ∷ second.variable ∷ []) }
+    ensures emitter { IfOk result (λ fields. fields.emitter ≡ first.emitter) }
+    ensures spare { IfOk result (λ fields. fields.spare.items ≡ []) }
+    ensures failed { OnErr result ((counted_of emitter.new).failed ≡ true) }
+{
+    let mut fields = Debts::new(alloc);
+    if let Err(kept) = fields.put(first) {
+        let error = abandoned(emitter, kept);
+        fields.close();
+        lose(emitter, second);
+        return Err(error);
+    }
+    if let Err(kept) = fields.put(second) {
+        let error = abandoned(emitter, kept);
+        lose_only(emitter, fields);
+        return Err(error);
+    }
+    Ok(fields)
+}
+
+/// Ends a function by a cell of two fields, in the cell of its only token, which has the fields that the mask names.
+fn filled(
+    alloc: Global,
+    mut emitter: TokenEmitter<'_>,
+    spare: Spare,
+    keep: u8,
+    first: Owed,
+    second: Owed,
+) -> Result<TokenedFun, NoMemory>
+    requires inside { (counted_of emitter).failed ≡ false → ((counted_of emitter).inside ≡ true) × ((counted_of emitter).ending ≡ None) }
+    requires has { HasSpare (counted_of emitter) (tokens_of emitter) spare.emitter spare.slot }
+    requires alone { (counted_of emitter).failed ≡ false → without (spare.slot ∷ []) (tokens_of emitter).spare ≡ [] }
+    requires known { HasKnown (counted_of emitter) (tokens_of emitter) spare.slot (kept_by keep 2) (first.variable ∷ second.variable ∷ []) }
+    requires owns { OwnsAll (counted_of emitter) first.emitter (first.variable ∷ second.variable ∷ []) }
+    requires only { (counted_of emitter).failed ≡ false → minus_all (first.variable ∷ second.variable ∷ []) (counted_of emitter).owed ≡ [] }
+    requires of { first.emitter ≡ second.emitter }
+    requires called { (counted_of emitter).failed ≡ false → (counted_of emitter).uncalled ≡ [] }
+    requires fields { HasFields (counted_of emitter) 0 2 }
+    ensures { IfOk result (λ function. IsTokenedFunctionOf (counted_of emitter.entry).positions (counted_of emitter.entry).instance function) }
+{
+    let fields = match two_fields(alloc, &mut emitter, first, second) {
+        Ok(fields) => fields,
+        Err(error) => {
+            lose_token(&mut emitter, spare);
+            return Err(error);
+        }
+    };
+    let built = match emitter.construct_over(spare, 0, keep, fields) {
+        Ok(built) => built,
+        Err(kept) => return Err(abandoned(&mut emitter, kept)),
+    };
+    match emitter.finish(built) {
+        Ok(function) => Ok(function),
+        Err(kept) => Err(give_up(kept)),
+    }
+}
+
+/// The function `fun keep(p: pair): pair { match p { Pair(x, y) -> { val z = 9; Pair(z, y) } } }`. It leaves the second field,
+/// which its cell has already.
+fn keep(alloc: Global, shape: &Shape) -> Result<TokenedFun, NoMemory>
+    requires positions { positions_in shape.now.instances.items ≡ (Owned ∷ []) ∷ [] }
+    requires fields { fields_in shape.now.constructors.items ≡ 2 ∷ [] }
+    ensures { IfOk result (λ function. IsTokenedFunctionOf (positions_in shape.now.instances.items) 0 function) }
+{
+    let mut emitter = TokenEmitter::start(alloc, shape, 0)?;
+    let cell = emitter.param(0)?;
+    let (mut opened, spare) = match emitter.unpack_unique(cell, 0, 2) {
+        Ok(both) => both,
+        Err(kept) => return Err(abandoned(&mut emitter, kept)),
+    };
+    let Some(second) = opened.take() else {
+        unreachable!();
+    };
+    opened.close();
+    let number = match emitter.plain(Form::Number(9), Vec::new(alloc)) {
+        Ok(number) => number,
+        Err(kept) => {
+            let error = abandoned(&mut emitter, kept);
+            lose(&mut emitter, second);
+            lose_token(&mut emitter, spare);
+            return Err(error);
+        }
+    };
+    filled(alloc, emitter, spare, 2, number, second)
+}
+
+/// It opens the cell and gives its first field up, and builds one in its place that has the second field already.
+#[test]
+fn a_second_field_is_left(rt: HostRuntime) -> Result<(), NoMemory> {
+    let shape = shape_of_pairs(rt.alloc(), Ownership::Owned)?;
+    let function = keep(rt.alloc(), &shape)?;
+    let steps = &function.body.steps;
+    assert_eq!(rt; steps.len(), 3);
+    assert!(rt; opens_by_count(&steps[0], &[1, 2], &[2]));
+    assert!(rt; computes(&steps[1], 3, Form::Number(9), &[], &[0]));
+    assert!(rt; fills(&steps[2], 4, 3, &[2], &[1]));
+    assert!(rt; matches!(function.body.last, TokenedLast::Return(4)));
+    Ok(())
+}
+
+/// Ends a function by a new cell of two fields.
+fn constructed(
+    alloc: Global,
+    mut emitter: TokenEmitter<'_>,
+    first: Owed,
+    second: Owed,
+) -> Result<TokenedFun, NoMemory>
+    requires inside { (counted_of emitter).failed ≡ false → ((counted_of emitter).inside ≡ true) × ((counted_of emitter).ending ≡ None) }
+    requires none { HasNoSpare (counted_of emitter) (tokens_of emitter) }
+    requires owns { OwnsAll (counted_of emitter) first.emitter (first.variable ∷ second.variable ∷ []) }
+    requires only { (counted_of emitter).failed ≡ false → minus_all (first.variable ∷ second.variable ∷ []) (counted_of emitter).owed ≡ [] }
+    requires of { first.emitter ≡ second.emitter }
+    requires called { (counted_of emitter).failed ≡ false → (counted_of emitter).uncalled ≡ [] }
+    requires fields { HasFields (counted_of emitter) 0 2 }
+    ensures { IfOk result (λ function. IsTokenedFunctionOf (counted_of emitter.entry).positions (counted_of emitter.entry).instance function) }
+{
+    let fields = two_fields(alloc, &mut emitter, first, second)?;
+    let built = match emitter.construct(0, fields) {
+        Ok(built) => built,
+        Err(kept) => return Err(abandoned(&mut emitter, kept)),
+    };
+    match emitter.finish(built) {
+        Ok(function) => Ok(function),
+        Err(kept) => Err(give_up(kept)),
+    }
+}
+
+/// The row of `fun tails(xs: list): list { match xs { Cons(_, xx) -> Cons(xs, tails(xx)) } }`. The cell stays.
+fn tails(alloc: Global, shape: &Shape) -> Result<TokenedFun, NoMemory>
+    requires positions { positions_in shape.now.instances.items ≡ (Owned ∷ []) ∷ [] }
+    requires fields { fields_in shape.now.constructors.items ≡ 2 ∷ [] }
+    ensures { IfOk result (λ function. IsTokenedFunctionOf (positions_in shape.now.instances.items) 0 function) }
+{
+    let mut emitter = TokenEmitter::start(alloc, shape, 0)?;
+    let cell = emitter.param(0)?;
+    let mut read = match emitter.fields(0, 0, 2) {
+        Ok(read) => read,
+        Err(error) => {
+            lose(&mut emitter, cell);
+            return Err(error);
+        }
+    };
+    let Some(rest) = read.take() else {
+        unreachable!();
+    };
+    read.close();
+    let argument = match emitter.hand_over(rest) {
+        Ok(argument) => argument,
+        Err(kept) => {
+            let error = abandoned(&mut emitter, kept);
+            lose(&mut emitter, cell);
+            return Err(error);
+        }
+    };
+    let Ok(arguments) = Vec::from_slice(alloc, &[argument]) else {
+        let error = emitter.fail();
+        lose(&mut emitter, cell);
+        return Err(error);
+    };
+    let value = match emitter.called(0, arguments) {
+        Ok(value) => value,
+        Err(kept) => {
+            let error = abandoned(&mut emitter, kept);
+            lose(&mut emitter, cell);
+            return Err(error);
+        }
+    };
+    constructed(alloc, emitter, cell, value)
+}
+
+/// It reads the fields of the cell, which stays, and builds a new one.
+#[test]
+fn a_cell_that_is_read_stays(rt: HostRuntime) -> Result<(), NoMemory> {
+    let shape = shape_of_pairs(rt.alloc(), Ownership::Owned)?;
+    let function = tails(rt.alloc(), &shape)?;
+    let steps = &function.body.steps;
+    assert_eq!(rt; steps.len(), 4);
+    assert!(rt; reads(&steps[0], 0, &[1, 2]));
+    assert!(rt; matches!(steps[1], TokenedStep::Dup { variable: 2 }));
+    assert!(rt; computes(&steps[2], 3, Form::Call(0), &[2], &[]));
+    assert!(rt; computes(&steps[3], 4, Form::Construct(0), &[0, 3], &[]));
+    assert!(rt; matches!(function.body.last, TokenedLast::Return(4)));
+    Ok(())
+}
+
+/// The row of `fun inc(xs: list): list { match xs { Cons(x, xx) -> Cons(x + 1, inc(xx)) } }`. Its cell is held while it calls
+/// itself.
+fn inc(alloc: Global, shape: &Shape) -> Result<TokenedFun, NoMemory>
+    requires positions { positions_in shape.now.instances.items ≡ (Owned ∷ []) ∷ [] }
+    requires fields { fields_in shape.now.constructors.items ≡ 2 ∷ [] }
+    ensures { IfOk result (λ function. IsTokenedFunctionOf (positions_in shape.now.instances.items) 0 function) }
+{
+    let mut emitter = TokenEmitter::start(alloc, shape, 0)?;
+    let cell = emitter.param(0)?;
+    let (mut opened, spare) = match emitter.unpack_unique(cell, 0, 3) {
+        Ok(both) => both,
+        Err(kept) => return Err(abandoned(&mut emitter, kept)),
+    };
+    let Some(rest) = opened.take() else {
+        unreachable!();
+    };
+    let Some(number) = opened.take() else {
+        unreachable!();
+    };
+    opened.close();
+    match emitter.plain(Form::Number(1), Vec::new(alloc)) {
+        Ok(one) => summed(alloc, emitter, spare, number, one, rest),
+        Err(kept) => {
+            let error = abandoned(&mut emitter, kept);
+            lose(&mut emitter, number);
+            lose(&mut emitter, rest);
+            lose_token(&mut emitter, spare);
+            Err(error)
+        }
+    }
+}
+
+/// Goes on with the sum of both numbers.
+fn summed(
+    alloc: Global,
+    mut emitter: TokenEmitter<'_>,
+    spare: Spare,
+    number: Owed,
+    one: Owed,
+    rest: Owed,
+) -> Result<TokenedFun, NoMemory>
+    requires inside { (counted_of emitter).failed ≡ false → ((counted_of emitter).inside ≡ true) × ((counted_of emitter).ending ≡ None) }
+    requires positions { (counted_of emitter).positions ≡ (Owned ∷ []) ∷ [] }
+    requires fields { (counted_of emitter).field_counts ≡ 2 ∷ [] }
+    requires called { (counted_of emitter).failed ≡ false → (counted_of emitter).uncalled ≡ [] }
+    requires owed { (counted_of emitter).failed ≡ false → (counted_of emitter).owed ≡ 1 ∷ 2 ∷ 3 ∷ [] }
+    requires next { (counted_of emitter).failed ≡ false → (counted_of emitter).next ≡ 4 }
+    requires spare { (counted_of emitter).failed ≡ false → (tokens_of emitter).spare ≡ 0 ∷ [] }
+    requires slot { (spare.slot ≡ 0) × (spare.emitter ≡ (counted_of emitter).instance) }
+    requires number { (number.variable ≡ 1) × (number.emitter ≡ (counted_of emitter).instance) }
+    requires one { (one.variable ≡ 3) × (one.emitter ≡ (counted_of emitter).instance) }
+    requires rest { (rest.variable ≡ 2) × (rest.emitter ≡ (counted_of emitter).instance) }
+    ensures { IfOk result (λ function. IsTokenedFunctionOf (counted_of emitter.entry).positions (counted_of emitter.entry).instance function) }
+{
+    let arguments = match handed_over(alloc, &mut emitter, number, one) {
+        Ok(arguments) => arguments,
+        Err(error) => {
+            lose(&mut emitter, rest);
+            lose_token(&mut emitter, spare);
+            return Err(error);
+        }
+    };
+    match emitter.plain(Form::Binary(BinaryOperator::Add), arguments) {
+        Ok(sum) => called_and_filled(alloc, emitter, spare, sum, rest),
+        Err(kept) => {
+            let error = abandoned(&mut emitter, kept);
+            lose(&mut emitter, rest);
+            lose_token(&mut emitter, spare);
+            Err(error)
+        }
+    }
+}
+
+/// Hands two references over.
+fn handed_over(
+    alloc: Global,
+    emitter: &mut TokenEmitter<'_>,
+    first: Owed,
+    second: Owed,
+) -> Result<Vec<u32>, NoMemory>
+    requires writes { Writes (counted_of emitter.old) }
+    requires first { Owns (counted_of emitter.old) first.emitter first.variable }
+    requires second { Owns (counted_of emitter.old) second.emitter second.variable }
+    ensures counted { OnOk result (counted_of emitter.new ≡ counted_of emitter.old) }
+    ensures tokens { OnOk result (tokens_of emitter.new ≡ tokens_of emitter.old) }
+    ensures arguments { IfOk result (λ arguments. arguments.items ≡ first.variable ∷ second.variable ∷ []) }
+    ensures failed { OnErr result ((counted_of emitter.new).failed ≡ true) }
+{
+    let one = match emitter.hand_over(first) {
+        Ok(one) => one,
+        Err(kept) => {
+            let error = abandoned(emitter, kept);
+            lose(emitter, second);
+            return Err(error);
+        }
+    };
+    let two = match emitter.hand_over(second) {
+        Ok(two) => two,
+        Err(kept) => return Err(abandoned(emitter, kept)),
+    };
+    let Ok(arguments) = Vec::from_slice(alloc, &[one, two]) else {
+        return Err(emitter.fail());
+    };
+    Ok(arguments)
+}
+
+/// Calls the function on the rest of the list, and ends by a cell of the sum and what the call gives.
+fn called_and_filled(
+    alloc: Global,
+    mut emitter: TokenEmitter<'_>,
+    spare: Spare,
+    sum: Owed,
+    rest: Owed,
+) -> Result<TokenedFun, NoMemory>
+    requires inside { (counted_of emitter).failed ≡ false → ((counted_of emitter).inside ≡ true) × ((counted_of emitter).ending ≡ None) }
+    requires positions { (counted_of emitter).positions ≡ (Owned ∷ []) ∷ [] }
+    requires fields { (counted_of emitter).field_counts ≡ 2 ∷ [] }
+    requires called { (counted_of emitter).failed ≡ false → (counted_of emitter).uncalled ≡ [] }
+    requires owed { (counted_of emitter).failed ≡ false → (counted_of emitter).owed ≡ 2 ∷ 4 ∷ [] }
+    requires next { (counted_of emitter).failed ≡ false → (counted_of emitter).next ≡ 5 }
+    requires spare { (counted_of emitter).failed ≡ false → (tokens_of emitter).spare ≡ 0 ∷ [] }
+    requires slot { (spare.slot ≡ 0) × (spare.emitter ≡ (counted_of emitter).instance) }
+    requires sum { (sum.variable ≡ 4) × (sum.emitter ≡ (counted_of emitter).instance) }
+    requires rest { (rest.variable ≡ 2) × (rest.emitter ≡ (counted_of emitter).instance) }
+    ensures { IfOk result (λ function. IsTokenedFunctionOf (counted_of emitter.entry).positions (counted_of emitter.entry).instance function) }
+{
+    let argument = match emitter.hand_over(rest) {
+        Ok(argument) => argument,
+        Err(kept) => {
+            let error = abandoned(&mut emitter, kept);
+            lose(&mut emitter, sum);
+            lose_token(&mut emitter, spare);
+            return Err(error);
+        }
+    };
+    let Ok(arguments) = Vec::from_slice(alloc, &[argument]) else {
+        let error = emitter.fail();
+        lose(&mut emitter, sum);
+        lose_token(&mut emitter, spare);
+        return Err(error);
+    };
+    match emitter.called(0, arguments) {
+        Ok(value) => filled(alloc, emitter, spare, 0, sum, value),
+        Err(kept) => {
+            let error = abandoned(&mut emitter, kept);
+            lose(&mut emitter, sum);
+            lose_token(&mut emitter, spare);
+            Err(error)
+        }
+    }
+}
+
+/// It adds 1, holds the token, calls itself, takes the token back, and builds a cell in its place.
+#[test]
+fn a_number_of_a_list_is_increased(rt: HostRuntime) -> Result<(), NoMemory> {
+    let shape = shape_of_pairs(rt.alloc(), Ownership::Owned)?;
+    let function = inc(rt.alloc(), &shape)?;
+    let steps = &function.body.steps;
+    assert_eq!(rt; steps.len(), 7);
+    assert!(rt; opens_by_count(&steps[0], &[1, 2], &[1, 2]));
+    assert!(rt; computes(&steps[1], 3, Form::Number(1), &[], &[0]));
+    assert!(rt;
+        computes(
+            &steps[2],
+            4,
+            Form::Binary(BinaryOperator::Add),
+            &[1, 3],
+            &[0]
+        )
+    );
+    assert!(rt; matches!(steps[3], TokenedStep::Hold { slot: 0 }));
+    assert!(rt; computes(&steps[4], 5, Form::Call(0), &[2], &[0]));
+    assert!(rt; matches!(steps[5], TokenedStep::Unhold { slot: 0 }));
+    assert!(rt; fills(&steps[6], 6, 4, &[5], &[]));
+    assert!(rt; matches!(function.body.last, TokenedLast::Return(6)));
+    Ok(())
+}
+
+/// The function that duplicates its parameter, drops one of the two references, and gives the other.
+fn drops_one_of_two(alloc: Global, shape: &Shape) -> Result<TokenedFun, NoMemory>
+    requires positions { positions_in shape.now.instances.items ≡ (Owned ∷ []) ∷ [] }
+    ensures { IfOk result (λ function. IsTokenedFunctionOf (positions_in shape.now.instances.items) 0 function) }
+{
+    let mut emitter = TokenEmitter::start(alloc, shape, 0)?;
+    let first = emitter.param(0)?;
+    let second = match emitter.dup(&first) {
+        Ok(second) => second,
+        Err(error) => {
+            lose(&mut emitter, first);
+            return Err(error);
+        }
+    };
+    if let Err(kept) = emitter.drop_ref(second) {
+        let error = abandoned(&mut emitter, kept);
+        lose(&mut emitter, first);
+        return Err(error);
+    }
+    match emitter.finish(first) {
+        Ok(function) => Ok(function),
+        Err(kept) => Err(give_up(kept)),
+    }
+}
+
+/// Both steps are written.
+#[test]
+fn a_dup_and_a_drop_are_written(rt: HostRuntime) -> Result<(), NoMemory> {
+    let shape = shape_of_pairs(rt.alloc(), Ownership::Owned)?;
+    let function = drops_one_of_two(rt.alloc(), &shape)?;
+    let steps = &function.body.steps;
+    assert_eq!(rt; steps.len(), 2);
+    assert!(rt; matches!(steps[0], TokenedStep::Dup { variable: 0 }));
+    assert!(rt; matches!(steps[1], TokenedStep::Drop { variable: 0 }));
+    assert!(rt; matches!(function.body.last, TokenedLast::Return(0)));
+    Ok(())
+}
+
+/// The function of a lent pair that gives its second field.
+fn second_of_lent(alloc: Global, shape: &Shape) -> Result<TokenedFun, NoMemory>
+    requires positions { positions_in shape.now.instances.items ≡ (Lent ∷ []) ∷ [] }
+    requires fields { fields_in shape.now.constructors.items ≡ 2 ∷ [] }
+    ensures { IfOk result (λ function. IsTokenedFunctionOf (positions_in shape.now.instances.items) 0 function) }
+{
+    let mut emitter = TokenEmitter::start(alloc, shape, 0)?;
+    let field = emitter.field(0, 0, 1)?;
+    let second = emitter.dup_lent(field)?;
+    match emitter.finish(second) {
+        Ok(function) => Ok(function),
+        Err(kept) => Err(give_up(kept)),
+    }
+}
+
+/// It reads both fields, which are lent, and makes a reference of its own of the second one.
+#[test]
+fn a_lent_field_is_duplicated(rt: HostRuntime) -> Result<(), NoMemory> {
+    let shape = shape_of_pairs(rt.alloc(), Ownership::Lent)?;
+    let function = second_of_lent(rt.alloc(), &shape)?;
+    let steps = &function.body.steps;
+    assert_eq!(rt; steps.len(), 2);
+    assert!(rt; reads(&steps[0], 0, &[1, 2]));
+    assert!(rt; matches!(steps[1], TokenedStep::Dup { variable: 2 }));
+    assert!(rt; matches!(function.body.last, TokenedLast::Return(2)));
+    Ok(())
+}
+
+/// The function `fun last(xs: list): list { match xs { Cons(_, xx) -> last(xx) } }`. It frees the cell that it opens.
+fn last(alloc: Global, shape: &Shape) -> Result<TokenedFun, NoMemory>
+    requires positions { positions_in shape.now.instances.items ≡ (Owned ∷ []) ∷ [] }
+    requires fields { fields_in shape.now.constructors.items ≡ 2 ∷ [] }
+    ensures { IfOk result (λ function. IsTokenedFunctionOf (positions_in shape.now.instances.items) 0 function) }
+{
+    let mut emitter = TokenEmitter::start(alloc, shape, 0)?;
+    let cell = emitter.param(0)?;
+    let (mut opened, spare) = match emitter.unpack(cell, 0, 2) {
+        Ok(both) => both,
+        Err(kept) => return Err(abandoned(&mut emitter, kept)),
+    };
+    if let Err(kept) = opened.put_spare(spare) {
+        let error = abandoned(&mut emitter, kept);
+        lose_only(&mut emitter, opened);
+        return Err(error);
+    }
+    let Some(rest) = opened.take() else {
+        unreachable!();
+    };
+    let Some(spare) = opened.take_spare() else {
+        unreachable!();
+    };
+    opened.close();
+    if let Err(kept) = emitter.release(spare) {
+        let error = abandoned(&mut emitter, kept);
+        lose(&mut emitter, rest);
+        return Err(error);
+    }
+    let argument = match emitter.hand_over(rest) {
+        Ok(argument) => argument,
+        Err(kept) => return Err(abandoned(&mut emitter, kept)),
+    };
+    let arguments = Vec::from_slice(alloc, &[argument])?;
+    match emitter.finish_tail(0, arguments) {
+        Ok(function) => Ok(function),
+        Err(kept) => Err(give_up(kept)),
+    }
+}
+
+/// It opens the cell and gives its first field up, frees the cell, and calls itself.
+#[test]
+fn a_cell_is_freed_before_a_tail_call(rt: HostRuntime) -> Result<(), NoMemory> {
+    let shape = shape_of_pairs(rt.alloc(), Ownership::Owned)?;
+    let function = last(rt.alloc(), &shape)?;
+    let steps = &function.body.steps;
+    assert_eq!(rt; steps.len(), 2);
+    assert!(rt; opens(&steps[0], &[1, 2], &[2]));
+    assert!(rt; matches!(steps[1], TokenedStep::Free { slot: 0 }));
+    assert!(rt; calls(&function.body.last, &[2]));
+    Ok(())
+}

@@ -1,0 +1,49 @@
+//! What a caller does that has found no memory: it spends all that it holds.
+
+ghost use Rattle.std.specs.Prelude.{◌≡◌, [], true, length};
+ghost use Rattle.kk_counted.specs.TokenEmissions.{counted_of};
+
+use kk_base::NoMemory;
+use kk_counted::{Debts, Kept, Owed, Spare, TokenEmitter};
+
+/// Spends what a call could not take. The emitter has failed from then on.
+pub fn abandoned(emitter: &mut TokenEmitter<'_>, kept: Kept) -> NoMemory
+    ensures { (counted_of emitter.new).failed ≡ true }
+{
+    emitter.abandon(kept);
+    NoMemory
+}
+
+/// Spends a reference of an emitter that has failed.
+pub fn lose(emitter: &mut TokenEmitter<'_>, owed: Owed)
+    requires { (counted_of emitter.old).failed ≡ true }
+    ensures { (counted_of emitter.new).failed ≡ true }
+{
+    if let Err(kept) = emitter.drop_ref(owed) {
+        emitter.abandon(kept);
+    }
+}
+
+/// Spends a token of an emitter that has failed.
+pub fn lose_token(emitter: &mut TokenEmitter<'_>, spare: Spare)
+    requires { (counted_of emitter.old).failed ≡ true }
+    ensures { (counted_of emitter.new).failed ≡ true }
+{
+    if let Err(kept) = emitter.release(spare) {
+        emitter.abandon(kept);
+    }
+}
+
+/// Spends the only reference of some debts of an emitter that has failed.
+pub fn lose_only(emitter: &mut TokenEmitter<'_>, mut debts: Debts)
+    requires failed { (counted_of emitter.old).failed ≡ true }
+    requires one { length debts.variables.items ≡ 1 }
+    requires spare { debts.spare.items ≡ [] }
+    ensures { (counted_of emitter.new).failed ≡ true }
+{
+    let Some(owed) = debts.take() else {
+        unreachable!();
+    };
+    debts.close();
+    lose(emitter, owed);
+}
