@@ -5,7 +5,6 @@ use Rattle.kk_base.specs.Machines.{Machine, state, trace}
 use Rattle.kk_base.specs.Sizes.{AreSizes}
 use Rattle.kk_base.specs.Trace.{Event}
 use Rattle.kk_base.proofs.Agreements.{agree_through}
-use Rattle.kk_base.proofs.Simulations.{simulates_many}
 use Rattle.rv_isa.specs.declared.asm.Asm.{Asm}
 use Rattle.rv_isa.specs.declared.placed.DataSection.{DataSection}
 use Rattle.rv_isa.specs.declared.placed.Placed.{Placed}
@@ -33,12 +32,12 @@ use Rattle.rv_world.specs.Operations.{Constants, all_bytes}
 use Rattle.rv_world.specs.World.{World, first_world, primitives}
 use Rattle.rv_regs.specs.Valid.{IsValid}
 use Rattle.rv_regs.specs.Shape.{IsPlainlyPlaced}
-use Rattle.rv_regs.specs.Relation.{NeverStuck as RegsNeverStuck, StandsFor as RegsStandsFor, Related as RegsRelated, IsNotStuck}
+use Rattle.rv_regs.specs.Relation.{NeverStuck as RegsNeverStuck, StandsFor as RegsStandsFor}
 use Rattle.rv_regs.specs.LinesReached.{line_of}
 use Rattle.rv_regs.proofs.LinesReached.{lines_there, lines_apart}
 use Rattle.rv_regs.proofs.Reaching.{comes_to_lines, follows_each_state}
 use Rattle.rv_regs.proofs.Steps.{callee_both}
-use Rattle.rv_regs.proofs.Simulating.{agrees, starts, simulates, never_stuck}
+use Rattle.rv_regs.proofs.MeaningKept.{agrees_exactly, never_stuck, reaches_each}
 use Rattle.rv_place.specs.Addresses.{frame_size}
 use Rattle.rv_place.specs.Bytes.{IsTextOf}
 use Rattle.rv_place.specs.Images.{IsPlacedImage, EndsWithCells, first_processor, outside_lines}
@@ -287,11 +286,15 @@ module _ {cells depth : ℕ} {asm : Asm} {placed runtime : Placed} {words : Word
     -- the assembler code agrees with the placed code from its first function on, which never is at a loss
     placed_agrees : (placed_main : PlacedLines) × (slice_get (placed_functions placed) 0 ≡ Some placed_main)
         × Agree (asm_machine (primitives constants pool) depth (asm_functions asm)) (placed_machine (primitives constants pool) depth (placed_functions placed)) 0 (λ steps. steps * 1 + 0 + 1) (asm_start main (first_world pool input)) (placed_start placed_main (first_world pool input))
-    placed_agrees = agrees (primitives constants pool) depth (asm_functions asm) (placed_functions placed) makes.valid.functions 0 main (first_world pool input) makes.plain.few_moves makes.made.main_is makes.made.main_params never
+    placed_agrees =
+        agrees_exactly (primitives constants pool) depth (asm_functions asm) (placed_functions placed) makes.valid.functions 0 main
+        (first_world pool input) makes.plain.few_moves makes.made.main_is makes.made.main_params never
 
     goes_on : (placed_main : PlacedLines) × (slice_get (placed_functions placed) 0 ≡ Some placed_main)
         × ((steps : ℕ) → state (placed_machine (primitives constants pool) depth (placed_functions placed)) steps (placed_start placed_main (first_world pool input)) ≢ stuck)
-    goes_on = never_stuck (primitives constants pool) depth (asm_functions asm) (placed_functions placed) makes.valid.functions 0 main (first_world pool input) makes.plain.few_moves makes.made.main_is makes.made.main_params never
+    goes_on =
+        never_stuck (primitives constants pool) depth (asm_functions asm) (placed_functions placed) makes.valid.functions 0 main
+        (first_world pool input) makes.made.main_is makes.made.main_params never
 
     placed_image : IsPlacedImage cells depth runtime placed words text placed_agrees.0
     placed_image = image_by placed_agrees.0 placed_agrees.1
@@ -323,7 +326,7 @@ module _ {cells depth : ℕ} {asm : Asm} {placed runtime : Placed} {words : Word
         × HasCells pool world.cells s))))
     comes text_comes n f k world has is =
         let high = comes_to_lines (primitives constants pool) depth (asm_functions asm) (placed_functions placed) main
-        (first_world pool input) makes.valid.functions makes.plain.few_moves makes.made.main_is makes.made.main_params never in
+        (first_world pool input) makes.valid.functions makes.made.main_is makes.made.main_params never in
         let begins : PlacedTurn World Ending = start_of cells runtime placed high.0 input in
         let there = high.1.1 n f k world has is in
         let on_constants = subst (λ (c : Constants).
@@ -342,7 +345,7 @@ module _ {cells depth : ℕ} {asm : Asm} {placed runtime : Placed} {words : Word
         × HasCells pool high.shared.cells s)))
     follows text_comes n high is =
         let each = follows_each_state (primitives constants pool) depth (asm_functions asm) (placed_functions placed) main
-        (first_world pool input) makes.valid.functions makes.plain.few_moves makes.made.main_is makes.made.main_params never in
+        (first_world pool input) makes.valid.functions makes.made.main_is makes.made.main_params never in
         let begins : PlacedTurn World Ending = start_of cells runtime placed each.0 input in
         let there = each.1.1 n high is in
         let middle : PlacedState World = there.1.0 in
@@ -374,16 +377,15 @@ module _ {cells depth : ℕ} {asm : Asm} {placed runtime : Placed} {words : Word
         → state (asm_machine (primitives constants pool) depth (asm_functions asm)) n (asm_start main (first_world pool input)) ≡ ended how world
         → (steps : ℕ) × (state (placed_machine (primitives constants pool) depth (placed_functions placed)) steps (placed_start placed_agrees.0 (first_world pool input)) ≡ ended how world)
     placed_ends n how world is =
-        let begins = starts (primitives constants pool) depth (asm_functions asm) (placed_functions placed) makes.valid.functions 0 main (first_world pool input) makes.plain.few_moves makes.made.main_is makes.made.main_params never in
-        let same : begins.0 ≡ placed_agrees.0 = same_some begins.0 placed_agrees.0 (sym begins.1 ∙ placed_agrees.1) in
-        let reaches = simulates_many (asm_machine (primitives constants pool) depth (asm_functions asm)) (placed_machine (primitives constants pool) depth (placed_functions placed))
-        (RegsRelated (primitives constants pool) depth (asm_functions asm)) IsNotStuck 1 (simulates (primitives constants pool) depth (asm_functions asm) (placed_functions placed) makes.valid.functions makes.plain.few_moves)
-        n 0 0 (asm_start main (first_world pool input)) (placed_start begins.0 (first_world pool input)) begins.2 in
-        let last = state (placed_machine (primitives constants pool) depth (placed_functions placed)) reaches.steps (placed_start begins.0 (first_world pool input)) in
-        let stands = subst (λ (t : AsmTurn World Ending). RegsStandsFor t last) is reaches.related.1.0 in (
-          reaches.steps,
-          subst (λ (m : PlacedLines). state (placed_machine (primitives constants pool) depth (placed_functions placed)) reaches.steps (placed_start m (first_world pool input)) ≡ ended how world) same (ended_alike how world last stands),
-        )
+        let reached = reaches_each (primitives constants pool) depth (asm_functions asm) (placed_functions placed) makes.valid.functions 0
+        main (first_world pool input) makes.made.main_is makes.made.main_params never in
+        let same : reached.0 ≡ placed_agrees.0 = same_some reached.0 placed_agrees.0 (sym reached.1 ∙ placed_agrees.1) in
+        let there = reached.2 n in
+        let last : PlacedLines → PlacedTurn World Ending = λ first.
+        state (placed_machine (primitives constants pool) depth (placed_functions placed)) there.0
+        (placed_start first (first_world pool input)) in
+        let stands = subst (λ (t : AsmTurn World Ending). RegsStandsFor t (last reached.0)) is there.1.1 in
+        (there.0, subst (λ (first : PlacedLines). last first ≡ ended how world) same (ended_alike how world (last reached.0) stands))
 
     pub ends : PlacedTextEnds → (n : ℕ) (how : Ending) (world : World)
         → state (asm_machine (primitives constants pool) depth (asm_functions asm)) n (asm_start main (first_world pool input)) ≡ ended how world

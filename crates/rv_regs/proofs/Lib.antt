@@ -5,7 +5,9 @@ pub mod Chains
 pub mod Tokens
 pub mod Steps
 pub mod Following
+pub mod Extra
 pub mod Simulating
+pub mod MeaningKept
 pub mod Rows
 pub mod Paying
 pub mod Lists

@@ -5,7 +5,6 @@ use Rattle.std.proofs.lemmas.Option.{slice_get_within}
 use Rattle.std.proofs.lemmas.List.{append-nil}
 use Rattle.kk_base.specs.Machines.{trace, state}
 use Rattle.kk_base.proofs.Machines.{state-add, trace-add}
-use Rattle.kk_base.proofs.Simulations.{simulates_many}
 use Rattle.rv_isa.specs.AsmCode.{Line, Lines}
 use Rattle.rv_isa.specs.PlacedCode.{PlacedLine, does, moves, PlacedLines, from_of, to_of}
 use Rattle.rv_isa.specs.Primitives.{Primitives, go, ended, stuck}
@@ -14,11 +13,11 @@ use Rattle.rv_isa.specs.AsmMachine.{AsmState, AsmTurn, asm_machine, asm_start}
 use Rattle.rv_isa.specs.PlacedMachine.{PlacedState, PlacedTurn, read_at, registers_with, slots_with, is_held, placed_line, placed_next, placed_told, placed_machine, placed_start}
 use Rattle.rv_isa.specs.LinePlaces.{IsBehindLines, IsAtFrame, AsmIsAt, PlacedIsAt, AsmHasLine}
 use Rattle.rv_regs.specs.Conditions.{without_moves, ArePlacings}
-use Rattle.rv_regs.specs.Relation.{FramesStand, StandsFor, NeverStuck, AllFewMoves, Related, IsNotStuck}
+use Rattle.rv_regs.specs.Relation.{FramesStand, StandsFor, NeverStuck}
 use Rattle.rv_regs.specs.LinesReached.{line_of}
 use Rattle.rv_regs.proofs.LinesReached.{line_is, line_of_is}
 use Rattle.rv_regs.proofs.InCode.{AreInCode, TurnInCode, drop_next, entered_in_code, stays_in_code}
-use Rattle.rv_regs.proofs.Simulating.{simulates, starts, never_stuck}
+use Rattle.rv_regs.proofs.MeaningKept.{never_stuck, reaches_each}
 
 -- what goes on where a test may fail is what follows
 passes_test : {A : Type 0} (b : Bool) (t u : A) → cond b t u ≢ t → cond b t u ≡ u
@@ -142,21 +141,8 @@ module _ {H E W : Type 0} (m : Primitives H E W) (depth : ℕ) (asm : List Lines
         ),
       )
 
-  -- from related starts
-  pub comes_from : ArePlacings asm placed → AllFewMoves placed → (s : AsmTurn H W) (t : PlacedTurn H W)
-      → Related m depth asm 0 0 s t → TurnInCode placed t → NeverStops t
-      → (n f k : ℕ) (shared : H) → AsmHasLine asm f k → AsmIsAt asm f k shared (state (asm_machine m depth asm) n s)
-      → (count : ℕ) × ((trace (placed_machine m depth placed) count t ≡ trace (asm_machine m depth asm) n s)
-      × PlacedIsAt placed f (line_of placed f k) shared (state (placed_machine m depth placed) count t))
-  comes_from all few s t related in_code never n f k shared has is =
-      let upper = asm_machine m depth asm in
-      let lower = placed_machine m depth placed in
-      let simulation = simulates m depth asm placed all few in
-      let many = simulates_many upper lower (Related m depth asm) IsNotStuck 1 simulation n 0 0 s t related in
-      from_reached f k shared (state upper n s) t many.steps (trace upper n s) many.events_are has is many.related.1.0 in_code never
-
-  -- and from the start of the first function
-  pub comes_to_lines : (main : Lines) (first : H) → ArePlacings asm placed → AllFewMoves placed → slice_get asm 0 ≡ Some main
+  -- from the start of the first function
+  pub comes_to_lines : (main : Lines) (first : H) → ArePlacings asm placed → slice_get asm 0 ≡ Some main
       → main.params ≡ [] → NeverStuck m depth asm (asm_start main first)
       → (placed_main : PlacedLines) × ((slice_get placed 0 ≡ Some placed_main)
       × ((n f k : ℕ) (shared : H) → AsmHasLine asm f k
@@ -165,14 +151,18 @@ module _ {H E W : Type 0} (m : Primitives H E W) (depth : ℕ) (asm : List Lines
       ≡ trace (asm_machine m depth asm) n (asm_start main first))
       × PlacedIsAt placed f (line_of placed f k) shared
       (state (placed_machine m depth placed) count (placed_start placed_main first)))))
-  comes_to_lines main first all few e none never =
-      let start = starts m depth asm placed all 0 main first few e none never in
-      let goes = never_stuck m depth asm placed all 0 main first few e none never in
-      let same : goes.0 ≡ start.0 = cc in (
+  comes_to_lines main first all e none never =
+      let start = reaches_each m depth asm placed all 0 main first e none never in
+      let goes = never_stuck m depth asm placed all 0 main first e none never in
+      let same : goes.0 ≡ start.0 = cc in
+      let upper_at : ℕ → AsmTurn H W = λ n. state (asm_machine m depth asm) n (asm_start main first) in (
         start.0,
         (
           start.1,
-          comes_from all few (asm_start main first) (placed_start start.0 first) start.2
+          λ n f k shared has is.
+              let there = start.2 n in
+              from_reached f k shared (upper_at n) (placed_start start.0 first) there.0
+              (trace (asm_machine m depth asm) n (asm_start main first)) there.1.0 has is there.1.1
               (entered_in_code placed 0 start.0 start.1, tt)
               (subst (λ (main' : PlacedLines). NeverStops (placed_start main' first)) same goes.2),
         ),
@@ -186,31 +176,24 @@ module _ {H E W : Type 0} (m : Primitives H E W) (depth : ℕ) (asm : List Lines
   shares_alike s stuck stands = absurd stands
 
   -- from the start of the first function, each state is followed by one that shares the same
-  pub follows_each_state : (main : Lines) (first : H) → ArePlacings asm placed → AllFewMoves placed → slice_get asm 0 ≡ Some main
+  pub follows_each_state : (main : Lines) (first : H) → ArePlacings asm placed → slice_get asm 0 ≡ Some main
       → main.params ≡ [] → NeverStuck m depth asm (asm_start main first)
       → (placed_main : PlacedLines) × ((slice_get placed 0 ≡ Some placed_main)
       × ((n : ℕ) (s : AsmState H) → state (asm_machine m depth asm) n (asm_start main first) ≡ go s
       → (count : ℕ) × ((t : PlacedState H) × ((state (placed_machine m depth placed) count (placed_start placed_main first) ≡ go t)
       × ((trace (placed_machine m depth placed) count (placed_start placed_main first)
       ≡ trace (asm_machine m depth asm) n (asm_start main first)) × (t.shared ≡ s.shared))))))
-  follows_each_state main first all few e none never =
-      let start = starts m depth asm placed all 0 main first few e none never in
-      (start.0, (start.1, by start.0 start.2))
-    where
-      by : (placed_main : PlacedLines) → Related m depth asm 0 0 (asm_start main first) (placed_start placed_main first)
-          → (n : ℕ) (s : AsmState H) → state (asm_machine m depth asm) n (asm_start main first) ≡ go s
-          → (count : ℕ) × ((t : PlacedState H)
-          × ((state (placed_machine m depth placed) count (placed_start placed_main first) ≡ go t)
-          × ((trace (placed_machine m depth placed) count (placed_start placed_main first)
-          ≡ trace (asm_machine m depth asm) n (asm_start main first)) × (t.shared ≡ s.shared))))
-      by placed_main related n s state_is =
-          let upper = asm_machine m depth asm in
-          let lower = placed_machine m depth placed in
-          let simulation = simulates m depth asm placed all few in
-          let many = simulates_many upper lower (Related m depth asm) IsNotStuck 1 simulation n 0 0 (asm_start main first)
-          (placed_start placed_main first) related in
-          let there : PlacedTurn H W = state lower many.steps (placed_start placed_main first) in
-          let stands : StandsFor {H = H} {W = W} (go s) there
-          = subst (λ (turn : AsmTurn H W). StandsFor turn there) state_is many.related.1.0 in
-          let alike = shares_alike s there stands in
-          (many.steps, (alike.0, (alike.1.0, (many.events_are, alike.1.1))))
+  follows_each_state main first all e none never =
+      let start = reaches_each m depth asm placed all 0 main first e none never in (
+        start.0,
+        (
+          start.1,
+          λ n s state_is.
+              let there = start.2 n in
+              let last : PlacedTurn H W = state (placed_machine m depth placed) there.0 (placed_start start.0 first) in
+              let stands : StandsFor {H = H} {W = W} (go s) last
+              = subst (λ (turn : AsmTurn H W). StandsFor turn last) state_is there.1.1 in
+              let alike = shares_alike s last stands in
+              (there.0, (alike.0, (alike.1.0, (there.1.0, alike.1.1)))),
+        ),
+      )

@@ -101,7 +101,8 @@ leading_code (line ∷ rest) =
     )
 
 -- stores, so many, before such code
-leading_both : (point : PointLists) (ls : List Loaded) (most : ℕ) (code : List Line) → length ls ≤ most → leading (stores point ls (placed_code code)) ≤ most + first_args (stores point ls (placed_code code))
+leading_both : (point : PointLists) (ls : List Loaded) (most : ℕ) (code : List Line) → length ls ≤ most
+    → leading (stores point ls (placed_code code)) ≤ most + (first_args (stores point ls (placed_code code)) + 0)
 leading_both point ls most code few = omega (arith, few, leading_stores point ls (placed_code code), args_stores point ls (placed_code code), leading_code code)
 
 same_given : (action : Action) (into : Option ℕ) → result_moves (result_of action into) ≡ result_moves into

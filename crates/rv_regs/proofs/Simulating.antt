@@ -6,8 +6,7 @@ use Rattle.std.proofs.lemmas.List.Elements.{All-head}
 use Rattle.std.proofs.lemmas.Bool.{cond-true, cond-false, or_from, ne_eqb, false≢true}
 use Rattle.kk_base.specs.Machines.{trace, state, weight_of}
 use Rattle.kk_base.specs.Simulations.{Reaches, Simulates}
-use Rattle.kk_base.specs.Agreements.{Agree}
-use Rattle.kk_base.proofs.Simulations.{ended_reaches, simulates_agree, simulates_passing}
+use Rattle.kk_base.proofs.Simulations.{ended_reaches}
 use Rattle.rv_isa.specs.declared.asm.Action.{Action}
 use Rattle.rv_isa.specs.declared.placed.Operand.{Operand}
 use Rattle.rv_isa.specs.declared.placed.Listed.{Listed}
@@ -24,7 +23,7 @@ use Rattle.rv_isa.specs.AsmMachine.{AsmTurn, asm_acts, asm_line, asm_machine, as
 use Rattle.rv_isa.specs.PlacedMachine.{PlacedState, PlacedTurn, read_at, registers_with, slots_with, is_held, placed_acts, placed_line, placed_next, placed_machine, placed_told, placed_weight, placed_line_weight, placed_start}
 use Rattle.rv_regs.specs.Listings.{first_alive}
 use Rattle.rv_regs.specs.Conditions.{value_of, without_moves, IsAtPlace, HasCopyIn, IsCopied, IsKept, AllFit, ArePlacings}
-use Rattle.rv_regs.specs.Relation.{HeldAs, Stands, AllWait, FramesStand, StandsFor, NeverStuck, leading, first_args, FewMoves, FunctionFewMoves, AllFewMoves, FramesFewMoves, stores_before, HasFewMoves, Related, IsNotStuck}
+use Rattle.rv_regs.specs.Relation.{HeldAs, Stands, AllWait, FramesStand, StandsFor, NeverStuck, leading, first_args, MovesWithin, FunctionMovesWithin, AllMovesWithin, FramesMovesWithin, stores_before, HasMovesWithin, asm_machine_with, Related, IsNotStuck}
 use Rattle.rv_regs.proofs.Changing.{holds_next, change_place}
 use Rattle.rv_regs.proofs.Chains.{token, IsNext, held_next}
 use Rattle.rv_regs.proofs.Placing.{listed_has}
@@ -90,7 +89,7 @@ clear_of_held alive next action reads write kept vs ks held = by write.place ref
     by (register r) at = refl
     by (slot j) at = none j at vs ks held
 
-module _ {H E W : Type 0} (m : Primitives H E W) (depth : ℕ) (asm : List Lines) (placed : List PlacedLines) (all : ArePlacings asm placed) where
+module _ {H E W : Type 0} (m : Primitives H E W) (depth : ℕ) (asm : List Lines) (placed : List PlacedLines) (all : ArePlacings asm placed) (extra : ℕ) where
   -- a statement of the code that is left makes turns that stand for each other
   statement : (alive : List Listed) (action : Action) (args : List Operand) (into : Option Operand) (rest : List PlacedLine) (registers : ℕ → Option ℕ) (shared : H) (f : Frame Line) (fs : List (Frame Line)) (g : Frame PlacedLine) (gs : List (Frame PlacedLine))
       → g.code ≡ does alive action args into ∷ rest → Stands (first_alive g.code) registers f g → AllWait fs gs
@@ -156,7 +155,7 @@ module _ {H E W : Type 0} (m : Primitives H E W) (depth : ℕ) (asm : List Lines
     events_are : trace (placed_machine m depth placed) steps t ≡ events
     passes : (k : ℕ) → k < steps → state (placed_machine m depth placed) k t ≢ stuck
     stands : StandsFor s (state (placed_machine m depth placed) steps t)
-    few : HasFewMoves left (state (placed_machine m depth placed) steps t)
+    few : HasMovesWithin extra left (state (placed_machine m depth placed) steps t)
 
   not_stuck : (t : PlacedState H) → IsNotStuck {H = H} {W = W} (go t)
   not_stuck t e = cc
@@ -165,7 +164,7 @@ module _ {H E W : Type 0} (m : Primitives H E W) (depth : ℕ) (asm : List Lines
   ended_not_stuck how shared e = cc
 
   -- one step
-  arrives_now : (weight left : ℕ) (s : AsmTurn H W) (t : PlacedState H) → placed_weight m (go t) + left ≤ weight → s ≢ stuck → StandsFor s (placed_next m depth placed (go t)) → HasFewMoves left (placed_next m depth placed (go t))
+  arrives_now : (weight left : ℕ) (s : AsmTurn H W) (t : PlacedState H) → placed_weight m (go t) + left ≤ weight → s ≢ stuck → StandsFor s (placed_next m depth placed (go t)) → HasMovesWithin extra left (placed_next m depth placed (go t))
       → Arrives weight (drop (length (m.told t.shared)) (asm_told m s)) s (go t)
   arrives_now weight left s t within goes stands few =
       let told : asm_told m s ≡ placed_told m (placed_next m depth placed (go t)) = told_same s (placed_next m depth placed (go t)) goes stands in
@@ -208,14 +207,14 @@ module _ {H E W : Type 0} (m : Primitives H E W) (depth : ℕ) (asm : List Lines
 
   -- The moves before a statement, and the statement. What it pays is the moves before it that are its loads, and `weight`.
   arrives : (weight : ℕ) (code : List PlacedLine) (registers : ℕ → Option ℕ) (shared : H) (f : Frame Line) (fs : List (Frame Line)) (g : Frame PlacedLine) (gs : List (Frame PlacedLine))
-      → AllFewMoves placed → g.code ≡ code → Stands (first_alive g.code) registers f g → AllWait fs gs → FramesFewMoves (g ∷ gs) → asm_line m depth asm f fs shared f.code ≢ stuck
-      → asm_line_weight m (f ∷ fs) shared f f.code + stores_before gs * move_instructions ≤ weight + first_args code * move_instructions
+      → AllMovesWithin extra placed → g.code ≡ code → Stands (first_alive g.code) registers f g → AllWait fs gs → FramesMovesWithin extra (g ∷ gs) → asm_line m depth asm f fs shared f.code ≢ stuck
+      → asm_line_weight m (f ∷ fs) shared f f.code + stores_before extra gs * move_instructions ≤ weight + first_args code * move_instructions
       → Arrives (leading code * move_instructions + weight) (drop (length (m.told shared)) (asm_told m (asm_line m depth asm f fs shared f.code)))
       (asm_line m depth asm f fs shared f.code) (go (record { frames = g ∷ gs; registers = registers; shared = shared }))
   arrives weight [] registers shared f fs g gs all_few at stands waits few goes pays =
       absurd (goes (ap (asm_line m depth asm f fs shared) (sym stands.same.code ∙ ap without_moves at)))
   arrives weight (does alive action args into ∷ rest) registers shared f fs g gs all_few at stands waits few goes pays =
-      let left : ℕ = (argument_stores action (length args) + result_moves into + stores_before gs) * move_instructions in
+      let left : ℕ = (argument_stores action (length args) + result_moves into + stores_before extra gs) * move_instructions in
       let here : f.code ≡ record { action = action; args = map value_of args; into = option_map value_of into } ∷ without_moves rest = sym stands.same.code ∙ ap without_moves at in
       let fits : CallFits placed action (length args)
       = call_fits m depth asm placed all action args into (without_moves rest) f fs shared (subst (λ (c : List Line). asm_line m depth asm f fs shared c ≢ stuck) here goes) in
@@ -223,7 +222,7 @@ module _ {H E W : Type 0} (m : Primitives H E W) (depth : ℕ) (asm : List Lines
       (record { frames = g ∷ gs; registers = registers; shared = shared })
       (omega (arith, pays, moves_are action (length args), weighs_same alive action args into rest registers shared f fs g gs at stands waits)) goes
       (statement alive action args into rest registers shared f fs g gs at stands waits)
-      (statement_few m depth left placed all_few alive action args into rest g gs registers shared at few fits (omega arith))
+      (statement_few extra m depth left placed all_few alive action args into rest g gs registers shared at few fits (omega arith))
   arrives weight (moves alive value way ∷ rest) registers shared f fs g gs all_few at stands waits few goes pays =
       let registers' : ℕ → Option ℕ = registers_with (to_of way) (read_at registers g.cells (from_of way)) registers in
       let g' : Frame PlacedLine = record g { code = rest; cells = slots_with (to_of way) (read_at registers g.cells (from_of way)) g.cells } in
@@ -234,7 +233,7 @@ module _ {H E W : Type 0} (m : Primitives H E W) (depth : ℕ) (asm : List Lines
       let write : Operand = record { value = value; place = to_of way } in
       let free : is_held g.held (to_of way) ≡ false = clear_of_held alive (first_alive rest) None (record { value = value; place = from_of way } ∷ []) write fit.0.kept.0 f.held g.held stands'.held in
       let on : placed_next m depth placed (go t) ≡ go t' = ap (placed_line m depth placed g gs registers shared) at ∙ cond-false (is_held g.held (to_of way)) stuck (go t') free in
-      let few' : FramesFewMoves (g' ∷ gs) = ((subst FewMoves at few.0.0, few.0.1), few.1) in
+      let few' : FramesMovesWithin extra (g' ∷ gs) = ((subst (MovesWithin extra) at few.0.0, few.0.1), few.1) in
       let later = arrives weight rest registers' shared f fs g' gs all_few refl stands' waits few' goes pays in
       let light : placed_weight m (go t) ≤ move_instructions = omega (arith, ap (placed_line_weight m (g ∷ gs) registers shared g) at) in
       let silent : drop (length (m.told shared)) (placed_told m (placed_next m depth placed (go t))) ≡ [] = ap (λ (u : PlacedTurn H W). drop (length (m.told shared)) (placed_told m u)) on ∙ drop-length (m.told shared) in
@@ -245,10 +244,10 @@ module _ {H E W : Type 0} (m : Primitives H E W) (depth : ℕ) (asm : List Lines
       (arrives_later (leading rest * move_instructions + weight) move_instructions events (asm_line m depth asm f fs shared f.code) (go t) light silent (not_stuck t) there)
 
   -- a step of the upper machine, by steps of the lower
-  steps_on : (credit idle : ℕ) (frames : List (Frame Line)) (frames' : List (Frame PlacedLine)) (registers : ℕ → Option ℕ) (shared : H) → AllFewMoves placed
-      → NeverStuck m depth asm (go (record { frames = frames; shared = shared })) → FramesStand registers frames frames' → HasFewMoves {H = H} {W = W} credit (go (record { frames = frames'; registers = registers; shared = shared }))
-      → Reaches (placed_machine m depth placed) (Related m depth asm) IsNotStuck 1 ((asm_machine m depth asm).weight (go (record { frames = frames; shared = shared })) + credit) 1 idle
-      ((asm_machine m depth asm).step (go (record { frames = frames; shared = shared }))).0 ((asm_machine m depth asm).step (go (record { frames = frames; shared = shared }))).1
+  steps_on : (credit idle : ℕ) (frames : List (Frame Line)) (frames' : List (Frame PlacedLine)) (registers : ℕ → Option ℕ) (shared : H) → AllMovesWithin extra placed
+      → NeverStuck m depth asm (go (record { frames = frames; shared = shared })) → FramesStand registers frames frames' → HasMovesWithin {H = H} {W = W} extra credit (go (record { frames = frames'; registers = registers; shared = shared }))
+      → Reaches (placed_machine m depth placed) (Related extra m depth asm) IsNotStuck 1 ((asm_machine_with extra m depth asm).weight (go (record { frames = frames; shared = shared })) + credit) 1 idle
+      ((asm_machine_with extra m depth asm).step (go (record { frames = frames; shared = shared }))).0 ((asm_machine_with extra m depth asm).step (go (record { frames = frames; shared = shared }))).1
       (go (record { frames = frames'; registers = registers; shared = shared }))
   steps_on credit idle [] frames' registers shared all_few never stands few = absurd stands
   steps_on credit idle (f ∷ fs) [] registers shared all_few never stands few = absurd stands
@@ -256,7 +255,7 @@ module _ {H E W : Type 0} (m : Primitives H E W) (depth : ℕ) (asm : List Lines
       let goes : asm_line m depth asm f fs shared f.code ≢ stuck = never 1 in
       let loads : first_args g.code * move_instructions ≤ asm_line_weight m (f ∷ fs) shared f f.code
       = subst (λ (c : List Line). first_args g.code * move_instructions ≤ asm_line_weight m (f ∷ fs) shared f c) stands.0.same.code (loads_paid m (f ∷ fs) shared f g.code) in
-      let weight : ℕ = asm_line_weight m (f ∷ fs) shared f f.code + stores_before gs * move_instructions - first_args g.code * move_instructions in
+      let weight : ℕ = asm_line_weight m (f ∷ fs) shared f f.code + stores_before extra gs * move_instructions - first_args g.code * move_instructions in
       let there = arrives weight g.code registers shared f fs g gs all_few refl stands.0 stands.1 few.0 goes (omega arith) in
       record {
         steps = there.steps;
@@ -269,22 +268,22 @@ module _ {H E W : Type 0} (m : Primitives H E W) (depth : ℕ) (asm : List Lines
         related = ((λ n. never (suc n)), (there.stands, there.few));
       }
 
-  steps_by : (credit idle : ℕ) (s : AsmTurn H W) (t : PlacedTurn H W) → AllFewMoves placed → Related m depth asm credit idle s t
-      → Reaches (placed_machine m depth placed) (Related m depth asm) IsNotStuck 1 ((asm_machine m depth asm).weight s + credit) 1 idle ((asm_machine m depth asm).step s).0 ((asm_machine m depth asm).step s).1 t
+  steps_by : (credit idle : ℕ) (s : AsmTurn H W) (t : PlacedTurn H W) → AllMovesWithin extra placed → Related extra m depth asm credit idle s t
+      → Reaches (placed_machine m depth placed) (Related extra m depth asm) IsNotStuck 1 ((asm_machine_with extra m depth asm).weight s + credit) 1 idle ((asm_machine_with extra m depth asm).step s).0 ((asm_machine_with extra m depth asm).step s).1 t
   steps_by credit idle (go s) (go t) all_few related =
-      subst (λ (shared : H). Reaches (placed_machine m depth placed) (Related m depth asm) IsNotStuck 1 ((asm_machine m depth asm).weight (go s) + credit) 1 idle ((asm_machine m depth asm).step (go s)).0 ((asm_machine m depth asm).step (go s)).1
+      subst (λ (shared : H). Reaches (placed_machine m depth placed) (Related extra m depth asm) IsNotStuck 1 ((asm_machine_with extra m depth asm).weight (go s) + credit) 1 idle ((asm_machine_with extra m depth asm).step (go s)).0 ((asm_machine_with extra m depth asm).step (go s)).1
       (go (record { frames = t.frames; registers = t.registers; shared = shared }))) related.1.0.1
       (steps_on credit idle s.frames t.frames t.registers s.shared all_few related.0 related.1.0.0 related.1.1)
   steps_by credit idle (go s) (ended how shared) all_few related = absurd related.1.0
   steps_by credit idle (go s) stuck all_few related = absurd related.1.0
   steps_by credit idle (ended how shared) (go t) all_few related = absurd related.1.0
   steps_by credit idle (ended how shared) (ended how' shared') all_few related =
-      ended_reaches (asm_machine m depth asm) (placed_machine m depth placed) (Related m depth asm) IsNotStuck 1 credit idle (ended how shared) (ended how' shared') how
+      ended_reaches (asm_machine_with extra m depth asm) (placed_machine m depth placed) (Related extra m depth asm) IsNotStuck 1 credit idle (ended how shared) (ended how' shared') how
       (omega arith) related refl (ap (λ (w : W). Some w) (sym related.1.0.0)) (ended_not_stuck how' shared')
   steps_by credit idle (ended how shared) stuck all_few related = absurd related.1.0
   steps_by credit idle stuck t all_few related = absurd (related.0 0 refl)
 
-  ends_alike : (credit idle : ℕ) (s : AsmTurn H W) (t : PlacedTurn H W) → Related m depth asm credit idle s t → end_of t ≡ end_of s
+  ends_alike : (credit idle : ℕ) (s : AsmTurn H W) (t : PlacedTurn H W) → Related extra m depth asm credit idle s t → end_of t ≡ end_of s
   ends_alike credit idle (go s) (go t) related = refl
   ends_alike credit idle (go s) (ended how shared) related = absurd related.1.0
   ends_alike credit idle (go s) stuck related = absurd related.1.0
@@ -293,29 +292,16 @@ module _ {H E W : Type 0} (m : Primitives H E W) (depth : ℕ) (asm : List Lines
   ends_alike credit idle (ended how shared) stuck related = absurd related.1.0
   ends_alike credit idle stuck t related = absurd (related.0 0 refl)
 
-  -- code with places simulates the code that it was made of
-  pub simulates : AllFewMoves placed → Simulates (asm_machine m depth asm) (placed_machine m depth placed) (Related m depth asm) IsNotStuck 1
-  simulates all_few = record { by = λ credit idle s t related. steps_by credit idle s t all_few related; alike = ends_alike }
+  -- code with places simulates the code that it was made of, where the extra moves are within so many
+  pub simulates_within : AllMovesWithin extra placed → Simulates (asm_machine_with extra m depth asm) (placed_machine m depth placed) (Related extra m depth asm) IsNotStuck 1
+  simulates_within all_few = record { by = λ credit idle s t related. steps_by credit idle s t all_few related; alike = ends_alike }
 
   -- the start of a function without parameters
-  pub starts : (n : ℕ) (main : Lines) (shared : H) → AllFewMoves placed → slice_get asm n ≡ Some main → main.params ≡ [] → NeverStuck m depth asm (asm_start main shared)
-      → (placed_main : PlacedLines) × (slice_get placed n ≡ Some placed_main) × Related m depth asm 0 0 (asm_start main shared) (placed_start placed_main shared)
-  starts n main shared all_few e none never =
+  pub starts_within : (n : ℕ) (main : Lines) (shared : H) → AllMovesWithin extra placed → slice_get asm n ≡ Some main → main.params ≡ [] → NeverStuck m depth asm (asm_start main shared)
+      → (placed_main : PlacedLines) × (slice_get placed n ≡ Some placed_main) × Related extra m depth asm 0 0 (asm_start main shared) (placed_start placed_main shared)
+  starts_within n main shared all_few e none never =
       let there = callee_both asm placed all n main e in
       let bound_is : bound main.params [] ≡ Some empty = ap (λ (params : List ℕ). bound params []) none in
-      let few : FunctionFewMoves there.0 = function_few placed n there.0 all_few there.1 in
+      let few : FunctionMovesWithin extra there.0 = function_few extra placed n there.0 all_few there.1 in
       let no_params : length there.0.params ≡ 0 = ap (λ (params : List ℕ). length params) (there.2.params ∙ none) in
       (there.0, there.1, (never, (((enters 0 main there.0 [] empty there.2 bound_is, tt), refl), (((few.1, few.1), tt), omega (arith, few.0, no_params)))))
-
-  pub agrees : (n : ℕ) (main : Lines) (shared : H) → AllFewMoves placed → slice_get asm n ≡ Some main → main.params ≡ [] → NeverStuck m depth asm (asm_start main shared)
-      → (placed_main : PlacedLines) × (slice_get placed n ≡ Some placed_main) × Agree (asm_machine m depth asm) (placed_machine m depth placed) 0 (λ steps. steps * 1 + 0 + 1) (asm_start main shared) (placed_start placed_main shared)
-  agrees n main shared all_few e none never =
-      let there = starts n main shared all_few e none never in
-      (there.0, there.1, simulates_agree (asm_machine m depth asm) (placed_machine m depth placed) (Related m depth asm) IsNotStuck 1 (simulates all_few) 0 0 (asm_start main shared) (placed_start there.0 shared) there.2)
-
-  -- from there on each state can go on, or has ended
-  pub never_stuck : (n : ℕ) (main : Lines) (shared : H) → AllFewMoves placed → slice_get asm n ≡ Some main → main.params ≡ [] → NeverStuck m depth asm (asm_start main shared)
-      → (placed_main : PlacedLines) × (slice_get placed n ≡ Some placed_main) × ((steps : ℕ) → state (placed_machine m depth placed) steps (placed_start placed_main shared) ≢ stuck)
-  never_stuck n main shared all_few e none never =
-      let there = starts n main shared all_few e none never in
-      (there.0, there.1, simulates_passing (asm_machine m depth asm) (placed_machine m depth placed) (Related m depth asm) IsNotStuck 1 (simulates all_few) 0 0 (asm_start main shared) (placed_start there.0 shared) there.2)

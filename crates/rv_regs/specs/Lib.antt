@@ -2,6 +2,7 @@ pub mod Listings
 pub mod Conditions
 pub mod Valid
 pub mod Views
+pub mod Heavier
 pub mod Relation
 pub mod Alive
 pub mod Plain

@@ -1,7 +1,7 @@
 -- When a state of the placed form's machine stands for one of the assembler form's.
-use Rattle.std.specs.Prelude.{◌≡◌, ◌≢◌, ◌⊎◌, ◌≤◌, ◌+◌, ◌-◌, ◌*◌, ℕ, suc, List, [], ◌∷◌, Option, Some, None, true, false, ⊤, length}
+use Rattle.std.specs.Prelude.{◌≡◌, ◌≢◌, ◌⊎◌, ◌≤◌, ◌+◌, ◌-◌, ◌*◌, ℕ, suc, max, List, [], ◌∷◌, Option, Some, None, true, false, ⊤, length}
 use Rattle.std.specs.List.{AllByRecursion}
-use Rattle.kk_base.specs.Machines.{state}
+use Rattle.kk_base.specs.Machines.{Machine, state}
 use Rattle.rv_isa.specs.declared.asm.Action.{Action}
 use Rattle.rv_isa.specs.declared.asm.Action.TheVariants.{Compute}
 use Rattle.rv_isa.specs.declared.placed.Place.{Place}
@@ -17,6 +17,7 @@ use Rattle.rv_isa.specs.Costs.{move_instructions, result_moves}
 use Rattle.rv_isa.specs.PlacedMachine.{PlacedTurn, read_at, number_of}
 use Rattle.rv_regs.specs.Listings.{first_alive, listed_as}
 use Rattle.rv_regs.specs.Conditions.{AtBoth, Apart, without_moves, AllFit}
+use Rattle.rv_regs.specs.Heavier.{heavier}
 
 -- each listed value stands at its place, and in the register of its copy
 abbrev pub Holds : List Listed → (ℕ → Option ℕ) → (ℕ → Option ℕ) → (ℕ → Option ℕ) → Type 0
@@ -105,36 +106,70 @@ abbrev pub stores_behind : Action → List Operand → Option Operand → ℕ
 stores_behind (Compute operation) args into = length args + result_moves into
 stores_behind action args into = result_moves into
 
--- between two statements stand no more moves than the stores behind the first and the loads before the second
-abbrev pub FewMoves : List PlacedLine → Type 0
-FewMoves [] = ⊤
-FewMoves (does alive action args into ∷ code) = (leading code ≤ stores_behind action args into + first_args code) × FewMoves code
-FewMoves (moves alive value way ∷ code) = FewMoves code
+-- Between two statements stand at most `extra` moves more than the stores behind the first and the loads before the second.
+abbrev pub MovesWithin : ℕ → List PlacedLine → Type 0
+MovesWithin extra [] = ⊤
+MovesWithin extra (does alive action args into ∷ code) =
+    (leading code ≤ stores_behind action args into + (first_args code + extra)) × MovesWithin extra code
+MovesWithin extra (moves alive value way ∷ code) = MovesWithin extra code
 
--- and before the first one no more than the stores of the parameters, and its loads
+-- and before the first one no more than the stores of the parameters, and its loads, and as many
+abbrev pub FunctionMovesWithin : ℕ → PlacedLines → Type 0
+FunctionMovesWithin extra function =
+    (leading function.code ≤ length function.params + (first_args function.code + extra)) × MovesWithin extra function.code
+
+abbrev pub AllMovesWithin : ℕ → List PlacedLines → Type 0
+AllMovesWithin extra functions = AllByRecursion (FunctionMovesWithin extra) functions
+
+-- no more than that
+abbrev pub FewMoves : List PlacedLine → Type 0
+FewMoves code = MovesWithin 0 code
+
 abbrev pub FunctionFewMoves : PlacedLines → Type 0
-FunctionFewMoves function = (leading function.code ≤ length function.params + first_args function.code) × FewMoves function.code
+FunctionFewMoves function = FunctionMovesWithin 0 function
 
 abbrev pub AllFewMoves : List PlacedLines → Type 0
-AllFewMoves functions = AllByRecursion FunctionFewMoves functions
+AllFewMoves functions = AllMovesWithin 0 functions
 
-abbrev pub FramesFewMoves : List (Frame PlacedLine) → Type 0
-FramesFewMoves frames = AllByRecursion (λ (frame : Frame PlacedLine). FewMoves frame.code × FewMoves frame.whole) frames
+-- The most moves that stand before one statement beyond these: 0 where code has few moves.
+abbrev pub extra_in : List PlacedLine → ℕ
+extra_in [] = 0
+extra_in (does alive action args into ∷ code) =
+    max (leading code - (stores_behind action args into + first_args code)) (extra_in code)
+extra_in (moves alive value way ∷ code) = extra_in code
 
--- the moves at the front of each frame's code that are no loads of its first statement: earlier statements have paid for them
-abbrev pub stores_before : List (Frame PlacedLine) → ℕ
-stores_before [] = 0
-stores_before (frame ∷ frames) = (leading frame.code - first_args frame.code) + stores_before frames
+abbrev pub function_extra : PlacedLines → ℕ
+function_extra function = max (leading function.code - (length function.params + first_args function.code)) (extra_in function.code)
 
--- a state with few moves, and those that were paid for are within the weight that is saved
-abbrev pub HasFewMoves : {H W : Type 0} → ℕ → PlacedTurn H W → Type 0
-HasFewMoves credit (go t) = FramesFewMoves t.frames × (stores_before t.frames * move_instructions ≤ credit)
-HasFewMoves credit (ended how shared) = ⊤
-HasFewMoves credit stuck = ⊤
+abbrev pub most_extra : List PlacedLines → ℕ
+most_extra [] = 0
+most_extra (function ∷ functions) = max (function_extra function) (most_extra functions)
+
+abbrev pub FramesMovesWithin : ℕ → List (Frame PlacedLine) → Type 0
+FramesMovesWithin extra frames =
+    AllByRecursion (λ (frame : Frame PlacedLine). MovesWithin extra frame.code × MovesWithin extra frame.whole) frames
+
+-- The moves at the front of each frame's code that its first statement does not pay for, by its loads and the extra ones: earlier
+-- statements have paid for them.
+abbrev pub stores_before : ℕ → List (Frame PlacedLine) → ℕ
+stores_before extra [] = 0
+stores_before extra (frame ∷ frames) = (leading frame.code - (first_args frame.code + extra)) + stores_before extra frames
+
+-- a state with no more moves, and those that were paid for are within the weight that is saved
+abbrev pub HasMovesWithin : {H W : Type 0} → ℕ → ℕ → PlacedTurn H W → Type 0
+HasMovesWithin extra credit (go t) = FramesMovesWithin extra t.frames × (stores_before extra t.frames * move_instructions ≤ credit)
+HasMovesWithin extra credit (ended how shared) = ⊤
+HasMovesWithin extra credit stuck = ⊤
+
+-- ---- the simulation
+
+-- The assembler form's machine, of which each step weighs so many moves more: the extra ones before the statement.
+abbrev pub asm_machine_with : {H E W : Type 0} → ℕ → Primitives H E W → ℕ → List Lines → Machine (AsmTurn H W) E W
+asm_machine_with extra m depth asm = heavier (extra * move_instructions) (asm_machine m depth asm)
 
 -- what the simulation keeps; the weight that it saves is for the stores to come
-abbrev pub Related : {H E W : Type 0} → Primitives H E W → ℕ → List Lines → ℕ → ℕ → AsmTurn H W → PlacedTurn H W → Type 0
-Related m depth asm credit idle s t = NeverStuck m depth asm s × (StandsFor s t × HasFewMoves credit t)
+abbrev pub Related : {H E W : Type 0} → ℕ → Primitives H E W → ℕ → List Lines → ℕ → ℕ → AsmTurn H W → PlacedTurn H W → Type 0
+Related extra m depth asm credit idle s t = NeverStuck m depth asm s × (StandsFor s t × HasMovesWithin extra credit t)
 
 -- the placed form's machine passes no state in which it can do nothing
 abbrev pub IsNotStuck : {H W : Type 0} → PlacedTurn H W → Type 0

@@ -9,7 +9,7 @@ ghost use Rattle.rv_isa.specs.AsmMachine.{AsmState, asm_machine, asm_start};
 ghost use Rattle.rv_isa.specs.PlacedMachine.{PlacedState, placed_machine, placed_start};
 ghost use Rattle.rv_isa.specs.LinePlaces.{AsmIsAt, PlacedIsAt, AsmHasLine, PlacedHasLine};
 ghost use Rattle.rv_regs.specs.Valid.{IsValid};
-ghost use Rattle.rv_regs.specs.Relation.{NeverStuck, AllFewMoves};
+ghost use Rattle.rv_regs.specs.Relation.{NeverStuck};
 ghost use Rattle.rv_regs.specs.LinesReached.{line_of};
 
 use crate::keeps::Execution;
@@ -28,7 +28,7 @@ pub fn placed_forms_come_to_each_line<M: Execution>()
         → (f k j : ℕ) → AsmHasLine (asm_functions asm) f k → AsmHasLine (asm_functions asm) f j
         → line_of (placed_functions placed) f k ≡ line_of (placed_functions placed) f j → k ≡ j }
     ensures comes { (asm : Asm) (placed : Placed) (depth : ℕ) (main : Lines) (shared : M.Shared) → IsValid asm placed
-        → AllFewMoves (placed_functions placed) → slice_get (asm_functions asm) 0 ≡ Some main → main.params ≡ []
+        → slice_get (asm_functions asm) 0 ≡ Some main → main.params ≡ []
         → NeverStuck M.primitives depth (asm_functions asm) (asm_start main shared)
         → (placed_main : PlacedLines) × ((slice_get (placed_functions placed) 0 ≡ Some placed_main)
         × ((n f k : ℕ) (now : M.Shared) → AsmHasLine (asm_functions asm) f k
@@ -38,7 +38,7 @@ pub fn placed_forms_come_to_each_line<M: Execution>()
         × PlacedIsAt (placed_functions placed) f (line_of (placed_functions placed) f k) now
         (state (placed_machine M.primitives depth (placed_functions placed)) m (placed_start placed_main shared))))) }
     ensures follows { (asm : Asm) (placed : Placed) (depth : ℕ) (main : Lines) (shared : M.Shared) → IsValid asm placed
-        → AllFewMoves (placed_functions placed) → slice_get (asm_functions asm) 0 ≡ Some main → main.params ≡ []
+        → slice_get (asm_functions asm) 0 ≡ Some main → main.params ≡ []
         → NeverStuck M.primitives depth (asm_functions asm) (asm_start main shared)
         → (placed_main : PlacedLines) × ((slice_get (placed_functions placed) 0 ≡ Some placed_main)
         × ((n : ℕ) (s : AsmState M.Shared)

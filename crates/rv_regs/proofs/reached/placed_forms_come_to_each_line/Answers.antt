@@ -13,9 +13,10 @@ returns-clause-apart g c = λ asm placed valid. lines_apart (asm_functions asm) 
 
 pub returns-clause-comes : goal.returns-clause-comes
 returns-clause-comes g c =
-    λ asm placed depth main shared valid few e none never. comes_to_lines g.M.Execution.primitives depth (asm_functions asm) (placed_functions placed) main shared valid.functions few e none never
+    λ asm placed depth main shared valid e none never. comes_to_lines g.M.Execution.primitives depth (asm_functions asm)
+    (placed_functions placed) main shared valid.functions e none never
 
 pub returns-clause-follows : goal.returns-clause-follows
 returns-clause-follows g c =
-    λ asm placed depth main shared valid few e none never. follows_each_state g.M.Execution.primitives depth (asm_functions asm)
-    (placed_functions placed) main shared valid.functions few e none never
+    λ asm placed depth main shared valid e none never. follows_each_state g.M.Execution.primitives depth (asm_functions asm)
+    (placed_functions placed) main shared valid.functions e none never
