@@ -1,11 +1,10 @@
 -- How many extra moves code has, and machines that weigh as many more.
-use Rattle.std.proofs.Common.{◌≡◌, ◌+◌, ◌-◌, ◌*◌, ◌≤◌, ℕ, zero, suc, List, [], ◌∷◌, ◌++◌, Option, Some, None, length, refl, ap, arith, add-mul}
-use Rattle.std.specs.Prelude.{max}
+use Rattle.std.proofs.Common.{◌≡◌, ◌+◌, ◌*◌, ◌≤◌, ℕ, zero, suc, List, [], ◌∷◌, ◌++◌, Option, Some, None, refl, ap, arith, add-mul}
 use Rattle.kk_base.specs.Machines.{Machine, state, trace, weight_of, weight_unless}
 use Rattle.kk_base.specs.Simulations.{Reaches, Simulates}
 use Rattle.rv_isa.specs.PlacedCode.{PlacedLine, does, moves, PlacedLines}
 use Rattle.rv_regs.specs.Heavier.{heavier}
-use Rattle.rv_regs.specs.Relation.{leading, first_args, stores_behind, MovesWithin, AllMovesWithin, FewMoves, AllFewMoves, extra_in, function_extra, most_extra}
+use Rattle.rv_regs.specs.Relation.{MovesWithin, AllMovesWithin, FewMoves, AllFewMoves, extra_in, function_extra, most_extra}
 
 -- ---- the extra moves
 

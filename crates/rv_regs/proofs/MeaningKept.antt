@@ -1,5 +1,5 @@
 -- What each valid placed form keeps of its assembler form, however many moves stand in it.
-use Rattle.std.proofs.Common.{◌≡◌, ◌≢◌, ◌+◌, ◌*◌, ℕ, List, [], Option, Some, slice_get, ◌∙◌, subst, arith}
+use Rattle.std.proofs.Common.{◌≡◌, ◌≢◌, ◌+◌, ◌*◌, ℕ, List, [], Some, slice_get, ◌∙◌, subst, arith}
 use Rattle.kk_base.specs.Machines.{Machine, trace, state}
 use Rattle.kk_base.specs.Simulations.{Simulates}
 use Rattle.kk_base.specs.Agreements.{Agree}

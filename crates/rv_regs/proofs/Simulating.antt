@@ -19,7 +19,7 @@ use Rattle.rv_isa.specs.Primitives.{Primitives, go, ended, stuck, or_stuck, end_
 use Rattle.rv_isa.specs.Conventions.{conforms}
 use Rattle.rv_isa.specs.Costs.{instructions_of, move_instructions, argument_moves, result_moves}
 use Rattle.rv_isa.specs.Frames.{Frame, empty, all_of, top, is_among}
-use Rattle.rv_isa.specs.AsmMachine.{AsmTurn, asm_acts, asm_line, asm_machine, asm_told, asm_line_weight, asm_start, bound}
+use Rattle.rv_isa.specs.AsmMachine.{AsmTurn, asm_acts, asm_line, asm_told, asm_line_weight, asm_start, bound}
 use Rattle.rv_isa.specs.PlacedMachine.{PlacedState, PlacedTurn, read_at, registers_with, slots_with, is_held, placed_acts, placed_line, placed_next, placed_machine, placed_told, placed_weight, placed_line_weight, placed_start}
 use Rattle.rv_regs.specs.Listings.{first_alive}
 use Rattle.rv_regs.specs.Conditions.{value_of, without_moves, IsAtPlace, HasCopyIn, IsCopied, IsKept, AllFit, ArePlacings}
