@@ -21,7 +21,7 @@ use Rattle.rv_isa.specs.ProcessorMachine.{processor_machine}
 use Rattle.rv_isa.specs.Costs.{functions_length, placed_functions_length}
 use Rattle.rv_isa.specs.Sizes.{wide_frame}
 use Rattle.elf_image.specs.Parts.{memory_of}
-use Rattle.elf_image.specs.Program.{IsProgramImage, program_parts, text_start, memory_start}
+use Rattle.elf_image.specs.Program.{IsProgramImage, program_parts, memory_size_of, text_start, memory_start}
 use Rattle.elf_image.specs.declared.part.Part.{Part}
 use Rattle.cell_heap.specs.Pool.{Pool}
 use Rattle.cell_runtime.specs.declared.start.TheConstants.{TEXT_WORDS}
@@ -411,6 +411,11 @@ image_of {cells} {depth} {asm} {placed} {runtime} {words} {text} makes text_agre
     = ap (λ (p : List Part). start (memory_of p) entry) parts_are ∙ ap (λ e. start (memory_of (program_parts text runtime.memory.size)) e) entry_is in
     record {
       program = program;
+      memory = record {
+        frame = frame_size (placed_functions placed);
+        small = frame_most (placed_functions placed) makes.plain.slots;
+        size = ap memory_size_of parts_are ∙ ap (λ (memory : DataSection). memory.size) makes.runtime_is.memory;
+      };
       pool = pool makes;
       cells_are = refl;
       aligned = memory_aligned (text_bytes runtime placed);

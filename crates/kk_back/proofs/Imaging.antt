@@ -43,7 +43,7 @@ use Rattle.rv_world.specs.World.{first_world, primitives}
 use Rattle.kk_back.specs.Assembled.{IsPlaceable, IsAsmImage, IsImageOfAsm}
 use Rattle.kk_back.specs.Images.{counted_setting, IsRunnable, IsImageOf, HasOwnAddresses}
 use Rattle.kk_back.specs.FreeCells.{AreAllFree}
-use Rattle.kk_back.specs.Sizes.{FitsText}
+use Rattle.kk_back.specs.Sizes.{FitsText, HasMemory}
 use Rattle.kk_back.proofs.Assembling.{same_some}
 use Rattle.kk_back.proofs.FreeCells.{all_are_free}
 use Rattle.kk_back.proofs.OwnAddresses.{own_addresses}
@@ -141,6 +141,10 @@ module _ (shape : Shape) (code : TokenedProgram) (functions : List Lines) (texts
     -- a text, and memory
     pub is_program : IsProgramImage entry parts
     is_program = image.program
+
+    -- and the memory has this room
+    pub has_memory : HasMemory cells depth parts
+    has_memory = image.memory
 
     abbrev constants : Constants
     constants = record { first = image.first; texts = texts }

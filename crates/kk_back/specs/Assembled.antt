@@ -21,7 +21,7 @@ use Rattle.rv_place.specs.Running.{HasCells}
 use Rattle.rv_place.specs.Texts.{most_functions}
 use Rattle.rv_world.specs.Operations.{Constants, all_bytes}
 use Rattle.rv_world.specs.World.{World, first_world, primitives}
-use Rattle.kk_back.specs.Sizes.{FitsText}
+use Rattle.kk_back.specs.Sizes.{FitsText, HasMemory}
 
 -- Assembler code that can be placed: it is well formed and small, its functions are few, and the first one takes no arguments.
 pub record IsPlaceable (functions : List Lines) (texts : List (List ℕ)) : Type 0 where
@@ -65,13 +65,14 @@ pub record HasLineAddresses (functions : List Lines) (main : Lines) (constants :
       ≡ trace (asm_machine (primitives constants pool) depth functions) n (asm_start main (first_world pool input)))
       × HasCells pool high.shared.cells s)))
 
--- An image of assembler code, for so many cells and such a depth, by where its cells and its constants stand. On each input on which
--- that code never is at a loss, the processor's machine agrees with the code's; where the code ends, so does the processor, whose
--- memory has the cells of the world then; outside of the runtime's words, which stand at the entry, no free cell is touched; and
--- the code's lines have their addresses.
+-- An image of assembler code, for so many cells and such a depth, for which its memory has room, by where its cells and its
+-- constants stand. On each input on which that code never is at a loss, the processor's machine agrees with the code's; where the
+-- code ends, so does the processor, whose memory has the cells of the world then; outside of the runtime's words, which stand at the
+-- entry, no free cell is touched; and the code's lines have their addresses.
 pub record IsAsmImage (functions : List Lines) (texts : List (List ℕ)) (main : Lines) (cells depth entry : ℕ) (parts : List Part)
     : Type 0 where
   pub program : IsProgramImage entry parts
+  pub memory : HasMemory cells depth parts
   pub pool : Pool
   pub cells_are : pool.cells ≡ cells
   pub aligned : pool.first % 32 ≡ 0

@@ -8,6 +8,7 @@ ghost use Rattle.kk_base.specs.Sizes.{AreSizes};
 ghost use Rattle.kk_counted.specs.TokenedForms.{tokened_program};
 ghost use Rattle.elf_image.specs.Program.{IsProgramImage};
 ghost use Rattle.rv_cells.specs.Tables.{layout_in};
+ghost use Rattle.kk_back.specs.Sizes.{HasMemory};
 ghost use Rattle.kk_back.specs.Images.{IsRunnable, IsImageOfTokened, HasOwnAddresses};
 
 use assembled::assembled;
@@ -23,6 +24,9 @@ use std::alloc::Global;
 
 /// The image of a program in counted form with its tokens and with these string literals, with a heap of `cells` cells, of whose
 /// calls at most `depth` are open at a time.
+///
+/// Behind its text the image has memory for the runtime's buffer, the cells, and `depth` frames of one size, which is at most 4,088
+/// bytes; where it is over 2,044, for 2,048 bytes more.
 ///
 /// The loaded image does what the program does without its tokens: on every input it tells the same events, and exits with 0, 101
 /// or 102 as the program ends by itself, with the heap full or with the stack full. Where it ends by itself and no cell is counted
@@ -43,6 +47,7 @@ pub fn image(
     requires runnable { IsRunnable tokened.now.shape (tokened_program tokened.now.functions.items texts.now) cells depth }
     requires sizes { AreSizes cells depth }
     ensures program { IfOk result (λ image. IsProgramImage image.entry image.parts) }
+    ensures memory { IfOk result (λ image. HasMemory cells depth image.parts) }
     ensures does { IfOk result (λ image. IsImageOfTokened (tokened_program tokened.now.functions.items texts.now) cells depth
         image.entry image.parts) }
     ensures own { IfOk result (λ image. HasOwnAddresses (layout_in tokened.now.shape)
