@@ -1,6 +1,6 @@
 -- For each state at which the counted machine is at a form, the assembler's machine comes to one whose cells are those of the
 -- counted heap. Where the form is a call, a print or a construction with fields, that is at a line of the form's own.
-use Rattle.std.proofs.Common.{◌≡◌, ◌≢◌, ℕ, ◌+◌, ◌%◌, ◌<◌, ◌≤◌, ◌&&◌, not, true, false, List, [], ◌∷◌, ◌++◌, length, drop, Some, All, refl, sym, ◌∙◌, ap, subst, arith, flat_map, ◌⊎◌, inl, inr}
+use Rattle.std.proofs.Common.{◌≡◌, ◌≢◌, ℕ, ◌+◌, ◌%◌, ◌<◌, ◌≤◌, ◌&&◌, not, true, false, List, [], ◌∷◌, ◌++◌, length, drop, Some, None, All, refl, sym, ◌∙◌, ap, subst, arith, flat_map, ◌⊎◌, inl, inr}
 use Rattle.std.proofs.Math.Seq.{drop-append_seam}
 use Rattle.std.proofs.lemmas.List.{append-nil, drop-drop}
 use Rattle.kk_base.specs.Machines.{state, trace}
@@ -28,7 +28,10 @@ use Rattle.kk_counted.specs.TokenedCodes.{Tokened, TokenedArms, TokenedProgram}
 use Rattle.kk_counted.proofs.TokenSettling.{comes_to_each}
 use Rattle.cell_heap.specs.Pool.{Pool}
 use Rattle.rv_isa.specs.Processor.{Ending, exited}
-use Rattle.rv_isa.specs.AsmCode.{Lines}
+use Rattle.rv_isa.specs.declared.asm.Action.TheVariants.{Jump}
+use Rattle.rv_isa.specs.AsmCode.{Line, Lines}
+use Rattle.rv_isa.specs.Frames.{Frame}
+use Rattle.rv_lower.specs.Lines.{copies_to, acts}
 use Rattle.rv_isa.specs.AsmMachine.{AsmState, AsmTurn}
 use Rattle.rv_isa.specs.LinePlaces.{AsmIsAt}
 use Rattle.rv_isa.specs.Primitives.{go, stuck}
@@ -41,13 +44,14 @@ use Rattle.rv_cells.specs.Meaning.{setting_on}
 use Rattle.rv_cells.specs.TokenedMeaning.{roomy_outside, IsTokenedLowered}
 use Rattle.rv_cells.proofs.CopiesPassed.{past_copies}
 use Rattle.rv_cells.proofs.FormArities.{is_own_act, lead, lead_less}
-use Rattle.rv_cells.proofs.FormPlaces.{code_of, own_of, Leads, way_of, tree_in}
+use Rattle.rv_cells.proofs.FormPlaces.{tree, Parts, no_part, code_of, own_of, Leads, way_of, StandsAt, parts_behind}
 use Rattle.rv_cells.proofs.FormRoots.{root_same, program_root, own_lines, among_own}
 use Rattle.rv_cells.proofs.OwnLines.{among_found}
-use Rattle.rv_cells.proofs.Runs.{left_at}
+use Rattle.rv_cells.proofs.Runs.{left_at, turn_of}
+use Rattle.rv_cells.proofs.Spots.{Spot}
 use Rattle.rv_cells.proofs.TokenFormedFunctions.{bare_at}
 use Rattle.rv_cells.proofs.TokenMeaning.{lowering, idle, fills, seen_states, related, tokened, start, turn, runs_the_same}
-use Rattle.rv_cells.proofs.TokenStanding.{Lowering, setting, upper, lower, pace, Passing, IsAt, IsBehind, GivesUp, IsAhead, IsNear, MayStandFor, Related}
+use Rattle.rv_cells.proofs.TokenStanding.{Lowering, setting, upper, lower, pace, Passing, Shape, IsInFunction, IsAt, IsBehind, GivesUp, IsFilling, IsAhead, IsNear, MayStandFor, Related}
 use Rattle.rv_cells.proofs.TokenSimulating.{simulates}
 
 code_same : (a b : Counted) (e f : Environment) (j k : List CountedJoin)
@@ -146,48 +150,36 @@ module _ (layout : Layout) (marks : CellMarks) (code : TokenedProgram) (constant
   goes_on (TokenControl.stopped by) c left_input at_turn form environment joins is same = cc same
   goes_on TokenControl.stuck c left_input at_turn form environment joins is same = absurd is
 
-  -- where the code of a turn stands
-  at_line : (act : Counted) (tokens_code : Tokened) (environment : Environment) (inner : List TokenJoin) (c : TokenConfiguration)
-      (left_input : List ℕ) (at_turn : AsmTurn World Ending)
-      → IsAt (lowering layout marks code constants functions lowered room fits_room pool depth first input aligned some bytes fits)
-      tokens_code environment inner c left_input at_turn
+  -- where lines of a form's own are left in a function
+  line_at : (act : Counted) (tokens_code : Tokened) (heap : Heap) (shape : Shape) (s : Spot) (fs : List (Frame Line))
+      (before own after left : List Line) (parts : Parts) → IsInFunction low shape s.frame.function s.frame.whole
+      → StandsAt shape.root before (tree tokens_code own parts) → left ≡ own ++ after → s.frame.whole ≡ before ++ left
+      → HasCellsOf heap s.world
       → bare tokens_code ≡ act → is_quiet tokens_code ≡ false → is_act act ≡ true
-      → ((m : ℕ) → state (lower low) m at_turn ≢ stuck) → ComesToLine act c.heap at_turn
-  at_line act tokens_code environment inner c left_input at_turn is same loud does never =
-      let at = is.at in
-      let p = at.does.placed in
-      let shape = at.shape in
+      → ((m : ℕ) → state (lower low) m (turn_of left s.frame fs s.world) ≢ stuck)
+      → ComesToLine act heap (turn_of left s.frame fs s.world)
+  line_at act tokens_code heap shape s fs before own after left parts within stands left_is place cells same loud does never =
       let f = shape.function in
-      let stands = p.stands in
-      let within = at.has.in_function in
       let root_is = within.root_is in
       let function = root_is.0 in
       let there = root_is.1.0 in
       let lines = (low.lowered f function there).0 in
-      let n = lead p.own in
-      let k = length p.before + n in
+      let n = lead own in
+      let k = length before + n in
       let way = way_of stands.steps in
       let root_eq : shape.root ≡ program_root layout marks code constants functions lowered lowerable f
       = root_is.1.1
       ∙ root_same layout marks (record { literals = code.texts; constants = constants }) code.functions functions lowered.each f
       function there in
-      let inner_tree = tree_in (record {
-        layout = layout;
-        holds = shape.holds;
-        base = shape.variables + shape.slots;
-        texts = record { literals = code.texts; constants = constants };
-        standing = shape.standing;
-      }) shape.variables at.does.goal p.low tokens_code p.own p.high p.lines in
       let acts_so : is_act (bare tokens_code) ≡ true = ap is_act same ∙ does in
-      let own : is_own_act tokens_code ≡ true = ap (λ b. not b && is_act (bare tokens_code)) loud ∙ acts_so in
+      let is_own : is_own_act tokens_code ≡ true = ap (λ b. not b && is_act (bare tokens_code)) loud ∙ acts_so in
       let far = stands.behind in
-      let whole : is.spot.frame.whole ≡ lines.code = within.whole_is ∙ ap own_of root_is.1.1 in
-      let past = past_copies (record { first = first; texts = constants }) pool depth functions n (left_at is.left is.spot.frame)
-      is.fs is.spot.world (subst (λ ls. n ≤ lead ls) (sym p.left_is) (lead_less p.own p.after))
-      (λ m. subst (λ turn. state (lower low) m turn ≢ stuck) is.turn_is (never m)) in
-      let before : is.left ≡ drop (length p.before) lines.code
-      = sym (drop-append_seam p.before is.left) ∙ ap (drop (length p.before)) (sym p.place ∙ whole) in
-      let it : IsAtLine act c.heap (state (lower low) n at_turn) = (
+      let whole : s.frame.whole ≡ lines.code = within.whole_is ∙ ap own_of root_is.1.1 in
+      let past = past_copies (record { first = first; texts = constants }) pool depth functions n (left_at left s.frame)
+      fs s.world (subst (λ ls. n ≤ lead ls) (sym left_is) (lead_less own after)) never in
+      let left_there : left ≡ drop (length before) lines.code
+      = sym (drop-append_seam before left) ∙ ap (drop (length before)) (sym place ∙ whole) in
+      let it : IsAtLine act heap (state (lower low) n (turn_of left s.frame fs s.world)) = (
         f,
         (
           way,
@@ -203,11 +195,13 @@ module _ (layout : Layout) (marks : CellMarks) (code : TokenedProgram) (constant
               (
                 among_own layout marks code constants functions lowered lowerable f way k
                     (among_found way [] 0 k (program_root layout marks code constants functions lowered lowerable f) stands.steps
-                    inner_tree (subst (λ t. Leads t stands.steps inner_tree) root_eq stands.leads) own refl (omega (arith, far))),
+                    (tree tokens_code own parts)
+                    (subst (λ t. Leads t stands.steps (tree tokens_code own parts)) root_eq stands.leads) is_own refl
+                    (omega (arith, far))),
                 (
-                  is.spot.world,
+                  s.world,
                   (
-                    subst (AsmIsAt functions f k is.spot.world) (sym (ap (state (lower low) n) is.turn_is ∙ past.there)) (
+                    subst (AsmIsAt functions f k s.world) (sym past.there) (
                       lines,
                       (
                         (low.lowered f function there).1,
@@ -215,13 +209,13 @@ module _ (layout : Layout) (marks : CellMarks) (code : TokenedProgram) (constant
                           (
                             past.frame,
                             (
-                              is.fs,
+                              fs,
                               (
                                 refl,
                                 record {
                                   function = past.function ∙ within.number main_first;
                                   whole = past.whole ∙ whole;
-                                  left = past.code ∙ ap (drop n) before ∙ drop-drop n (length p.before) lines.code;
+                                  left = past.code ∙ ap (drop n) left_there ∙ drop-drop n (length before) lines.code;
                                 },
                               ),
                             ),
@@ -230,7 +224,7 @@ module _ (layout : Layout) (marks : CellMarks) (code : TokenedProgram) (constant
                         ),
                       ),
                     ),
-                    has_cells tokens_code environment inner c left_input at_turn is,
+                    cells,
                   ),
                 ),
               ),
@@ -238,7 +232,50 @@ module _ (layout : Layout) (marks : CellMarks) (code : TokenedProgram) (constant
           ),
         ),
       )
-      in (n, (it, ap (trace (lower low) n) is.turn_is ∙ past.silent))
+      in (n, (it, past.silent))
+
+  -- where the code of a turn stands
+  at_line : (act : Counted) (tokens_code : Tokened) (environment : Environment) (inner : List TokenJoin) (c : TokenConfiguration)
+      (left_input : List ℕ) (at_turn : AsmTurn World Ending)
+      → IsAt (lowering layout marks code constants functions lowered room fits_room pool depth first input aligned some bytes fits)
+      tokens_code environment inner c left_input at_turn
+      → bare tokens_code ≡ act → is_quiet tokens_code ≡ false → is_act act ≡ true
+      → ((m : ℕ) → state (lower low) m at_turn ≢ stuck) → ComesToLine act c.heap at_turn
+  at_line act tokens_code environment inner c left_input at_turn is same loud does never =
+      let p = is.at.does.placed in
+      let shape = is.at.shape in
+      subst (ComesToLine act c.heap) (sym is.turn_is)
+      (line_at act tokens_code c.heap shape is.spot is.fs p.before p.own p.after is.left
+      (parts_behind (record {
+        layout = layout;
+        holds = shape.holds;
+        base = shape.variables + shape.slots;
+        texts = record { literals = code.texts; constants = constants };
+        standing = shape.standing;
+      }) shape.variables None is.at.does.goal p.low tokens_code p.own p.high p.lines)
+      is.at.has.in_function p.stands p.left_is p.place
+      (has_cells tokens_code environment inner c left_input at_turn is) same loud does
+      (λ m. subst (λ turn. state (lower low) m turn ≢ stuck) is.turn_is (never m)))
+
+  -- where a turn has gone on in the midst of the lines of a construction
+  filling_line : (act : Counted) (tokens_code : Tokened) (environment : Environment) (inner : List TokenJoin) (c :
+      TokenConfiguration)
+      (left_input : List ℕ) (at_turn : AsmTurn World Ending)
+      → (is : IsNear (lowering layout marks code constants functions lowered room fits_room pool depth first input aligned some
+      bytes fits) tokens_code environment inner c left_input at_turn)
+      → IsFilling (lowering layout marks code constants functions lowered room fits_room pool depth first input aligned some bytes
+      fits) tokens_code inner c.frames c.tokens left_input is.spot is.fs is.left
+      → bare tokens_code ≡ act → is_act act ≡ true
+      → ((m : ℕ) → state (lower low) m at_turn ≢ stuck) → ComesToLine act c.heap at_turn
+  filling_line act tokens_code environment inner c left_input at_turn is fills same does never =
+      let at = fills.at in
+      subst (ComesToLine act c.heap) (sym is.turn_is)
+      (line_at act tokens_code c.heap at.shape is.spot is.fs fills.before
+      (copies_to (at.shape.variables + fills.y) fills.x ∷ acts (Jump at.does.placed.low) [] ∷ []) fills.after is.left no_part
+      at.has.in_function fills.stands fills.left_is fills.place
+      (has_cells_behind tokens_code environment inner c left_input at_turn is)
+      same (ap is_quiet (sym fills.code_is)) does
+      (λ m. subst (λ turn. state (lower low) m turn ≢ stuck) is.turn_is (never m)))
 
   -- so each turn that stands for a state at such a form
   at_control : (act : Counted) (environment : Environment) (joins : List CountedJoin) (control : TokenControl)
@@ -253,17 +290,25 @@ module _ (layout : Layout) (marks : CellMarks) (code : TokenedProgram) (constant
       (code_same (bare tokens_code) act own_environment environment _ joins same) loud does never
   at_control act environment joins (TokenControl.running tokens_code own_environment inner) c left_input at_turn (inr behind) same
       loud does never =
-      absurd (by behind.near (ap is_act (code_same (bare tokens_code) act own_environment environment _ joins same) ∙ does))
+      by behind.near (code_same (bare tokens_code) act own_environment environment _ joins same)
     where
       by : IsBehind (lowering layout marks code constants functions lowered room fits_room pool depth first input aligned some bytes
           fits) tokens_code inner c.frames c.tokens left_input behind.spot behind.fs behind.left
-          ⊎ GivesUp (lowering layout marks code constants functions lowered room fits_room pool depth first input aligned some bytes
-          fits) tokens_code inner c.frames c.tokens left_input behind.spot behind.fs behind.left → is_act (bare tokens_code) ≡ true → ⊥
-      by (inl ahead) acts = no_act low behind.spot.environment ahead.x ahead.arms tokens_code ahead.ahead acts
-      by (inr gives) acts =
+          ⊎ (GivesUp (lowering layout marks code constants functions lowered room fits_room pool depth first input aligned some
+          bytes
+          fits) tokens_code inner c.frames c.tokens left_input behind.spot behind.fs behind.left
+          ⊎ IsFilling (lowering layout marks code constants functions lowered room fits_room pool depth first input aligned some
+          bytes
+          fits) tokens_code inner c.frames c.tokens left_input behind.spot behind.fs behind.left)
+          → bare tokens_code ≡ act → ComesToLine act c.heap at_turn
+      by (inl ahead) is =
+          absurd (no_act low behind.spot.environment ahead.x ahead.arms tokens_code ahead.ahead (ap is_act is ∙ does))
+      by (inr (inl gives)) is =
           let drops : is_act (bare (Tokened.drop gives.y gives.rest)) ≡ true
-          = ap (λ t. is_act (bare t)) (sym gives.code_is) ∙ acts in
-          cc drops
+          = ap (λ t. is_act (bare t)) (sym gives.code_is) ∙ (ap is_act is ∙ does) in
+          absurd (cc drops)
+      by (inr (inr fills)) is =
+          filling_line act tokens_code own_environment inner c left_input at_turn behind fills is does never
   at_control act environment joins (TokenControl.stopped by) c left_input at_turn stands same loud does never = cc same
   at_control act environment joins TokenControl.stuck c left_input at_turn stands same loud does never = absurd stands
 

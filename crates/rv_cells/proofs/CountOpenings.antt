@@ -70,7 +70,7 @@ pub record CountOpening (known : Known) : Type 0 where
   pub c : ℕ
   pub fields : List ℕ
   pub used : List ℕ
-  pub ends : Line
+  pub ends : List Line
   pub begins : List Line
   pub shared : ℕ
   pub behind : ℕ
@@ -104,7 +104,7 @@ module _ (known : Known) (o : CountOpening known) where
   abbrev used : List ℕ
   used = o.used
 
-  abbrev ends : Line
+  abbrev ends : List Line
   ends = o.ends
 
   abbrev begins : List Line
@@ -158,11 +158,8 @@ module _ (known : Known) (o : CountOpening known) where
   abbrev pub for_shared : List Line
   for_shared = acts (Label shared) [] ∷ (begins ++ (loads ++ lowers))
 
-  abbrev pub lasts : List Line
-  lasts = ends ∷ acts (Jump behind) [] ∷ []
-
   abbrev pub for_unique : List Line
-  for_unique = loads ++ (drops ++ lasts)
+  for_unique = loads ++ (drops ++ ends)
 
   -- the lines before the label of the second way, and those behind it
   abbrev pub head_lines : List Line
@@ -261,7 +258,7 @@ module _ (known : Known) (o : CountOpening known) where
     pub held : frame.held ≡ s.frame.held
     pub into : frame.into ≡ s.frame.into
 
-  -- the end of both ways
+  -- from a jump behind the opening
   pub leaves : (frame : Frame Line) (world : World) → found (λ line. is_label behind line.action) frame.whole ≡ Some ending
       → Runs known.target ((most_moves + 2) + (most_moves + 0)) (1 + 1)
       (turn_of (acts (Jump behind) [] ∷ (for_shared ++ ending)) frame fs world) (turn_of rest frame fs world)
@@ -292,9 +289,9 @@ module _ (known : Known) (o : CountOpening known) where
     pub is_owned : s.owners at ≡ cell_of named.at
     is_owned = here.follows.named named.at counted
 
-    read : Did known (row_cost fields (most_moves + 2)) loads ((drops ++ lasts) ++ (for_shared ++ ending)) fs
+    read : Did known (row_cost fields (most_moves + 2)) loads ((drops ++ ends) ++ (for_shared ++ ending)) fs
         (at_frame s tests) (one_from tests)
-    read = read_did known ((drops ++ lasts) ++ (for_shared ++ ending)) fs (at_frame s tests) x c fields loads named here_tests
+    read = read_did known ((drops ++ ends) ++ (for_shared ++ ending)) fs (at_frame s tests) x c fields loads named here_tests
         (still_reads known s tests x c fields named reads) uniques.6
 
     here_two : Here known two
@@ -319,7 +316,8 @@ module _ (known : Known) (o : CountOpening known) where
 
     pub record Emptied (frame : Frame Line) (owners : ℕ → Owner) (cells : Cells) : Type 0 where
       pub comes : Comes (3 * most_moves + 7 + row_cost fields (most_moves + 2)
-          + row_cost (others_of used fields) (2 * most_moves + 16)) (lasts ++ (for_shared ++ ending)) s.frame.cells frame owners cells
+          + row_cost (others_of used fields) (2 * most_moves + 16)) (ends ++ (for_shared ++ ending)) s.frame.cells frame owners
+          cells
       pub words : ℕ → Option ℕ
       pub hand : owners at ≡ in_hand words
       pub count_is : words 0 ≡ Some 1
@@ -335,7 +333,7 @@ module _ (known : Known) (o : CountOpening known) where
         let others = others_of used fields in
         let values : values_of two.environment others ≡ other_values used fields named.fields = where_values
         (λ y. not (is_among used y)) fields named.fields s.environment apart many in
-        let behind_drops = lasts ++ (for_shared ++ ending) in
+        let behind_drops = ends ++ (for_shared ++ ending) in
         let dropped = drops_did known behind_drops fs others two next here_two
         (bound_fields (λ y. not (is_among used y)) fields s.bound)
         (ap (λ vs. drop_all vs (set_count named.at 0 s.heap)) values ∙ given) in
@@ -357,10 +355,10 @@ module _ (known : Known) (o : CountOpening known) where
         let t4 = turn_of behind_drops frame fs world in
         let reading : Runs target read.cost read.steps t2 t3 =
         subst (λ ls. Runs target read.cost read.steps (turn_of ls tests fs s.world) t3)
-        (sym (append_assoc loads (drops ++ lasts) (for_shared ++ ending)))
+        (sym (append_assoc loads (drops ++ ends) (for_shared ++ ending)))
         (subst (λ ls. Runs target read.cost read.steps
-        (turn_of (loads ++ ((drops ++ lasts) ++ (for_shared ++ ending))) tests fs s.world)
-        (turn_of ls two.frame fs s.world)) (append_assoc drops lasts (for_shared ++ ending)) read.runs) in
+        (turn_of (loads ++ ((drops ++ ends) ++ (for_shared ++ ending))) tests fs s.world)
+        (turn_of ls two.frame fs s.world)) (append_assoc drops ends (for_shared ++ ending)) read.runs) in
         let end_five = runs_then target read.cost did.cost read.steps did.steps t2 t3 t4 reading did.runs in
         let end_six = runs_then target (moves + 3) (read.cost + did.cost) 1 (read.steps + did.steps) t1 t2 t4 falls end_five in
         let whole = runs_then target ((moves + 2) + (moves + 2)) ((moves + 3) + (read.cost + did.cost)) (1 + 1)

@@ -1,6 +1,6 @@
 -- The assembler lines of a program of two functions with tokens, by hand: one adds 1 to each number of a list, in the cells that the
 -- list has where they are its own; `main` makes a list of two cells and calls it.
-use Rattle.std.proofs.Common.{Option, ◌≡◌, ℕ, zero, suc, ◌^◌, ◌-◌, pos, Bool, true, false, List, [], ◌∷◌, ◌++◌, Some, refl, subst, lit<, lit≤}
+use Rattle.std.proofs.Common.{Option, ◌≡◌, ℕ, zero, suc, ◌^◌, ◌-◌, pos, Bool, true, false, List, [], ◌∷◌, ◌++◌, Some, None, refl, subst, lit<, lit≤}
 use Rattle.std.specs.Prelude.{slice_index_or}
 use Rattle.cell_heap.specs.Pool.{Pool}
 use Rattle.cell_heap.specs.Blocks.{Block, no_block, unused}
@@ -35,7 +35,7 @@ use Rattle.rv_cells.specs.CellLines.{SomeWords, is_kept, ConstructLines, FillLin
 use Rattle.rv_cells.proofs.Standings.{nothing_kept}
 use Rattle.rv_cells.specs.CountedLines.{Setting}
 use Rattle.rv_cells.specs.Meaning.{setting_on}
-use Rattle.rv_cells.specs.TokenedLines.{CodeLines, HasSlots, IsFunctionOf, AreFunctionsOf}
+use Rattle.rv_cells.specs.TokenedLines.{OpeningLines, CodeLines, HasSlots, IsFunctionOf, AreFunctionsOf}
 use Rattle.rv_cells.specs.TokenedMeaning.{roomy_outside}
 
 -- ---- the program
@@ -194,7 +194,7 @@ two_loads_are = (
   refl,
 )
 
-opens : TokenUniqueLines 8 inc_holds 5 6 0 (1 ∷ 2 ∷ []) (1 ∷ 2 ∷ []) 7 opening_lines
+opens : TokenUniqueLines 8 inc_holds 5 6 7 0 (1 ∷ 2 ∷ []) (1 ∷ 2 ∷ []) 7 None opening_lines
 opens = (
   loads immediate_0 0 8,
   two_loads,
@@ -207,6 +207,31 @@ opens = (
   refl,
   (immediate_0, refl, refl),
   refl,
+)
+
+-- in front of a construction in the cell of its token an opening goes on behind that one's test
+enters : OpeningLines (setting inc_holds 8) 7 5 0 (1 ∷ 2 ∷ []) (1 ∷ 2 ∷ []) 0 (Tokened.fill 6 0 3 1 (2 ∷ []) [] [] (Tokened.give 6))
+    (loads immediate_0 0 8 ∷ sets 1 9 ∷ acts (Branch NotEqual 5) (8 ∷ 9 ∷ [])
+    ∷ loads immediate_8 0 1 ∷ loads immediate_12 0 2 ∷ copies_to 0 7 ∷ copies_to 7 6 ∷ acts (Jump 7) []
+    ∷ acts (Label 5) [] ∷ sets 0 7 ∷ loads immediate_8 0 1 ∷ loads immediate_12 0 2
+    ∷ loads immediate_0 0 8 ∷ computes (Op.Immediate Addi minus_one) (8 ∷ []) 8 ∷ stores immediate_0 0 8
+    ∷ acts (Compute Op.Dup) (2 ∷ []) ∷ acts (Label 6) [] ∷ [])
+enters = (
+  Some 6,
+  (refl, refl),
+  (
+    loads immediate_0 0 8,
+    two_loads,
+    loads immediate_0 0 8,
+    minus_one,
+    stores immediate_0 0 8,
+    (immediate_0, refl, refl),
+    two_loads_are,
+    (immediate_0, refl, refl),
+    refl,
+    (immediate_0, refl, refl),
+    refl,
+  ),
 )
 
 -- all words of a Cons, and those but its second field
@@ -358,7 +383,7 @@ inc_code = (
     acts (Label 1) [] ∷ (opening_lines ++ adds_lines),
     5,
     (refl, refl),
-    (opening_lines ++ adds_lines, [], 8, (opening_lines, adds_lines, opens, adds, refl), (refl, refl), refl),
+    (opening_lines ++ adds_lines, [], 8, (opening_lines, adds_lines, (None, tt, opens), adds, refl), (refl, refl), refl),
     refl,
   ),
   refl,

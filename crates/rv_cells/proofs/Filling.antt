@@ -19,7 +19,7 @@ use Rattle.rv_lower.proofs.Performing.{put_same, put_other}
 use Rattle.rv_cells.specs.Layout.{words_in, header_of}
 use Rattle.rv_cells.specs.Follows.{IsBlockOf, Owner, cell_of, in_hand, Follows, with_owner, assign}
 use Rattle.rv_cells.specs.CellLines.{is_kept, FillLines, hold_lines, unhold_lines}
-use Rattle.rv_cells.proofs.Words.{hand_owned, same_owner}
+use Rattle.rv_cells.proofs.Words.{same_owner}
 use Rattle.rv_cells.proofs.Runs.{turn_of, Runs, runs_then}
 use Rattle.rv_cells.proofs.Acting.{put_in, copy_runs, label_exact, falls_one_exact, branch_one_exact}
 use Rattle.rv_cells.proofs.Spots.{Spot, Known, Here}
@@ -29,7 +29,7 @@ use Rattle.rv_cells.proofs.Constructing.{IsMaking, made_spot, construct_cost, Ha
 use Rattle.rv_cells.proofs.FormWords.{has_same}
 use Rattle.rv_cells.proofs.KeptStores.{picked, picked_all, word_if, with_some}
 use Rattle.rv_cells.proofs.WordStores.{HasWords, has_stored, words_behind, count_behind, header_behind, fields_behind, put_if, words_same, set_cost, set_steps, both_set, words_spare, words_run}
-use Rattle.rv_cells.proofs.TokenOpenings.{Leads}
+use Rattle.rv_cells.proofs.TokenOpenings.{LeadsTo}
 
 abbrev takes_into : ℕ → Line
 takes_into x = record { action = Calls Take; args = []; into = Some x }
@@ -120,11 +120,14 @@ module _ (known : Known) (rest : List Line) (fs : List (Frame Line)) (s : Spot) 
 
   -- The cell at an address is made: from older frames to others, with these owners and values before it is counted. Values of
   -- other variables are these in its frame.
-  abbrev pub Fills : List (Frame Line) → (ℕ → Owner) → (ℕ → Option ℕ) → ℕ → Type 0
-  Fills gs owners values at =
-      (frame : Frame Line) × (cells : Cells) × Leads known (fill_cost known others arguments) lines rest fs gs s
+  abbrev pub FillsFrom : List Line → List (Frame Line) → (ℕ → Owner) → (ℕ → Option ℕ) → ℕ → Type 0
+  FillsFrom start gs owners values at =
+      (frame : Frame Line) × (cells : Cells) × LeadsTo known (fill_cost known others arguments) start rest fs gs s
       (made_spot (record s { owners = owners }) x c (values_of s.environment arguments) at frame cells) (token ∷ others)
       × ((z : ℕ) → z < known.base → z ≢ x → frame.cells z ≡ values z)
+
+  abbrev pub Fills : List (Frame Line) → (ℕ → Owner) → (ℕ → Option ℕ) → ℕ → Type 0
+  Fills gs owners values at = FillsFrom (lines ++ rest) gs owners values at
 
   -- other values than those of tokens, of variables and temporaries
   abbrev pub AreSpared : (ℕ → Option ℕ) → Type 0
@@ -181,17 +184,17 @@ module _ (known : Known) (rest : List Line) (fs : List (Frame Line)) (s : Spot) 
   few : length arguments ≤ 6
   few = few_arguments known s x c arguments making
 
-  -- from the label on
-  pub ends : (gs : List (Frame Line)) (owners : ℕ → Owner) (values : ℕ → Option ℕ) (at cost steps : ℕ)
+  -- from the label on, to which lines have come
+  pub ends : (start : List Line) (gs : List (Frame Line)) (owners : ℕ → Owner) (values : ℕ → Option ℕ) (at cost steps : ℕ)
       (words : ℕ → Option ℕ) (next : Cells) (cells : ℕ → Option ℕ)
-      → Runs known.target cost steps (turn_of (lines ++ rest) s.frame fs s.world)
+      → Runs known.target cost steps (turn_of start s.frame fs s.world)
       (turn_of label (with_values cells) gs (with_cells s.world next))
       → ((z : ℕ) → z < known.base → cells z ≡ named values at z)
       → cost ≤ most_before + kept_cost → Hands known.target.pool known.layout s.address owners s.heap at words next
       → HasWords head count kept (header_of known.layout c) words_are words
       → HasValues known.layout s.address known.holds known.base (length s.heap) s.bound s.environment values → AreSpared values
-      → Fills gs owners values at
-  ends gs owners values at cost steps words next cells runs beside cheap hands known_ones has spared =
+      → FillsFrom start gs owners values at
+  ends start gs owners values at cost steps words next cells runs beside cheap hands known_ones has spared =
       let low = making.below in
       let f = with_values cells in
       let world = with_cells s.world next in
@@ -243,7 +246,7 @@ module _ (known : Known) (rest : List Line) (fs : List (Frame Line)) (s : Spot) 
             both_set head,
             both_set count,
           );
-          runs = runs_then known.target cost (0 + storing) steps (1 + storing_steps) (turn_of (lines ++ rest) s.frame fs s.world)
+          runs = runs_then known.target cost (0 + storing) steps (1 + storing_steps) (turn_of start s.frame fs s.world)
               (turn_of label f gs world) (turn_of rest g gs (with_cells s.world done.0)) runs
               (runs_then known.target 0 storing 1 storing_steps (turn_of label f gs world) (turn_of (stores ++ rest) f gs world)
               (turn_of rest g gs (with_cells s.world done.0)) first done.1);
@@ -284,7 +287,7 @@ module _ (known : Known) (rest : List Line) (fs : List (Frame Line)) (s : Spot) 
       let run = words_run known to here_there head count takes x header arguments words_are are.0 making.below few making.bound
       are.2 label f gs owners at words world (names_cell values at) (have_words owners values at words next here_there) hands in
       let many = set_steps head + (length (picked takes 0 arguments) + set_steps count) in
-      ends gs owners values at (cost + kept_cost) (steps + many)
+      ends (lines ++ rest) gs owners values at (cost + kept_cost) (steps + many)
       (word_if count 0 1 (with_some takes 2 0 words_are (word_if head 1 header words))) run.0
       (put_if count known.base 1 (put_if head known.base header (named values at)))
       (runs_then known.target cost kept_cost steps many (turn_of (lines ++ rest) s.frame fs s.world)
@@ -295,18 +298,18 @@ module _ (known : Known) (rest : List Line) (fs : List (Frame Line)) (s : Spot) 
       are.2 (named values at) z below)
       (omega (arith, cheap)) run.2 (has_stored head count kept header words_are words) has spared
 
-  -- in the token's own cell, which has these words
-  pub fills_own : (at : ℕ) (words : ℕ → Option ℕ) → s.frame.cells token ≡ Some at → s.owners at ≡ in_hand words
+  -- In the token's own cell, which has these words: from lines that lead to the label as the test of the token does.
+  pub fills_from : (start : List Line) (at : ℕ) (words : ℕ → Option ℕ) → s.owners at ≡ in_hand words
       → HasWords head count kept (header_of known.layout c) words_are words
-      → 0 < known.target.pool.first → found (λ line. is_label filled line.action) s.frame.whole ≡ Some label
-      → Fills fs s.owners s.frame.cells at
-  fills_own at words is hand known_ones some finds =
-      let behind = (hand_owned here.follows at words hand).0.behind in
-      ends fs s.owners s.frame.cells at
+      → Runs known.target (test_cost known rest fs s x token c others filled arguments kept head count lines here making are) (1 +
+      1)
+      (turn_of start s.frame fs s.world)
+      (turn_of label (tested known rest fs s x token c others filled arguments kept head count lines here making are at) fs s.world)
+      → FillsFrom start fs s.owners s.frame.cells at
+  fills_from start at words hand known_ones runs =
+      ends start fs s.owners s.frame.cells at
       (test_cost known rest fs s x token c others filled arguments kept head count lines here making are) (1 + 1) words
-      s.world.cells (named s.frame.cells at)
-      (tests_cell known rest fs s x token c others filled arguments kept head count lines here making are at is (λ e. omega arith)
-      finds)
+      s.world.cells (named s.frame.cells at) runs
       (λ z below. refl) (omega arith)
       (subst (λ o. Follows known.target.pool known.layout s.address o s.heap s.world.cells)
       (sym (same_owner at (in_hand words) s.owners hand)) here.follows)

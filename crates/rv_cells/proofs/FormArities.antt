@@ -17,13 +17,14 @@ use Rattle.rv_isa.specs.AsmCode.{Line}
 use Rattle.rv_isa.specs.declared.asm.Action.{Action}
 use Rattle.rv_isa.specs.Conventions.{gives_one}
 use Rattle.rv_isa.specs.LinePlaces.{is_copy, is_always_some}
-use Rattle.rv_lower.specs.Lines.{copies_to, sets, choice_of, copies, PrintLines}
+use Rattle.rv_isa.specs.declared.asm.Action.TheVariants.{Jump}
+use Rattle.rv_lower.specs.Lines.{acts, copies_to, sets, choice_of, copies, PrintLines}
 use Rattle.rv_lower.specs.Lowered.{Goal}
 use Rattle.rv_cells.specs.declared.compare.Branching.{Branching}
 use Rattle.rv_cells.specs.Comparing.{branch_of}
 use Rattle.rv_cells.specs.CountedLines.{Setting}
 use Rattle.rv_cells.specs.TokenedLines.{OwnLines, LinesBehind}
-use Rattle.rv_cells.proofs.FormPlaces.{Parts, no_part, part, parts_behind}
+use Rattle.rv_cells.proofs.FormPlaces.{Parts, no_part, part, entry_lines, parts_behind}
 
 -- ---- arities
 
@@ -200,6 +201,13 @@ print_begins : (base : ℕ) (texts : List (List ℕ)) (bytes : List ℕ) (print 
     → PrintLines base texts bytes print → Begins (print ++ (last ∷ []))
 print_begins base texts bytes print last is =
     begins_by (print ++ (last ∷ [])) _ (ap (λ ls. ls ++ (last ∷ [])) is.2) (begins_at _ _ refl refl)
+
+-- the lines by which an opening goes on behind the test of a construction
+pub entry_own : (token into filled : ℕ) → IsOwn (entry_lines token into filled) no_part
+entry_own token into filled = record {
+  begins = begins_behind_copy token into (acts (Jump filled) [] ∷ []) (begins_at (acts (Jump filled) []) [] refl refl);
+  apart = tt;
+}
 
 module _ (setting : Setting) (variables : ℕ) where
   -- the lines of a form on values

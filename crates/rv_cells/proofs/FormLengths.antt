@@ -1,6 +1,6 @@
 -- The lines of forms are short: each is so many instructions at most.
 use Rattle.std.proofs.Common.{◌≡◌, ℕ, suc, ◌+◌, ◌*◌, ◌≤◌, Bool, true, false, not, List, [], ◌∷◌, ◌++◌, length}
-use Rattle.std.proofs.Common.{Some, refl, ap, arith}
+use Rattle.std.proofs.Common.{Option, Some, None, refl, ap, arith}
 use Rattle.std.specs.Prelude.{filter, if◌then◌else◌}
 use Rattle.kk_syntax.specs.declared.operator.BinaryOperator.{BinaryOperator}
 use Rattle.kk_syntax.specs.declared.operator.BinaryOperator.TheVariants as OfBinary
@@ -23,15 +23,14 @@ use Rattle.rv_isa.specs.declared.asm.RegisterOperation.TheVariants as Register
 use Rattle.rv_isa.specs.declared.routine.Routine.TheVariants.{Take}
 use Rattle.rv_isa.specs.AsmCode.{Line}
 use Rattle.rv_isa.specs.Costs.{line_length, code_length}
-use Rattle.rv_lower.specs.Lines.{computes, sets, copies_to, acts, registers, copies, temporaries}
+use Rattle.rv_lower.specs.Lines.{computes, sets, acts, registers, copies, temporaries}
 use Rattle.rv_lower.specs.Lowered.{Goal, returns, joins, goal_lines, tail_lines}
 use Rattle.rv_lower.specs.Lines.{MakesTruth, Compares, ComparesWithOne, BinaryLines, PrintLines, AppliedLines}
 use Rattle.rv_cells.specs.Layout.{header_of}
 use Rattle.rv_cells.specs.CellLines.{Loads, Stores, AllLoads, AllStores, dup_lines, drop_lines, dups_lines, drops_lines}
 use Rattle.rv_cells.specs.CellLines.{StoresIf, SomeStores, SetIf, is_kept, ConstructLines, FillLines, TokenUniqueLines, CountLines}
-use Rattle.rv_cells.specs.CellLines.{hold_lines, unhold_lines}
+use Rattle.rv_cells.specs.CellLines.{hold_lines, unhold_lines, token_ends}
 use Rattle.rv_cells.specs.CountedLines.{Setting, ComputeLines}
-use Rattle.rv_cells.specs.Written.{end_lines}
 
 pub lines_append : (first second : List Line) → code_length (first ++ second) ≡ code_length first + code_length second
 lines_append [] second = omega arith
@@ -107,24 +106,23 @@ module _ (holds : ℕ → Bool) where
   -- ---- forms that touch cells
 
   -- both ways of an opening by the count of a cell, but the lines at their ends
-  pub count_length : (base shared behind x : ℕ) (fields used : List ℕ) (ends : Line) (begins lines : List Line)
+  pub count_length : (base shared behind x : ℕ) (fields used : List ℕ) (ends begins lines : List Line)
       → CountLines base holds shared behind x fields used ends begins lines → length fields ≤ 6
-      → code_length lines ≤ 175 + line_length ends + code_length begins
+      → code_length lines ≤ 175 + code_length ends + code_length begins
   count_length base shared behind x fields used ends begins lines is few =
       let kept : List ℕ = filter (is_among used) fields in
       let others : List ℕ = filter (λ y. not (is_among used y)) fields in
       let dropped : List Line = drops_lines base holds others in
       let dupped : List Line = dups_lines holds kept in
-      let freed : List Line = end_lines ends behind in
       let lowered : List Line = is.2 ∷ computes (Op.Immediate Addi is.3) (base ∷ []) base ∷ is.4 ∷ dupped in
-      let alone : List Line = is.1 ++ (dropped ++ freed) in
+      let alone : List Line = is.1 ++ (dropped ++ ends) in
       let shares : List Line = acts (Label shared) [] ∷ (begins ++ (is.1 ++ lowered)) in
       let last : List Line = acts (Label behind) [] ∷ [] in
       let whole = ap code_length is.10 in
       let apart = lines_append alone (shares ++ last) in
       let ending = lines_append shares last in
-      let first = lines_append is.1 (dropped ++ freed) in
-      let frees = lines_append dropped freed in
+      let first = lines_append is.1 (dropped ++ ends) in
+      let leaves = lines_append dropped ends in
       let starts = lines_append begins (is.1 ++ lowered) in
       let second = lines_append is.1 lowered in
       let test = load_length x 0 base is.0 is.5 in
@@ -141,7 +139,7 @@ module _ (holds : ℕ → Bool) where
         apart,
         ending,
         first,
-        frees,
+        leaves,
         starts,
         second,
         test,
@@ -155,10 +153,17 @@ module _ (holds : ℕ → Bool) where
         few,
       )
 
-  pub token_unique_length : (base shared behind x : ℕ) (fields used : List ℕ) (token : ℕ) (lines : List Line)
-      → TokenUniqueLines base holds shared behind x fields used token lines → length fields ≤ 6 → code_length lines ≤ 182
-  token_unique_length base shared behind x fields used token lines is few =
-      let own = count_length base shared behind x fields used (copies_to x token) (sets 0 token ∷ []) lines is few in
+  pub token_unique_length : (base shared behind filled x : ℕ) (fields used : List ℕ) (token : ℕ) (into : Option ℕ)
+      (lines : List Line) → TokenUniqueLines base holds shared behind filled x fields used token into lines → length fields ≤ 6
+      → code_length lines ≤ 190
+  token_unique_length base shared behind filled x fields used token None lines is few =
+      let own = count_length base shared behind x fields used (token_ends None x token behind filled) (sets 0 token ∷ []) lines is
+      few
+      in
+      omega (arith, own)
+  token_unique_length base shared behind filled x fields used token (Some into) lines is few =
+      let own = count_length base shared behind x fields used (token_ends (Some into) x token behind filled) (sets 0 token ∷ [])
+      lines is few in
       omega (arith, own)
 
 pub construct_length : (base x header : ℕ) (arguments : List ℕ) (lines : List Line) → ConstructLines base x header arguments lines

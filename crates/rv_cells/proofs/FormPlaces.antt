@@ -1,22 +1,24 @@
 -- Where the lines of the parts of a code stand among its own lines: each code has a tree of its parts.
-use Rattle.std.proofs.Common.{◌≡◌, ℕ, suc, ◌+◌, ◌⊎◌, List, [], ◌∷◌, ◌++◌, length, Option, Some, None, refl, sym, ◌∙◌, ap, subst, arith, append_assoc}
+use Rattle.std.proofs.Common.{◌≡◌, ℕ, suc, ◌+◌, ◌⊎◌, inl, inr, Bool, not, List, [], ◌∷◌, ◌++◌, length, Option, Some, None, refl, sym, ◌∙◌, ap, subst, arith, append_assoc}
+use Rattle.std.specs.Prelude.{filter}
 use Rattle.std.proofs.lemmas.List.{append-nil, length-append}
+use Rattle.kk_syntax.specs.Shapes.{is_among}
 use Rattle.kk_source.specs.Matching.{and_then}
 use Rattle.kk_counted.specs.BareForms.{bare}
 use Rattle.kk_counted.specs.CodePlaces.{part_of, code_at}
 use Rattle.kk_counted.specs.CountedCodes.{Counted}
 use Rattle.kk_counted.specs.TokenedCodes.{Tokened, TokenedArms}
-use Rattle.rv_isa.specs.declared.asm.Action.TheVariants.{Compute, Label, Branch, Hold, Unhold}
-use Rattle.rv_isa.specs.declared.asm.Condition.TheVariants.{Equal}
+use Rattle.rv_isa.specs.declared.asm.Action.TheVariants.{Compute, Label, Jump, Branch, Hold, Unhold}
+use Rattle.rv_isa.specs.declared.asm.Condition.TheVariants.{Equal, NotEqual}
 use Rattle.rv_isa.specs.declared.asm.Operation.TheVariants as Op
 use Rattle.rv_isa.specs.AsmCode.{Line}
 use Rattle.rv_lower.specs.Lines.{sets, copies_to, acts}
 use Rattle.rv_lower.specs.Lowered.{Goal, joins}
-use Rattle.rv_cells.specs.CellLines.{dup_lines, drop_lines}
+use Rattle.rv_cells.specs.CellLines.{dup_lines, drop_lines, drops_lines, TokenUniqueLines}
 use Rattle.rv_cells.specs.declared.compare.Branching.{Branching}
 use Rattle.rv_cells.specs.Comparing.{branch_of}
 use Rattle.rv_cells.specs.CountedLines.{Setting}
-use Rattle.rv_cells.specs.TokenedLines.{LinesBehind, CodeLines, ArmsLines}
+use Rattle.rv_cells.specs.TokenedLines.{IsFillOf, LinesBehind, CodeLines, ArmsLines}
 
 -- ---- trees
 
@@ -64,6 +66,25 @@ lines_before (step ∷ steps) = length step.before + lines_before steps
 
 -- ---- the parts of a code by its lines
 
+-- The lines by which an opening goes on behind the test of the construction that fills its token's cell, as the own lines of that
+-- code.
+abbrev pub entry_lines : ℕ → ℕ → ℕ → List Line
+entry_lines token into filled = copies_to token into ∷ acts (Jump filled) [] ∷ []
+
+-- The code behind an opening is there too, where the opening has such lines; they are behind these of its lines.
+abbrev pub entry_part : Option ℕ → ℕ → ℕ → List Line → Tokened → Parts → Parts
+entry_part None token filled before rest more = more
+entry_part (Some into) token filled before rest more =
+    part (0 ∷ []) before (tree rest (entry_lines token into filled) no_part) more
+
+-- the lines of an opening in front of them
+abbrev pub lines_before_entry : (base : ℕ) (holds : ℕ → Bool) (shared behind filled x : ℕ) (fields used : List ℕ) (token : ℕ)
+    (into : Option ℕ) (lines : List Line) → TokenUniqueLines base holds shared behind filled x fields used token into lines → List
+    Line
+lines_before_entry base holds shared behind filled x fields used token into lines is =
+    is.0 ∷ sets 1 (base + 1) ∷ acts (Branch NotEqual shared) (base ∷ (base + 1) ∷ [])
+    ∷ (is.1 ++ (drops_lines base holds (filter (λ y. not (is_among used y)) fields) ++ (copies_to x token ∷ [])))
+
 module _ (setting : Setting) (variables : ℕ) where
   abbrev mutual
     pub parts_behind : (left : Option Branching) (goal : Goal) (low : ℕ) (code : Tokened) (own : List Line) (high : ℕ)
@@ -82,9 +103,15 @@ module _ (setting : Setting) (variables : ℕ) where
     parts_behind left goal low (Tokened.read x c fields rest) own high lines =
         part (0 ∷ []) lines.0 (tree rest lines.1 (parts_behind None goal low rest lines.1 high lines.3)) no_part
     parts_behind left goal low (Tokened.open_cell x c fields used y rest) own high lines =
-        part (0 ∷ []) lines.0 (tree rest lines.1 (parts_behind None goal (low + 2) rest lines.1 high lines.3)) no_part
+        entry_part lines.2.0 (variables + y) (low + 2)
+        (lines_before_entry setting.base setting.holds low (low + 1) (low + 2) x fields used (variables + y) lines.2.0 lines.0
+        lines.2.2) rest
+        (part (0 ∷ []) lines.0 (tree rest lines.1 (parts_behind None goal (low + 2) rest lines.1 high lines.3)) no_part)
     parts_behind left goal low (Tokened.if_unique x c fields used y rest) own high lines =
-        part (0 ∷ []) lines.0 (tree rest lines.1 (parts_behind None goal (low + 2) rest lines.1 high lines.3)) no_part
+        entry_part lines.2.0 (variables + y) (low + 2)
+        (lines_before_entry setting.base setting.holds low (low + 1) (low + 2) x fields used (variables + y) lines.2.0 lines.0
+        lines.2.2) rest
+        (part (0 ∷ []) lines.0 (tree rest lines.1 (parts_behind None goal (low + 2) rest lines.1 high lines.3)) no_part)
     parts_behind left goal low (Tokened.dup x rest) own high lines =
         part (0 ∷ []) (dup_lines setting.holds x) (tree rest lines.0 (parts_behind None goal low rest lines.0 high lines.1)) no_part
     parts_behind left goal low (Tokened.drop x rest) own high lines =
@@ -128,6 +155,82 @@ module _ (setting : Setting) (variables : ℕ) where
   abbrev pub tree_in : (goal : Goal) (low : ℕ) (code : Tokened) (own : List Line) (high : ℕ)
       → CodeLines setting variables goal low code own high → Tree
   tree_in goal low code own high lines = tree_behind None goal low code own high lines
+
+-- lines behind loads, drops and a copy, in front of others
+pub entry_passed : (loads drops entry others : List Line) (copy : Line) → (loads ++ (drops ++ (copy ∷ entry))) ++ others
+    ≡ (loads ++ (drops ++ (copy ∷ []))) ++ (entry ++ others)
+entry_passed loads drops entry others copy =
+    append_assoc loads (drops ++ (copy ∷ entry)) others
+    ∙ ap (λ ls. loads ++ ls) (append_assoc drops (copy ∷ entry) others)
+    ∙ sym (append_assoc loads (drops ++ (copy ∷ [])) (entry ++ others)
+    ∙ ap (λ ls. loads ++ ls) (append_assoc drops (copy ∷ []) (entry ++ others)))
+
+-- such lines are there
+pub entry_there : (base : ℕ) (holds : ℕ → Bool) (shared behind filled x : ℕ) (fields used : List ℕ) (token into : ℕ)
+    (lines : List Line) (is : TokenUniqueLines base holds shared behind filled x fields used token (Some into) lines)
+    → (after : List Line) × (lines ≡ lines_before_entry base holds shared behind filled x fields used token (Some into) lines is
+    ++ (entry_lines token into filled ++ after))
+entry_there base holds shared behind filled x fields used token into lines is = (
+  _,
+  is.10 ∙ ap (λ ls. is.0 ∷ sets 1 (base + 1) ∷ acts (Branch NotEqual shared) (base ∷ (base + 1) ∷ []) ∷ ls)
+      (entry_passed is.1 (drops_lines base holds (filter (λ y. not (is_among used y)) fields)) (entry_lines token into filled) _
+      (copies_to x token)),
+)
+
+-- what is a part behind such lines is one with them
+pub behind_entry : (into : Option ℕ) (token filled : ℕ) (before : List Line) (rest : Tokened) (more : Parts) (step : Step)
+    → IsPart step more → IsPart step (entry_part into token filled before rest more)
+behind_entry None token filled before rest more step is = is
+behind_entry (Some one) token filled before rest more step is = inr is
+
+-- and so are they
+pub entry_is_part : (into : Option ℕ) (token filled : ℕ) (before : List Line) (rest : Tokened) (more : Parts) (one : ℕ)
+    → into ≡ Some one
+    → IsPart (record { way = 0 ∷ []; before = before; inner = tree rest (entry_lines token one filled) no_part })
+    (entry_part into token filled before rest more)
+entry_is_part None token filled before rest more one is = cc is
+entry_is_part (Some other) token filled before rest more one is =
+    let same : one ≡ other = cc is in
+    inl (ap (λ (n : ℕ). record { way = 0 ∷ []; before = before; inner = tree rest (entry_lines token n filled) no_part }) same)
+
+-- ---- a construction in the cell of a slot
+
+-- the construction that a code begins with, where it fills a slot
+pub record FillThere (x y : ℕ) (code : Tokened) : Type 0 where
+  pub c : ℕ
+  pub first : ℕ
+  pub arguments : List ℕ
+  pub kept : List ℕ
+  pub others : List ℕ
+  pub rest : Tokened
+  pub is : Tokened.fill x y c first arguments kept others rest ≡ code
+
+pub fill_there : (x y : ℕ) (code : Tokened) → IsFillOf x y code → FillThere x y code
+fill_there x y (Tokened.fill z w c first arguments kept others rest) is = record {
+  c = c;
+  first = first;
+  arguments = arguments;
+  kept = kept;
+  others = others;
+  rest = rest;
+  is = λ i. Tokened.fill (sym is.0 i) (sym is.1 i) c first arguments kept others rest;
+}
+fill_there x y (Tokened.give z) is = absurd is
+fill_there x y (Tokened.tail_call f arguments) is = absurd is
+fill_there x y (Tokened.case z decisions arms) is = absurd is
+fill_there x y (Tokened.compute z form arguments others rest) is = absurd is
+fill_there x y (Tokened.inside z block rest) is = absurd is
+fill_there x y (Tokened.read z c fields rest) is = absurd is
+fill_there x y (Tokened.open_cell z c fields used w rest) is = absurd is
+fill_there x y (Tokened.if_unique z c fields used w rest) is = absurd is
+fill_there x y (Tokened.dup z rest) is = absurd is
+fill_there x y (Tokened.drop z rest) is = absurd is
+fill_there x y (Tokened.free w rest) is = absurd is
+fill_there x y (Tokened.null w rest) is = absurd is
+fill_there x y (Tokened.move to of rest) is = absurd is
+fill_there x y (Tokened.hold w rest) is = absurd is
+fill_there x y (Tokened.unhold w rest) is = absurd is
+fill_there x y (Tokened.if_token w there absent) is = absurd is
 
 -- ---- where a code stands
 

@@ -1,9 +1,9 @@
 -- The lines of an opening by the count of a cell, before those of the code that follows it.
-use Rattle.std.proofs.Common.{◌≡◌, ℕ, ◌+◌, ◌*◌, ◌<◌, ◌≤◌, ◌==◌, ◌⊎◌, inl, inr, Bool, true, not, List}
+use Rattle.std.proofs.Common.{◌≡◌, ℕ, ◌+◌, ◌*◌, ◌<◌, ◌≤◌, ◌==◌, ◌⊎◌, inl, inr, Bool, true, false, not, ◌&&◌, ◌||◌, List}
 use Rattle.kk_counted.specs.Lowerable.{AreBelow, bound_list}
-use Rattle.std.proofs.Common.{[], ◌∷◌, ◌++◌, length, None, IsSome, refl, sym, ap, subst, ◌∙◌, arith, append_assoc}
+use Rattle.std.proofs.Common.{[], ◌∷◌, ◌++◌, length, Option, Some, None, IsSome, refl, sym, ap, subst, ◌∙◌, arith, append_assoc}
 use Rattle.std.specs.Prelude.{filter}
-use Rattle.std.proofs.lemmas.Bool.{false≢true, or_cases, or_right}
+use Rattle.std.proofs.lemmas.Bool.{false≢true, or_cases, or_left, or_right, eq-eqb}
 use Rattle.kk_syntax.specs.Shapes.{is_among as is_bound}
 use Rattle.rv_isa.specs.declared.asm.Action.TheVariants.{Label, Jump, Branch}
 use Rattle.rv_isa.specs.declared.asm.Condition.TheVariants.{NotEqual}
@@ -11,15 +11,16 @@ use Rattle.rv_isa.specs.declared.asm.Operation.TheVariants as Op
 use Rattle.rv_isa.specs.declared.asm.ImmediateOperation.TheVariants.{Addi}
 use Rattle.rv_isa.specs.declared.immediate.Immediate.{Immediate}
 use Rattle.rv_isa.specs.AsmCode.{Line}
-use Rattle.rv_isa.specs.WellFormed.{is_alive, is_alive_at}
+use Rattle.rv_isa.specs.Frames.{is_among as is_out}
+use Rattle.rv_isa.specs.WellFormed.{is_written, is_alive, is_alive_at}
 use Rattle.rv_lower.specs.Lines.{computes, sets, copies_to, acts}
 use Rattle.rv_lower.specs.Lowered.{Goal}
-use Rattle.rv_lower.proofs.Formed.{Readable, readable_within, Good, HasRoom, room_more, weaker, good_computes, to_variable}
+use Rattle.rv_lower.proofs.Formed.{Readable, readable_within, AreFormed, Good, HasRoom, room_more, weaker, good_computes, to_variable}
 use Rattle.rv_lower.proofs.Formed.{good_hands, readable_small, readable_more, none_some}
 use Rattle.rv_lower.proofs.AbsentLabels.{HasNo, has_no_append, found_past, found_here, alive_at_past, alive_at_here, other_label}
 use Rattle.rv_lower.proofs.Operations.{Leads, leads_then, leads_weaker, next_temporary, only_bound}
-use Rattle.rv_lower.proofs.Codes.{Ahead, Fits, good_alone, good_label, goal_up}
-use Rattle.rv_cells.specs.CellLines.{Loads, Stores, AllLoads, dups_lines, drops_lines, TokenUniqueLines}
+use Rattle.rv_lower.proofs.Codes.{Ahead, Fits, StandsAhead, stands_past, good_alone, good_label, goal_up}
+use Rattle.rv_cells.specs.CellLines.{Loads, Stores, AllLoads, dups_lines, drops_lines, token_ends, TokenUniqueLines}
 use Rattle.rv_cells.proofs.CellForms.{one_store, loads_lead, dups_lead, drops_lead}
 use Rattle.rv_cells.proofs.CellForms.{room_list, kept_list, bound_fields, bound_filter}
 use Rattle.rv_cells.proofs.FormedOrders.{listed_behind}
@@ -88,18 +89,21 @@ module _ (base : ℕ) (bound : List ℕ) (has : HasRoom base bound) (holds : ℕ
       leads_then Before Taken Taken (length fields) (1 + (1 + (1 + length kept))) loads _
       (loads_lead base bound x 2 fields loads has is below all_loads) (lowers count store less loads_count stores)
 
-  -- By what is bound behind it: the line for a cell that nothing else refers to, and the lines of the way of a shared cell, lead
-  -- there.
+  -- By what is bound behind it: the lines for a cell that nothing else refers to lead to a label ahead, past those of the way of a
+  -- shared cell, and these lead there.
   module _ (behind outer : List ℕ) (goal : Goal) (low high : ℕ) (more : List Line)
       (fits : Fits base behind outer goal (low + 2) high more) (loads : List Line) (all_loads : AllLoads x 2 fields loads)
-      (ends : Line) (ends_lead : Leads Taken (Readable base base behind) 1 (ends ∷ [])) (lowered : List Line) (size : ℕ)
+      (ends : List Line) (ends_none : (l : ℕ) → HasNo l ends)
+      (ends_good : (front tail : List Line) → HasNo (low + 1) front → HasNo (low + 2) front
+      → Good (Readable base base behind) (more ++ tail) → AreFormed (front ++ (acts (Label (low + 1)) [] ∷ (more ++ tail)))
+      → Good Taken (ends ++ (front ++ (acts (Label (low + 1)) [] ∷ (more ++ tail))))) (lowered : List Line) (size : ℕ)
       (lowered_lead : Leads Before (Readable base base behind) size lowered) where
     abbrev Behind : ℕ → Type 0
     Behind = Readable base base behind
 
     -- the way of a cell that nothing else refers to, and the way of a shared one
     abbrev alone : List Line
-    alone = loads ++ (drops_lines base holds dropped ++ (ends ∷ acts (Jump (low + 1)) [] ∷ []))
+    alone = loads ++ (drops_lines base holds dropped ++ ends)
 
     abbrev shared : List Line
     shared = acts (Label low) [] ∷ lowered
@@ -116,7 +120,7 @@ module _ (base : ℕ) (bound : List ℕ) (has : HasRoom base bound) (holds : ℕ
 
     alone_none : (l : ℕ) → HasNo l alone
     alone_none l = has_no_append l loads _ (loads_fit.no_label l)
-        (has_no_append l (drops_lines base holds dropped) _ (drops_fit.no_label l) ((ends_lead.no_label l).0, (refl, tt)))
+        (has_no_append l (drops_lines base holds dropped) _ (drops_fit.no_label l) (ends_none l))
 
     module _ (tail : List Line) (ahead : Ahead base outer goal low high tail) where
       abbrev rest : List Line
@@ -147,20 +151,13 @@ module _ (base : ℕ) (bound : List ℕ) (has : HasRoom base bound) (holds : ℕ
                 (omega arith),
           )) lowered_good
 
-      shared_none : HasNo (low + 1) shared
-      shared_none = (other_label (low + 1) low (λ same. absurd (omega (arith, same))), lowered_lead.no_label (low + 1))
-
-      jump_good : Good Behind (acts (Jump (low + 1)) [] ∷ (shared ++ rest))
-      jump_good = good_alone Behind (Jump (low + 1)) (shared ++ rest)
-          (subst IsSome (sym (found_past (low + 1) shared rest shared_none ∙ found_here (low + 1) (more ++ tail))) refl) tt
-          (λ v alive. more_good.alive v
-          (sym (alive_at_past (low + 1) v shared rest shared_none ∙ alive_at_here (low + 1) v (more ++ tail)) ∙ alive))
-          shared_good.formed
+      shared_none : (l : ℕ) → (low ≡ l → ⊥) → HasNo l shared
+      shared_none l other = (other_label l low other, lowered_lead.no_label l)
 
       alone_good : Good Before (alone ++ (shared ++ rest))
-      alone_good = subst (Good Before) (sym (assoc_inner loads (drops_lines base holds dropped)
-          (ends ∷ acts (Jump (low + 1)) [] ∷ []) (shared ++ rest)))
-          (loads_fit.good _ (drops_fit.good _ (ends_lead.good _ jump_good)))
+      alone_good = subst (Good Before) (sym (assoc_inner loads (drops_lines base holds dropped) ends (shared ++ rest)))
+          (loads_fit.good _ (drops_fit.good _ (ends_good shared tail (shared_none (low + 1) (λ same. omega (arith, same)))
+          (shared_none (low + 2) (λ same. omega (arith, same))) more_good shared_good.formed)))
 
       alive_either : (v : ℕ)
           → (is_alive v (alone ++ (shared ++ rest)) ≡ true) ⊎ (is_alive_at low v (alone ++ (shared ++ rest)) ≡ true)
@@ -222,15 +219,37 @@ module _ (base : ℕ) (bound : List ℕ) (has : HasRoom base bound) (holds : ℕ
           (test_good tail ahead test loads_test);
     }
 
+-- a construction's test of its token leads to a label at which no more values are alive than it has
+pub ahead_of_fill : (base : ℕ) (bound : List ℕ) (token x label : ℕ) (rest : List Line)
+    → Good (Readable base base bound) (copies_to token x ∷ acts (Branch NotEqual label) (x ∷ []) ∷ rest)
+    → StandsAhead (Readable base base (x ∷ bound)) label (copies_to token x ∷ acts (Branch NotEqual label) (x ∷ []) ∷ rest)
+ahead_of_fill base bound token x label rest good = (good.formed.lines.1.0.labels, λ v is. by v (x == v) refl is)
+  where
+    by : (v : ℕ) (same : Bool) → (x == v) ≡ same → is_alive_at label v rest ≡ true → Readable base base (x ∷ bound) v
+    by v true test is = inl (or_left (x == v) (is_bound bound v) test)
+    by v false test is =
+        let branch : is_alive v (acts (Branch NotEqual label) (x ∷ []) ∷ rest) ≡ true
+        = or_right (is_out v (x ∷ [])) (is_alive v rest || is_alive_at label v rest)
+        (or_right (is_alive v rest) (is_alive_at label v rest) is) in
+        readable_within base base bound (x ∷ bound) (λ z there. or_right (x == z) (is_bound bound z) there) v
+        (good.alive v (or_right (is_out v (token ∷ []))
+        (not (is_written (Some x) v) && is_alive v (acts (Branch NotEqual label) (x ∷ []) ∷ rest))
+        (ap (λ w. not w && is_alive v (acts (Branch NotEqual label) (x ∷ []) ∷ rest)) test ∙ branch)))
+
 -- An opening, before the code that follows: its labels are the two from `low` on. The value of the slot is written on both ways.
+-- Where it goes on behind the test of a construction, that one is the first of the code.
 pub fits_token_unique : (base : ℕ) (bound outer : List ℕ) → HasRoom base bound → (holds : ℕ → Bool) (x : ℕ)
     → is_bound bound x ≡ true → (fields used : List ℕ) → AreBelow base fields → (token : ℕ) → token < base
-    → (goal : Goal) (low high : ℕ) (own more : List Line) → TokenUniqueLines base holds low (low + 1) x fields used token own
+    → (goal : Goal) (low high : ℕ) (into : Option ℕ) (own more : List Line)
+    → TokenUniqueLines base holds low (low + 1) (low + 2) x fields used token into own
+    → ((made : ℕ) → into ≡ Some made → (made < base) × ((others : List Line)
+    × (more ≡ copies_to token made ∷ acts (Branch NotEqual (low + 2)) (made ∷ []) ∷ others)))
     → Fits base (token ∷ bound_list fields bound) outer goal (low + 2) high more → Fits base bound outer goal low high (own ++ more)
-fits_token_unique base bound outer has holds x is fields used below token less goal low high own more unique fits =
+fits_token_unique base bound outer has holds x is fields used below token less goal low high into own more unique entered fits =
     subst (λ (lines : List Line). Fits base bound outer goal low high (lines ++ more)) (sym unique.10)
     (counted_fits base bound has holds x is fields used below (token ∷ after) outer goal low high more fits unique.1 unique.6
-    (copies_to x token) ends (sets 0 token ∷ lowered) _ begins unique.0 unique.5)
+    (token_ends into x token (low + 1) (low + 2)) (ends_none into) (ends_good into entered) (sets 0 token ∷ lowered) _ begins
+    unique.0 unique.5)
   where
     after : List ℕ
     after = bound_list fields bound
@@ -242,13 +261,59 @@ fits_token_unique base bound outer has holds x is fields used below token less g
     lowered = unique.1 ++ (unique.2 ∷ computes (Op.Immediate Addi unique.3) (base ∷ []) base ∷ unique.4 ∷ dups_lines holds
         (filter (is_bound used) fields))
 
-    ends : Leads (Readable base base after) (Readable base base (token ∷ after)) 1 (copies_to x token ∷ [])
-    ends = record {
-      no_label = λ l. (refl, tt);
-      few = omega arith;
-      good = λ rest good. to_variable base base after Op.Mv (x ∷ []) token rest (room_list base bound fields has below)
-          (omega arith) refl (omega arith) (inl (kept_list bound fields x is), tt) less good;
-    }
+    ends_none : (filled : Option ℕ) (l : ℕ) → HasNo l (token_ends filled x token (low + 1) (low + 2))
+    ends_none None l = (refl, (refl, tt))
+    ends_none (Some made) l = (refl, (refl, (refl, tt)))
+
+    has_after : HasRoom base after
+    has_after = room_list base bound fields has below
+
+    -- the value of the slot is written
+    written : (rest : List Line) → Good (Readable base base (token ∷ after)) rest
+        → Good (Readable base base after) (copies_to x token ∷ rest)
+    written rest good = to_variable base base after Op.Mv (x ∷ []) token rest has_after (omega arith) refl (omega arith)
+        (inl (kept_list bound fields x is), tt) less good
+
+    -- a jump to a label ahead
+    jumps : (B : ℕ → Type 0) (label : ℕ) (rest : List Line) → StandsAhead B label rest → AreFormed rest
+        → Good B (acts (Jump label) [] ∷ rest)
+    jumps B label rest ahead formed = good_alone B (Jump label) rest ahead.0 tt ahead.1 formed
+
+    ends_good : (filled : Option ℕ)
+        → ((made : ℕ) → filled ≡ Some made → (made < base) × ((others : List Line)
+        × (more ≡ copies_to token made ∷ acts (Branch NotEqual (low + 2)) (made ∷ []) ∷ others)))
+        → (front tail : List Line) → HasNo (low + 1) front → HasNo (low + 2) front
+        → Good (Readable base base (token ∷ after)) (more ++ tail)
+        → AreFormed (front ++ (acts (Label (low + 1)) [] ∷ (more ++ tail)))
+        → Good (Readable base base after)
+        (token_ends filled x token (low + 1) (low + 2) ++ (front ++ (acts (Label (low + 1)) [] ∷ (more ++ tail))))
+    ends_good None begins front tail none none_too good formed =
+        let rest = acts (Label (low + 1)) [] ∷ (more ++ tail) in
+        written (acts (Jump (low + 1)) [] ∷ (front ++ rest))
+        (jumps (Readable base base (token ∷ after)) (low + 1) (front ++ rest)
+        (stands_past (Readable base base (token ∷ after)) (low + 1) front rest none (
+          subst IsSome (sym (found_here (low + 1) (more ++ tail))) refl,
+          λ v alive. good.alive v (sym (alive_at_here (low + 1) v (more ++ tail)) ∙ alive),
+        )) formed)
+    ends_good (Some made) begins front tail none none_too good formed =
+        let rest = acts (Label (low + 1)) [] ∷ (more ++ tail) in
+        let first = begins made refl in
+        let low_made = first.0 in
+        let Behind = Readable base base (token ∷ after) in
+        let With = Readable base base (made ∷ token ∷ after) in
+        let others = first.1.0 in
+        let there : StandsAhead With (low + 2) (more ++ tail)
+        = subst (λ ls. StandsAhead With (low + 2) (ls ++ tail)) (sym first.1.1)
+        (ahead_of_fill base (token ∷ after) token made (low + 2) (others ++ tail)
+        (subst (λ ls. Good Behind (ls ++ tail)) first.1.1 good)) in
+        let label_there : StandsAhead With (low + 2) rest
+        = stands_past With (low + 2) (acts (Label (low + 1)) [] ∷ []) (more ++ tail)
+        (other_label (low + 2) (low + 1) (λ same. omega (arith, same)), tt) there in
+        written (copies_to token made ∷ acts (Jump (low + 2)) [] ∷ (front ++ rest))
+        (to_variable base base (token ∷ after) Op.Mv (token ∷ []) made (acts (Jump (low + 2)) [] ∷ (front ++ rest))
+        (room_more base after token has_after less) (omega arith) refl (omega arith)
+        (inl (or_left (token == token) (is_bound after token) (eq-eqb token token refl)), tt) low_made
+        (jumps With (low + 2) (front ++ rest) (stands_past With (low + 2) front rest none_too label_there) formed))
 
     nulls : Leads (Readable base base bound) (Readable base base (token ∷ bound)) 1 (sets 0 token ∷ [])
     nulls = record {

@@ -9,13 +9,13 @@ use Rattle.rv_isa.specs.declared.asm.Operation.TheVariants as Op
 use Rattle.rv_isa.specs.AsmCode.{Line}
 use Rattle.rv_lower.specs.Lines.{sets, copies_to, acts}
 use Rattle.rv_lower.specs.Lowered.{Goal, joins}
-use Rattle.rv_cells.specs.CellLines.{dup_lines, drop_lines}
+use Rattle.rv_cells.specs.CellLines.{dup_lines, drop_lines, TokenUniqueLines}
 use Rattle.rv_cells.specs.declared.compare.Branching.{Branching}
 use Rattle.rv_cells.specs.Comparing.{branch_of}
 use Rattle.rv_cells.specs.CountedLines.{Setting}
-use Rattle.rv_cells.specs.TokenedLines.{LinesBehind, CodeLines, ArmsLines}
-use Rattle.rv_cells.proofs.FormArities.{FitArities, FitAllArities, is_own_act, lead, get_left, get_below, StartsBehind, IsOwn, act_own}
-use Rattle.rv_cells.proofs.FormPlaces.{Tree, tree, Parts, no_part, part, code_of, own_of, parts_of, Step, IsPart, Leads, way_of, lines_before, parts_behind, arms_in, tree_in}
+use Rattle.rv_cells.specs.TokenedLines.{OpeningLines, LinesBehind, CodeLines, ArmsLines}
+use Rattle.rv_cells.proofs.FormArities.{FitArities, FitAllArities, is_own_act, lead, get_left, get_below, StartsBehind, IsOwn, entry_own, act_own}
+use Rattle.rv_cells.proofs.FormPlaces.{Tree, tree, Parts, no_part, part, code_of, own_of, parts_of, Step, IsPart, Leads, way_of, lines_before, entry_lines, entry_part, entry_there, lines_before_entry, parts_behind, arms_in, tree_in}
 
 -- ---- order
 
@@ -59,6 +59,47 @@ two_longer first second line =
     omega arith
 
 module _ (setting : Setting) (variables : ℕ) where
+  -- an opening, and the code behind it, which may be gone on with in the midst of its lines too
+  opening_orderly : (goal : Goal) (low x : ℕ) (fields used : List ℕ) (y : ℕ) (rest : Tokened) (own first more : List Line) (high :
+      ℕ)
+      (opening : OpeningLines setting variables low x fields used y rest first)
+      (lines : LinesBehind None setting variables goal (low + 2) rest more high) → own ≡ first ++ more
+      → (is_own_act rest ≡ true → IsOwn more (parts_behind setting variables None goal (low + 2) rest more high lines))
+      → AreOrderly more 0 (parts_behind setting variables None goal (low + 2) rest more high lines)
+      → AreOrderly own 0 (entry_part opening.0 (variables + y) (low + 2)
+      (lines_before_entry setting.base setting.holds low (low + 1) (low + 2) x fields used (variables + y) opening.0 first
+      opening.2) rest
+      (part (0 ∷ []) first (tree rest more (parts_behind setting variables None goal (low + 2) rest more high lines)) no_part))
+  opening_orderly goal low x fields used y rest own first more high opening lines is act are = by opening.0 opening.2
+    where
+      by : (into : Option ℕ)
+          (uniques : TokenUniqueLines setting.base setting.holds low (low + 1) (low + 2) x fields used (variables + y) into first)
+          → AreOrderly own 0 (entry_part into (variables + y) (low + 2)
+          (lines_before_entry setting.base setting.holds low (low + 1) (low + 2) x fields used (variables + y) into first uniques)
+          rest
+          (part (0 ∷ []) first (tree rest more (parts_behind setting variables None goal (low + 2) rest more high lines)) no_part))
+      by None uniques = (omega arith, (([], before_all own first more is), ((act, are), tt)))
+      by (Some into) uniques =
+          let before = lines_before_entry setting.base setting.holds low (low + 1) (low + 2) x fields used (variables + y) (Some
+          into) first
+          uniques in
+          let entry = entry_lines (variables + y) into (low + 2) in
+          let there = entry_there setting.base setting.holds low (low + 1) (low + 2) x fields used (variables + y) into first
+          uniques in
+          let whole : own ≡ before ++ (entry ++ (there.0 ++ more))
+          = is ∙ ap (λ ls. ls ++ more) there.1 ∙ append_assoc before (entry ++ there.0) more in
+          let long = ap length there.1 in
+          let sum = length-append before (entry ++ there.0) in (
+            omega arith,
+            (
+              (there.0 ++ more, whole),
+              (
+                (λ does. entry_own (variables + y) into (low + 2), tt),
+                (omega (arith, long, sum), (([], before_all own first more is), ((act, are), tt))),
+              ),
+            ),
+          )
+
   mutual
     -- the parts of a code are in order
     pub orderly : (left : Option Branching) (goal : Goal) (low : ℕ) (code : Tokened) (own : List Line) (high : ℕ)
@@ -122,32 +163,14 @@ module _ (setting : Setting) (variables : ℕ) where
         ),
       ),
     )
-    orderly left goal low (Tokened.open_cell x c fields used y rest) own high lines a = (
-      omega arith,
-      (
-        ([], before_all own lines.0 lines.1 lines.4),
-        (
-          (
-            act_own setting variables None goal (low + 2) rest lines.1 high lines.3 a,
-            orderly None goal (low + 2) rest lines.1 high lines.3 a,
-          ),
-          tt,
-        ),
-      ),
-    )
-    orderly left goal low (Tokened.if_unique x c fields used y rest) own high lines a = (
-      omega arith,
-      (
-        ([], before_all own lines.0 lines.1 lines.4),
-        (
-          (
-            act_own setting variables None goal (low + 2) rest lines.1 high lines.3 a,
-            orderly None goal (low + 2) rest lines.1 high lines.3 a,
-          ),
-          tt,
-        ),
-      ),
-    )
+    orderly left goal low (Tokened.open_cell x c fields used y rest) own high lines a =
+        opening_orderly goal low x fields used y rest own lines.0 lines.1 high lines.2 lines.3 lines.4
+        (act_own setting variables None goal (low + 2) rest lines.1 high lines.3 a)
+        (orderly None goal (low + 2) rest lines.1 high lines.3 a)
+    orderly left goal low (Tokened.if_unique x c fields used y rest) own high lines a =
+        opening_orderly goal low x fields used y rest own lines.0 lines.1 high lines.2 lines.3 lines.4
+        (act_own setting variables None goal (low + 2) rest lines.1 high lines.3 a)
+        (orderly None goal (low + 2) rest lines.1 high lines.3 a)
     orderly left goal low (Tokened.fill x y c first arguments kept others rest) own high lines a = (
       omega arith,
       (

@@ -20,7 +20,7 @@ use Rattle.rv_cells.specs.Comparing.{branch_of}
 use Rattle.rv_cells.specs.CountedLines.{Setting}
 use Rattle.rv_cells.specs.TokenedLines.{LinesBehind, ArmsLines}
 use Rattle.rv_cells.proofs.FormArities.{is_own_act, lead}
-use Rattle.rv_cells.proofs.FormPlaces.{Tree, tree, Parts, no_part, part, code_of, own_of, parts_of, Step, IsPart, Leads, way_of, lines_before, arms_in, tree_behind}
+use Rattle.rv_cells.proofs.FormPlaces.{Tree, tree, Parts, no_part, part, code_of, own_of, parts_of, Step, IsPart, Leads, way_of, lines_before, lines_before_entry, behind_entry, arms_in, tree_behind}
 
 -- ---- numbers and lists
 
@@ -245,15 +245,49 @@ module _ (setting : Setting) (variables : ℕ) where
     way_there left goal low (Tokened.open_cell x c fields used y rest) own high lines [] act is does =
         absurd (false_not (act_here (bare (Tokened.open_cell x c fields used y rest)) act is does))
     way_there left goal low (Tokened.open_cell x c fields used y rest) own high lines (zero ∷ way) act is does =
-        reaches_behind (tree_behind setting variables left goal low (Tokened.open_cell x c fields used y rest) own high lines) _ way
-        (inl refl)
+        reaches_behind (tree_behind setting variables left goal low (Tokened.open_cell x c fields used y rest) own high lines)
+        (record {
+          way = 0 ∷ [];
+          before = lines.0;
+          inner = tree_behind setting variables None goal (low + 2) rest lines.1 high
+              lines.3;
+        })
+        way
+        (behind_entry lines.2.0 (variables + y) (low + 2)
+        (lines_before_entry setting.base setting.holds low (low + 1) (low + 2) x fields used (variables + y) lines.2.0 lines.0
+        lines.2.2) rest
+        (part (0 ∷ []) lines.0 (tree_behind setting variables None goal (low + 2) rest lines.1 high lines.3) no_part)
+        (record {
+          way = 0 ∷ [];
+          before = lines.0;
+          inner = tree_behind setting variables None goal (low + 2) rest lines.1 high
+              lines.3;
+        })
+        (inl refl))
         (way_there None goal (low + 2) rest lines.1 high lines.3 way act is does)
     way_there left goal low (Tokened.open_cell x c fields used y rest) own high lines (suc n ∷ way) act is does = cc is
     way_there left goal low (Tokened.if_unique x c fields used y rest) own high lines [] act is does =
         absurd (false_not (act_here (bare (Tokened.if_unique x c fields used y rest)) act is does))
     way_there left goal low (Tokened.if_unique x c fields used y rest) own high lines (zero ∷ way) act is does =
-        reaches_behind (tree_behind setting variables left goal low (Tokened.if_unique x c fields used y rest) own high lines) _ way
-        (inl refl)
+        reaches_behind (tree_behind setting variables left goal low (Tokened.if_unique x c fields used y rest) own high lines)
+        (record {
+          way = 0 ∷ [];
+          before = lines.0;
+          inner = tree_behind setting variables None goal (low + 2) rest lines.1 high
+              lines.3;
+        })
+        way
+        (behind_entry lines.2.0 (variables + y) (low + 2)
+        (lines_before_entry setting.base setting.holds low (low + 1) (low + 2) x fields used (variables + y) lines.2.0 lines.0
+        lines.2.2) rest
+        (part (0 ∷ []) lines.0 (tree_behind setting variables None goal (low + 2) rest lines.1 high lines.3) no_part)
+        (record {
+          way = 0 ∷ [];
+          before = lines.0;
+          inner = tree_behind setting variables None goal (low + 2) rest lines.1 high
+              lines.3;
+        })
+        (inl refl))
         (way_there None goal (low + 2) rest lines.1 high lines.3 way act is does)
     way_there left goal low (Tokened.if_unique x c fields used y rest) own high lines (suc n ∷ way) act is does = cc is
     way_there left goal low (Tokened.dup x rest) own high lines [] act is does =

@@ -1,9 +1,10 @@
 -- A comparison and the case behind it are one branch: the machine with tokens does the comparison at no line, and the case at the
--- branch.
-use Rattle.std.proofs.Common.{◌≡◌, ◌⊎◌, inl, inr, ℕ, zero, suc, ◌+◌, ◌≤◌, Bool, true, false, not, List, [], ◌∷◌, ◌++◌, Some, refl}
+-- branch. And an opening may go on in the midst of the lines of the construction behind it.
+use Rattle.std.proofs.Common.{◌≡◌, ◌⊎◌, inl, inr, ℕ, zero, suc, ◌+◌, ◌≤◌, Bool, true, false, not, List, [], ◌∷◌, ◌++◌, length, Some, refl}
 use Rattle.std.proofs.Common.{sym, ◌∙◌, ap, subst, arith, append_assoc}
 use Rattle.std.specs.Prelude.{if◌then◌else◌}
 use Rattle.std.proofs.lemmas.List.{append-nil}
+use Rattle.std.proofs.Math.Path.{path_j}
 use Rattle.kk_syntax.specs.declared.operator.BinaryOperator.{BinaryOperator}
 use Rattle.kk_syntax.specs.declared.program.Form.TheVariants.{Binary}
 use Rattle.kk_source.specs.Actions.{goes}
@@ -21,10 +22,10 @@ use Rattle.kk_counted.specs.TokenMachine.{tokened_arm_at, token_case_step, token
 use Rattle.kk_counted.specs.TokenRuns.{AllLead}
 use Rattle.kk_counted.specs.TokenStates.{TokenJoin, TokenFrame, TokenControl, TokenState}
 use Rattle.kk_counted.specs.TokenedCodes.{Tokened, TokenedArms}
-use Rattle.kk_counted.specs.Tokens.{Tokens}
+use Rattle.kk_counted.specs.Tokens.{token, Tokens}
 use Rattle.kk_counted.proofs.KnownKept.{keeps_fills}
 use Rattle.kk_counted.proofs.TokenSteps.{follows}
-use Rattle.rv_isa.specs.declared.asm.Action.TheVariants.{Label, Branch}
+use Rattle.rv_isa.specs.declared.asm.Action.TheVariants.{Label, Jump, Branch}
 use Rattle.rv_isa.specs.Arithmetic.{signed}
 use Rattle.rv_isa.specs.AsmCode.{Line}
 use Rattle.rv_isa.specs.AsmMachine.{AsmTurn}
@@ -32,7 +33,7 @@ use Rattle.rv_isa.specs.Frames.{Frame}
 use Rattle.rv_isa.specs.Processor.{Ending}
 use Rattle.rv_world.specs.World.{World}
 use Rattle.rv_world.specs.Operations.{compares}
-use Rattle.rv_lower.specs.Lines.{acts}
+use Rattle.rv_lower.specs.Lines.{copies_to, acts}
 use Rattle.rv_cells.specs.declared.compare.Branching.{Branching}
 use Rattle.rv_cells.specs.Comparing.{branch_unless, branch_of, names, names_behind, arms_name_behind}
 use Rattle.std.proofs.lemmas.Bool.{or_parts}
@@ -57,9 +58,10 @@ use Rattle.rv_cells.proofs.Spots.{Spot, saved}
 use Rattle.rv_cells.proofs.Values.{among_by, value_same}
 use Rattle.rv_cells.proofs.TokenDeciding.{ArmAt, arm_stands, arm_first, arm_part, arm_bare, arm_short, arm_numbered, arm_marked}
 use Rattle.rv_cells.proofs.TokenDeciding.{arm_slots, arm_keeps, tree_moved, case_there}
+use Rattle.rv_cells.proofs.TokenFills.{fills_behind}
 use Rattle.rv_cells.proofs.TokenLanding.{machine_at, token_at, seen_action, does_by, kept_after}
 use Rattle.rv_cells.proofs.TokenLineCosts.{forms}
-use Rattle.rv_cells.proofs.TokenStanding.{Lowering, target, texts, setting, upper, At, GivesUp, ComesTo, IsAhead, IsBehind, IsNear}
+use Rattle.rv_cells.proofs.TokenStanding.{Lowering, target, texts, setting, upper, At, GivesUp, ComesTo, IsAhead, IsBehind, IsFilling, IsNear}
 use Rattle.rv_cells.proofs.TokenStanding.{MayStandFor, IsFitFrom, by_near, finds, Follows_step}
 
 -- ---- arms
@@ -185,7 +187,7 @@ module _ (program : Lowering) where
     heap_is = refl;
     turn_is = refl;
     follows = holds;
-    near = inr gives;
+    near = inr (inl gives);
   })
 
   -- behind a comparison a case comes to its arm
@@ -288,20 +290,35 @@ module _ (program : Lowering) where
   behind_step (Tokened.unhold y rest) idle inner frames tokens input s fs left is idle_is fit = absurd is.ahead
   behind_step (Tokened.if_token y there absent) idle inner frames tokens input s fs left is idle_is fit = absurd is.ahead
 
-  -- a state near a comparison is stepped
+  -- a state near a comparison or a construction is stepped
   near_at : (code : Tokened) (idle : ℕ) (inner : List TokenJoin) (frames : List TokenFrame) (tokens : Tokens) (input : List ℕ)
       (s : Spot) (fs : List (Frame Line)) (left : List Line)
-      → IsBehind program code inner frames tokens input s fs left ⊎ GivesUp program code inner frames tokens input s fs left
+      → IsBehind program code inner frames tokens input s fs left
+      ⊎ (GivesUp program code inner frames tokens input s fs left ⊎ IsFilling program code inner frames tokens input s fs left)
       → idle ≡ forms code → IsFitFrom program (token_at program code s.environment inner frames s.heap tokens input)
       → Follows_step program idle (token_at program code s.environment inner frames s.heap tokens input)
       (turn_of left s.frame fs s.world)
   near_at code idle inner frames tokens input s fs left (inl is) idle_is fit =
       behind_step code idle inner frames tokens input s fs left is idle_is fit
-  near_at code idle inner frames tokens input s fs left (inr is) idle_is fit =
+  near_at code idle inner frames tokens input s fs left (inr (inl is)) idle_is fit =
       subst (λ c. idle ≡ forms c → IsFitFrom program (token_at program c s.environment inner frames s.heap tokens input)
       → Follows_step program idle (token_at program c s.environment inner frames s.heap tokens input)
       (turn_of left s.frame fs s.world)) (sym is.code_is)
       (gives_up_step is.y is.rest inner frames tokens input s fs left idle is.lists is.plain is.judged is.at) idle_is fit
+  near_at code idle inner frames tokens input s fs left (inr (inr is)) idle_is fit =
+      let fill = Tokened.fill is.x is.y is.c is.first is.arguments is.kept is.others is.rest in
+      path_j (λ (c : Tokened) (same : fill ≡ c). (at : At program c inner frames tokens input s fs is.there)
+      → tokens.slots (length at.lists.older) is.y ≡ token is.q
+      → left ≡ copies_to (at.shape.variables + is.y) is.x ∷ acts (Jump at.does.placed.low) [] ∷ is.after → idle ≡ forms c
+      → IsFitFrom program (token_at program c s.environment inner frames s.heap tokens input)
+      → Follows_step program idle (token_at program c s.environment inner frames s.heap tokens input)
+      (turn_of left s.frame fs s.world))
+      (λ at has left_is same fits.
+      subst (λ ls. Follows_step program idle (token_at program fill s.environment inner frames s.heap tokens input)
+      (turn_of ls s.frame fs s.world)) (sym left_is)
+      (fills_behind program is.x is.y is.c is.first is.arguments is.kept is.others is.rest idle inner frames tokens input s fs
+      is.there same at fits is.q has is.after))
+      is.code_is is.at is.has is.left_is idle_is fit
 
   pub near_step : (code : Tokened) (environment : Environment) (inner : List TokenJoin) (frames : List TokenFrame) (heap : Heap)
       (tokens : Tokens) (input : List ℕ) (idle : ℕ) (t : AsmTurn World Ending) → idle ≡ forms code

@@ -142,7 +142,8 @@ module _ (setting : Setting) (variables : ℕ) (table : CellMarks) (narrow : (c 
         spends is =
         let whole = ap code_length is.4 in
         let apart = lines_append is.0 is.1 in
-        let own = token_unique_length setting.holds setting.base low (low + 1) x fields used (variables + y) is.0 is.2
+        let own = token_unique_length setting.holds setting.base low (low + 1) (low + 2) x fields used (variables + y) is.2.0
+        is.0 is.2.2
         (few_fields c fields marked.0.1.1) in
         let more = code_short None rest (fields ++ bound) given goal (low + 2) high is.1 left (y ∷ unspent) [] marked.1 arities
         spends.1.1 is.3 in
@@ -151,7 +152,8 @@ module _ (setting : Setting) (variables : ℕ) (table : CellMarks) (narrow : (c 
         spends is =
         let whole = ap code_length is.4 in
         let apart = lines_append is.0 is.1 in
-        let own = token_unique_length setting.holds setting.base low (low + 1) x fields used (variables + y) is.0 is.2
+        let own = token_unique_length setting.holds setting.base low (low + 1) (low + 2) x fields used (variables + y) is.2.0
+        is.0 is.2.2
         (few_fields c fields marked.0.1.1) in
         let more = code_short None rest (fields ++ bound) given goal (low + 2) high is.1 left (y ∷ unspent) [] marked.1 arities
         spends.1.1 is.3 in

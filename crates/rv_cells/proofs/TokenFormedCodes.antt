@@ -2,6 +2,7 @@
 -- tokens, and holds them around calls alone.
 use Rattle.std.proofs.Common.{◌≡◌, ℕ, suc, ◌+◌, ◌<◌, ◌≤◌, ◌==◌, ◌&&◌, ◌⊎◌, inl, inr, Bool, true, false, not, List, [], ◌∷◌, ◌++◌}
 use Rattle.std.proofs.Common.{length, Some, refl, sym, ap, subst, ◌∙◌, arith}
+use Rattle.std.proofs.Math.Path.{path_j}
 use Rattle.std.specs.List.{AllByRecursion}
 use Rattle.std.specs.Prelude.{slice_get, if◌then◌else◌}
 use Rattle.std.proofs.lemmas.Bool.{or_cases, or_left, or_right, eq-eqb, eqb-true, false≢true, ne_eqb}
@@ -21,9 +22,9 @@ use Rattle.kk_counted.specs.TokenLowerable.{HoldsAtCalls, HoldAtCalls}
 use Rattle.kk_counted.specs.TokenSpending.{AtForm, SpendsTokens, SpendAllTokens}
 use Rattle.kk_counted.specs.TokenedCodes.{Tokened, TokenedArms}
 use Rattle.kk_counted.proofs.TokenForms.{among_without}
-use Rattle.rv_isa.specs.declared.asm.Action.TheVariants.{Compute, Routine as Calls, Unhold}
+use Rattle.rv_isa.specs.declared.asm.Action.TheVariants.{Compute, Branch, Routine as Calls, Unhold}
 use Rattle.rv_isa.specs.declared.routine.Routine.TheVariants.{Drop}
-use Rattle.rv_isa.specs.declared.asm.Condition.TheVariants.{Equal}
+use Rattle.rv_isa.specs.declared.asm.Condition.TheVariants.{Equal, NotEqual}
 use Rattle.rv_isa.specs.declared.asm.Operation.{Operation}
 use Rattle.rv_isa.specs.declared.asm.Operation.TheVariants as Op
 use Rattle.rv_isa.specs.AsmCode.{Line}
@@ -35,15 +36,17 @@ use Rattle.rv_cells.specs.declared.standing.Standing.{Standing}
 use Rattle.rv_lower.proofs.Operations.{Leads}
 use Rattle.rv_lower.proofs.Codes.{Fits, fits_weaker, fits_give, fits_tail_call, fits_inside, fits_split}
 use Rattle.rv_cells.specs.Layout.{Layout, header_of}
-use Rattle.rv_cells.specs.CellLines.{drop_lines, TokenUniqueLines}
+use Rattle.rv_cells.specs.CellLines.{drop_lines}
 use Rattle.rv_cells.specs.CountedLines.{Setting, ComputeLines}
 use Rattle.rv_cells.specs.declared.compare.Branching.{Branching}
 use Rattle.rv_cells.specs.Comparing.{branch_of, IsTested, MayJoin}
-use Rattle.rv_cells.specs.TokenedLines.{values_of_slots, HasSlots, HaveSlots, header_stands, count_stands, OwnLines, LinesBehind, CodeLines, ArmsLines}
+use Rattle.rv_cells.specs.TokenedLines.{values_of_slots, HasSlots, HaveSlots, header_stands, count_stands, OwnLines, IsFillOf, MayFill}
+use Rattle.rv_cells.specs.TokenedLines.{OpeningLines, LinesBehind, CodeLines, ArmsLines}
 use Rattle.rv_cells.proofs.AskedForms.{Asks, ask_either}
 use Rattle.rv_cells.proofs.CellForms.{effect, kept_list, bound_later}
 use Rattle.rv_cells.proofs.Bound.{within_one}
 use Rattle.rv_cells.proofs.Comparisons.{either_left, compared_by, reads_both, plain_part, plain_own}
+use Rattle.rv_cells.proofs.FormPlaces.{fill_there}
 use Rattle.rv_cells.proofs.FormedCases.{some_arm, ArmsFit, arms_none, arms_more, fits_case, fits_branch}
 use Rattle.rv_cells.proofs.FormedForms.{fits_form}
 use Rattle.rv_cells.proofs.FormedOrders.{behind, listed_within, front_within, room_front}
@@ -279,20 +282,37 @@ module _ (layout : Layout) (holds : ℕ → Bool) (texts : Texts) (standing : St
         (fits_weaker base inside (x ∷ inside) outer goal (low + 1) high more
         (λ v there. or_right (x == v) (is_among inside v) there) behind))))
 
+  -- the lines of a construction in the cell of a slot begin with the test of its token
+  fill_begins : (x y : ℕ) (code : Tokened) → IsFillOf x y code → (bound : List ℕ) (goal : Goal) (low high : ℕ) (lines : List Line)
+      → CodeLines setting variables goal low code lines high → AreNumbered variables bound (bare code)
+      → (x < variables + slots) × ((others : List Line)
+      × (lines ≡ copies_to (variables + y) x ∷ acts (Branch NotEqual low) (x ∷ []) ∷ others))
+  fill_begins x y code fills bound goal low high lines are numbered =
+      let there = fill_there x y code fills in
+      path_j (λ (c : Tokened) (same : Tokened.fill x y there.c there.first there.arguments there.kept there.others there.rest ≡ c).
+      CodeLines setting variables goal low c lines high → AreNumbered variables bound (bare c)
+      → (x < variables + slots) × ((others : List Line)
+      × (lines ≡ copies_to (variables + y) x ∷ acts (Branch NotEqual low) (x ∷ []) ∷ others)))
+      (λ own is. (let less = is.0 in omega (arith, less), (_, own.4 ∙ ap (λ ls. ls ++ own.1) own.2.4))) there.is are numbered
+
   -- an opening, before the code behind it
-  opening_fits : (x : ℕ) (fields used : List ℕ) (y : ℕ) (bound outer unspent left held : List ℕ) (goal : Goal) (low high : ℕ)
-      (lines own more : List Line) → HasRoom variables bound → held ≡ [] → is_among bound x ≡ true → AreBelow variables fields
-      → y < slots → TokenUniqueLines (variables + slots) holds low (low + 1) x fields used (variables + y) own
+  opening_fits : (x : ℕ) (fields used : List ℕ) (y : ℕ) (rest : Tokened) (bound outer unspent left held : List ℕ) (goal : Goal)
+      (low high : ℕ) (lines own more : List Line) → HasRoom variables bound → held ≡ [] → is_among bound x ≡ true → AreBelow
+      variables fields
+      → y < slots → OpeningLines setting variables low x fields used y rest own
+      → CodeLines setting variables goal (low + 2) rest more high → AreNumbered variables (fields ++ bound) (bare rest)
       → lines ≡ own ++ more
       → HeldFits [] (reads (y ∷ unspent) (fields ++ bound)) (reads left outer) goal (low + 2) high more
       → HeldFits held (reads unspent bound) (reads left outer) goal low high lines
-  opening_fits x fields used y bound outer unspent left held goal low high lines own more has none there below few unique lines_are
-      later =
+  opening_fits x fields used y rest bound outer unspent left held goal low high lines own more has none there below few opening
+      are numbered lines_are later =
       none_held held (reads unspent bound) (reads left outer) goal low high lines none
       (subst (FitsCode (reads unspent bound) (reads left outer) goal low high) (sym lines_are)
       (fits_token_unique (variables + slots) (reads unspent bound) (reads left outer) (has_room unspent bound has) holds x
       (variable_there variables slots unspent bound x there) fields used (below_more variables slots fields below)
-      (variables + y) (omega (arith, few)) goal low high own more unique
+      (variables + y) (omega (arith, few)) goal low high opening.0 own more opening.2
+      (λ made is. fill_begins made y rest (subst (λ into. MayFill into y rest) is opening.1) (fields ++ bound) goal (low + 2) high
+      more are numbered)
       (fits_weaker (variables + slots) (reads (y ∷ unspent) (fields ++ bound))
       ((variables + y) ∷ bound_list fields (reads unspent bound)) (reads left outer) goal (low + 2) high more
       (slot_more y unspent (fields ++ bound) (bound_list fields (reads unspent bound))
@@ -408,15 +428,15 @@ module _ (layout : Layout) (holds : ℕ → Bool) (texts : Texts) (standing : St
         arities few at.1 spends.1 tt tt is.3)))))
     code_fits (Tokened.open_cell x c fields used y rest) bound outer unspent left held given goal low high lines has within marked
         numbered arms some arities few at spends below apart is =
-        opening_fits x fields used y bound outer unspent left held goal low high lines is.0 is.1 has at.0 marked.0.0 numbered.0.0
-        few.0 is.2 is.4
+        opening_fits x fields used y rest bound outer unspent left held goal low high lines is.0 is.1 has at.0 marked.0.0
+        numbered.0.0 few.0 is.2 is.3 numbered.1 is.4
         (code_fits rest (fields ++ bound) outer (y ∷ unspent) left [] given goal (low + 2) high is.1
         (room_front variables bound fields has numbered.0.0) (behind fields bound outer within) marked.1 numbered.1 arms some
         arities few.1 at.1 spends.1.1 tt tt is.3)
     code_fits (Tokened.if_unique x c fields used y rest) bound outer unspent left held given goal low high lines has within marked
         numbered arms some arities few at spends below apart is =
-        opening_fits x fields used y bound outer unspent left held goal low high lines is.0 is.1 has at.0 marked.0.0 numbered.0.0
-        few.0 is.2 is.4
+        opening_fits x fields used y rest bound outer unspent left held goal low high lines is.0 is.1 has at.0 marked.0.0
+        numbered.0.0 few.0 is.2 is.3 numbered.1 is.4
         (code_fits rest (fields ++ bound) outer (y ∷ unspent) left [] given goal (low + 2) high is.1
         (room_front variables bound fields has numbered.0.0) (behind fields bound outer within) marked.1 numbered.1 arms some
         arities few.1 at.1 spends.1.1 tt tt is.3)

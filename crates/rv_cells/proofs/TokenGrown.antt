@@ -1,7 +1,8 @@
 -- Code with tokens that grows: the lines and the texts of parts make those of the whole.
-use Rattle.std.proofs.Common.{◌≡◌, ◌⊎◌, inl, inr, Bool, ℕ, suc, ◌+◌, ◌<◌, false, List, [], ◌∷◌, ◌++◌, length, map, take, get_or, refl, sym, ap}
+use Rattle.std.proofs.Common.{◌≡◌, ◌⊎◌, inl, inr, Bool, Option, ℕ, suc, ◌+◌, ◌-◌, ◌<◌, false, List, [], ◌∷◌, ◌++◌, length, map, take, get_or, refl, sym, ap}
 use Rattle.std.proofs.Common.{subst, ◌∙◌, arith, append_assoc, append-nil}
-use Rattle.std.proofs.lemmas.List.{length-map, map-append, take_more}
+use Rattle.std.specs.Prelude.{drop}
+use Rattle.std.proofs.lemmas.List.{length-map, map-append, take_more, drop_more, length-drop, take_all}
 use Rattle.kk_syntax.specs.declared.program.Form.{Form}
 use Rattle.kk_syntax.specs.declared.program.Form.TheVariants.{Number, Unit as Nothing, ReadByte, PrintText, Unary, Binary, Print}
 use Rattle.kk_syntax.specs.declared.program.Form.TheVariants.{Construct, Call}
@@ -33,9 +34,9 @@ use Rattle.rv_cells.specs.declared.decide.Targets.{Targets}
 use Rattle.rv_cells.specs.Layout.{header_of}
 use Rattle.rv_cells.specs.CellLines.{FillLines, ReadLines, dup_lines, drop_lines}
 use Rattle.rv_cells.specs.CountedLines.{Setting, ways_of, NodesLines}
-use Rattle.rv_cells.specs.TokenedLines.{OwnLines, LinesBehind, CodeLines, ArmsLines, values_of_slots, header_stands, count_stands}
+use Rattle.rv_cells.specs.TokenedLines.{OwnLines, LinesBehind, CodeLines, ArmsLines, MayFill, values_of_slots, header_stands, count_stands}
 use Rattle.rv_cells.specs.TokenedWritten.{token_test_lines, WroteFill, WroteAsk, WroteTokened, WroteTokenedArms, WroteTokenedSteps}
-use Rattle.rv_cells.specs.Written.{Facts, setting_in, TookTargets, WroteCountOpening, WroteValue}
+use Rattle.rv_cells.specs.Written.{Facts, setting_in, TookTargets, WroteOpening, WroteValue}
 use Rattle.rv_cells.proofs.Comparisons.{never_left}
 
 -- the lines of a code at equal places
@@ -66,8 +67,9 @@ arms_same facts {base} {base_too} {texts} {texts_too} {low} {low_too} variables 
 zero_plus : (n : ℕ) → n ≡ 0 + n
 zero_plus n = omega arith
 
-pub steps_none : (facts : Facts) (variables : ℕ) (a : Lowering) → WroteTokenedSteps facts variables [] a a
-steps_none facts variables a = record {
+pub steps_none : (facts : Facts) (variables : ℕ) (behind : List TokenedMove) (a : Lowering)
+    → WroteTokenedSteps facts variables [] behind a a
+steps_none facts variables behind a = record {
   lines = [];
   n = 0;
   grows = grows_none a;
@@ -81,26 +83,27 @@ plug_more [] move rest = refl
 plug_more (first ∷ moves) move rest = ap (put_tokened first) (plug_more moves move rest)
 
 pub steps_then : {a b c : Lowering} (facts : Facts) (variables : ℕ) (moves : List TokenedMove) (move : TokenedMove)
-    → WroteTokenedSteps facts variables moves a b → WroteTokenedSteps facts variables (move ∷ []) b c
-    → WroteTokenedSteps facts variables (moves ++ move ∷ []) a c
-steps_then {a} {b} {c} facts variables moves move wrote one = record {
+    (behind : List TokenedMove) → WroteTokenedSteps facts variables moves (move ∷ behind) a b
+    → WroteTokenedSteps facts variables (move ∷ []) behind b c → WroteTokenedSteps facts variables (moves ++ move ∷ []) behind a c
+steps_then {a} {b} {c} facts variables moves move behind wrote one = record {
   lines = wrote.lines ++ one.lines;
   n = wrote.n + one.n;
   grows = grows_then wrote.grows one.grows;
   counted = λ rest. ap tokened_computes (plug_more moves move rest)
       ∙ counts _ _ wrote.n one.n (tokened_computes rest) (wrote.counted (put_tokened move rest)) (one.counted rest);
   are = λ later goal rest more high is.
+      let next : Tokened = plug_tokened behind rest in
       subst (λ (code : Tokened). CodeLines (setting_in facts a.base (texts_written c ++ later)) variables goal a.next_label code
-      ((wrote.lines ++ one.lines) ++ more) high) (sym (plug_more moves move rest))
+      ((wrote.lines ++ one.lines) ++ more) high) (sym (plug_more moves move next))
       (subst (λ (lines : List Line). CodeLines (setting_in facts a.base (texts_written c ++ later)) variables goal a.next_label
-      (plug_tokened moves (put_tokened move rest)) lines high) (sym (append_assoc wrote.lines one.lines more))
-      (code_same facts variables goal (plug_tokened moves (put_tokened move rest)) (wrote.lines ++ (one.lines ++ more)) high refl
+      (plug_tokened moves (put_tokened move next)) lines high) (sym (append_assoc wrote.lines one.lines more))
+      (code_same facts variables goal (plug_tokened moves (put_tokened move next)) (wrote.lines ++ (one.lines ++ more)) high refl
       (later_texts one.grows later) refl
-      (wrote.are (one.grows.more ++ later) goal (put_tokened move rest) (one.lines ++ more) high
-      (code_same facts variables goal (put_tokened move rest) (one.lines ++ more) high wrote.grows.base
+      (wrote.are (one.grows.more ++ later) goal rest (one.lines ++ more) high
+      (code_same facts variables goal (put_tokened move next) (one.lines ++ more) high wrote.grows.base
       (sym (later_texts one.grows later)) refl
       (one.are later goal rest more high
-      (code_same facts variables goal rest more high (sym wrote.grows.base) refl refl is))))));
+      (code_same facts variables goal next more high (sym wrote.grows.base) refl refl is))))));
 }
   where
     counts : (x y n m k : ℕ) → x ≡ n + y → y ≡ m + k → x ≡ n + m + k
@@ -111,7 +114,7 @@ one_form n = omega arith
 
 pub step_asks : {a b : Lowering} (facts : Facts) (variables x : ℕ) (form : Form) (arguments others : List ℕ)
     → WroteAsk facts variables x form arguments others a b
-    → WroteTokenedSteps facts variables (TokenedMove.computes x form arguments others ∷ []) a b
+    → WroteTokenedSteps facts variables (TokenedMove.computes x form arguments others ∷ []) [] a b
 step_asks {a} {b} facts variables x form arguments others wrote = record {
   lines = wrote.lines;
   n = 1;
@@ -134,7 +137,7 @@ step_asks {a} {b} facts variables x form arguments others wrote = record {
 -- a block inside: its label is taken first, and stands behind it
 pub step_runs : {a b c d : Lowering} {label : ℕ} (facts : Facts) (variables x : ℕ) (block : Tokened) → TookLabel label a b
     → WroteTokened facts variables (joins x label) block b c
-    → Wrote (acts (Label label) [] ∷ []) c d → WroteTokenedSteps facts variables (TokenedMove.runs x block ∷ []) a d
+    → Wrote (acts (Label label) [] ∷ []) c d → WroteTokenedSteps facts variables (TokenedMove.runs x block ∷ []) [] a d
 step_runs {a} {b} {c} {d} {label} facts variables x block took part labelled = record {
   lines = part.lines ++ (acts (Label label) [] ∷ []);
   n = tokened_computes block;
@@ -160,7 +163,7 @@ step_alone : {a b : Lowering} (facts : Facts) (variables : ℕ) (move : TokenedM
     → CodeLines (setting_in facts a.base (texts_written b ++ later)) variables goal b.next_label rest more high
     → CodeLines (setting_in facts a.base (texts_written b ++ later)) variables goal a.next_label (put_tokened move rest)
     (lines ++ more) high)
-    → WroteTokenedSteps facts variables (move ∷ []) a b
+    → WroteTokenedSteps facts variables (move ∷ []) [] a b
 step_alone facts variables move lines grows same are = record {
   lines = lines;
   n = 0;
@@ -170,36 +173,57 @@ step_alone facts variables move lines grows same are = record {
 }
 
 pub step_reads : {a b : Lowering} (facts : Facts) (variables x c : ℕ) (fields : List ℕ) → WroteLines (ReadLines x fields) a b
-    → WroteTokenedSteps facts variables (TokenedMove.reads x c fields ∷ []) a b
+    → WroteTokenedSteps facts variables (TokenedMove.reads x c fields ∷ []) [] a b
 step_reads facts variables x c fields wrote =
     step_alone facts variables (TokenedMove.reads x c fields) wrote.lines (grows_of wrote.wrote) (λ rest. refl)
     (λ later goal rest more high is.
     (wrote.lines, more, wrote.are, code_same facts variables goal rest more high refl refl wrote.wrote.label is, refl))
 
-pub step_opens : {a b : Lowering} (facts : Facts) (variables x c : ℕ) (fields used : List ℕ) (y : ℕ)
-    → WroteCountOpening facts.holds x fields used (copies_to x (variables + y)) (sets 0 (variables + y) ∷ []) a b
-    → WroteTokenedSteps facts variables (TokenedMove.opens x c fields used y ∷ []) a b
-step_opens facts variables x c fields used y wrote =
-    step_alone facts variables (TokenedMove.opens x c fields used y) wrote.lines wrote.grows (λ rest. refl)
-    (λ later goal rest more high is.
-    (wrote.lines, more, wrote.are, code_same facts variables goal rest more high refl refl wrote.label is, refl))
+-- an opening, behind which its slot's construction may come
+pub step_opens : {a b : Lowering} (facts : Facts) (variables x c : ℕ) (fields used : List ℕ) (y : ℕ) (into : Option ℕ)
+    (behind : List TokenedMove) → ((rest : Tokened) → MayFill into y (plug_tokened behind rest))
+    → WroteOpening facts.holds x fields used (variables + y) into a b
+    → WroteTokenedSteps facts variables (TokenedMove.opens x c fields used y ∷ []) behind a b
+step_opens facts variables x c fields used y into behind may wrote = record {
+  lines = wrote.lines;
+  n = 0;
+  grows = wrote.grows;
+  counted = λ rest. zero_plus (tokened_computes rest);
+  are = λ later goal rest more high is. (
+    wrote.lines,
+    more,
+    (into, may rest, wrote.are),
+    code_same facts variables goal (plug_tokened behind rest) more high refl refl wrote.label is,
+    refl,
+  );
+}
 
-pub step_opens_unique : {a b : Lowering} (facts : Facts) (variables x c : ℕ) (fields used : List ℕ) (y : ℕ)
-    → WroteCountOpening facts.holds x fields used (copies_to x (variables + y)) (sets 0 (variables + y) ∷ []) a b
-    → WroteTokenedSteps facts variables (TokenedMove.opens_unique x c fields used y ∷ []) a b
-step_opens_unique facts variables x c fields used y wrote =
-    step_alone facts variables (TokenedMove.opens_unique x c fields used y) wrote.lines wrote.grows (λ rest. refl)
-    (λ later goal rest more high is.
-    (wrote.lines, more, wrote.are, code_same facts variables goal rest more high refl refl wrote.label is, refl))
+pub step_opens_unique : {a b : Lowering} (facts : Facts) (variables x c : ℕ) (fields used : List ℕ) (y : ℕ) (into : Option ℕ)
+    (behind : List TokenedMove) → ((rest : Tokened) → MayFill into y (plug_tokened behind rest))
+    → WroteOpening facts.holds x fields used (variables + y) into a b
+    → WroteTokenedSteps facts variables (TokenedMove.opens_unique x c fields used y ∷ []) behind a b
+step_opens_unique facts variables x c fields used y into behind may wrote = record {
+  lines = wrote.lines;
+  n = 0;
+  grows = wrote.grows;
+  counted = λ rest. zero_plus (tokened_computes rest);
+  are = λ later goal rest more high is. (
+    wrote.lines,
+    more,
+    (into, may rest, wrote.are),
+    code_same facts variables goal (plug_tokened behind rest) more high refl refl wrote.label is,
+    refl,
+  );
+}
 
 pub step_dups : {a b : Lowering} (facts : Facts) (variables x : ℕ) → Wrote (dup_lines facts.holds x) a b
-    → WroteTokenedSteps facts variables (TokenedMove.dups x ∷ []) a b
+    → WroteTokenedSteps facts variables (TokenedMove.dups x ∷ []) [] a b
 step_dups facts variables x wrote =
     step_alone facts variables (TokenedMove.dups x) (dup_lines facts.holds x) (grows_of wrote) (λ rest. refl)
     (λ later goal rest more high is. (more, code_same facts variables goal rest more high refl refl wrote.label is, refl))
 
 pub step_drops : {a b : Lowering} (facts : Facts) (variables x : ℕ) → Wrote (drop_lines a.base facts.holds x) a b
-    → WroteTokenedSteps facts variables (TokenedMove.drops x ∷ []) a b
+    → WroteTokenedSteps facts variables (TokenedMove.drops x ∷ []) [] a b
 step_drops {a} facts variables x wrote =
     step_alone facts variables (TokenedMove.drops x) (drop_lines a.base facts.holds x) (grows_of wrote) (λ rest. refl)
     (λ later goal rest more high is. (more, code_same facts variables goal rest more high refl refl wrote.label is, refl))
@@ -207,7 +231,7 @@ step_drops {a} facts variables x wrote =
 pub step_fills : {a b : Lowering} (facts : Facts) (variables x y c first : ℕ) (arguments kept others : List ℕ)
     → WroteFill x (variables + y) (values_of_slots variables others) (header_of facts.layout c) (first ∷ arguments) kept
     (header_stands facts.standing c) (count_stands facts.standing) a b
-    → WroteTokenedSteps facts variables (TokenedMove.fills x y c first arguments kept others ∷ []) a b
+    → WroteTokenedSteps facts variables (TokenedMove.fills x y c first arguments kept others ∷ []) [] a b
 step_fills facts variables x y c first arguments kept others wrote =
     step_alone facts variables (TokenedMove.fills x y c first arguments kept others) wrote.lines wrote.grows (λ rest. refl)
     (λ later goal rest more high is.
@@ -227,34 +251,34 @@ fill_is {x} {token} {token_too} {header} {header_too} {others} {arguments} {argu
     (subst (λ one. WroteFill x token others header arguments kept head one a b) same_count wrote))))
 
 pub step_frees : {a b : Lowering} (facts : Facts) (variables y : ℕ) → Wrote (acts (Compute Free) ((variables + y) ∷ []) ∷ []) a b
-    → WroteTokenedSteps facts variables (TokenedMove.frees y ∷ []) a b
+    → WroteTokenedSteps facts variables (TokenedMove.frees y ∷ []) [] a b
 step_frees facts variables y wrote =
     step_alone facts variables (TokenedMove.frees y) (acts (Compute Free) ((variables + y) ∷ []) ∷ []) (grows_of wrote)
     (λ rest. refl)
     (λ later goal rest more high is. (more, code_same facts variables goal rest more high refl refl wrote.label is, refl))
 
 pub step_nulls : {a b : Lowering} (facts : Facts) (variables y : ℕ) → Wrote (sets 0 (variables + y) ∷ []) a b
-    → WroteTokenedSteps facts variables (TokenedMove.nulls y ∷ []) a b
+    → WroteTokenedSteps facts variables (TokenedMove.nulls y ∷ []) [] a b
 step_nulls facts variables y wrote =
     step_alone facts variables (TokenedMove.nulls y) (sets 0 (variables + y) ∷ []) (grows_of wrote) (λ rest. refl)
     (λ later goal rest more high is. (more, code_same facts variables goal rest more high refl refl wrote.label is, refl))
 
 pub step_moves : {a b : Lowering} (facts : Facts) (variables to of : ℕ)
     → Wrote (copies_to (variables + of) (variables + to) ∷ []) a b
-    → WroteTokenedSteps facts variables (TokenedMove.moves to of ∷ []) a b
+    → WroteTokenedSteps facts variables (TokenedMove.moves to of ∷ []) [] a b
 step_moves facts variables to of wrote =
     step_alone facts variables (TokenedMove.moves to of) (copies_to (variables + of) (variables + to) ∷ []) (grows_of wrote)
     (λ rest. refl)
     (λ later goal rest more high is. (more, code_same facts variables goal rest more high refl refl wrote.label is, refl))
 
 pub step_holds : {a b : Lowering} (facts : Facts) (variables y : ℕ) → Wrote (acts Hold ((variables + y) ∷ []) ∷ []) a b
-    → WroteTokenedSteps facts variables (TokenedMove.holds y ∷ []) a b
+    → WroteTokenedSteps facts variables (TokenedMove.holds y ∷ []) [] a b
 step_holds facts variables y wrote =
     step_alone facts variables (TokenedMove.holds y) (acts Hold ((variables + y) ∷ []) ∷ []) (grows_of wrote) (λ rest. refl)
     (λ later goal rest more high is. (more, code_same facts variables goal rest more high refl refl wrote.label is, refl))
 
 pub step_unholds : {a b : Lowering} (facts : Facts) (variables y : ℕ) → Wrote (acts Unhold ((variables + y) ∷ []) ∷ []) a b
-    → WroteTokenedSteps facts variables (TokenedMove.unholds y ∷ []) a b
+    → WroteTokenedSteps facts variables (TokenedMove.unholds y ∷ []) [] a b
 step_unholds facts variables y wrote =
     step_alone facts variables (TokenedMove.unholds y) (acts Unhold ((variables + y) ∷ []) ∷ []) (grows_of wrote) (λ rest. refl)
     (λ later goal rest more high is. (more, code_same facts variables goal rest more high refl refl wrote.label is, refl))
@@ -493,6 +517,26 @@ steps_more steps i step within is =
     ∙ sym (map-append tokened_move (take i steps) (get_or steps i step ∷ []))
     ∙ ap (map tokened_move) (sym (take_more steps i step within))
 
+-- one of the steps is written behind those in front of it, before those behind it
+pub steps_on : {a b c : Lowering} (facts : Facts) (variables : ℕ) (steps : List TokenedStep) (i : ℕ) (step : TokenedStep)
+    → i < length steps → step ≡ get_or steps i step
+    → WroteTokenedSteps facts variables (map tokened_move (take i steps)) (map tokened_move (drop i steps)) a b
+    → WroteTokenedSteps facts variables (tokened_move step ∷ [])
+    (map tokened_move (take (length steps - (i + 1)) (drop (i + 1) steps))) b c
+    → WroteTokenedSteps facts variables (map tokened_move (take (i + 1) steps)) (map tokened_move (drop (i + 1) steps)) a c
+steps_on {a} {b} {c} facts variables steps i step within is wrote one =
+    let behind : List TokenedMove = map tokened_move (drop (i + 1) steps) in
+    let all : take (length steps - (i + 1)) (drop (i + 1) steps) ≡ drop (i + 1) steps
+    = take_all (length steps - (i + 1)) (drop (i + 1) steps) (omega (arith, length-drop (i + 1) steps)) in
+    let next : map tokened_move (drop i steps) ≡ tokened_move step ∷ behind
+    = ap (map tokened_move) (drop_more steps i step within) ∙ ap (λ (s : TokenedStep). tokened_move s ∷ behind) (sym is) in
+    subst (λ (moves : List TokenedMove). WroteTokenedSteps facts variables moves behind a c) (steps_more steps i step within (sym
+    is))
+    (steps_then facts variables (map tokened_move (take i steps)) (tokened_move step) behind
+    (subst (λ (moves : List TokenedMove). WroteTokenedSteps facts variables (map tokened_move (take i steps)) moves a b) next wrote)
+    (subst (λ (rest : List TokenedStep). WroteTokenedSteps facts variables (tokened_move step ∷ []) (map tokened_move rest) b c) all
+    one))
+
 pub blocks_more : (blocks : List TokenedBlock) (i : ℕ) (block : TokenedBlock) → i < length blocks → get_or blocks i block ≡ block
     → map tokened_code (take i blocks) ++ tokened_code block ∷ [] ≡ map tokened_code (take (i + 1) blocks)
 blocks_more blocks i block within is =
@@ -596,9 +640,25 @@ step_of_hold step y is = step_is step _ _ is (Views.hold_step y)
 pub step_of_unhold : (step : TokenedStep) (y : ℕ) → step ≡ OfStep.Unhold y → TokenedMove.unholds y ≡ tokened_move step
 step_of_unhold step y is = step_is step _ _ is (Views.unhold_step y)
 
--- the lines of a step of the program
-pub step_wrote : {facts : Facts} {variables : ℕ} {move : TokenedMove} {a b : Lowering} (step : TokenedStep)
-    → move ≡ tokened_move step → WroteTokenedSteps facts variables (move ∷ []) a b
-    → WroteTokenedSteps facts variables (tokened_move step ∷ []) a b
-step_wrote {facts} {variables} {move} {a} {b} step is wrote =
-    subst (λ (m : TokenedMove). WroteTokenedSteps facts variables (m ∷ []) a b) is wrote
+-- what is written before any code is written before any steps
+pub steps_before : {facts : Facts} {variables : ℕ} {moves : List TokenedMove} {a b : Lowering} (behind : List TokenedMove)
+    → WroteTokenedSteps facts variables moves [] a b → WroteTokenedSteps facts variables moves behind a b
+steps_before behind wrote = record {
+  lines = wrote.lines;
+  n = wrote.n;
+  grows = wrote.grows;
+  counted = wrote.counted;
+  are = λ later goal rest more high is. wrote.are later goal (plug_tokened behind rest) more high is;
+}
+
+-- the lines of a step of the program, before these steps and before any
+pub step_wrote_before : {facts : Facts} {variables : ℕ} {move : TokenedMove} {behind : List TokenedMove} {a b : Lowering}
+    (step : TokenedStep) → move ≡ tokened_move step → WroteTokenedSteps facts variables (move ∷ []) behind a b
+    → WroteTokenedSteps facts variables (tokened_move step ∷ []) behind a b
+step_wrote_before {facts} {variables} {move} {behind} {a} {b} step is wrote =
+    subst (λ (m : TokenedMove). WroteTokenedSteps facts variables (m ∷ []) behind a b) is wrote
+
+pub step_wrote : {facts : Facts} {variables : ℕ} {move : TokenedMove} {behind : List TokenedMove} {a b : Lowering}
+    (step : TokenedStep) → move ≡ tokened_move step → WroteTokenedSteps facts variables (move ∷ []) [] a b
+    → WroteTokenedSteps facts variables (tokened_move step ∷ []) behind a b
+step_wrote {behind = behind} step is wrote = steps_before behind (step_wrote_before step is wrote)

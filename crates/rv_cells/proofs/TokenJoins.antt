@@ -147,7 +147,7 @@ behind_before {a} {b} facts variables goal branch ys last plain wrote = record {
 
 pub steps_join : {a b c : Lowering} (facts : Facts) (variables : ℕ) (goal : Goal) (moves : List TokenedMove) (move : TokenedMove)
     (last : Tokened) (branch : Branching) → IsBranchBetween facts.holds move last branch
-    → WroteTokenedSteps facts variables moves a b → WroteBehind facts variables goal branch last b c
+    → WroteTokenedSteps facts variables moves [] a b → WroteBehind facts variables goal branch last b c
     → WroteTokened facts variables goal (plug_tokened moves (put_tokened move last)) a c
 steps_join {a} {b} {c} facts variables goal moves move last branch is wrote behind = record {
   lines = wrote.lines ++ behind.lines;
@@ -215,7 +215,7 @@ pub block_joined : {a b c : Lowering} (facts : Facts) (variables : ℕ) (goal : 
     (front before dropped : List TokenedStep) (step : TokenedStep) (branch : Branching) → block.steps.items ≡ front ++ dropped
     → front ≡ before ++ step ∷ [] → AreNoLines facts.holds (map tokened_move dropped)
     → ((holds : ℕ → Bool) → IsBranchBetween holds (tokened_move step) (tokened_last_code block.last) branch)
-    → WroteTokenedSteps facts variables (map tokened_move before) a b
+    → WroteTokenedSteps facts variables (map tokened_move before) [] a b
     → WroteBehind facts variables goal branch (tokened_last_code block.last) b c
     → WroteTokened facts variables goal (tokened_code block) a c
 block_joined {a} {b} {c} facts variables goal block front before dropped step branch steps_are front_is none is wrote behind =
@@ -244,7 +244,7 @@ pub block_branches : {a b c : Lowering} (facts : Facts) (variables : ℕ) (goal 
     → AreNoLines facts.holds (map tokened_move dropped)
     → ((holds : ℕ → Bool) → IsBranchBetween holds (tokened_move step) (tokened_last_code block.last) branch)
     → block.last ≡ OfLast.Case x decisions arms → second ≡ arms.items
-    → WroteTokenedSteps facts variables (map tokened_move before) a b
+    → WroteTokenedSteps facts variables (map tokened_move before) [] a b
     → ((x : ℕ) → WroteBehind facts variables goal branch
     (Tokened.case x (decisions_of decisions) (tokened_arms (map tokened_code second))) b c)
     → WroteTokened facts variables goal (tokened_code block) a c
@@ -257,7 +257,7 @@ block_branches {a} {b} {c} facts variables goal block steps front before dropped
 
 -- any block, by its steps and its end
 pub block_plain : {a b c : Lowering} (facts : Facts) (variables : ℕ) (goal : Goal) (block : TokenedBlock) (steps : List TokenedStep)
-    → steps ≡ block.steps.items → WroteTokenedSteps facts variables (map tokened_move steps) a b
+    → steps ≡ block.steps.items → WroteTokenedSteps facts variables (map tokened_move steps) [] a b
     → WroteTokened facts variables goal (tokened_last_code block.last) b c
     → WroteTokened facts variables goal (tokened_code block) a c
 block_plain {a} {b} {c} facts variables goal block steps steps_are wrote last =

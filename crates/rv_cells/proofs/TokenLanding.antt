@@ -28,26 +28,30 @@ use Rattle.rv_lower.proofs.Orders.{split_at}
 use Rattle.rv_cells.specs.TokenedLines.{CodeLines, HasSlots, Keeps}
 use Rattle.rv_cells.proofs.Runs.{turn_of, Runs}
 use Rattle.rv_cells.proofs.Spots.{Spot, Known, Here, Did, saved}
-use Rattle.rv_cells.proofs.TokenOpenings.{Leads}
+use Rattle.rv_cells.proofs.TokenOpenings.{LeadsTo}
 use Rattle.rv_cells.specs.Follows.{Owner}
 use Rattle.rv_cells.proofs.Bound.{AreWithin, has_fewer, within_itself}
 use Rattle.rv_cells.proofs.FormPlaces.{tree_in, Next, stands_behind}
 use Rattle.rv_cells.proofs.TokenLineCosts.{forms}
 use Rattle.rv_cells.proofs.TokenStanding.{lines_setting}
-use Rattle.rv_cells.proofs.TokenStanding.{HaveSlotValues, HaveTokenCells, AllStand, held_values, Lowering, target, setting, upper, known_of, Placed, Continues, continues_more, AllWait, At, IsFitFrom, Follow, by_lines, Follows_step}
+use Rattle.rv_cells.proofs.TokenStanding.{HaveSlotValues, HaveTokenCells, AllStand, held_values, Lowering, setting, upper, known_of, Continues, continues_more, AllWait, At, IsFitFrom, Follow, by_lines, Follows_step}
 
 -- ---- lines
 
--- Lines lead from a spot to another, at this cost beyond what was saved, and from older frames to other ones.
-pub record Lands (known : Known) (most : ℕ) (lines rest : List Line) (fs gs : List (Frame Line)) (s t : Spot) : Type 0 where
+-- From lines a spot comes to another, with these lines left, at this cost beyond what was saved, and older frames to other ones.
+pub record LandsTo (known : Known) (most : ℕ) (start end : List Line) (fs gs : List (Frame Line)) (s t : Spot) : Type 0 where
   pub cost : ℕ
   pub steps : ℕ
   pub within : cost + saved t.heap ≤ most + saved s.heap
-  pub runs : Runs known.target cost steps (turn_of (lines ++ rest) s.frame fs s.world) (turn_of rest t.frame gs t.world)
+  pub runs : Runs known.target cost steps (turn_of start s.frame fs s.world) (turn_of end t.frame gs t.world)
   pub here : Here known t
   pub left : t.world.left ≡ s.world.left
   pub whole : t.frame.whole ≡ s.frame.whole
   pub function : t.frame.function ≡ s.frame.function
+
+-- lines lead so to those that stand behind them
+abbrev pub Lands : Known → ℕ → List Line → List Line → List (Frame Line) → List (Frame Line) → Spot → Spot → Type 0
+Lands known most lines rest fs gs s t = LandsTo known most (lines ++ rest) rest fs gs s t
 
 pub lands_did : {known : Known} {most : ℕ} {lines rest : List Line} {fs : List (Frame Line)} {s t : Spot}
     → Did known most lines rest fs s t → Lands known most lines rest fs fs s t
@@ -62,8 +66,8 @@ lands_did did = record {
   function = did.function;
 }
 
-pub lands_leads : {known : Known} {most : ℕ} {lines rest : List Line} {fs gs : List (Frame Line)} {s t : Spot} {written : List ℕ}
-    → Leads known most lines rest fs gs s t written → Lands known most lines rest fs gs s t
+pub lands_leads : {known : Known} {most : ℕ} {start end : List Line} {fs gs : List (Frame Line)} {s t : Spot} {written : List ℕ}
+    → LeadsTo known most start end fs gs s t written → LandsTo known most start end fs gs s t
 lands_leads leads = record {
   cost = leads.cost;
   steps = leads.steps;
@@ -179,8 +183,99 @@ module _ (program : Lowering) where
       pub held_is : to.frame.held ≡ held_values (after.slots (length next.older)) at.shape.variables next.held
       pub waits : AllWait program to.address (length to.heap) after.slots next.older frames gs at.shape.result
 
+    -- so the code is there
+    abbrev pub stands_on : (rest : Tokened) (own more : List Line) (to : Spot) (gs : List (Frame Line)) (after : Tokens) (later :
+        List ℕ)
+        (next : Lists) → Here (known_of program at.shape) to → to.world.left ≡ s.world.left → to.frame.whole ≡ s.frame.whole
+        → to.frame.function ≡ s.frame.function → GoesOn rest own more to gs after later next → forms rest ≤ program.most
+        → At program rest inner frames after input (record to { bound = later }) gs (more ++ at.does.placed.after)
+    stands_on rest own more to gs after later next here left_is whole_is function_is on short =
+        let p = at.does.placed in
+        let whole : s.frame.whole ≡ to.frame.whole = sym whole_is in
+        record {
+          shape = at.shape;
+          lists = next;
+          judged = on.judged;
+          does = record {
+            goal = at.does.goal;
+            given = at.does.given;
+            placed = record {
+              before = p.before ++ own;
+              own = more;
+              after = p.after;
+              low = on.low;
+              high = p.high;
+              lines = on.lines;
+              left_is = refl;
+              place = whole_is ∙ split_at s.frame.whole p.before left own more p.after p.place
+                  (p.left_is ∙ ap (λ ls. ls ++ p.after) on.parts);
+              stands = stands_behind p.stands on.part_is;
+              marked = on.marked;
+              numbered = on.numbered;
+              has = on.has;
+              keeps = on.keeps;
+              short = short;
+            };
+            continues = subst (λ w. Continues program at.shape w inner at.does.goal at.does.given later) whole
+                (continues_more program at.shape s.frame.whole inner at.does.goal at.does.given s.bound later on.older
+                at.does.continues);
+          };
+          follows = here.follows;
+          cells = on.cells;
+          stand = on.stand;
+          has = record {
+            values = has_fewer here.values later on.within;
+            below = on.below;
+            tokens = on.slots_are;
+            held_is = on.held_is;
+            formed = subst AreLinesFormed whole at.has.formed;
+            in_function = record {
+              number = λ first. function_is ∙ at.has.in_function.number first;
+              whole_is = whole_is ∙ at.has.in_function.whole_is;
+              root_is = at.has.in_function.root_is;
+            };
+          };
+          waits = on.waits;
+          input_is = left_is ∙ at.input_is;
+          bytes = at.bytes;
+        }
+
+    -- from lines, also where these are not the ones at which the code is
+    pub goes_from : (idle : ℕ) (fit : IsFitFrom program (token_at code s.environment inner frames s.heap tokens input))
+        (rest : Tokened) (own more start : List Line) (to : Spot) (gs : List (Frame Line)) (after : Tokens) (later : List ℕ)
+        (next : Lists) (most : ℕ) (tells : TokenConfiguration → Action TokenConfiguration)
+        → LandsTo (known_of program at.shape) most start (more ++ at.does.placed.after) fs gs s to
+        → GoesOn rest own more to gs after later next → IsSilent tells
+        → most ≤ (upper program).weight (token_at code s.environment inner frames s.heap tokens input)
+        → (upper program).step (token_at code s.environment inner frames s.heap tokens input)
+        ≡ seen_action (tells (machine_at rest to.environment inner frames to.heap after)) input
+        → suc (forms rest) ≤ idle → forms rest ≤ program.most
+        → Follows_step program idle (token_at code s.environment inner frames s.heap tokens input)
+        (turn_of start s.frame fs s.world)
+    goes_from idle fit rest own more first to gs after later next most tells lands on silent cheap is less short =
+        let p = at.does.placed in
+        let landed : Spot = record to { bound = later } in
+        let start = token_at code s.environment inner frames s.heap tokens input in
+        let end = token_at rest to.environment inner frames to.heap after input in
+        let t0 = turn_of first s.frame fs s.world in
+        let t1 = turn_of (more ++ p.after) to.frame gs to.world in
+        let cheap_run = lands.within in
+        does_by idle start end [] t0 (is ∙ silent (machine_at rest to.environment inner frames to.heap after) input) fit
+        (λ fits. by_lines program lands.steps lands.cost ((upper program).weight start) (saved s.heap) idle end t0 t1 lands.runs
+        (omega (arith, cheap, cheap_run)) (omega (arith, less)) fits
+        (record {
+          spot = landed;
+          fs = gs;
+          left = more ++ p.after;
+          environment_is = refl;
+          heap_is = refl;
+          turn_is = refl;
+          at = stands_on rest own more to gs after later next lands.here lands.left lands.whole lands.function on short;
+        }))
+
     pub goes_on : (idle : ℕ) (fit : IsFitFrom program (token_at code s.environment inner frames s.heap tokens input))
-        (rest : Tokened) (own more : List Line) (to : Spot) (gs : List (Frame Line)) (after : Tokens) (later : List ℕ) (next : Lists)
+        (rest : Tokened) (own more : List Line) (to : Spot) (gs : List (Frame Line)) (after : Tokens) (later : List ℕ) (next :
+        Lists)
         (most : ℕ) (tells : TokenConfiguration → Action TokenConfiguration)
         → Lands (known_of program at.shape) most own (more ++ at.does.placed.after) fs gs s to
         → GoesOn rest own more to gs after later next → IsSilent tells
@@ -191,77 +286,12 @@ module _ (program : Lowering) where
         → Follows_step program idle (token_at code s.environment inner frames s.heap tokens input) (turn_of left s.frame fs s.world)
     goes_on idle fit rest own more to gs after later next most tells lands on silent cheap is less short =
         let p = at.does.placed in
-        let landed : Spot = record to { bound = later } in
-        let start = token_at code s.environment inner frames s.heap tokens input in
-        let end = token_at rest to.environment inner frames to.heap after input in
-        let t0 = turn_of left s.frame fs s.world in
-        let t1 = turn_of (more ++ p.after) to.frame gs to.world in
-        let own_is : left ≡ (own ++ more) ++ p.after = p.left_is ∙ ap (λ ls. ls ++ p.after) on.parts in
-        let place : s.frame.whole ≡ (p.before ++ own) ++ (more ++ p.after)
-        = split_at s.frame.whole p.before left own more p.after p.place own_is in
-        let runs : Runs (target program) lands.cost lands.steps t0 t1
-        = subst (λ ls. Runs (target program) lands.cost lands.steps (turn_of ls s.frame fs s.world) t1)
-        (sym (own_is ∙ append_assoc own more p.after)) lands.runs in
-        let whole : s.frame.whole ≡ to.frame.whole = sym lands.whole in
-        let placed : Placed program at.shape at.does.goal at.does.given later s.frame.whole rest (more ++ p.after) = record {
-          before = p.before ++ own;
-          own = more;
-          after = p.after;
-          low = on.low;
-          high = p.high;
-          lines = on.lines;
-          left_is = refl;
-          place = place;
-          stands = stands_behind p.stands on.part_is;
-          marked = on.marked;
-          numbered = on.numbered;
-          has = on.has;
-          keeps = on.keeps;
-          short = short;
-        } in
-        let cheap_run = lands.within in
-        does_by idle start end [] t0 (is ∙ silent (machine_at rest to.environment inner frames to.heap after) input) fit
-        (λ fits. by_lines program lands.steps lands.cost ((upper program).weight start) (saved s.heap) idle end t0 t1 runs
-        (omega (arith, cheap, cheap_run)) (omega (arith, less)) fits
-        (record {
-          spot = landed;
-          fs = gs;
-          left = more ++ p.after;
-          environment_is = refl;
-          heap_is = refl;
-          turn_is = refl;
-          at = record {
-            shape = at.shape;
-            lists = next;
-            judged = on.judged;
-            does = record {
-              goal = at.does.goal;
-              given = at.does.given;
-              placed = subst (λ w. Placed program at.shape at.does.goal at.does.given later w rest (more ++ p.after)) whole placed;
-              continues = subst (λ w. Continues program at.shape w inner at.does.goal at.does.given later) whole
-                  (continues_more program at.shape s.frame.whole inner at.does.goal at.does.given s.bound later on.older
-                  at.does.continues);
-            };
-            follows = lands.here.follows;
-            cells = on.cells;
-            stand = on.stand;
-            has = record {
-              values = has_fewer lands.here.values later on.within;
-              below = on.below;
-              tokens = on.slots_are;
-              held_is = on.held_is;
-              formed = subst AreLinesFormed whole at.has.formed;
-              in_function = record {
-                number = λ first. lands.function ∙ at.has.in_function.number first;
-                whole_is = lands.whole ∙ at.has.in_function.whole_is;
-                root_is = at.has.in_function.root_is;
-              };
-            };
-            waits = on.waits;
-            input_is = lands.left ∙ at.input_is;
-            bytes = at.bytes;
-          };
-        }))
+        let own_is : left ≡ own ++ (more ++ p.after)
+        = p.left_is ∙ ap (λ ls. ls ++ p.after) on.parts ∙ append_assoc own more p.after in
+        subst (λ ls. Follows_step program idle (token_at code s.environment inner frames s.heap tokens input)
+        (turn_of ls s.frame fs s.world)) (sym own_is)
+        (goes_from idle fit rest own more (own ++ (more ++ p.after)) to gs after later next most tells lands on silent cheap is less
+        short)
 
     -- What is known of a code that does something with tokens alone, by one line: the code behind it has the same variables.
     pub record ActsOnTokens (rest : Tokened) (line : Line) (more : List Line) : Type 0 where

@@ -1,5 +1,5 @@
 -- Openings by the count of the cell that leave a token, as lines.
-use Rattle.std.proofs.Common.{◌≡◌, ◌≢◌, ◌<◌, ◌≤◌, ℕ, zero, suc, ◌+◌, ◌*◌, true, false, List, [], ◌∷◌, ◌++◌, length, Option, Some, refl, ◌∙◌, ap, arith}
+use Rattle.std.proofs.Common.{◌≡◌, ◌≢◌, ◌<◌, ◌≤◌, ℕ, zero, suc, ◌+◌, ◌*◌, true, false, List, [], ◌∷◌, ◌++◌, length, Option, Some, None, refl, ◌∙◌, ap, subst, arith}
 use Rattle.std.specs.Prelude.{filter}
 use Rattle.kk_syntax.specs.Shapes.{is_among}
 use Rattle.kk_counted.specs.Heaps.{Heap, count_at, set_count, dup_all, drop_all}
@@ -11,13 +11,13 @@ use Rattle.rv_isa.specs.AsmCode.{Line}
 use Rattle.rv_isa.specs.AsmMachine.{is_label}
 use Rattle.rv_isa.specs.Frames.{Frame, put, found}
 use Rattle.cell_heap.specs.Blocks.{Cells}
-use Rattle.rv_world.specs.World.{with_cells}
+use Rattle.rv_world.specs.World.{World, with_cells}
 use Rattle.rv_lower.specs.Lines.{sets, copies_to, acts}
 use Rattle.rv_lower.proofs.Performing.{put_same, put_other}
 use Rattle.rv_cells.specs.Layout.{words_in, header_of}
 use Rattle.rv_cells.specs.Follows.{AreFrom, Owner, in_hand, is_aside}
-use Rattle.rv_cells.specs.CellLines.{TokenUniqueLines}
-use Rattle.rv_cells.proofs.Runs.{turn_of, Runs, runs_then}
+use Rattle.rv_cells.specs.CellLines.{token_ends, TokenUniqueLines}
+use Rattle.rv_cells.proofs.Runs.{turn_of, Runs, runs_none, runs_then}
 use Rattle.rv_cells.proofs.Acting.{put_in, sets_runs, copy_runs}
 use Rattle.rv_cells.proofs.Spots.{AreSmall, Spot, Known, Here, saved}
 use Rattle.rv_cells.proofs.LineCosts.{most_moves, row_cost}
@@ -52,14 +52,15 @@ TokenIs zero s t token at fields header = ⊥
 TokenIs (suc zero) s t token at fields header = HasCell s t token at fields header
 TokenIs (suc (suc n)) s t token at fields header = IsNull s t token
 
--- Lines lead from a spot to another, at this cost beyond what was saved, and from older frames to other ones. They may write the
--- values of tokens. Of the frame only values change: these, those of variables that become bound, and temporaries.
-pub record Leads (known : Known) (most : ℕ) (lines rest : List Line) (fs gs : List (Frame Line)) (s t : Spot)
+-- From lines a spot comes to another, with these lines left, at this cost beyond what was saved, and older frames to other ones.
+-- The values of tokens may be written. Of the frame only values change: these, those of variables that become bound, and
+-- temporaries.
+pub record LeadsTo (known : Known) (most : ℕ) (start end : List Line) (fs gs : List (Frame Line)) (s t : Spot)
     (tokens : List ℕ) : Type 0 where
   pub cost : ℕ
   pub steps : ℕ
   pub within : cost + saved t.heap ≤ most + saved s.heap
-  pub runs : Runs known.target cost steps (turn_of (lines ++ rest) s.frame fs s.world) (turn_of rest t.frame gs t.world)
+  pub runs : Runs known.target cost steps (turn_of start s.frame fs s.world) (turn_of end t.frame gs t.world)
   pub here : Here known t
   pub grown : (z : ℕ) → is_among t.bound z ≡ false → is_among s.bound z ≡ false
   pub spared : (z : ℕ) → z < known.base → is_among tokens z ≡ false → is_among t.bound z ≡ false
@@ -71,17 +72,29 @@ pub record Leads (known : Known) (most : ℕ) (lines rest : List Line) (fs gs : 
   pub held : t.frame.held ≡ s.frame.held
   pub into : t.frame.into ≡ s.frame.into
 
+-- lines lead so to those that stand behind them
+abbrev pub Leads : Known → ℕ → List Line → List Line → List (Frame Line) → List (Frame Line) → Spot → Spot → List ℕ → Type 0
+Leads known most lines rest fs gs s t tokens = LeadsTo known most (lines ++ rest) rest fs gs s t tokens
+
+-- Where the lines for a cell that had this count come to: behind the opening; or, where the cell is the token that a construction
+-- fills at once, to the copy for that one's variable, in front of the lines for other cells.
+abbrev pub comes_to : ℕ → Option ℕ → ℕ → ℕ → List Line → List Line → List Line
+comes_to zero into token filled rest others = rest
+comes_to (suc zero) None token filled rest others = rest
+comes_to (suc zero) (Some into) token filled rest others = copies_to token into ∷ acts (Jump filled) [] ∷ others
+comes_to (suc (suc n)) into token filled rest others = rest
+
 abbrev pub token_cost : Known → List ℕ → List ℕ → ℕ
 token_cost known fields used =
     9 * most_moves + 20 + row_cost fields (most_moves + 2) + row_cost (filter (is_among used) fields)
     (most_moves + 5)
     + row_cost (Opens.others_of used fields) (2 * most_moves + 16)
 
-module _ (known : Known) (rest : List Line) (fs : List (Frame Line)) (s : Spot) (x c : ℕ) (fields used : List ℕ) (shared behind : ℕ)
-    (token : ℕ) (lines : List Line) (named : Named) (next : Heap)
+module _ (known : Known) (rest : List Line) (fs : List (Frame Line)) (s : Spot) (x c : ℕ) (fields used : List ℕ)
+    (shared behind filled token : ℕ) (into : Option ℕ) (lines : List Line) (named : Named) (next : Heap)
     (here : Here known s) (reads : IsReading known s x c fields named) (apart : AreApart fields)
     (low : token < known.base) (spare : is_among (bound_list fields s.bound) token ≡ false)
-    (uniques : TokenUniqueLines known.base known.holds shared behind x fields used token lines) where
+    (uniques : TokenUniqueLines known.base known.holds shared behind filled x fields used token into lines) where
   abbrev o : Opens.CountOpening known
   o = record {
     rest = rest;
@@ -100,7 +113,7 @@ module _ (known : Known) (rest : List Line) (fs : List (Frame Line)) (s : Spot) 
     reads = reads;
     apart = apart;
     uniques = uniques;
-    ends = copies_to x token;
+    ends = token_ends into x token behind filled;
     begins = sets 0 token ∷ [];
   }
 
@@ -126,21 +139,24 @@ module _ (known : Known) (rest : List Line) (fs : List (Frame Line)) (s : Spot) 
   abbrev spot_of : Frame Line → (ℕ → Owner) → Cells → Spot
   spot_of frame owners cells = opened_spot known s fields named.fields next frame owners cells
 
-  abbrev Leaves : (Spot → Type 0) → Type 0
-  Leaves IsThere =
+  abbrev Leaves : List Line → (Spot → Type 0) → Type 0
+  Leaves end IsThere =
       (frame : Frame Line) × (owners : ℕ → Owner) × (cells : Cells)
-      × Leads known (token_cost known fields used) lines rest fs fs s (spot_of frame owners cells) (token ∷ [])
+      × LeadsTo known (token_cost known fields used) (lines ++ rest) end fs fs s (spot_of frame owners cells) (token ∷ [])
       × IsThere (spot_of frame owners cells)
 
   abbrev fields_words : List ℕ
   fields_words = words_in known.layout s.address named.fields
 
-  -- the token of a cell of one reference
-  gains : count_at s.heap named.at ≡ 1
+  -- the token of a cell of one reference, by the lines behind the copy
+  gains_by : (end after : List Line) (cost steps : ℕ) → token_ends into x token behind filled ≡ copies_to x token ∷ after
+      → count_at s.heap named.at ≡ 1
       → drop_all (other_values used fields named.fields) (set_count named.at 0 s.heap) ≡ Some next
-      → found (λ line. is_label behind line.action) s.frame.whole ≡ Some ending
-      → Leaves (λ t. HasCell s t token at fields_words (header_of known.layout c))
-  gains once given finds =
+      → cost ≤ (most_moves + 2) + (most_moves + 0)
+      → ((frame : Frame Line) (world : World) → frame.whole ≡ s.frame.whole
+      → Runs known.target cost steps (turn_of (after ++ (for_shared ++ ending)) frame fs world) (turn_of end frame fs world))
+      → Leaves end (λ t. HasCell s t token at fields_words (header_of known.layout c))
+  gains_by end after cost steps ends_are once given cheap leaving =
       let moves = most_moves in
       let target = known.target in
       let emptied = Opens.empties known o once given in
@@ -150,25 +166,25 @@ module _ (known : Known) (rest : List Line) (fs : List (Frame Line)) (s : Spot) 
       let comes = left.comes in
       let world = with_cells s.world emptied.2 in
       let last = put_in token at frame in
-      let copied = copy_runs target (acts (Jump behind) [] ∷ (for_shared ++ ending)) frame fs world x token at
+      let copied = copy_runs target (after ++ (for_shared ++ ending)) frame fs world x token at
       (Opens.x_behind known o frame owners emptied.2 comes.here) in
-      let leaving = Opens.leaves known o last world
-      (ap (λ w. found (λ line. is_label behind line.action) w) comes.whole ∙ finds) in
       let t0 = turn_of (lines ++ rest) s.frame fs s.world in
-      let t1 = turn_of (copies_to x token ∷ acts (Jump behind) [] ∷ (for_shared ++ ending)) frame fs world in
-      let t2 = turn_of (acts (Jump behind) [] ∷ (for_shared ++ ending)) last fs world in
-      let t3 = turn_of rest last fs world in
-      let back = runs_then target (moves + 2) ((moves + 2) + (moves + 0)) 1 (1 + 1) t1 t2 t3 copied leaving in
-      let cheap = comes.within in (
+      let t1 = turn_of (copies_to x token ∷ (after ++ (for_shared ++ ending))) frame fs world in
+      let t2 = turn_of (after ++ (for_shared ++ ending)) last fs world in
+      let t3 = turn_of end last fs world in
+      let came : Runs target comes.cost comes.steps t0 t1
+      = subst (λ ls. Runs target comes.cost comes.steps t0 (turn_of (ls ++ (for_shared ++ ending)) frame fs world)) ends_are
+      comes.runs in
+      let back = runs_then target (moves + 2) cost 1 steps t1 t2 t3 copied (leaving last world comes.whole) in
+      let within = comes.within in (
         last,
         owners,
         emptied.2,
         record {
-          cost = comes.cost + ((moves + 2) + ((moves + 2) + (moves + 0)));
-          steps = comes.steps + (1 + (1 + 1));
+          cost = comes.cost + ((moves + 2) + cost);
+          steps = comes.steps + (1 + steps);
           within = omega arith;
-          runs = runs_then target comes.cost ((moves + 2) + ((moves + 2) + (moves + 0))) comes.steps (1 + (1 + 1)) t0 t1 t3
-              comes.runs back;
+          runs = runs_then target comes.cost ((moves + 2) + cost) comes.steps (1 + steps) t0 t1 t3 came back;
           here = record { follows = comes.here.follows; values = has_other comes.here.values token at spare };
           grown = λ z none. list_grown fields s.bound z none;
           spared = λ z below apart none. put_other token z at frame.cells (among_none token [] z apart).0
@@ -197,7 +213,7 @@ module _ (known : Known) (rest : List Line) (fs : List (Frame Line)) (s : Spot) 
       → dup_all (used_values used fields named.fields) (set_count named.at (suc n) s.heap) ≡ Some next
       → AreSmall (length (filter (is_among used) fields)) s.heap
       → found (λ line. is_label shared line.action) s.frame.whole ≡ Some (for_shared ++ ending)
-      → Leaves (λ t. IsNull s t token)
+      → Leaves rest (λ t. IsNull s t token)
   blanks n several given small finds =
       let tests = Opens.tests known o in
       let done = Opens.lessens known o n several given small finds (most_moves + 2) 1 (put token (Some 0) tests.cells)
@@ -238,12 +254,25 @@ module _ (known : Known) (rest : List Line) (fs : List (Frame Line)) (s : Spot) 
       → AreSmall (length (filter (is_among used) fields)) s.heap
       → found (λ line. is_label shared line.action) s.frame.whole ≡ Some (for_shared ++ ending)
       → found (λ line. is_label behind line.action) s.frame.whole ≡ Some ending
-      → Leaves (λ t. TokenIs (count_at s.heap named.at) s t token at fields_words (header_of known.layout c))
-  opens_to_token given small finds_shared finds_behind = by (count_at s.heap named.at) refl given
+      → Leaves (comes_to (count_at s.heap named.at) into token filled rest (for_shared ++ ending))
+      (λ t. TokenIs (count_at s.heap named.at) s t token at fields_words (header_of known.layout c))
+  opens_to_token given small finds_shared finds_behind = by (count_at s.heap named.at) into refl refl given
     where
-      by : (count : ℕ) → count_at s.heap named.at ≡ count
+      by : (count : ℕ) (going : Option ℕ) → count_at s.heap named.at ≡ count → into ≡ going
           → unique_heap count named.at (used_values used fields named.fields) (other_values used fields named.fields) s.heap
-          ≡ Some next → Leaves (λ t. TokenIs count s t token at fields_words (header_of known.layout c))
-      by zero counts given = cc
-      by (suc zero) counts given = gains counts given finds_behind
-      by (suc (suc n)) counts given = blanks n counts given small finds_shared
+          ≡ Some next
+          → Leaves (comes_to count going token filled rest (for_shared ++ ending)) (λ t. TokenIs count s t token at fields_words
+          (header_of known.layout c))
+      by zero going counts same given = cc
+      by (suc zero) None counts same given =
+          gains_by rest (acts (Jump behind) [] ∷ []) ((most_moves + 2) + (most_moves + 0)) (1 + 1)
+          (ap (λ one. token_ends one x token behind filled) same) counts given (omega arith)
+          (λ frame world whole. Opens.leaves known o frame world
+          (ap (λ w. found (λ line. is_label behind line.action) w) whole ∙ finds_behind))
+      by (suc zero) (Some made) counts same given =
+          gains_by (comes_to 1 (Some made) token filled rest (for_shared ++ ending)) (copies_to token made ∷ acts (Jump filled) [] ∷
+          []) 0 0
+          (ap (λ one. token_ends one x token behind filled) same) counts given (omega arith)
+          (λ frame world whole. runs_none known.target
+          (turn_of (comes_to 1 (Some made) token filled rest (for_shared ++ ending)) frame fs world))
+      by (suc (suc n)) going counts same given = blanks n counts given small finds_shared

@@ -23,7 +23,7 @@ use Rattle.kk_counted.specs.TokenStates.{TokenSetting, TokenJoin, TokenFrame, To
 use Rattle.kk_counted.specs.TokenedCodes.{Tokened, TokenedArms, TokenedFunction, TokenedProgram}
 use Rattle.kk_counted.proofs.KnownKept.{KeepsAt}
 use Rattle.kk_counted.specs.Tokens.{Slot, spent, null, token, is_unspent, is_token, token_of, Tokens, is_linked, marked}
-use Rattle.rv_isa.specs.declared.asm.Action.TheVariants.{Label}
+use Rattle.rv_isa.specs.declared.asm.Action.TheVariants.{Label, Jump}
 use Rattle.rv_isa.specs.Processor.{Ending, exited}
 use Rattle.rv_isa.specs.AsmCode.{Line, Lines}
 use Rattle.rv_isa.specs.AsmMachine.{AsmTurn}
@@ -32,7 +32,7 @@ use Rattle.rv_isa.specs.Primitives.{ended, stuck as stuck_turn}
 use Rattle.rv_isa.specs.WellFormed.{AreLinesFormed}
 use Rattle.cell_heap.specs.Pool.{Pool}
 use Rattle.rv_world.specs.World.{World}
-use Rattle.rv_lower.specs.Lines.{Texts, acts}
+use Rattle.rv_lower.specs.Lines.{Texts, copies_to, acts}
 use Rattle.rv_lower.specs.Lowered.{Goal, returns, joins}
 use Rattle.rv_lower.proofs.Labels.{found_label, label_found}
 use Rattle.rv_cells.specs.declared.standing.Standing.{Standing}
@@ -43,7 +43,7 @@ use Rattle.rv_cells.specs.CountedLines.{Setting}
 use Rattle.rv_cells.specs.TokenedLines.{CodeLines, HasSlots, Keeps, IsFunctionOf, AreFunctionsOf}
 use Rattle.rv_cells.specs.Fitting.{IsFit}
 use Rattle.rv_cells.proofs.Bound.{AreWithin}
-use Rattle.rv_cells.proofs.FormPlaces.{Tree, own_of, tree_in, StandsAt}
+use Rattle.rv_cells.proofs.FormPlaces.{Tree, tree, no_part, own_of, tree_in, StandsAt}
 use Rattle.rv_cells.proofs.TokenLineCosts.{forms}
 use Rattle.rv_cells.proofs.Values.{HasValues}
 use Rattle.rv_cells.proofs.Runs.{Target, turn_of, Runs, machine}
@@ -392,7 +392,32 @@ module _ (program : Lowering) where
         → IsJudged program.pool.cells lists.left lists.unspent lists.held lists.older body inner frames s.heap tokens
         → ComesTo body inner frames tokens input s fs left
 
-  -- a turn at such a spot, where no line does the next step of the machine with tokens, or one does that before it too
+  -- A turn behind an opening that has left the token of a construction: its lines go on behind that one's test. The code stands at
+  -- other lines, which would test the token, and these are lines of its own too.
+  pub record IsFilling (code : Tokened) (inner : List TokenJoin) (frames : List TokenFrame) (tokens : Tokens) (input : List ℕ)
+      (s : Spot) (fs : List (Frame Line)) (left : List Line) : Type 0 where
+    pub x : ℕ
+    pub y : ℕ
+    pub c : ℕ
+    pub first : ℕ
+    pub arguments : List ℕ
+    pub kept : List ℕ
+    pub others : List ℕ
+    pub rest : Tokened
+    pub code_is : Tokened.fill x y c first arguments kept others rest ≡ code
+    pub there : List Line
+    pub at : At code inner frames tokens input s fs there
+    pub q : ℕ
+    pub has : tokens.slots (length at.lists.older) y ≡ token q
+    pub after : List Line
+    pub left_is : left ≡ copies_to (at.shape.variables + y) x ∷ acts (Jump at.does.placed.low) [] ∷ after
+    pub before : List Line
+    pub place : s.frame.whole ≡ before ++ left
+    pub stands : StandsAt at.shape.root before
+        (tree code (copies_to (at.shape.variables + y) x ∷ acts (Jump at.does.placed.low) [] ∷ []) no_part)
+
+  -- A turn at such a spot, where no line does the next step of the machine with tokens, or one does that before it too, or one goes
+  -- on in the midst of the lines of that step.
   pub record IsNear (code : Tokened) (environment : Environment) (inner : List TokenJoin) (c : TokenConfiguration) (input : List ℕ)
       (turn : AsmTurn World Ending) : Type 0 where
     pub spot : Spot
@@ -402,7 +427,8 @@ module _ (program : Lowering) where
     pub heap_is : spot.heap ≡ c.heap
     pub turn_is : turn ≡ turn_of left spot.frame fs spot.world
     pub follows : Follows program.pool program.layout spot.address spot.owners spot.heap spot.world.cells
-    pub near : IsBehind code inner c.frames c.tokens input spot fs left ⊎ GivesUp code inner c.frames c.tokens input spot fs left
+    pub near : IsBehind code inner c.frames c.tokens input spot fs left
+        ⊎ (GivesUp code inner c.frames c.tokens input spot fs left ⊎ IsFilling code inner c.frames c.tokens input spot fs left)
 
   -- The run has ended, and the cells hold the heap. Where it has come to its end no token is left.
   pub record HasEnded (by : End) (heap : Heap) (turn : AsmTurn World Ending) : Type 0 where
@@ -418,7 +444,7 @@ module _ (program : Lowering) where
   StandsFor (TokenControl.stopped by) c input turn = HasEnded by c.heap turn
   StandsFor TokenControl.stuck c input turn = ⊥
 
-  -- the same, where the turn may also be near a comparison
+  -- the same, where the turn may also be near a comparison or a construction
   abbrev pub MayStandFor : TokenControl → TokenConfiguration → List ℕ → AsmTurn World Ending → Type 0
   MayStandFor (TokenControl.running code environment inner) c input turn =
       IsAt code environment inner c input turn ⊎ IsNear code environment inner c input turn

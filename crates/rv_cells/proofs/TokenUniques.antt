@@ -28,34 +28,36 @@ use Rattle.kk_counted.proofs.Easing.{EasedTo, eased_unique}
 use Rattle.kk_counted.proofs.OwnedOpenings.{opens_by_count}
 use Rattle.kk_counted.proofs.Pooling.{slot_here, slot_there}
 use Rattle.kk_counted.proofs.Variables.{fields_part}
-use Rattle.rv_isa.specs.declared.asm.Action.TheVariants.{Label}
+use Rattle.rv_isa.specs.declared.asm.Action.TheVariants.{Label, Branch}
+use Rattle.rv_isa.specs.declared.asm.Condition.TheVariants.{NotEqual}
 use Rattle.rv_isa.specs.AsmCode.{Line}
 use Rattle.rv_isa.specs.Frames.{Frame}
 use Rattle.cell_heap.specs.Blocks.{Cells}
-use Rattle.rv_lower.specs.Lines.{acts}
-use Rattle.rv_cells.specs.CellLines.{TokenUniqueLines}
+use Rattle.rv_lower.specs.Lines.{sets, copies_to, acts}
+use Rattle.rv_cells.specs.CellLines.{drops_lines, token_ends, TokenUniqueLines}
 use Rattle.rv_cells.specs.Layout.{words_in, header_of}
 use Rattle.rv_cells.specs.Follows.{AreFrom, Owner, cell_of, in_hand, is_aside}
-use Rattle.rv_cells.specs.TokenedLines.{CodeLines, HasSlots, IsOf, Keeps}
+use Rattle.rv_cells.specs.TokenedLines.{CodeLines, HasSlots, IsOf, Keeps, MayFill}
 use Rattle.rv_cells.proofs.Held.{some-is}
 use Rattle.rv_cells.proofs.Bound.{AreWithin, marks_are}
 use Rattle.rv_cells.proofs.Rooms.{named_cell}
 use Rattle.rv_cells.proofs.Rows.{then_some, IsReading}
 use Rattle.rv_cells.proofs.CountOpenings.{others_of}
+use Rattle.rv_cells.proofs.FormPlaces.{tree, no_part, tree_in, Next, stands_behind, entry_lines, entry_passed, lines_before_entry, behind_entry, entry_is_part, fill_there}
 use Rattle.rv_cells.proofs.LineCosts.{most_moves, row_cost}
 use Rattle.rv_cells.proofs.Openings.{bound_older, opened_spot}
-use Rattle.rv_cells.proofs.Runs.{turn_of}
-use Rattle.rv_cells.proofs.Spots.{Spot, Here}
+use Rattle.rv_cells.proofs.Runs.{turn_of, Runs}
+use Rattle.rv_cells.proofs.Spots.{Spot, Here, saved}
 use Rattle.rv_cells.proofs.Values.{among_by}
-use Rattle.rv_cells.proofs.TokenOpenings.{HasCell, IsNull, TokenIs, Leads, token_cost, for_shared, shared_lines, head_lines, whole_lines, opens_to_token}
+use Rattle.rv_cells.proofs.TokenOpenings.{HasCell, IsNull, TokenIs, LeadsTo, comes_to, token_cost, for_shared, shared_lines, head_lines, whole_lines, opens_to_token}
 use Rattle.rv_cells.proofs.TokenCells.{token_aside, cells_stay, cell_comes}
 use Rattle.rv_cells.proofs.TokenFields.{recounted_words, eased_cells, cell_is, named_fields}
 use Rattle.rv_cells.proofs.TokenFrames.{none_behind, all_wait_at}
 use Rattle.rv_cells.proofs.TokenLineCosts.{forms}
 use Rattle.rv_cells.proofs.TokenStanding.{SlotIs, IsTokenCell, token_words, HaveSlotValues, HaveTokenCells, StandsIn, AllStand, finds, held_values}
-use Rattle.rv_cells.proofs.TokenStanding.{Lowering, setting, upper, lines_setting, known_of, AllWait, At, IsFitFrom, Follows_step}
+use Rattle.rv_cells.proofs.TokenStanding.{Lowering, target, setting, upper, lines_setting, known_of, Shape, AllWait, At, IsFitFrom, Follows_step, by_near}
 use Rattle.rv_cells.proofs.TokenStands.{stand_set, opened_stands}
-use Rattle.rv_cells.proofs.TokenLanding.{lands_leads, token_at, machine_at, CodeSteps, seen_action, silent_goes, GoesTo, goes_on}
+use Rattle.rv_cells.proofs.TokenLanding.{lands_leads, token_at, machine_at, CodeSteps, seen_action, silent_goes, does_by, GoesTo, GoesOn, stands_on, goes_on}
 use Rattle.rv_cells.proofs.TokenLanding.{kept_after}
 
 -- a slot is given another token, of which a frame has the value, and the values of the other unspent slots are the same
@@ -233,6 +235,17 @@ same_bools true c there back = sym (there refl)
 same_bools false true there back = back refl
 same_bools false false there back = refl
 
+-- the lines of an opening in front of those by which it goes on at once
+abbrev before_of : (program : Lowering) (x : ℕ) (fields used : List ℕ) (y : ℕ) (shape : Shape) (low : ℕ) (into : Option ℕ)
+    (own : List Line)
+    → TokenUniqueLines (shape.variables + shape.slots) shape.holds low (low + 1) (low + 2) x fields used (shape.variables + y) into
+    own
+    → List Line
+before_of program x fields used y shape low into own is =
+    lines_before_entry (shape.variables + shape.slots) shape.holds low (low + 1) (low + 2) x fields used (shape.variables + y) into
+    own
+    is
+
 module _ (program : Lowering) (code : Tokened) (x c : ℕ) (fields used : List ℕ) (y : ℕ) (rest : Tokened) (inner : List TokenJoin)
     (frames : List TokenFrame) (tokens : Tokens) (input : List ℕ) (s : Spot) (fs : List (Frame Line)) (left : List Line)
     (at : At program code inner frames tokens input s fs left) where
@@ -243,12 +256,20 @@ module _ (program : Lowering) (code : Tokened) (x c : ℕ) (fields used : List �
     pub quiet : is_quiet code ≡ false
     pub own : List Line
     pub more : List Line
+    pub into : Option ℕ
+    pub filled : MayFill into y rest
     pub uniques : TokenUniqueLines (at.shape.variables + at.shape.slots) at.shape.holds at.does.placed.low
-        (at.does.placed.low + 1) x fields used (at.shape.variables + y) own
+        (at.does.placed.low + 1) (at.does.placed.low + 2) x fields used (at.shape.variables + y) into own
     pub lines : CodeLines (lines_setting program at.shape) at.shape.variables at.does.goal (at.does.placed.low + 2) rest more
         at.does.placed.high
     pub parts : at.does.placed.own ≡ own ++ more
     pub part_is : GoesTo program code inner frames tokens input s fs left at rest own more (at.does.placed.low + 2) lines
+    pub entry_is : (made : ℕ) → into ≡ Some made
+        → Next (tree_in (lines_setting program at.shape) at.shape.variables at.does.goal at.does.placed.low code at.does.placed.own
+        at.does.placed.high at.does.placed.lines)
+        (lines_before_entry (at.shape.variables + at.shape.slots) at.shape.holds at.does.placed.low (at.does.placed.low + 1)
+        (at.does.placed.low + 2) x fields used (at.shape.variables + y) into own uniques)
+        (tree rest (entry_lines (at.shape.variables + y) made (at.does.placed.low + 2)) no_part)
     pub bound : is_among s.bound x ≡ true
     pub apart : is_among fields x ≡ false
     pub kinds : HaveMarks at.shape.holds fields (field_marks program.marks c)
@@ -296,9 +317,13 @@ module _ (program : Lowering) (code : Tokened) (x c : ℕ) (fields used : List �
   Steps_on = Follows_step program idle (token_at program code s.environment inner frames s.heap tokens input)
       (turn_of left s.frame fs s.world)
 
-  abbrev Leads_to : Frame Line → (ℕ → Owner) → Cells → Type 0
-  Leads_to frame owners cells =
-      Leads (known_of program at.shape) (token_cost (known_of program at.shape) fields used) a.own (a.more ++ at.does.placed.after)
+  abbrev after_lines : List Line
+  after_lines = a.more ++ at.does.placed.after
+
+  -- the lines lead to others
+  abbrev Leads_to : List Line → Frame Line → (ℕ → Owner) → Cells → Type 0
+  Leads_to end frame owners cells =
+      LeadsTo (known_of program at.shape) (token_cost (known_of program at.shape) fields used) (a.own ++ after_lines) end
       fs fs s (opened_to frame owners cells) ((v + y) ∷ [])
 
   long : length a.next ≡ length s.heap
@@ -323,30 +348,27 @@ module _ (program : Lowering) (code : Tokened) (x c : ℕ) (fields used : List �
       token_aside (is_linked n z tokens.chain) (token_words program.layout s.address s.heap q) (s.owners (s.address q))
       (at.cells.are n z q (at.judged.are.pooled.marks n z q is))
 
-  -- the slot has its token, and the code goes on
-  finish : (frame : Frame Line) (owners : ℕ → Owner) (cells : Cells) → Leads_to frame owners cells → (after : Tokens) (slot : Slot)
-      → token_code_step (setting program) code s.environment inner
+  -- the step that gives the slot a token
+  abbrev Steps_to : Tokens → Type 0
+  Steps_to after =
+      token_code_step (setting program) code s.environment inner
       (machine_at program code s.environment inner frames s.heap tokens)
       ≡ goes (machine_at program rest (bind_fields fields a.named.fields s.environment) inner frames a.next after)
-      → slots_with n y slot tokens.slots ≡ after.slots → SlotIs s.address slot (frame.cells (v + y))
+
+  -- the slot has its token, and the code may go on behind the opening
+  abbrev goes_behind : (end : List Line) (frame : Frame Line) (owners : ℕ → Owner) (cells : Cells) → Leads_to end frame owners cells
+      → (after : Tokens) (slot : Slot) → Steps_to after → slots_with n y slot tokens.slots ≡ after.slots
+      → SlotIs s.address slot (frame.cells (v + y))
       → HaveTokenCells program.pool program.layout s.address owners a.next after
-      → AllStand program.layout at.shape.standing s.address owners (after.slots n) → Steps_on
-  finish frame owners cells leads after slot step slots_is value token_cells stand =
+      → AllStand program.layout at.shape.standing s.address owners (after.slots n)
+      → GoesOn program code inner frames tokens input s fs left at rest a.own a.more (opened_to frame owners cells) fs after
+      (fields ++ s.bound) (record at.lists { unspent = y ∷ at.lists.unspent })
+  goes_behind end frame owners cells leads after slot step slots_is value token_cells stand =
       let p = at.does.placed in
-      let to = opened_to frame owners cells in
       let kept = subst (AllLead (AreKeptBy program.pool.cells (ListsAfter code inner at.lists))) step
       (kept_after program code inner frames tokens input s fs left at (fit 0).keeps a.quiet) in
-      let few = p.short in
-      let forms_are = a.forms_are in
-      let weighs = a.weighs in
-      let one = row_times fields (most_moves + 2) in
-      let two = row_times (filter (is_among used) fields) (most_moves + 5) in
-      let three = row_times (others_of used fields) (2 * most_moves + 16) in
       let list_below = below_list v fields s.bound a.below at.has.below in
-      goes_on program code inner frames tokens input s fs left at idle fit rest a.own a.more to fs after (fields ++ s.bound)
-      (record at.lists { unspent = y ∷ at.lists.unspent }) (token_cost (known_of program at.shape) fields used) goes
-      (lands_leads leads)
-      (record {
+      record {
         parts = a.parts;
         low = p.low + 2;
         lines = a.lines;
@@ -372,15 +394,117 @@ module _ (program : Lowering) (code : Tokened) (x c : ℕ) (fields used : List �
         waits = subst (λ m. AllWait program s.address m after.slots at.lists.older frames fs at.shape.result) (sym long)
             (all_wait_at program s.address (length s.heap) tokens.slots after.slots at.lists.older frames fs at.shape.result
             (subst (EqualBelow n tokens.slots) slots_is (equal_one n n y slot tokens.slots (omega arith))) at.waits);
-      })
-      (silent_goes program) (omega (arith, one, two, three, weighs))
+      }
+
+  -- the lines weigh no more than the table of costs says
+  opening_cheap : token_cost (known_of program at.shape) fields used
+      ≤ (upper program).weight (token_at program code s.environment inner frames s.heap tokens input)
+  opening_cheap =
+      let weighs = a.weighs in
+      let one = row_times fields (most_moves + 2) in
+      let two = row_times (filter (is_among used) fields) (most_moves + 5) in
+      let three = row_times (others_of used fields) (2 * most_moves + 16) in
+      omega (arith, one, two, three, weighs)
+
+  finish : (frame : Frame Line) (owners : ℕ → Owner) (cells : Cells) → Leads_to after_lines frame owners cells → (after : Tokens)
+      (slot : Slot) → Steps_to after → slots_with n y slot tokens.slots ≡ after.slots
+      → SlotIs s.address slot (frame.cells (v + y))
+      → HaveTokenCells program.pool program.layout s.address owners a.next after
+      → AllStand program.layout at.shape.standing s.address owners (after.slots n) → Steps_on
+  finish frame owners cells leads after slot step slots_is value token_cells stand =
+      let few = at.does.placed.short in
+      let forms_are = a.forms_are in
+      goes_on program code inner frames tokens input s fs left at idle fit rest a.own a.more (opened_to frame owners cells) fs after
+      (fields ++ s.bound) (record at.lists { unspent = y ∷ at.lists.unspent }) (token_cost (known_of program at.shape) fields used)
+      goes (lands_leads leads)
+      (goes_behind after_lines frame owners cells leads after slot step slots_is value token_cells stand)
+      (silent_goes program) opening_cheap
       (ap (λ action. seen_action program action input) step) (omega (arith, idle_is, forms_are)) (omega (arith, few, forms_are))
 
+  -- or it goes on in the midst of the lines of the construction that fills the token's cell
+  abbrev entry : ℕ → List Line
+  entry made = entry_lines (v + y) made (at.does.placed.low + 2)
+
+  abbrev before_entry : List Line
+  before_entry = lines_before_entry (at.shape.variables + at.shape.slots) at.shape.holds at.does.placed.low (at.does.placed.low + 1)
+      (at.does.placed.low + 2) x fields used (v + y) a.into a.own a.uniques
+
+  finish_filling : (made : ℕ) (behind : List Line) → a.into ≡ Some made
+      → a.own ++ after_lines ≡ before_entry ++ (entry made ++ behind)
+      → (frame : Frame Line) (owners : ℕ → Owner) (cells : Cells) → Leads_to (entry made ++ behind) frame owners cells
+      → (after : Tokens) → Steps_to after → slots_with n y (token a.named.at) tokens.slots ≡ after.slots
+      → SlotIs s.address (token a.named.at) (frame.cells (v + y))
+      → HaveTokenCells program.pool program.layout s.address owners a.next after
+      → AllStand program.layout at.shape.standing s.address owners (after.slots n) → Steps_on
+  finish_filling made behind made_is lines_are frame owners cells leads after step slots_is value token_cells stand =
+      let p = at.does.placed in
+      let to = opened_to frame owners cells in
+      let landed : Spot = record to { bound = fields ++ s.bound } in
+      let few = p.short in
+      let forms_are = a.forms_are in
+      let cheap = opening_cheap in
+      let within = leads.within in
+      let start = token_at program code s.environment inner frames s.heap tokens input in
+      let end = token_at program rest (bind_fields fields a.named.fields s.environment) inner frames a.next after input in
+      let t0 = turn_of left s.frame fs s.world in
+      let t1 = turn_of (entry made ++ behind) frame fs to.world in
+      let left_is : left ≡ before_entry ++ (entry made ++ behind)
+      = p.left_is ∙ ap (λ ls. ls ++ p.after) a.parts ∙ append_assoc a.own a.more p.after ∙ lines_are in
+      let own_is : left ≡ a.own ++ after_lines
+      = p.left_is ∙ ap (λ ls. ls ++ p.after) a.parts ∙ append_assoc a.own a.more p.after in
+      let fill = fill_there made y rest (subst (λ into. MayFill into y rest) made_is a.filled) in
+      let short : forms rest ≤ program.most = omega (arith, few, forms_are) in
+      does_by program idle start end [] t0
+      (ap (λ action. seen_action program action input) step
+      ∙ silent_goes program (machine_at program rest (bind_fields fields a.named.fields s.environment) inner frames a.next after)
+      input) fit
+      (λ fits. by_near program leads.steps leads.cost ((upper program).weight start) (saved s.heap) idle end t0 t1
+      (subst (λ ls. Runs (target program) leads.cost leads.steps (turn_of ls s.frame fs s.world) t1) (sym own_is) leads.runs)
+      (omega (arith, cheap, within)) (omega (arith, idle_is, forms_are)) fits
+      (inr (record {
+        spot = landed;
+        fs = fs;
+        left = entry made ++ behind;
+        environment_is = refl;
+        heap_is = refl;
+        turn_is = refl;
+        follows = leads.here.follows;
+        near = inr (inr (record {
+          x = made;
+          y = y;
+          c = fill.c;
+          first = fill.first;
+          arguments = fill.arguments;
+          kept = fill.kept;
+          others = fill.others;
+          rest = fill.rest;
+          code_is = fill.is;
+          there = after_lines;
+          at = stands_on program code inner frames tokens input s fs left at rest a.own a.more to fs after (fields ++ s.bound)
+              (record at.lists { unspent = y ∷ at.lists.unspent }) leads.here leads.left leads.whole leads.function
+              (goes_behind (entry made ++ behind) frame owners cells leads after (token a.named.at) step slots_is value token_cells
+              stand) short;
+          q = a.named.at;
+          has = ap (λ (sl : ℕ → ℕ → Slot). sl n y) (sym slots_is) ∙ slot_here n y (token a.named.at) tokens.slots;
+          after = behind;
+          left_is = refl;
+          before = p.before ++ before_entry;
+          place = leads.whole ∙ p.place ∙ ap (λ ls. p.before ++ ls) left_is
+              ∙ sym (append_assoc p.before before_entry (entry made ++ behind));
+          stands = stands_behind p.stands (a.entry_is made made_is);
+        }));
+      })))
+
   -- a cell of one reference: it is the slot's token
-  gains : (frame : Frame Line) (owners : ℕ → Owner) (cells : Cells) → Leads_to frame owners cells → count_at s.heap a.named.at ≡ 1
+  gains : (end : List Line) (frame : Frame Line) (owners : ℕ → Owner) (cells : Cells) → Leads_to end frame owners cells
+      → ((after : Tokens) → Steps_to after → slots_with n y (token a.named.at) tokens.slots ≡ after.slots
+      → SlotIs s.address (token a.named.at) (frame.cells (v + y))
+      → HaveTokenCells program.pool program.layout s.address owners a.next after
+      → AllStand program.layout at.shape.standing s.address owners (after.slots n) → Steps_on)
+      → count_at s.heap a.named.at ≡ 1
       → HasCell s (opened_to frame owners cells) (v + y) at_name (words_in program.layout s.address a.named.fields)
       (header_of program.layout c) → Steps_on
-  gains frame owners cells leads once has = by (count_at a.next a.named.at) refl
+  gains end frame owners cells leads finishes once has = by (count_at a.next a.named.at) refl
     where
       owns : s.owners at_name ≡ cell_of a.named.at
       owns = at.follows.named a.named.at (omega (arith, once))
@@ -408,7 +532,7 @@ module _ (program : Lowering) (code : Tokened) (x c : ℕ) (fields used : List �
       by : (count : ℕ) → count_at a.next a.named.at ≡ count → Steps_on
       by zero counts =
           let many = frames_many tokens.slots at.lists.older frames at.judged.waiting in
-          finish frame owners cells leads (gained n y a.named.at tokens) (token a.named.at)
+          finishes (gained n y a.named.at tokens)
           (a.step ∙ ap (λ k. goes (machine_at program rest (bind_fields fields a.named.fields s.environment) inner frames a.next
           (opened_tokens k (length frames) y a.named.at tokens))) counts
           ∙ ap (λ f. goes (machine_at program rest (bind_fields fields a.named.fields s.environment) inner frames a.next
@@ -441,7 +565,8 @@ module _ (program : Lowering) (code : Tokened) (x c : ℕ) (fields used : List �
           ∙ leads.here.follows.named a.named.at (omega (arith, counts)) in cc
 
   -- a cell of several references: the slot is null
-  blanks : (frame : Frame Line) (owners : ℕ → Owner) (cells : Cells) → Leads_to frame owners cells → 1 ≤ count_at a.next a.named.at
+  blanks : (frame : Frame Line) (owners : ℕ → Owner) (cells : Cells) → Leads_to after_lines frame owners cells → 1 ≤ count_at a.next
+      a.named.at
       → IsNull s (opened_to frame owners cells) (v + y) → Steps_on
   blanks frame owners cells leads some has = by (count_at a.next a.named.at) refl
     where
@@ -487,26 +612,41 @@ module _ (program : Lowering) (code : Tokened) (x c : ℕ) (fields used : List �
       let low = a.slot in
       let token_low : v + y < at.shape.variables + at.shape.slots = omega arith in
       let spare = none_behind (bound_list fields s.bound) v y (below_list v fields s.bound a.below at.has.below) in
-      let first = head_lines known after fs s x c fields used p.low (p.low + 1) (v + y) a.own a.named a.next here reads
+      let first = head_lines known after fs s x c fields used p.low (p.low + 1) (p.low + 2) (v + y) a.into a.own a.named a.next here
+      reads
       a.fields_apart token_low spare a.uniques in
-      let shared = for_shared known after fs s x c fields used p.low (p.low + 1) (v + y) a.own a.named a.next here reads
+      let shared = for_shared known after fs s x c fields used p.low (p.low + 1) (p.low + 2) (v + y) a.into a.own a.named a.next
+      here reads
       a.fields_apart token_low spare a.uniques in
-      let shared_rest = shared_lines known after fs s x c fields used p.low (p.low + 1) (v + y) a.own a.named a.next here reads
+      let shared_rest = shared_lines known after fs s x c fields used p.low (p.low + 1) (p.low + 2) (v + y) a.into a.own a.named
+      a.next here reads
       a.fields_apart token_low spare a.uniques in
       let behind = acts (Label (p.low + 1)) [] ∷ after in
-      let is : left ≡ first ++ (shared ++ behind)
-      = p.left_is ∙ ap (λ own. own ++ p.after) a.parts ∙ append_assoc a.own a.more p.after
-      ∙ whole_lines known after fs s x c fields used p.low (p.low + 1) (v + y) a.own a.named a.next here reads
+      let whole : a.own ++ after_lines ≡ first ++ (shared ++ behind)
+      = whole_lines known after fs s x c fields used p.low (p.low + 1) (p.low + 2) (v + y) a.into a.own a.named a.next here reads
       a.fields_apart token_low spare a.uniques in
+      let is : left ≡ first ++ (shared ++ behind)
+      = p.left_is ∙ ap (λ own. own ++ p.after) a.parts ∙ append_assoc a.own a.more p.after ∙ whole in
       let shared_at : s.frame.whole ≡ (p.before ++ first) ++ (shared ++ behind)
       = p.place ∙ ap (λ ls. p.before ++ ls) is ∙ sym (append_assoc p.before first (shared ++ behind)) in
       let behind_at : s.frame.whole ≡ ((p.before ++ first) ++ shared) ++ behind
       = shared_at ∙ sym (append_assoc (p.before ++ first) shared behind) in
-      let opened = opens_to_token known after fs s x c fields used p.low (p.low + 1) (v + y) a.own a.named a.next here reads
+      let opened = opens_to_token known after fs s x c fields used p.low (p.low + 1) (p.low + 2) (v + y) a.into a.own a.named a.next
+      here reads
       a.fields_apart token_low spare a.uniques a.next_is (λ name. let small = counts name in omega arith)
       (finds p.low s.frame.whole (p.before ++ first) (shared_rest ++ behind) at.has.formed shared_at)
       (finds (p.low + 1) s.frame.whole ((p.before ++ first) ++ shared) after at.has.formed behind_at) in
-      by opened.0 opened.1 opened.2 opened.3 (count_at s.heap a.named.at) refl a.next_is opened.4
+      let base = at.shape.variables + at.shape.slots in
+      let drops = drops_lines base at.shape.holds (others_of used fields) in
+      let before = λ (ls : List Line). a.uniques.0 ∷ sets 1 (base + 1) ∷ acts (Branch NotEqual p.low) (base ∷ (base + 1) ∷ []) ∷ ls
+      in
+      let entered : (made : ℕ) → a.into ≡ Some made → a.own ++ after_lines ≡ before_entry ++ (entry made ++ (shared ++ behind))
+      = λ made made_is. whole
+      ∙ ap (λ into. before ((a.uniques.1 ++ (drops ++ token_ends into x (v + y) (p.low + 1) (p.low + 2))) ++ (shared ++ behind)))
+      made_is
+      ∙ ap before (entry_passed a.uniques.1 drops (entry made) (shared ++ behind) (copies_to x (v + y))) in
+      by (shared ++ behind) entered opened.0 opened.1 opened.2 (count_at s.heap a.named.at) a.into opened.3 refl refl a.next_is
+      opened.4
     where
       few_fields : (holds : ℕ → Bool) (k : ℕ) (xs : List ℕ) → HaveMarks holds xs (field_marks program.marks k) → length xs ≤ 6
       few_fields holds k xs have =
@@ -516,15 +656,24 @@ module _ (program : Lowering) (code : Tokened) (x c : ℕ) (fields used : List �
           let few = program.narrow.few k in
           omega arith
 
-      by : (frame : Frame Line) (owners : ℕ → Owner) (cells : Cells) → Leads_to frame owners cells
-          → (count : ℕ) → count_at s.heap a.named.at ≡ count
+      by : (others : List Line)
+          → ((made : ℕ) → a.into ≡ Some made → a.own ++ after_lines ≡ before_entry ++ (entry made ++ others))
+          → (frame : Frame Line) (owners : ℕ → Owner) (cells : Cells) (count : ℕ) (into : Option ℕ)
+          → Leads_to (comes_to count into (v + y) (at.does.placed.low + 2) after_lines others) frame owners cells
+          → count_at s.heap a.named.at ≡ count → a.into ≡ into
           → unique_heap count a.named.at (used_values used fields a.named.fields) (other_values used fields a.named.fields) s.heap
           ≡ Some a.next
           → TokenIs count s (opened_to frame owners cells) (v + y) at_name (words_in program.layout s.address a.named.fields)
           (header_of program.layout c) → Steps_on
-      by frame owners cells leads zero counts given is = absurd is
-      by frame owners cells leads (suc zero) counts given is = gains frame owners cells leads counts is
-      by frame owners cells leads (suc (suc m)) counts given is =
+      by others are frame owners cells zero into leads counts same given is = absurd is
+      by others are frame owners cells (suc zero) None leads counts same given is =
+          gains after_lines frame owners cells leads
+          (λ after step slots value token_cells stand. finish frame owners cells leads after (token a.named.at) step slots value
+          token_cells stand) counts is
+      by others are frame owners cells (suc zero) (Some made) leads counts same given is =
+          gains (entry made ++ others) frame owners cells leads
+          (finish_filling made others same (are made same) frame owners cells leads) counts is
+      by others are frame owners cells (suc (suc m)) into leads counts same given is =
           blanks frame owners cells leads
           (shared_counted m a.named.at (used_values used fields a.named.fields) (other_values used fields a.named.fields) s.heap
           a.next counts given) is
@@ -545,10 +694,23 @@ at_unique program x c fields used y rest idle inner frames tokens input s fs lef
       quiet = refl;
       own = p.lines.0;
       more = p.lines.1;
-      uniques = p.lines.2;
+      into = p.lines.2.0;
+      filled = p.lines.2.1;
+      uniques = p.lines.2.2;
       lines = p.lines.3;
       parts = p.lines.4;
-      part_is = record { way = 0 ∷ []; is_part = inl refl; code_is = refl };
+      part_is = record {
+        way = 0 ∷ [];
+        is_part = behind_entry p.lines.2.0 (at.shape.variables + y) (p.low + 2) (before_of program x fields used y at.shape p.low
+            p.lines.2.0 p.lines.0 p.lines.2.2) rest _ _ (inl refl);
+        code_is = refl;
+      };
+      entry_is = λ made is. record {
+        way = 0 ∷ [];
+        is_part = entry_is_part p.lines.2.0 (at.shape.variables + y) (p.low + 2) (before_of program x fields used y at.shape p.low
+            p.lines.2.0 p.lines.0 p.lines.2.2) rest _ made is;
+        code_is = refl;
+      };
       bound = p.marked.0.0;
       apart = p.numbered.0.1.0;
       kinds = p.marked.0.1.1;
@@ -590,10 +752,23 @@ at_open program x c fields used y rest idle inner frames tokens input s fs left 
       quiet = refl;
       own = p.lines.0;
       more = p.lines.1;
-      uniques = p.lines.2;
+      into = p.lines.2.0;
+      filled = p.lines.2.1;
+      uniques = p.lines.2.2;
       lines = p.lines.3;
       parts = p.lines.4;
-      part_is = record { way = 0 ∷ []; is_part = inl refl; code_is = refl };
+      part_is = record {
+        way = 0 ∷ [];
+        is_part = behind_entry p.lines.2.0 (at.shape.variables + y) (p.low + 2) (before_of program x fields used y at.shape p.low
+            p.lines.2.0 p.lines.0 p.lines.2.2) rest _ _ (inl refl);
+        code_is = refl;
+      };
+      entry_is = λ made is. record {
+        way = 0 ∷ [];
+        is_part = entry_is_part p.lines.2.0 (at.shape.variables + y) (p.low + 2) (before_of program x fields used y at.shape p.low
+            p.lines.2.0 p.lines.0 p.lines.2.2) rest _ made is;
+        code_is = refl;
+      };
       bound = p.marked.0.0;
       apart = p.numbered.0.1.0;
       kinds = p.marked.0.1.1;

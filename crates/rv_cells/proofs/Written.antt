@@ -48,8 +48,8 @@ use Rattle.rv_lower.specs.Written.{lines_written, Wrote, WroteLines, TookLabel}
 use Rattle.rv_lower.proofs.Written.{wrote_then}
 use Rattle.rv_lower.proofs.Grown.{grows_of, grows_took, grows_then, grows_more}
 use Rattle.rv_cells.specs.Layout.{Layout}
-use Rattle.rv_cells.specs.CellLines.{Loads, Stores, AllLoads, AllStores, StoresIf, SomeStores, is_kept, Walks, walked, spare, dups_lines, drops_lines, CountLines, ConstructLines}
-use Rattle.rv_cells.specs.CellLines.{SetIf, SomeWords, FillLines, hold_lines, unhold_lines}
+use Rattle.rv_cells.specs.CellLines.{Loads, Stores, AllLoads, AllStores, StoresIf, SomeStores, is_kept, Walks, walked, spare, dups_lines, drops_lines, ConstructLines}
+use Rattle.rv_cells.specs.CellLines.{SetIf, SomeWords, FillLines, hold_lines, unhold_lines, token_ends, TokenUniqueLines}
 use Rattle.rv_cells.specs.CountedLines.{
   is_plain,
   answer_word,
@@ -67,7 +67,7 @@ use Rattle.rv_cells.specs.CountedLines.{
   NodesLines,
 }
 use Rattle.rv_cells.specs.TokenedWritten.{take_line, request_lines, StoreLines, WroteFill}
-use Rattle.rv_cells.specs.Written.{TestsCount, end_lines, LowersCount, LoadsTag, WroteCountOpening}
+use Rattle.rv_cells.specs.Written.{TestsCount, LowersCount, LoadsTag, WroteOpening}
 
 pub three_same : {a b c d e f : Line} → a ≡ b → c ≡ d → e ≡ f → a ∷ c ∷ e ∷ [] ≡ b ∷ d ∷ f ∷ []
 three_same {a} {b} {c} {d} {e} {f} first second third = cc (first, second, third)
@@ -202,21 +202,26 @@ walk_more {n} {index} {cell} {line} {a} {b} {c} temporary value xs less is from 
 
 -- ---- an opening by the count of a cell
 
-module _ {holds : ℕ → Bool} {x : ℕ} {fields used : List ℕ} {ends : Line} {begins : List Line} where
-  pub count_opening_written : {shared behind : ℕ} {loads : List Line} {a b c d e f g h i j k l m : Lowering} → TookLabel shared a b
+module _ {holds : ℕ → Bool} {x : ℕ} {fields used : List ℕ} {token : ℕ} {into : Option ℕ} where
+  pub opening_written : {shared behind : ℕ} {loads : List Line} {a b c d e f g h i j k l m : Lowering} → TookLabel shared a b
       → TookLabel behind b c
       → AllLoads x 2 fields loads → WroteLines (TestsCount c.base shared x) c d → Wrote loads d e
-      → Wrote (drops_lines e.base holds (filter (λ y. not (is_among used y)) fields)) e f → Wrote (end_lines ends behind) f g
-      → Wrote (acts (Label shared) [] ∷ []) g h → Wrote begins h i → Wrote loads i j → WroteLines (LowersCount j.base x) j k
+      → Wrote (drops_lines e.base holds (filter (λ y. not (is_among used y)) fields)) e f → Wrote (token_ends into x token behind
+      (behind + 1)) f g
+      → Wrote (acts (Label shared) [] ∷ []) g h → Wrote (sets 0 token ∷ []) h i → Wrote loads i j → WroteLines (LowersCount j.base
+      x) j k
       → Wrote (dups_lines holds (filter (is_among used) fields)) k l → Wrote (acts (Label behind) [] ∷ []) l m
-      → WroteCountOpening holds x fields used ends begins a m
-  count_opening_written {shared} {behind} {loads} {a} {b} {c} {d} {e} {f} {g} {h} {i} {j} {k} {l} {m} first second all test one
+      → WroteOpening holds x fields used token into a m
+  opening_written {shared} {behind} {loads} {a} {b} {c} {d} {e} {f} {g} {h} {i} {j} {k} {l} {m} first second all test one
       drops end label began again less dups last = record {
         lines = lines;
         grows = grows_more (omega arith) (grows_then (grows_took first) (grows_then (grows_took second) (grows_of whole)));
         label = whole.label ∙ second.next ∙ ap (λ n. n + 1) first.next ∙ two a.next_label;
-        are = subst (λ n. CountLines a.base holds a.next_label n x fields used ends begins lines) (second.is ∙ first.next)
-            (subst (λ n. CountLines a.base holds n behind x fields used ends begins lines) first.is (
+        are = subst (λ n. TokenUniqueLines a.base holds a.next_label (a.next_label + 1) n x fields used token into lines)
+            (ap (λ n. n + 1) (second.is ∙ first.next) ∙ two a.next_label)
+            (subst (λ n. TokenUniqueLines a.base holds a.next_label n (behind + 1) x fields used token into lines)
+            (second.is ∙ first.next)
+            (subst (λ n. TokenUniqueLines a.base holds n behind (behind + 1) x fields used token into lines) first.is (
               test_own.0,
               loads,
               less_own.0,
@@ -227,13 +232,14 @@ module _ {holds : ℕ → Bool} {x : ℕ} {fields used : List ℕ} {ends : Line}
               less_own.3,
               less_own.4,
               less_own.5,
-              ap (λ (ls : List Line). ls ++ ((loads ++ (dropped ++ end_lines ends behind)) ++
-                  ((acts (Label shared) [] ∷ (begins ++ (loads ++ (less.lines ++ dupped)))) ++ (acts (Label behind) [] ∷ []))))
+              ap (λ (ls : List Line). ls ++ ((loads ++ (dropped ++ token_ends into x token behind (behind + 1))) ++
+                  ((acts (Label shared) [] ∷ ((sets 0 token ∷ []) ++ (loads ++ (less.lines ++ dupped)))) ++ (acts (Label behind) []
+                  ∷ []))))
                   test_own.2
-                  ∙ ap (λ (ls : List Line). tested ++ ((loads ++ (dropped ++ end_lines ends behind)) ++
-                  ((acts (Label shared) [] ∷ (begins ++ (loads ++ (ls ++ dupped)))) ++ (acts (Label behind) [] ∷ []))))
+                  ∙ ap (λ (ls : List Line). tested ++ ((loads ++ (dropped ++ token_ends into x token behind (behind + 1))) ++
+                  ((acts (Label shared) [] ∷ ((sets 0 token ∷ []) ++ (loads ++ (ls ++ dupped)))) ++ (acts (Label behind) [] ∷ []))))
                   less_own.6,
-            ));
+            )));
       }
     where
       two : (n : ℕ) → n + 1 + 1 ≡ n + 2
@@ -264,8 +270,8 @@ module _ {holds : ℕ → Bool} {x : ℕ} {fields used : List ℕ} {ends : Line}
       tested = test_own.0 ∷ sets 1 (a.base + 1) ∷ acts (Branch NotEqual shared) (a.base ∷ (a.base + 1) ∷ []) ∷ []
 
       lines : List Line
-      lines = test.lines ++ ((loads ++ (dropped ++ end_lines ends behind)) ++
-          ((acts (Label shared) [] ∷ (begins ++ (loads ++ (less.lines ++ dupped)))) ++ (acts (Label behind) [] ∷ [])))
+      lines = test.lines ++ ((loads ++ (dropped ++ token_ends into x token behind (behind + 1))) ++
+          ((acts (Label shared) [] ∷ ((sets 0 token ∷ []) ++ (loads ++ (less.lines ++ dupped)))) ++ (acts (Label behind) [] ∷ [])))
 
       whole : Wrote lines c m
       whole =

@@ -1,6 +1,6 @@
 -- The assembler lines of the counted forms that touch cells. Value x of a function's assembler code is variable x; the values
 -- from `base` on are temporaries.
-use Rattle.std.specs.Prelude.{◌≡◌, ℕ, suc, ◌+◌, ◌*◌, ◌-◌, ◌^◌, Bool, true, false, List, [], ◌∷◌, ◌++◌, filter, Some, not, nat_eq, if◌then◌else◌}
+use Rattle.std.specs.Prelude.{◌≡◌, ℕ, suc, ◌+◌, ◌*◌, ◌-◌, ◌^◌, Bool, true, false, List, [], ◌∷◌, ◌++◌, filter, Option, Some, None, not, nat_eq, if◌then◌else◌}
 use Rattle.kk_syntax.specs.Shapes.{is_among}
 use Rattle.rv_isa.specs.declared.asm.Action.TheVariants.{Compute, Label, Jump, Branch, Routine as Calls, Hold, Unhold}
 use Rattle.rv_isa.specs.declared.asm.Condition.TheVariants.{Equal, NotEqual}
@@ -112,22 +112,28 @@ abbrev pub ReadLines : ℕ → List ℕ → List Line → Type 0
 ReadLines x fields lines = AllLoads x 2 fields lines
 
 -- An opening. Behind the test of the count the fields are loaded on each way. Where the count is 1 the fields that are not in use
--- are dropped, and the line `ends` is for the cell. Else, from label `shared` on, the lines `begins` are first, the count is
--- lowered, and the fields in use get a reference more.
-abbrev pub CountLines : ℕ → (ℕ → Bool) → ℕ → ℕ → ℕ → List ℕ → List ℕ → Line → List Line → List Line → Type 0
+-- are dropped, and the lines `ends` are for the cell, which lead away. Else, from label `shared` on, the lines `begins` are first,
+-- the count is lowered, and the fields in use get a reference more.
+abbrev pub CountLines : ℕ → (ℕ → Bool) → ℕ → ℕ → ℕ → List ℕ → List ℕ → List Line → List Line → List Line → Type 0
 CountLines base holds shared behind x fields used ends begins lines =
     (test : Line) × (loads : List Line) × (count : Line) × (less : Immediate) × (store : Line)
     × Loads x 0 base test × AllLoads x 2 fields loads × Loads x 0 base count × (less.word ≡ 2 ^ 32 - 1) × Stores x 0 base store
     × (lines ≡ test ∷ sets 1 (base + 1) ∷ acts (Branch NotEqual shared) (base ∷ (base + 1) ∷ []) ∷
-    ((loads ++ (drops_lines base holds (filter (λ y. not (is_among used y)) fields) ++ (ends ∷ (acts (Jump behind) [] ∷ []))))
+    ((loads ++ (drops_lines base holds (filter (λ y. not (is_among used y)) fields) ++ ends))
     ++ ((acts (Label shared) [] ∷ (begins ++ (loads ++ (count ∷ computes (Op.Immediate Addi less) (base ∷ []) base ∷ store
     ∷ dups_lines holds (filter (is_among used) fields)))))
     ++ (acts (Label behind) [] ∷ []))))
 
+-- A cell becomes the token of a value, and the code goes on behind the opening. Where a construction stands there that fills this
+-- token's cell, whose variable is given, it goes on behind the test of that construction, at its label `filled`.
+abbrev pub token_ends : Option ℕ → ℕ → ℕ → ℕ → ℕ → List Line
+token_ends None x token behind filled = copies_to x token ∷ acts (Jump behind) [] ∷ []
+token_ends (Some into) x token behind filled = copies_to x token ∷ copies_to token into ∷ acts (Jump filled) [] ∷ []
+
 -- The cell is the token of a value, which has its address. The value is 0 where the cell has other references.
-abbrev pub TokenUniqueLines : ℕ → (ℕ → Bool) → ℕ → ℕ → ℕ → List ℕ → List ℕ → ℕ → List Line → Type 0
-TokenUniqueLines base holds shared behind x fields used token lines =
-    CountLines base holds shared behind x fields used (copies_to x token) (sets 0 token ∷ []) lines
+abbrev pub TokenUniqueLines : ℕ → (ℕ → Bool) → ℕ → ℕ → ℕ → ℕ → List ℕ → List ℕ → ℕ → Option ℕ → List Line → Type 0
+TokenUniqueLines base holds shared behind filled x fields used token into lines =
+    CountLines base holds shared behind x fields used (token_ends into x token behind filled) (sets 0 token ∷ []) lines
 
 -- ---- tests
 

@@ -142,6 +142,23 @@ CaseLines None setting nodes arms x decisions lines =
 CaseLines (Some branch) setting nodes arms x decisions lines =
     lines ≡ acts (Branch branch.condition (arms + 1)) (branch.first ∷ branch.second ∷ []) ∷ []
 
+-- a code begins with a construction of a variable in the cell of a slot's token
+abbrev pub IsFillOf : ℕ → ℕ → Tokened → Type 0
+IsFillOf x y (Tokened.fill z w c first arguments kept others rest) = (z ≡ x) × (w ≡ y)
+IsFillOf x y _ = ⊥
+
+-- so it is where an opening is to lead behind that construction's test of the token
+abbrev pub MayFill : Option ℕ → ℕ → Tokened → Type 0
+MayFill None y rest = Unit {0}
+MayFill (Some x) y rest = IsFillOf x y rest
+
+-- The lines of an opening, with the labels `low` and the next one. Where a construction directly behind it fills the cell of its
+-- slot, the way of a cell that becomes the token may go on behind the test of that construction, whose label comes next.
+abbrev pub OpeningLines : Setting → ℕ → ℕ → ℕ → List ℕ → List ℕ → ℕ → Tokened → List Line → Type 0
+OpeningLines setting variables low x fields used y rest own =
+    (into : Option ℕ) × MayFill into y rest
+    × TokenUniqueLines setting.base setting.holds low (low + 1) (low + 2) x fields used (variables + y) into own
+
 -- The lines of a code whose value goes to a goal. Its labels are numbers from `low` on, below `high`. The fields that a
 -- construction keeps, and what stands in the cells of tokens, are written only where its slot is null. A comparison may be left to a
 -- code: the case does its work to which it leads, behind drops.
@@ -167,12 +184,10 @@ abbrev mutual
       (own : List Line) × (more : List Line) × ReadLines x fields own × LinesBehind None setting variables goal low rest more high
       × (lines ≡ own ++ more)
   LinesBehind left setting variables goal low (Tokened.open_cell x c fields used y rest) lines high =
-      (own : List Line) × (more : List Line)
-      × TokenUniqueLines setting.base setting.holds low (low + 1) x fields used (variables + y) own
+      (own : List Line) × (more : List Line) × OpeningLines setting variables low x fields used y rest own
       × LinesBehind None setting variables goal (low + 2) rest more high × (lines ≡ own ++ more)
   LinesBehind left setting variables goal low (Tokened.if_unique x c fields used y rest) lines high =
-      (own : List Line) × (more : List Line)
-      × TokenUniqueLines setting.base setting.holds low (low + 1) x fields used (variables + y) own
+      (own : List Line) × (more : List Line) × OpeningLines setting variables low x fields used y rest own
       × LinesBehind None setting variables goal (low + 2) rest more high × (lines ≡ own ++ more)
   LinesBehind left setting variables goal low (Tokened.dup x rest) lines high =
       (more : List Line) × LinesBehind None setting variables goal low rest more high × (lines ≡ dup_lines setting.holds x ++ more)

@@ -91,16 +91,17 @@ pub record WroteTokenedArms (facts : Facts) (variables : ℕ) (goal : Goal) (lab
       → ArmsLines (setting_in facts old.base (texts_written new ++ later)) variables goal label old.next_label
       (tokened_arms arms) lines new.next_label
 
--- the lines of steps were written: those of any code that follows stand behind them
-pub record WroteTokenedSteps (facts : Facts) (variables : ℕ) (moves : List TokenedMove) (old new : Lowering) : Type 0 where
+-- The lines of steps were written, behind which other steps come: those of any code that follows stand behind them.
+pub record WroteTokenedSteps (facts : Facts) (variables : ℕ) (moves behind : List TokenedMove) (old new : Lowering) : Type 0 where
   pub lines : List Line
   pub n : ℕ
   pub grows : Grows n lines old new
   pub counted : (rest : Tokened) → tokened_computes (plug_tokened moves rest) ≡ n + tokened_computes rest
   pub are : (later : List (List ℕ)) (goal : Goal) (rest : Tokened) (more : List Line) (high : ℕ)
-      → CodeLines (setting_in facts old.base (texts_written new ++ later)) variables goal new.next_label rest more high
-      → CodeLines (setting_in facts old.base (texts_written new ++ later)) variables goal old.next_label (plug_tokened moves rest)
-      (lines ++ more) high
+      → CodeLines (setting_in facts old.base (texts_written new ++ later)) variables goal new.next_label (plug_tokened behind rest)
+      more high
+      → CodeLines (setting_in facts old.base (texts_written new ++ later)) variables goal old.next_label
+      (plug_tokened moves (plug_tokened behind rest)) (lines ++ more) high
 
 -- ---- steps by what they are
 

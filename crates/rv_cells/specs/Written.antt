@@ -1,9 +1,9 @@
 -- What was written of a function's assembler code, from its counted form.
-use Rattle.std.specs.Prelude.{◌≡◌, ℕ, ◌+◌, ◌-◌, ◌^◌, Bool, false, List, [], ◌∷◌, ◌++◌, map, slice_index_or}
+use Rattle.std.specs.Prelude.{Option, ◌≡◌, ℕ, ◌+◌, ◌-◌, ◌^◌, Bool, false, List, [], ◌∷◌, ◌++◌, map, slice_index_or}
 use Rattle.kk_syntax.specs.declared.program.Form.{Form}
 use Rattle.kk_core.specs.Decisions.{node_tree}
 use Rattle.kk_core.specs.declared.decisions.Answer.{Answer}
-use Rattle.rv_isa.specs.declared.asm.Action.TheVariants.{Jump, Branch}
+use Rattle.rv_isa.specs.declared.asm.Action.TheVariants.{Branch}
 use Rattle.rv_isa.specs.declared.asm.Condition.TheVariants.{NotEqual}
 use Rattle.rv_isa.specs.declared.asm.Operation.TheVariants as Op
 use Rattle.rv_isa.specs.declared.asm.ImmediateOperation.TheVariants.{Addi, Andi}
@@ -19,7 +19,7 @@ use Rattle.rv_cells.specs.declared.decide.CaseWays.{CaseWays}
 use Rattle.rv_cells.specs.declared.decide.Shown.{Shown}
 use Rattle.rv_cells.specs.declared.decide.Shown.TheVariants.{Word, Tag}
 use Rattle.rv_cells.specs.Layout.{Layout, layout_of}
-use Rattle.rv_cells.specs.CellLines.{Loads, Stores, CountLines}
+use Rattle.rv_cells.specs.CellLines.{Loads, Stores, TokenUniqueLines}
 use Rattle.rv_cells.specs.CountedLines.{Setting, ComputeLines, Ways, ways_of, answer_word, answer_tag}
 
 -- ---- what is known
@@ -76,10 +76,6 @@ TestsCount base shared x lines =
     (test : Line) × Loads x 0 base test
     × (lines ≡ test ∷ sets 1 (base + 1) ∷ acts (Branch NotEqual shared) (base ∷ (base + 1) ∷ []) ∷ [])
 
--- behind a line the code goes on at a label
-abbrev pub end_lines : Line → ℕ → List Line
-end_lines ends behind = ends ∷ acts (Jump behind) [] ∷ []
-
 -- the count of a cell is lowered
 abbrev pub LowersCount : ℕ → ℕ → List Line → Type 0
 LowersCount base x lines =
@@ -108,14 +104,13 @@ pub record TookTargets (arms nodes : ℕ) (targets : Targets) (old new : Lowerin
   pub second : targets.nodes ≡ old.next_label + arms
   pub took : TookLabels (arms + nodes) targets.arms old new
 
--- An opening by the count of a cell was written, with two labels: with a line for a cell that has no other reference, and with
--- lines for one that has.
-pub record WroteCountOpening (holds : ℕ → Bool) (x : ℕ) (fields used : List ℕ) (ends : Line) (begins : List Line)
-    (old new : Lowering) : Type 0 where
+-- An opening was written, with two labels, whose cell may be the token of a value.
+pub record WroteOpening (holds : ℕ → Bool) (x : ℕ) (fields used : List ℕ) (token : ℕ) (into : Option ℕ) (old new : Lowering)
+    : Type 0 where
   pub lines : List Line
   pub grows : Grows 0 lines old new
   pub label : new.next_label ≡ old.next_label + 2
-  pub are : CountLines old.base holds old.next_label (old.next_label + 1) x fields used ends begins lines
+  pub are : TokenUniqueLines old.base holds old.next_label (old.next_label + 1) (old.next_label + 2) x fields used token into lines
 
 -- The lines of a form on variables were written. They are its lines however many texts come later.
 pub record WroteValue (facts : Facts) (x : ℕ) (form : Form) (arguments : List ℕ) (old new : Lowering) : Type 0 where

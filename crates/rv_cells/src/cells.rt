@@ -1,12 +1,12 @@
 // The lines of the forms that touch cells.
 
-ghost use Rattle.std.specs.Prelude.{◌≡◌, ◌*◌, true, map, not, filter, IfOk, OnOk};
+ghost use Rattle.std.specs.Prelude.{◌≡◌, ◌+◌, ◌*◌, true, map, not, filter, IfOk, OnOk};
 ghost use Rattle.kk_syntax.specs.Shapes.{is_among};
 ghost use Rattle.rv_lower.specs.Written.{short_line, Wrote, WroteLines};
 ghost use Rattle.rv_cells.specs.CellLines.{Loads, Stores, AllLoads, AllStores, dup_lines, drop_lines, dups_lines, drops_lines};
-ghost use Rattle.rv_cells.specs.CellLines.{SomeStores, SetIf, SomeWords, is_kept, ConstructLines, ReadLines};
-ghost use Rattle.rv_cells.specs.TokenedWritten.{StoreLines, PushedStore, is_left};
-ghost use Rattle.rv_cells.specs.Written.{holds_known, end_lines, TestsCount, LowersCount, WroteCountOpening};
+ghost use Rattle.rv_cells.specs.CellLines.{SomeStores, SetIf, SomeWords, is_kept, ConstructLines, ReadLines, token_ends};
+ghost use Rattle.rv_cells.specs.TokenedWritten.{variables_known, StoreLines, PushedStore, is_left};
+ghost use Rattle.rv_cells.specs.Written.{holds_known, TestsCount, LowersCount, WroteOpening};
 
 use crate::known::Known;
 use kk_base::NoMemory;
@@ -288,28 +288,30 @@ fn write_drops(
     Ok(())
 }
 
-/// An opening by the count of the cell, with a line for one that has no other reference, and with lines for one that has.
-pub fn write_count_opening(
+/// An opening by the count of the cell: the slot takes one that has no other reference, and else it is null. Where a construction
+/// fills the cell of this slot at once, its variable is given.
+pub fn write_opening(
     lowering: &mut Lowering,
     known: &Known<'_>,
     cell: u32,
     fields: &[u32],
     used: &[u32],
-    ends: Short,
-    begins: &[Short],
+    slot: u32,
+    into: Option<u32>,
 ) -> Result<(), NoMemory>
-    ensures { OnOk result (WroteCountOpening (holds_known known.now) cell fields.now used.now (short_line ends)
-        (map short_line begins.now) lowering.old lowering.new) }
+    ensures { OnOk result (WroteOpening (holds_known known.now) cell fields.now used.now (variables_known known.now + slot)
+        into lowering.old lowering.new) }
 {
+    let token = known.slot(slot)?;
     let shared = lowering.take_label()?;
     let behind = lowering.take_label()?;
     let loads = loads(lowering.alloc, cell, fields)?;
     write_count_test(lowering, cell, shared)?;
     lowering.write(&loads)?;
     write_drops(lowering, known, fields, used)?;
-    write_end(lowering, ends, behind)?;
+    write_end(lowering, cell, token, into, behind)?;
     write_label(lowering, shared)?;
-    lowering.write(begins)?;
+    lowering.write(&[set(0, token)])?;
     lowering.write(&loads)?;
     write_less(lowering, cell)?;
     write_dups(lowering, known, fields, used)?;
@@ -332,11 +334,26 @@ fn write_count_test(lowering: &mut Lowering, cell: u32, shared: u32) -> Result<(
     ])
 }
 
-/// Writes a line, and goes on at a label.
-fn write_end(lowering: &mut Lowering, ends: Short, behind: u32) -> Result<(), NoMemory>
-    ensures { OnOk result (Wrote (end_lines (short_line ends) behind) lowering.old lowering.new) }
+/// Makes a cell the token of a value, and goes on at a label; or behind the test of the construction that fills it, whose label is
+/// the next one.
+fn write_end(
+    lowering: &mut Lowering,
+    cell: u32,
+    token: u32,
+    into: Option<u32>,
+    behind: u32,
+) -> Result<(), NoMemory>
+    ensures { OnOk result (Wrote (token_ends into cell token behind (behind + 1)) lowering.old lowering.new) }
 {
-    lowering.write(&[ends, act(Action::Jump(behind), Reads::Nothing)])
+    let Some(into) = into else {
+        return lowering.write(&[copy(cell, token), act(Action::Jump(behind), Reads::Nothing)]);
+    };
+    let filled = next(behind)?;
+    lowering.write(&[
+        copy(cell, token),
+        copy(token, into),
+        act(Action::Jump(filled), Reads::Nothing),
+    ])
 }
 
 /// Lowers the count of a cell.

@@ -3,22 +3,24 @@
 ghost use Rattle.std.specs.Prelude.{ℕ, [], ◌∷◌, ◌≤◌, length, map, drop, OnOk, IsTrue};
 ghost use Rattle.kk_counted.specs.CountedForms.{decisions_of};
 ghost use Rattle.kk_counted.specs.TokenedCodes.{Tokened};
-ghost use Rattle.kk_counted.specs.TokenedForms.{TokenedMove, tokened_arms, tokened_code, tokened_last_code, tokened_move};
+ghost use Rattle.kk_counted.specs.TokenedForms.{TokenedMove, plug_tokened, tokened_arms, tokened_code, tokened_last_code};
+ghost use Rattle.kk_counted.specs.TokenedForms.{tokened_move};
 ghost use Rattle.rv_lower.specs.Written.{goal_of};
 ghost use Rattle.rv_cells.specs.TokenedWritten.{variables_known, IfOpens, IfFills};
 ghost use Rattle.rv_cells.specs.TokenedWritten.{WroteTokened, WroteBehind, WroteTokenedArms, WroteTokenedSteps};
 ghost use Rattle.rv_cells.specs.Comparing.{AreNoLines};
+ghost use Rattle.rv_cells.specs.TokenedLines.{MayFill};
 ghost use Rattle.rv_cells.specs.Written.{facts_of, holds_known};
 
 use crate::block::take_targets;
-use crate::cells::{Filling, write_drop, write_dup, write_reading};
+use crate::cells::{Filling, write_drop, write_dup, write_opening, write_reading};
 use crate::compare::{Branching, branch_between, write_branch};
 use crate::decide::{CaseWays, write_nodes};
 use crate::known::Known;
 use crate::standing::{has_count, has_header};
 use crate::token_cells::{
     with_first, write_asking, write_fill, write_freed, write_hold, write_move, write_null,
-    write_token_opening, write_token_test, write_unhold,
+    write_token_test, write_unhold,
 };
 use kk_base::NoMemory;
 use kk_core::Decisions;
@@ -98,23 +100,25 @@ fn write_steps(
     known: &Known<'_>,
     steps: &[TokenedStep],
 ) -> Result<(), NoMemory>
-    ensures { OnOk result (WroteTokenedSteps (facts_of known.now) (variables_known known.now) (map tokened_move steps.now)
+    ensures { OnOk result (WroteTokenedSteps (facts_of known.now) (variables_known known.now) (map tokened_move steps.now) []
         lowering.old lowering.new) }
 {
-    for step in steps {
-        write_step(lowering, known, step)?;
+    for (index, step) in steps.iter().enumerate() {
+        write_step(lowering, known, step, &steps[index + 1..])?;
     }
     Ok(())
 }
 
+/// The lines of a step, before those of the steps behind it.
 #[cycle(write)]
 fn write_step(
     lowering: &mut Lowering,
     known: &Known<'_>,
     step: &TokenedStep,
+    behind: &[TokenedStep],
 ) -> Result<(), NoMemory>
     ensures { OnOk result (WroteTokenedSteps (facts_of known.now) (variables_known known.now) (tokened_move step.now ∷ [])
-        lowering.old lowering.new) }
+        (map tokened_move behind.now) lowering.old lowering.new) }
 {
     match step {
         TokenedStep::Let {
@@ -129,8 +133,8 @@ fn write_step(
             fields,
             ..
         } => write_reading(lowering, *variable, fields),
-        TokenedStep::Open { .. } => write_opened(lowering, known, step),
-        TokenedStep::IfUnique { .. } => write_opened(lowering, known, step),
+        TokenedStep::Open { .. } => write_opened(lowering, known, step, behind),
+        TokenedStep::IfUnique { .. } => write_opened(lowering, known, step, behind),
         TokenedStep::Dup { variable } => write_dup(lowering, known, *variable),
         TokenedStep::Drop { variable } => write_drop(lowering, known, *variable),
         TokenedStep::Fill { .. } => write_filled(lowering, known, step),
@@ -142,14 +146,15 @@ fn write_step(
     }
 }
 
-/// The lines of a step that opens a cell, whose slot may take it.
+/// The lines of a step that opens a cell, whose slot may take it, before those of the steps behind it.
 fn write_opened(
     lowering: &mut Lowering,
     known: &Known<'_>,
     step: &TokenedStep,
+    behind: &[TokenedStep],
 ) -> Result<(), NoMemory>
     ensures { OnOk result (IfOpens step.now (WroteTokenedSteps (facts_of known.now) (variables_known known.now)
-        (tokened_move step.now ∷ []) lowering.old lowering.new)) }
+        (tokened_move step.now ∷ []) (map tokened_move behind.now) lowering.old lowering.new)) }
 {
     match step {
         TokenedStep::Open {
@@ -158,15 +163,38 @@ fn write_opened(
             used,
             slot,
             ..
-        } => write_token_opening(lowering, known, *variable, fields, used, *slot),
+        } => {
+            let into = filled_by(*slot, behind);
+            write_opening(lowering, known, *variable, fields, used, *slot, into)
+        }
         TokenedStep::IfUnique {
             variable,
             fields,
             used,
             slot,
             ..
-        } => write_token_opening(lowering, known, *variable, fields, used, *slot),
+        } => {
+            let into = filled_by(*slot, behind);
+            write_opening(lowering, known, *variable, fields, used, *slot, into)
+        }
         _ => Ok(()),
+    }
+}
+
+/// The variable of the first step, where that is a construction in the cell of a slot.
+fn filled_by(slot: u32, steps: &[TokenedStep]) -> Option<u32>
+    ensures { (rest : Tokened) → MayFill result slot (plug_tokened (map tokened_move steps.now) rest) }
+{
+    match steps {
+        [
+            TokenedStep::Fill {
+                variable,
+                slot: taken,
+                ..
+            },
+            ..
+        ] if *taken == slot => Some(*variable),
+        _ => None,
     }
 }
 
@@ -177,7 +205,7 @@ fn write_filled(
     step: &TokenedStep,
 ) -> Result<(), NoMemory>
     ensures { OnOk result (IfFills step.now (WroteTokenedSteps (facts_of known.now) (variables_known known.now)
-        (tokened_move step.now ∷ []) lowering.old lowering.new)) }
+        (tokened_move step.now ∷ []) [] lowering.old lowering.new)) }
 {
     let TokenedStep::Fill {
         variable,
@@ -213,7 +241,7 @@ fn write_inside(
     block: &TokenedBlock,
 ) -> Result<(), NoMemory>
     ensures { OnOk result (WroteTokenedSteps (facts_of known.now) (variables_known known.now)
-        (TokenedMove.runs into (tokened_code block.now) ∷ []) lowering.old lowering.new) }
+        (TokenedMove.runs into (tokened_code block.now) ∷ []) [] lowering.old lowering.new) }
 {
     let label = lowering.take_label()?;
     write_tokened(lowering, known, block, Goal::Join(into, label))?;

@@ -8,42 +8,16 @@ ghost use Rattle.rv_lower.specs.Written.{Wrote};
 ghost use Rattle.rv_cells.specs.CellLines.{hold_lines, unhold_lines};
 ghost use Rattle.rv_cells.specs.TokenedLines.{values_of_slots};
 ghost use Rattle.rv_cells.specs.TokenedWritten.{variables_known, request_lines, token_test_lines, WroteFill, WroteAsk};
-ghost use Rattle.rv_cells.specs.Written.{facts_of, holds_known, WroteCountOpening};
+ghost use Rattle.rv_cells.specs.Written.{facts_of};
 
 use crate::block::write_form;
-use crate::cells::{Filling, write_count_opening, write_words};
+use crate::cells::{Filling, write_words};
 use crate::known::Known;
 use kk_base::NoMemory;
 use kk_syntax::Form;
 use rv_isa::{Action, Condition, Operation, Routine};
 use rv_lower::{Lowering, Reads, act, copy, set, write_label};
 use std::alloc::Global;
-
-/// An opening by the count of the cell: the slot takes one that has no other reference, and else it is null.
-pub fn write_token_opening(
-    lowering: &mut Lowering,
-    known: &Known<'_>,
-    cell: u32,
-    fields: &[u32],
-    used: &[u32],
-    slot: u32,
-) -> Result<(), NoMemory>
-    ensures { OnOk result (WroteCountOpening (holds_known known.now) cell fields.now used.now
-        (copies_to cell (variables_known known.now + slot)) (sets 0 (variables_known known.now + slot) ∷ []) lowering.old
-        lowering.new) }
-{
-    let token = known.slot(slot)?;
-    let begins = [set(0, token)];
-    write_count_opening(
-        lowering,
-        known,
-        cell,
-        fields,
-        used,
-        copy(cell, token),
-        &begins,
-    )
-}
 
 /// Holds tokens, the first of them last. The recursion is as deep as the tokens are many.
 fn write_holds(lowering: &mut Lowering, tokens: &[u32]) -> Result<(), NoMemory>

@@ -1,16 +1,16 @@
 use Rattle.std.proofs.Common.{◌+◌, List, map, take, drop, refl, sym, subst, ap, ◌∙◌, arith}
 use Rattle.std.proofs.lemmas.Result.{on_ok_weaker}
 use Rattle.kk_counted.specs.TokenedCodes.{Tokened}
-use Rattle.kk_counted.specs.TokenedForms.{TokenedMove, tokened_code, tokened_move}
+use Rattle.kk_counted.specs.TokenedForms.{tokened_code, tokened_move}
 use Rattle.rv_lower.specs.Written.{goal_of}
-use Rattle.rv_cells.specs.TokenedWritten.{variables_known, WroteTokened, WroteTokenedArms, WroteTokenedSteps}
+use Rattle.rv_cells.specs.TokenedWritten.{variables_known, WroteTokened, WroteTokenedArms}
 use Rattle.kk_counted.specs.declared.tokened.TokenedStep.{TokenedStep}
 use Rattle.rv_cells.specs.Comparing.{AreNoLines}
 use Rattle.rv_cells.specs.Written.{facts_of, holds_known}
 use Rattle.rv_cells.proofs.Grown.{length_mapped}
 use Rattle.rv_cells.proofs.TokenGrown.{
   steps_none,
-  steps_then,
+  steps_on,
   step_asks,
   step_runs,
   step_reads,
@@ -22,6 +22,7 @@ use Rattle.rv_cells.proofs.TokenGrown.{
   step_holds,
   step_unholds,
   step_wrote,
+  steps_before,
   step_of_let,
   step_of_inside,
   step_of_read,
@@ -36,23 +37,20 @@ use Rattle.rv_cells.proofs.TokenGrown.{
   code_if_tokens,
   code_of_if_token,
   cases_written,
-  steps_more,
   blocks_more,
 }
 use Rattle.rv_cells.proofs.TokenJoins.{branches_given, block_branches, block_plain}
 use Rattle.rv_cells.proofs.token_block.+write.Goals as goal
 
-pub write_steps-loop-step-init : goal.write_steps-loop-step-init
-write_steps-loop-step-init t c = steps_none (facts_of c.args.known.now) (variables_known c.args.known.now) c.args.lowering.now
+pub write_steps-loop-index-init : goal.write_steps-loop-index-init
+write_steps-loop-index-init t c =
+    steps_none (facts_of c.args.known.now) (variables_known c.args.known.now) (map tokened_move c.args.steps.now)
+    c.args.lowering.now
 
-pub write_steps-loop-step-preserved : goal.write_steps-loop-step-preserved
-write_steps-loop-step-preserved t c =
-    subst (λ (moves : List TokenedMove). WroteTokenedSteps (facts_of c.args.known.now) (variables_known c.args.known.now) moves
-    c.args.lowering.now c.write_step.new.lowering)
-    (steps_more c.args.steps.now c.loop-step.step-index c.step-item.result c.loop-step-test.true (sym c.step-item.is))
-    (steps_then (facts_of c.args.known.now) (variables_known c.args.known.now) (map tokened_move (take c.loop-step.step-index
-    c.args.steps.now))
-    (tokened_move c.step-item.result) c.loop-step.invariant c.in_ok-write_step.ensures)
+pub write_steps-loop-index-preserved : goal.write_steps-loop-index-preserved
+write_steps-loop-index-preserved t c =
+    steps_on (facts_of c.args.known.now) (variables_known c.args.known.now) c.args.steps.now c.loop-index.index
+    c.index-steps-index.result c.loop-index-test.true c.index-steps-index.is c.loop-index.invariant c.in_ok-write_step.ensures
 
 pub write_step-returns-in-Let : goal.write_step-returns-in-Let
 write_step-returns-in-Let t c =
@@ -107,8 +105,9 @@ write_step-returns-in-Drop t c =
 pub write_step-returns-in-Fill : goal.write_step-returns-in-Fill
 write_step-returns-in-Fill t c =
     on_ok_weaker c.write_filled.result
-    (λ wrote. wrote c.in-Fill.variable c.in-Fill.slot c.in-Fill.constructor c.in-Fill.first c.in-Fill.arguments c.in-Fill.kept
-    c.in-Fill.others c.in-Fill.is)
+    (λ wrote. steps_before (map tokened_move c.args.behind.now)
+    (wrote c.in-Fill.variable c.in-Fill.slot c.in-Fill.constructor c.in-Fill.first c.in-Fill.arguments c.in-Fill.kept
+    c.in-Fill.others c.in-Fill.is))
     c.write_filled.ensures
 
 pub write_step-returns-in-Free : goal.write_step-returns-in-Free
