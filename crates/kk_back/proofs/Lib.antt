@@ -1,5 +1,6 @@
 pub mod Placeable
 pub mod Plain
+pub mod Looping
 pub mod Assembling
 pub mod FreeCells
 pub mod OwnAddresses

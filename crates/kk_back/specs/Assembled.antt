@@ -11,7 +11,7 @@ use Rattle.rv_isa.specs.AsmCode.{Lines}
 use Rattle.rv_isa.specs.AsmMachine.{AsmState, asm_machine, asm_start}
 use Rattle.rv_isa.specs.Execution.{rv32im, run}
 use Rattle.rv_isa.specs.FreeTouches.{TouchesNoFreeCell}
-use Rattle.rv_isa.specs.LinePlaces.{AsmIsAt, AsmHasLine}
+use Rattle.rv_isa.specs.LinePlaces.{AsmIsAt, AsmHasOwnLine}
 use Rattle.rv_isa.specs.Primitives.{go, ended, stuck}
 use Rattle.rv_isa.specs.Processor.{Processor, Ending, can_fetch, start, goes}
 use Rattle.rv_isa.specs.ProcessorMachine.{processor_machine}
@@ -32,23 +32,24 @@ pub record IsPlaceable (functions : List Lines) (texts : List (List ℕ)) : Type
   pub main_is : slice_get functions 0 ≡ Some main
   pub main_params : main.params ≡ []
 
--- The lines of assembler code in its image. Each line that is always an instruction has an address of its own, a multiple of 4
--- behind the runtime's words, which stand at the entry, and a word can be fetched there as an instruction. On each input on which that code
+-- The lines of assembler code in its image. Each line that is always an instruction and no test has an address of its own, a
+-- multiple of 4 behind the runtime's words, which stand at the entry, and a word can be fetched there as an instruction. (The test at
+-- the head of a loop stands again at the loop's end, and only the first turn comes to that at the head.) On each input on which that code
 -- never is at a loss, the image follows the code's machine: for each state that goes on there is a number of instructions behind
 -- which the run goes on, memory has the cells of the world, and the same events are told. Where the machine is at such a line,
 -- there is such a number behind which the program counter is at the line's address.
 pub record HasLineAddresses (functions : List Lines) (main : Lines) (constants : Constants) (pool : Pool) (depth entry : ℕ)
     (parts : List Part) : Type 0 where
   pub address : ℕ → ℕ → ℕ
-  pub apart : (f k g j : ℕ) → AsmHasLine functions f k → AsmHasLine functions g j → address f k ≡ address g j
+  pub apart : (f k g j : ℕ) → AsmHasOwnLine functions f k → AsmHasOwnLine functions g j → address f k ≡ address g j
       → (f ≡ g) × (k ≡ j)
-  pub outside : (f k : ℕ) → AsmHasLine functions f k → entry + 4 * TEXT_WORDS ≤ address f k
-  pub inside : (f k : ℕ) → AsmHasLine functions f k
+  pub outside : (f k : ℕ) → AsmHasOwnLine functions f k → entry + 4 * TEXT_WORDS ≤ address f k
+  pub inside : (f k : ℕ) → AsmHasOwnLine functions f k
       → (address f k % 4 ≡ 0) × (can_fetch (memory_of parts) (address f k) 4 ≡ true)
   pub comes : (input : List ℕ) → All (λ byte. byte < 256) input
       → ((n : ℕ) → state (asm_machine (primitives constants pool) depth functions) n (asm_start main (first_world pool input))
       ≢ stuck)
-      → (n f k : ℕ) (world : World) → AsmHasLine functions f k
+      → (n f k : ℕ) (world : World) → AsmHasOwnLine functions f k
       → AsmIsAt functions f k world (state (asm_machine (primitives constants pool) depth functions) n
       (asm_start main (first_world pool input)))
       → (count : ℕ) × ((s : Processor) × ((run count (start (memory_of parts) entry input) ≡ goes s) × ((s.pc ≡ address f k)

@@ -9,6 +9,7 @@ use cell_runtime::text;
 use elf_image::Image;
 use kk_base::{Bytes, NoMemory};
 use rv_isa::Asm;
+use rv_loops::rotated;
 use rv_place::{
     frame_bytes, place, placed_text_agrees, placed_text_comes_to_its_lines,
     placed_text_ends_with_its_cells, placed_text_touches_no_free_cell,
@@ -16,16 +17,20 @@ use rv_place::{
 use rv_regs::assign;
 use std::alloc::Global;
 
+/// The most lines of a program whose loops are rotated: so many can be placed, however much they grow.
+pub const MOST_LINES: usize = 14_380_470;
+
 /// The image of assembler code, with a heap of `cells` cells, of whose calls at most `depth` are open at a time. The loaded image
 /// does what the code does, and touches no free cell outside of the runtime's words. Each line of the code that is always
-/// an instruction has an address of its own behind these, to which the program counter comes, and goes on there, where the code comes to
-/// the line. At such moments memory has the code's cells.
+/// an instruction and no test has an address of its own behind these, to which the program counter comes, and goes on there, where
+/// the code comes to the line. At such moments memory has the code's cells.
 pub fn assembled(alloc: Global, asm: &Asm, cells: u32, depth: u32) -> Result<Image, NoMemory>
     requires placeable { IsPlaceable (asm_functions asm.now) (asm_constants asm.now) }
     requires sizes { AreSizes cells depth }
     ensures { IfOk result (λ image. IsImageOfAsm (asm_functions asm.now) (asm_constants asm.now) cells depth image.entry image.parts) }
 {
-    let program = assign(alloc, asm)?;
+    let placed = assign(alloc, asm)?;
+    let program = rotated(alloc, placed, MOST_LINES)?;
     let runtime = text(alloc, cells, depth, frame_bytes(&program))?;
     let words = place(alloc, &runtime, &program)?;
     let bytes = words.bytes(alloc)?;

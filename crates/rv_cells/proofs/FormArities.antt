@@ -1,6 +1,6 @@
 -- Forms with tokens have as many arguments as they take, where their bare forms do; and a call, a print and a construction with
 -- fields begins with copies, or with none, and behind them has a line that is always an instruction.
-use Rattle.std.proofs.Common.{◌≡◌, ℕ, zero, suc, ◌+◌, ◌≤◌, ◌<◌, ◌==◌, ◌||◌, ◌&&◌, not, Bool, true, false, cond, List, [], ◌∷◌, ◌++◌, length, Option, Some, slice_get}
+use Rattle.std.proofs.Common.{◌≡◌, ℕ, zero, suc, ◌+◌, ◌≤◌, ◌<◌, ◌||◌, ◌&&◌, not, Bool, true, false, cond, List, [], ◌∷◌, ◌++◌, length, Option, Some, None, is_some, is_none, slice_get}
 use Rattle.std.proofs.Common.{refl, sym, ◌∙◌, ap, subst, arith}
 use Rattle.kk_syntax.specs.declared.program.Form.{Form}
 use Rattle.kk_syntax.specs.declared.program.Form.TheVariants.{Number, Unit as Nothing, ReadByte, PrintText, Unary, Binary, Print, Construct, Call}
@@ -15,8 +15,8 @@ use Rattle.kk_counted.specs.TokenSpending.{SpendsTokens, SpendAllTokens}
 use Rattle.kk_counted.specs.TokenedCodes.{Tokened, TokenedArms}
 use Rattle.rv_isa.specs.AsmCode.{Line}
 use Rattle.rv_isa.specs.declared.asm.Action.{Action}
-use Rattle.rv_isa.specs.Conventions.{gives_one}
-use Rattle.rv_isa.specs.LinePlaces.{is_copy, is_always_some}
+use Rattle.rv_isa.specs.Conventions.{constant_registers, home}
+use Rattle.rv_isa.specs.LinePlaces.{is_copy, is_own}
 use Rattle.rv_isa.specs.declared.asm.Action.TheVariants.{Jump}
 use Rattle.rv_lower.specs.Lines.{acts, copies_to, sets, choice_of, copies, PrintLines}
 use Rattle.rv_lower.specs.Lowered.{Goal}
@@ -95,27 +95,27 @@ mutual
 abbrev pub is_own_act : Tokened → Bool
 is_own_act code = not (is_quiet code) && is_act (bare code)
 
--- whether the action may be no instruction: a copy, or the constant 1
+-- whether the action may be no instruction: a copy, or a constant that a register holds always
 abbrev pub may_be_none : Action → Bool
-may_be_none action = is_copy action || gives_one action
+may_be_none action = is_copy action || is_some (home action)
 
 -- how many of these lines begin with
 abbrev pub lead : List Line → ℕ
 lead [] = 0
 lead (line ∷ lines) = cond (may_be_none line.action) (suc (lead lines)) 0
 
--- behind them is a line that is always an instruction
+-- behind them is a line that is always an instruction, and no test
 pub record Begins (lines : List Line) : Type 0 where
   pub line : Line
   pub is : slice_get lines (lead lines) ≡ Some line
-  pub some : is_always_some line.action ≡ true
+  pub some : is_own line.action (length line.args) ≡ true
 
 -- no part begins with the first of these lines
 abbrev pub StartsBehind : ℕ → Parts → Type 0
 StartsBehind first no_part = Unit {0}
 StartsBehind first (part way before inner more) = first ≤ length before
 
--- a code begins with lines of its own, of which one is always an instruction
+-- a code begins with lines of its own, of which one is always an instruction and no test
 pub record IsOwn (own : List Line) (parts : Parts) : Type 0 where
   pub begins : Begins own
   pub apart : StartsBehind (suc (lead own)) parts
@@ -123,7 +123,7 @@ pub record IsOwn (own : List Line) (parts : Parts) : Type 0 where
 begins_by : (lines these : List Line) → lines ≡ these → Begins these → Begins lines
 begins_by lines these is begins = subst Begins (sym is) begins
 
-begins_at : (line : Line) (more : List Line) → may_be_none line.action ≡ false → is_always_some line.action ≡ true
+begins_at : (line : Line) (more : List Line) → may_be_none line.action ≡ false → is_own line.action (length line.args) ≡ true
     → Begins (line ∷ more)
 begins_at line more no_copy some = record {
   line = line;
@@ -136,13 +136,13 @@ begins_behind_copy : (x base : ℕ) (more : List Line) → Begins more → Begin
 begins_behind_copy x base more begins = record { line = begins.line; is = begins.is; some = begins.some }
 
 -- behind a constant
-sets_by : (one : Bool) (word base : ℕ) (more : List Line) → (word == 1) ≡ one → Begins more → Begins (sets word base ∷ more)
-sets_by true word base more is begins = record {
+sets_by : (held : Option ℕ) (word base : ℕ) (more : List Line) → slice_get constant_registers word ≡ held → Begins more → Begins (sets word base ∷ more)
+sets_by (Some x) word base more is begins = record {
   line = begins.line;
-  is = ap (λ one. slice_get (sets word base ∷ more) (cond one (suc (lead more)) 0)) is ∙ begins.is;
+  is = ap (λ held. slice_get (sets word base ∷ more) (cond (is_some held) (suc (lead more)) 0)) is ∙ begins.is;
   some = begins.some;
 }
-sets_by false word base more is begins = begins_at (sets word base) more is (ap not is)
+sets_by None word base more is begins = begins_at (sets word base) more (ap is_some is) (ap is_none is)
 
 -- a line that is there, in front of others too
 pub get_left : (xs ys : List Line) (k : ℕ) (line : Line) → slice_get xs k ≡ Some line → slice_get (xs ++ ys) k ≡ Some line
@@ -190,7 +190,7 @@ begins_more lines first more is begins =
     })
 
 -- the copies of arguments, and what comes behind them
-copies_begin : (base : ℕ) (arguments : List ℕ) (last : Line) → may_be_none last.action ≡ false → is_always_some last.action ≡ true
+copies_begin : (base : ℕ) (arguments : List ℕ) (last : Line) → may_be_none last.action ≡ false → is_own last.action (length last.args) ≡ true
     → Begins (copies base arguments ++ (last ∷ []))
 copies_begin base [] last no_copy some = begins_at last [] no_copy some
 copies_begin base (x ∷ xs) last no_copy some =
@@ -227,12 +227,13 @@ module _ (setting : Setting) (variables : ℕ) where
   form_begins low x (Print how) (a ∷ b ∷ more) others joined rest own high lines arity act = absurd (omega (arith, arity))
   form_begins low x (Print how) (a ∷ []) others joined rest own high lines arity act =
       begins_by own _ lines.0
-      (begins_behind_copy _ _ _ (sets_by (choice_of how == 1) (choice_of how) (setting.base + 1) _ refl (begins_at _ _ refl refl)))
+      (begins_behind_copy _ _ _ (sets_by (slice_get constant_registers (choice_of how)) (choice_of how) (setting.base + 1) _ refl (begins_at _ _ refl refl)))
   form_begins low x (Construct c) [] others joined rest own high lines arity act = cc act
   form_begins low x (Construct c) (a ∷ more) [] joined rest own high lines arity act =
       begins_by own _ lines.0.6 (begins_at _ _ refl refl)
   form_begins low x (Construct c) (a ∷ more) (other ∷ others) joined rest own high lines arity act =
-      begins_by own _ lines.2 (begins_at _ _ refl refl)
+      begins_by own _ lines.2
+      (sets_by (Some 0) 0 x lines.0 refl (begins_by lines.0 _ lines.1.4 (begins_behind_copy _ _ _ (begins_at _ _ refl refl))))
   form_begins low x (Call f) arguments others joined rest own high lines arity act =
       begins_by own _ lines.0 (copies_begin setting.base arguments _ refl refl)
 

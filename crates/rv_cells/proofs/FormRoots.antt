@@ -11,7 +11,7 @@ use Rattle.kk_counted.specs.Marks.{CellMarks}
 use Rattle.kk_counted.specs.TokenedCodes.{Tokened, TokenedFunction, TokenedProgram}
 use Rattle.kk_syntax.specs.Shapes.{is_among}
 use Rattle.rv_isa.specs.AsmCode.{Lines}
-use Rattle.rv_isa.specs.LinePlaces.{AsmHasLine}
+use Rattle.rv_isa.specs.LinePlaces.{AsmHasOwnLine}
 use Rattle.rv_lower.specs.Lines.{Texts}
 use Rattle.rv_lower.specs.Lowered.{returns}
 use Rattle.rv_cells.specs.FormLines.{HaveOwnLines}
@@ -112,7 +112,7 @@ module _ (layout : Layout) (marks : CellMarks) (code : TokenedProgram) (constant
 
   -- a line that is found is there
   line_is_there : (f : ℕ) (found : Option TokenedFunction) (is : slice_get code.functions f ≡ found) (way : List ℕ) (k : ℕ)
-      → is_among (lines_at (found_root f found is) way) k ≡ true → AsmHasLine functions f k
+      → is_among (lines_at (found_root f found is) way) k ≡ true → AsmHasOwnLine functions f k
   line_is_there f None is way k among = absurd (cc among)
   line_is_there f (Some function) is way k among =
       let root = found_root f (Some function) is in

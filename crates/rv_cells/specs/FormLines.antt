@@ -12,7 +12,7 @@ use Rattle.kk_counted.specs.Keeping.{counted_after}
 use Rattle.cell_heap.specs.Pool.{Pool}
 use Rattle.rv_isa.specs.AsmCode.{Lines}
 use Rattle.rv_isa.specs.AsmMachine.{AsmState, asm_machine, asm_start}
-use Rattle.rv_isa.specs.LinePlaces.{AsmIsAt, AsmHasLine}
+use Rattle.rv_isa.specs.LinePlaces.{AsmIsAt, AsmHasOwnLine}
 use Rattle.rv_isa.specs.Primitives.{go}
 use Rattle.rv_world.specs.World.{World, first_world, primitives}
 use Rattle.rv_cells.specs.Follows.{Owner, Follows}
@@ -22,11 +22,12 @@ use Rattle.rv_cells.specs.TokenedMeaning.{roomy_outside}
 
 -- Each call, print and construction with fields of a program has lines of its own in the code of its function: one line or more,
 -- one for each side of the tests of tokens in front of it, and one for an opening that goes on behind the test of the construction.
--- Each of them is always an instruction: it stands behind the copies of what the form takes. No other such form has one of them.
+-- Each of them is always an instruction, and no test of two words: it stands behind the copies of what the form takes. No other such
+-- form has one of them.
 pub record HaveOwnLines (code : CountedProgram) (functions : List Lines) : Type 0 where
   pub lines : ℕ → List ℕ → List ℕ
   pub some : (f : ℕ) (way : List ℕ) (act : Counted) → IsActAt code f way act → (k : ℕ) × (is_among (lines f way) k ≡ true)
-  pub there : (f : ℕ) (way : List ℕ) (k : ℕ) → is_among (lines f way) k ≡ true → AsmHasLine functions f k
+  pub there : (f : ℕ) (way : List ℕ) (k : ℕ) → is_among (lines f way) k ≡ true → AsmHasOwnLine functions f k
   pub apart : (f : ℕ) (way other : List ℕ) (k : ℕ) → is_among (lines f way) k ≡ true → is_among (lines f other) k ≡ true
       → way ≡ other
 

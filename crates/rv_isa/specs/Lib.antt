@@ -30,3 +30,4 @@ pub mod PlacedMachine
 pub mod Sizes
 pub mod WellFormed
 pub mod LinePlaces
+pub mod Opposites

@@ -1,7 +1,7 @@
 -- Where a machine of assembler code or of placed code is in its program: in a function, behind so many of its lines.
-use Rattle.std.specs.Prelude.{◌≡◌, ℕ, Bool, true, false, ◌&&◌, not, List, ◌∷◌, Some, drop, slice_get}
+use Rattle.std.specs.Prelude.{◌≡◌, ◌==◌, ℕ, Bool, true, false, ◌&&◌, not, List, ◌∷◌, Some, drop, length, slice_get}
 use Rattle.rv_isa.specs.declared.asm.Action.{Action}
-use Rattle.rv_isa.specs.declared.asm.Action.TheVariants.{Compute, Label}
+use Rattle.rv_isa.specs.declared.asm.Action.TheVariants.{Compute, Label, Branch}
 use Rattle.rv_isa.specs.declared.asm.Operation.TheVariants.{Mv}
 use Rattle.rv_isa.specs.AsmCode.{Line, Lines}
 use Rattle.rv_isa.specs.Conventions.{gives_one}
@@ -48,6 +48,20 @@ is_copy _ = false
 abbrev pub is_always_some : Action → Bool
 is_always_some action = is_no_label action && (not (is_copy action) && not (gives_one action))
 
+-- a branch, but one that compares a single word with zero
+abbrev pub is_test : Action → ℕ → Bool
+is_test (Branch condition l) count = not (count == 1)
+is_test _ count = false
+
+-- Where the test of a loop stands again at the loop's end, no turn but the first comes to the test at its head. So a line that each
+-- turn comes to is an instruction always, with so many arguments, and no test.
+abbrev pub is_own : Action → ℕ → Bool
+is_own action count = not (is_test action count) && is_always_some action
+
+abbrev pub is_own_line : PlacedLine → Bool
+is_own_line (does alive action args into) = is_own action (length args)
+is_own_line (moves alive value way) = false
+
 abbrev pub is_instruction : PlacedLine → Bool
 is_instruction (does alive action args into) = is_always_some action
 is_instruction (moves alive value way) = true
@@ -62,3 +76,14 @@ abbrev pub PlacedHasLine : List PlacedLines → ℕ → ℕ → Type 0
 PlacedHasLine functions f k =
     (lines : PlacedLines) × ((slice_get functions f ≡ Some lines)
     × ((line : PlacedLine) × ((slice_get lines.code k ≡ Some line) × (is_instruction line ≡ true))))
+
+-- or is such an action and no test
+abbrev pub AsmHasOwnLine : List Lines → ℕ → ℕ → Type 0
+AsmHasOwnLine functions f k =
+    (lines : Lines) × ((slice_get functions f ≡ Some lines)
+    × ((line : Line) × ((slice_get lines.code k ≡ Some line) × (is_own line.action (length line.args) ≡ true))))
+
+abbrev pub PlacedHasOwnLine : List PlacedLines → ℕ → ℕ → Type 0
+PlacedHasOwnLine functions f k =
+    (lines : PlacedLines) × ((slice_get functions f ≡ Some lines)
+    × ((line : PlacedLine) × ((slice_get lines.code k ≡ Some line) × (is_own_line line ≡ true))))

@@ -1,5 +1,8 @@
 // Assembler code over values: a function has as many values as it needs, and none has a place yet.
 
+ghost use Rattle.std.specs.Prelude.{◌≡◌};
+ghost use Rattle.rv_isa.specs.Opposites.{opposite};
+
 use crate::routine::Routine;
 use crate::{Immediate, ShiftAmount};
 use kk_base::Text;
@@ -69,6 +72,22 @@ pub enum Condition {
     LessUnsigned,
     /// `bgeu`: greater or equal, both unsigned.
     GreaterEqualUnsigned,
+}
+
+impl Condition {
+    /// The condition that holds exactly where this one does not.
+    pub fn opposite(self) -> Condition
+        ensures { result ≡ opposite self }
+    {
+        match self {
+            Condition::Equal => Condition::NotEqual,
+            Condition::NotEqual => Condition::Equal,
+            Condition::Less => Condition::GreaterEqual,
+            Condition::GreaterEqual => Condition::Less,
+            Condition::LessUnsigned => Condition::GreaterEqualUnsigned,
+            Condition::GreaterEqualUnsigned => Condition::LessUnsigned,
+        }
+    }
 }
 
 /// An operation on words: an instruction of RV32IM that sets a register, loads or stores; or a pseudo-instruction of the

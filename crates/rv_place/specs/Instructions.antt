@@ -18,6 +18,7 @@ use Rattle.rv_isa.specs.declared.asm.ShiftOperation.{ShiftOperation}
 use Rattle.rv_isa.specs.declared.asm.ShiftOperation.TheVariants.{Slli, Srli, Srai}
 use Rattle.rv_isa.specs.declared.immediate.ShiftAmount.{ShiftAmount}
 use Rattle.rv_isa.specs.Arithmetic.{sum_word}
+use Rattle.rv_isa.specs.Opposites.{opposite}
 use Rattle.rv_isa.specs.Standing.{Code, Has}
 use Rattle.rv_world.specs.Operations.{Constants, address_in}
 use Rattle.rv_place.specs.declared.constant.WordForm.{WordForm}
@@ -66,15 +67,6 @@ branch_instruction Less a b offset = Instr.Blt a b offset
 branch_instruction GreaterEqual a b offset = Instr.Bge a b offset
 branch_instruction LessUnsigned a b offset = Instr.Bltu a b offset
 branch_instruction GreaterEqualUnsigned a b offset = Instr.Bgeu a b offset
-
--- the condition that holds exactly where another does not
-abbrev pub opposite : Condition → Condition
-opposite Equal = NotEqual
-opposite NotEqual = Equal
-opposite Less = GreaterEqual
-opposite GreaterEqual = Less
-opposite LessUnsigned = GreaterEqualUnsigned
-opposite GreaterEqualUnsigned = LessUnsigned
 
 -- an offset of 0
 abbrev pub Zero : Immediate → Type 0

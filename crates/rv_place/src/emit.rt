@@ -8,7 +8,7 @@ ghost use Rattle.rv_isa.specs.declared.instr.Instr.TheVariants.{Addi};
 ghost use Rattle.rv_place.specs.declared.reach.Reach.TheVariants.{Near, Far, Wide};
 ghost use Rattle.rv_place.specs.Addresses.{slot_offset, slots_of_place, branch_words, jump_words, entry_words, frame_bias, greatest_frame, words_of_shift, words_to_frame};
 ghost use Rattle.rv_place.specs.Registers.{zero_register, ra, sp};
-ghost use Rattle.rv_place.specs.Instructions.{LoadsWord, SetsWord, words_of_constant, words_of_jump, words_of_branch, JumpsBy, JumpsTo, CallsTo, BranchesOn, branch_instruction, opposite};
+ghost use Rattle.rv_place.specs.Instructions.{LoadsWord, SetsWord, words_of_constant, words_of_jump, words_of_branch, JumpsBy, JumpsTo, CallsTo, BranchesOn, branch_instruction};
 ghost use Rattle.rv_place.specs.Texts.{greatest_address};
 ghost use Rattle.rv_place.specs.Lines.{IsFromPointer, ShiftsStack, FindsFrame, frame_register};
 ghost use Rattle.rv_place.specs.Emitted.{Grew, AreNear, JumpReaches, BranchReaches, TakesFrame, ReturnBy, EntryBy, MoveBy};
@@ -187,20 +187,6 @@ fn branch_instruction(
     }
 }
 
-/// The condition that holds exactly where another does not.
-fn opposite(condition: Condition) -> Condition
-    ensures { result ≡ opposite condition }
-{
-    match condition {
-        Condition::Equal => Condition::NotEqual,
-        Condition::NotEqual => Condition::Equal,
-        Condition::Less => Condition::GreaterEqual,
-        Condition::GreaterEqual => Condition::Less,
-        Condition::LessUnsigned => Condition::GreaterEqualUnsigned,
-        Condition::GreaterEqualUnsigned => Condition::LessUnsigned,
-    }
-}
-
 /// Over a jump: the distance of a branch that stands right before one.
 fn over_jump(jumps: Reach) -> BranchOffset
     ensures { result.word ≡ 4 + 4 * words_of_jump jumps }
@@ -240,7 +226,7 @@ fn emit_far_branch(
     let over = over_jump(jumps);
     emit(
         code,
-        branch_instruction(opposite(condition), left, right, over),
+        branch_instruction(condition.opposite(), left, right, over),
     )?;
     emit_jump(code, at + 4, jumps, target)?;
     Ok(())

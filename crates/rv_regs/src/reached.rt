@@ -7,7 +7,7 @@ ghost use Rattle.rv_isa.specs.PlacedCode.{PlacedLines, placed_functions};
 ghost use Rattle.rv_isa.specs.Primitives.{go};
 ghost use Rattle.rv_isa.specs.AsmMachine.{AsmState, asm_machine, asm_start};
 ghost use Rattle.rv_isa.specs.PlacedMachine.{PlacedState, placed_machine, placed_start};
-ghost use Rattle.rv_isa.specs.LinePlaces.{AsmIsAt, PlacedIsAt, AsmHasLine, PlacedHasLine};
+ghost use Rattle.rv_isa.specs.LinePlaces.{AsmIsAt, PlacedIsAt, AsmHasLine, PlacedHasLine, AsmHasOwnLine, PlacedHasOwnLine};
 ghost use Rattle.rv_regs.specs.Valid.{IsValid};
 ghost use Rattle.rv_regs.specs.Relation.{NeverStuck};
 ghost use Rattle.rv_regs.specs.LinesReached.{line_of};
@@ -16,14 +16,17 @@ use crate::keeps::Execution;
 
 /// A valid placed form comes to each line of its assembler form.
 ///
-/// Each statement that is always an instruction has a line of its own in the placed form, which is one too. Where the machine of the
-/// assembler form comes to the statement, that of the placed form comes to its line, with the same events before, and their
-/// primitives share the same. For each state that goes on it comes to one that has the same events before and shares the same.
-/// It is a law, and does nothing.
+/// Each statement that is always an instruction has a line of its own in the placed form, which is one too, and is no test where
+/// the statement is none. Where the machine of the assembler form comes to the statement, that of the placed form comes to its line,
+/// with the same events before, and their primitives share the same. For each state that goes on it comes to one that has the same
+/// events before and shares the same. It is a law, and does nothing.
 pub fn placed_forms_come_to_each_line<M: Execution>()
     ensures has { (asm : Asm) (placed : Placed) → IsValid asm placed
         → (f k : ℕ) → AsmHasLine (asm_functions asm) f k
         → PlacedHasLine (placed_functions placed) f (line_of (placed_functions placed) f k) }
+    ensures own { (asm : Asm) (placed : Placed) → IsValid asm placed
+        → (f k : ℕ) → AsmHasOwnLine (asm_functions asm) f k
+        → PlacedHasOwnLine (placed_functions placed) f (line_of (placed_functions placed) f k) }
     ensures apart { (asm : Asm) (placed : Placed) → IsValid asm placed
         → (f k j : ℕ) → AsmHasLine (asm_functions asm) f k → AsmHasLine (asm_functions asm) f j
         → line_of (placed_functions placed) f k ≡ line_of (placed_functions placed) f j → k ≡ j }

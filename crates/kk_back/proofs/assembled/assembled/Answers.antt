@@ -7,44 +7,79 @@ use Rattle.elf_image.specs.Program.{greatest_text, memory_start, program_parts}
 use Rattle.cell_runtime.specs.Texts.{IsText}
 use Rattle.rv_place.specs.Addresses.{frame_size}
 use Rattle.kk_back.specs.Assembled.{IsAsmImage}
-use Rattle.kk_back.proofs.Assembling.{makes_of, placeable, fits, image_made, same_some}
-use Rattle.kk_back.proofs.Placeable.{slots_most, frame_most}
+use Rattle.kk_back.proofs.Assembling.{makes_of, placeable, frames_small, fits, image_made, same_some}
+use Rattle.kk_back.proofs.Looping.{slots_below}
+use Rattle.kk_back.proofs.Placeable.{slots_most}
 use Rattle.kk_back.proofs.assembled.assembled.Goals as goal
 
 pub assign-requires : goal.assign-requires
 assign-requires c = record { formed = c.requires.placeable.formed }
 
 pub frame_bytes-requires : goal.frame_bytes-requires
-frame_bytes-requires c = let few = slots_most (placed_functions c.in_ok-program.program) c.in_ok-program.ensures.shape.slots in omega (arith, few)
+frame_bytes-requires c =
+    let few = slots_most (placed_functions c.in_ok-program.program)
+    (slots_below 0 (placed_functions c.in_ok-placed.placed) (placed_functions c.in_ok-program.program)
+    c.in_ok-program.ensures.functions c.in_ok-placed.ensures.shape.slots) in
+    omega (arith, few)
 
 pub text-requires-clause-frame : goal.text-requires-clause-frame
 text-requires-clause-frame c =
-    let small : frame_size (placed_functions c.in_ok-program.program) ≤ wide_frame = frame_most (placed_functions c.in_ok-program.program) c.in_ok-program.ensures.shape.slots in
+    let small : frame_size (placed_functions c.in_ok-program.program) ≤ wide_frame
+    = frames_small c.args.asm.now c.in_ok-placed.placed c.in_ok-program.program c.in_ok-placed.ensures.shape
+    (record {
+      rotated = c.in_ok-program.ensures.functions;
+      small = c.in_ok-program.ensures.small;
+      constants = c.in_ok-program.ensures.constants;
+    }) in
     let is : c.frame_bytes.result ≡ frame_size (placed_functions c.in_ok-program.program) = c.frame_bytes.ensures in
     omega (arith, small, is)
 
 pub place-requires : goal.place-requires
 place-requires c = record {
   placeable =
-      placeable c.args.cells c.args.depth c.args.asm.now c.in_ok-program.program c.in_ok-runtime.runtime c.requires.placeable
-      c.in_ok-program.ensures.valid c.in_ok-program.ensures.shape
+      placeable c.args.cells c.args.depth c.args.asm.now c.in_ok-placed.placed c.in_ok-program.program c.in_ok-runtime.runtime
+      c.requires.placeable c.in_ok-placed.ensures.valid c.in_ok-placed.ensures.shape
+      (record {
+        rotated = c.in_ok-program.ensures.functions;
+        small = c.in_ok-program.ensures.small;
+        constants = c.in_ok-program.ensures.constants;
+      })
       (subst (λ (frame : ℕ). IsText c.args.cells c.args.depth frame c.in_ok-runtime.runtime) c.frame_bytes.ensures c.in_ok-runtime.ensures) c.requires.sizes;
 }
 
 pub program-requires-clause-text_fits : goal.program-requires-clause-text_fits
 program-requires-clause-text_fits c =
-    subst (λ (text : List ℕ). length text ≤ greatest_text) (sym c.from_vec.ensures) (fits (makes_of {frame = c.frame_bytes.result} c.requires.sizes c.requires.placeable c.in_ok-program.ensures.valid c.in_ok-program.ensures.shape c.frame_bytes.ensures c.in_ok-runtime.ensures c.in_ok-words.ensures c.in_ok-bytes.ensures)).text_fits
+    subst (λ (text : List ℕ). length text ≤ greatest_text) (sym c.from_vec.ensures)
+    (fits (makes_of {frame = c.frame_bytes.result} c.requires.sizes c.requires.placeable c.in_ok-placed.ensures.valid
+    c.in_ok-placed.ensures.shape
+    (record {
+      rotated = c.in_ok-program.ensures.functions;
+      small = c.in_ok-program.ensures.small;
+      constants = c.in_ok-program.ensures.constants;
+    }) c.frame_bytes.ensures c.in_ok-runtime.ensures c.in_ok-words.ensures c.in_ok-bytes.ensures)).text_fits
 
 pub program-requires-clause-memory_fits : goal.program-requires-clause-memory_fits
 program-requires-clause-memory_fits c =
     subst (λ (text : List ℕ). memory_start (length text) + c.in_ok-runtime.runtime.memory.size ≤ greatest_end) (sym c.from_vec.ensures)
-    (fits (makes_of {frame = c.frame_bytes.result} c.requires.sizes c.requires.placeable c.in_ok-program.ensures.valid c.in_ok-program.ensures.shape c.frame_bytes.ensures c.in_ok-runtime.ensures c.in_ok-words.ensures c.in_ok-bytes.ensures)).memory_fits
+    (fits (makes_of {frame = c.frame_bytes.result} c.requires.sizes c.requires.placeable c.in_ok-placed.ensures.valid
+    c.in_ok-placed.ensures.shape
+    (record {
+      rotated = c.in_ok-program.ensures.functions;
+      small = c.in_ok-program.ensures.small;
+      constants = c.in_ok-program.ensures.constants;
+    }) c.frame_bytes.ensures c.in_ok-runtime.ensures c.in_ok-words.ensures c.in_ok-bytes.ensures)).memory_fits
 
 pub returns : goal.returns
 returns c main there =
     subst (λ (lines : Lines). IsAsmImage (asm_functions c.args.asm.now) (asm_constants c.args.asm.now) lines c.args.cells c.args.depth c.in_ok-image.image.entry c.in_ok-image.image.parts)
     (same_some c.requires.placeable.main main (sym c.requires.placeable.main_is ∙ there))
-    (image_made {frame = c.frame_bytes.result} {asm = c.args.asm.now} c.requires.sizes c.requires.placeable c.in_ok-program.ensures.valid c.in_ok-program.ensures.shape c.frame_bytes.ensures c.in_ok-runtime.ensures c.in_ok-words.ensures c.in_ok-bytes.ensures
+    (image_made {frame = c.frame_bytes.result} {asm = c.args.asm.now} c.requires.sizes c.requires.placeable
+    c.in_ok-placed.ensures.valid c.in_ok-placed.ensures.shape
+    (record {
+      rotated = c.in_ok-program.ensures.functions;
+      small = c.in_ok-program.ensures.small;
+      constants = c.in_ok-program.ensures.constants;
+    }) c.frame_bytes.ensures c.in_ok-runtime.ensures c.in_ok-words.ensures c.in_ok-bytes.ensures
     c.placed_text_agrees.ensures c.placed_text_ends_with_its_cells.ensures c.placed_text_touches_no_free_cell.ensures
     (record {
       comes = c.placed_text_comes_to_its_lines.ensures.comes;

@@ -1,0 +1,13 @@
+pub mod Knowing
+pub mod Acting
+pub mod Places
+pub mod Lining
+pub mod Stepping
+pub mod Simulating
+pub mod Starting
+pub mod Heading
+pub mod Growing
+pub mod LinesReached
+pub mod Passing
+pub mod Reaching
+pub mod Arriving

@@ -1,0 +1,10 @@
+use Rattle.std.proofs.Common.{◌≡◌, None, map, drop}
+use Rattle.rv_isa.specs.Frames.{found}
+use Rattle.rv_isa.specs.PlacedCode.{placed_line_of}
+use Rattle.rv_isa.specs.PlacedMachine.{is_label_line}
+use Rattle.rv_loops.proofs.head.has_label.Given as goal
+
+abbrev pub invariant-loop-item : goal.invariant-loop-item
+invariant-loop-item l =
+    found (is_label_line l.label) (map placed_line_of (drop l.item-index l.code)) ≡ None
+    → found (is_label_line l.label) (map placed_line_of l.code) ≡ None

@@ -1,0 +1,5 @@
+pub mod Rotation
+pub mod Relation
+pub mod Heads
+pub mod Sizes
+pub mod LinesReached

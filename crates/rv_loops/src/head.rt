@@ -1,0 +1,154 @@
+// The head of a loop: its lines up to the test.
+
+ghost use Rattle.std.specs.Prelude.{◌≡◌, [], false, None, IfOk, IfSome, map};
+ghost use Rattle.rv_isa.specs.declared.asm.Action.TheVariants.{Branch};
+ghost use Rattle.rv_isa.specs.Frames.{found};
+ghost use Rattle.rv_isa.specs.PlacedCode.{does, placed_line_of};
+ghost use Rattle.rv_isa.specs.PlacedMachine.{is_label_line};
+ghost use Rattle.rv_loops.specs.Rotation.{is_straight_action, is_straight, calls, is_call_of, test, goes_on};
+ghost use Rattle.rv_loops.specs.Heads.{loop_of, Begins};
+
+use crate::copying::{copy_of, copy_of_listed, copy_of_operands};
+use kk_base::NoMemory;
+use rv_isa::{Action, Condition, Item, Listed, Operand, Operation};
+use std::alloc::Global;
+
+/// The label behind the test. Code that has it already is not rotated.
+pub const AGAIN: u32 = u32::MAX;
+
+/// The most lines before a test: the test is written again with them.
+pub const MOST_BEFORE: usize = 3;
+
+/// The head of a loop.
+#[derive(Debug, Drop)]
+pub struct Head {
+    /// The number of the function.
+    pub function: usize,
+    /// The lines before the test.
+    pub before: Vec<Item>,
+    /// What the test lists as alive.
+    pub alive: Vec<Listed>,
+    pub condition: Condition,
+    /// The label to which the test leads.
+    pub exit: u32,
+    pub args: Vec<Operand>,
+}
+
+/// A copy may be no instruction, and neither may 1; a label is none.
+fn is_straight_action(action: Action) -> bool
+    ensures { result ≡ is_straight_action action }
+{
+    matches!(
+        action,
+        Action::Compute(Operation::Mv | Operation::Li(1)) | Action::Label(_)
+    )
+}
+
+/// Whether a line goes straight on, and is a move or may be no instruction.
+fn is_straight(item: &Item) -> bool
+    ensures { result ≡ is_straight (placed_line_of item.now) }
+{
+    match item {
+        Item::Does { action, .. } => is_straight_action(*action),
+        Item::Moves { .. } => true,
+    }
+}
+
+fn calls(function: usize, action: Action) -> bool
+    ensures { result ≡ calls function action }
+{
+    match action {
+        Action::TailCall(callee) => callee as usize == function,
+        _ => false,
+    }
+}
+
+/// Whether a line is a tail call of a function.
+pub fn is_call_of(function: usize, item: &Item) -> bool
+    ensures { result ≡ is_call_of function (placed_line_of item.now) }
+{
+    match item {
+        Item::Does { action, .. } => calls(function, *action),
+        Item::Moves { .. } => false,
+    }
+}
+
+/// Whether code may have a label.
+pub fn has_label(label: u32, code: &[Item]) -> bool
+    ensures { result ≡ false → found (is_label_line label) (map placed_line_of code.now) ≡ None }
+{
+    for item in code {
+        if let Item::Does {
+            action: Action::Label(other),
+            ..
+        } = item
+        {
+            if *other == label {
+                return true;
+            }
+        }
+    }
+    false
+}
+
+impl Head {
+    /// The head of a function's code, if that has one. A branch on one word is no test of a loop: so the tests of tokens stay.
+    pub fn of(alloc: Global, function: usize, code: &[Item]) -> Result<Option<Head>, NoMemory>
+        ensures { IfOk result (λ found. IfSome found (λ head. Begins head function (map placed_line_of code.now))) }
+    {
+        let mut before = Vec::new(alloc);
+        for item in code {
+            if let Item::Does {
+                alive,
+                action: Action::Branch(condition, exit),
+                args,
+                into: None,
+            } = item
+            {
+                if args.len() == 1 {
+                    return Ok(None);
+                }
+                return Ok(Some(Head {
+                    function,
+                    before,
+                    alive: copy_of_listed(alloc, alive)?,
+                    condition: *condition,
+                    exit: *exit,
+                    args: copy_of_operands(alloc, args)?,
+                }));
+            }
+            if !is_straight(item) || before.len() == MOST_BEFORE {
+                return Ok(None);
+            }
+            before.push(copy_of(alloc, item)?)?;
+        }
+        Ok(None)
+    }
+
+    /// A branch with the arguments of the test.
+    fn branch(&self, alloc: Global, condition: Condition, label: u32) -> Result<Item, NoMemory>
+        ensures { IfOk result (λ item. placed_line_of item ≡ does self.now.alive.items
+            (Branch condition label) self.now.args.items None) }
+    {
+        Ok(Item::Does {
+            alive: copy_of_listed(alloc, &self.alive)?,
+            action: Action::Branch(condition, label),
+            args: copy_of_operands(alloc, &self.args)?,
+            into: None,
+        })
+    }
+
+    /// The test.
+    pub fn test(&self, alloc: Global) -> Result<Item, NoMemory>
+        ensures { IfOk result (λ item. placed_line_of item ≡ test (loop_of self.now [])) }
+    {
+        self.branch(alloc, self.condition, self.exit)
+    }
+
+    /// The test turned round.
+    pub fn turned_test(&self, alloc: Global) -> Result<Item, NoMemory>
+        ensures { IfOk result (λ item. placed_line_of item ≡ goes_on (loop_of self.now [])) }
+    {
+        self.branch(alloc, self.condition.opposite(), AGAIN)
+    }
+}
