@@ -65,7 +65,8 @@ module _ (P : PlacedLine → Type 0) where
 
 -- ---- slots
 
-slots_kept : (f : ℕ) (old new : List PlacedLine) → IsRotated f old new → AllSlotsBelow most_values old → AllSlotsBelow most_values new
+slots_kept : (f : ℕ) (old new : List PlacedLine) → IsRotated f old new → AllSlotsBelow most_values old
+    → AllSlotsBelow most_values new
 slots_kept f old new is all =
     rotated_has (HasSlotsBelow most_values) f old new is (λ has. has)
     (All-nil (λ (l : Listed). IsBelow most_values l.place), (All-nil (λ arg. IsBelow most_values arg.place), tt))

@@ -129,7 +129,8 @@ module _ {H E W : Type 0} (m : Primitives H E W) (alone : ComputesAlone m) (dept
       (λ n. subst (λ (turn : PlacedTurn H W). state (placed_machine m depth q) n turn ≢ stuck) next (never (suc n))) in
       record {
         steps = suc later.steps;
-        silent = ap (λ (events : List E). events ++ trace (placed_machine m depth q) later.steps (placed_next m depth q (go t))) quiet
+        silent = ap (λ (events : List E). events ++ trace (placed_machine m depth q) later.steps (placed_next m depth q
+            (go t))) quiet
             ∙ ap (trace (placed_machine m depth q) later.steps) next ∙ later.silent;
         there = record {
           frame = later.there.frame;

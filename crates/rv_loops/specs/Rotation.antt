@@ -1,7 +1,8 @@
 -- Loop rotation. A function that calls itself last is a loop, and where it begins with a test, each turn takes a jump to the
 -- test and the test. In the rotated form the test stands again where the function calls itself, turned round: where the loop
 -- goes on it leads right behind the first one, and else a jump leads to where that one leads.
-use Rattle.std.specs.Prelude.{◌≡◌, ◌≢◌, ◌==◌, ◌≤◌, ◌⊎◌, ℕ, suc, List, [], ◌∷◌, ◌++◌, None, Some, Bool, true, false, cond, not, option_map}
+use Rattle.std.specs.Prelude.{◌≡◌, ◌≢◌, ◌==◌, ◌≤◌, ◌⊎◌, ℕ, suc, List, [], ◌∷◌, ◌++◌, None}
+use Rattle.std.specs.Prelude.{Some, Bool, true, false, cond, not, option_map}
 use Rattle.std.specs.Prelude.{length}
 use Rattle.std.specs.List.{AllByRecursion}
 use Rattle.rv_isa.specs.declared.asm.Action.{Action}
