@@ -10,7 +10,7 @@ use Rattle.rv_isa.specs.declared.placed.Place.TheVariants.{Register as register,
 use Rattle.rv_isa.specs.declared.placed.Placed.{Placed}
 use Rattle.rv_isa.specs.AsmCode.{Line, Lines, asm_functions}
 use Rattle.rv_isa.specs.AsmMachine.{is_label}
-use Rattle.rv_isa.specs.Conventions.{is_in, one_register}
+use Rattle.rv_isa.specs.Conventions.{is_of_constant}
 use Rattle.rv_isa.specs.Frames.{found}
 use Rattle.rv_isa.specs.PlacedCode.{PlacedLine, does, moves, PlacedLines, placed_functions, to_of}
 use Rattle.rv_isa.specs.PlacedMachine.{is_label_line}
@@ -30,10 +30,10 @@ gives_handed_out : (action : Action) (into : Option Operand) → WriteIsHandedOu
 gives_handed_out action None is = tt
 gives_handed_out action (Some into) is = (handed_out into.place is.0, is.1)
 
--- a move writes another register than the one that holds 1
-not_one : (there : Bool) → not there ≡ true → there ≡ false
-not_one true is = cc is
-not_one false is = refl
+-- a move writes another register than those that hold a word always
+not_constant : (there : Bool) → not there ≡ true → there ≡ false
+not_constant true is = cc is
+not_constant false is = refl
 
 -- ---- labels
 
@@ -81,7 +81,7 @@ code_is_plain whole (does alive action args into ∷ code) fit formed has =
     )
 code_is_plain whole (moves alive value way ∷ code) fit formed has =
     let written = fit.0.write_handed_out in
-    ((handed_out (to_of way) written.0, not_one (is_in one_register (to_of way)) written.1), code_is_plain whole code fit.1 formed has)
+    ((handed_out (to_of way) written.0, not_constant (is_of_constant (to_of way)) written.1), code_is_plain whole code fit.1 formed has)
 
 function_is_plain : (function : Lines) (placed : PlacedLines) → IsPlacing function placed → IsWellFormed function → ArePlain placed.code placed.code
 function_is_plain function placed placing formed = code_is_plain placed.code placed.code placing.fit (subst AreLinesFormed (sym placing.code) formed.lines) (has_all placed.code)

@@ -1,6 +1,6 @@
--- The assembler's machine goes past the copies, and constants 1, that lines begin with: it stays in its function, and tells nothing.
+-- The assembler's machine goes past the copies, and the constants that registers hold always, that lines begin with: it stays in its function, and tells nothing.
 use Rattle.std.proofs.Common.{◌≡◌, ◌≢◌, ℕ, zero, suc, ◌≤◌, Bool, true, false, ◌⊎◌, inl, inr, cond, List, [], ◌∷◌, ◌++◌, drop, length}
-use Rattle.std.proofs.Common.{Option, Some, None, map}
+use Rattle.std.proofs.Common.{Option, Some, None, is_some, map}
 use Rattle.std.proofs.Common.{refl, sym, ◌∙◌, ap, subst, arith}
 use Rattle.std.proofs.Math.Seq.{drop-length}
 use Rattle.kk_base.specs.Machines.{Machine, state, trace}
@@ -11,13 +11,13 @@ use Rattle.rv_isa.specs.declared.asm.Operation.TheVariants.{Mv, Li}
 use Rattle.rv_isa.specs.AsmCode.{Line, Lines}
 use Rattle.rv_isa.specs.AsmMachine.{AsmTurn, asm_goes, asm_acts, asm_line, asm_next, asm_told, asm_machine}
 use Rattle.rv_isa.specs.Frames.{Frame, all_of}
-use Rattle.rv_isa.specs.Conventions.{gives_one}
+use Rattle.rv_isa.specs.Conventions.{home}
 use Rattle.rv_isa.specs.LinePlaces.{is_copy}
 use Rattle.rv_isa.specs.declared.asm.Action.{Action}
 use Rattle.std.proofs.lemmas.Bool.{or_cases}
 use Rattle.rv_isa.specs.Primitives.{Turn, stuck, or_stuck}
 use Rattle.rv_isa.specs.Processor.{Ending}
-use Rattle.rv_isa.proofs.Copies.{copy_is, one_is}
+use Rattle.rv_isa.proofs.Copies.{copy_is, home_is}
 use Rattle.rv_world.specs.Operations.{Constants}
 use Rattle.rv_world.specs.World.{World, primitives}
 use Rattle.rv_cells.proofs.FormArities.{may_be_none, lead}
@@ -27,6 +27,10 @@ some_there : {A S H W : Type 0} (o : Option A) (next : A → Turn S H W) → or_
     → (a : A) × (or_stuck o next ≡ next a)
 some_there None next good = absurd (good refl)
 some_there (Some a) next good = (a, refl)
+
+some_value : (o : Option ℕ) → is_some o ≡ true → (x : ℕ) × (o ≡ Some x)
+some_value None is = cc is
+some_value (Some x) is = (x, refl)
 
 -- lines that begin with so many copies begin with one, and the others with one less
 lead_copy : (copy : Bool) (n rest : ℕ) → suc n ≤ cond copy (suc rest) 0 → (copy ≡ true) × (n ≤ rest)
@@ -60,16 +64,16 @@ module _ (constants : Constants) (pool : Pool) (depth : ℕ) (functions : List L
   copied f fs world args into rest (word ∷ []) good = record { frame = _; is = refl; function = refl; whole = refl; code = refl }
   copied f fs world args into rest (word ∷ other ∷ words) good = absurd (good refl)
 
-  -- behind the constant 1
-  constant : (f : Frame Line) (fs : List (Frame Line)) (world : World) (args : List ℕ) (into : Option ℕ) (rest : List Line) (words : List ℕ)
-      → asm_acts (primitives constants pool) depth functions (record f { code = rest }) fs world (Compute (Li 1)) args into words ≢ stuck
+  -- behind a constant
+  constant : (f : Frame Line) (fs : List (Frame Line)) (world : World) (word : ℕ) (args : List ℕ) (into : Option ℕ) (rest : List Line) (words : List ℕ)
+      → asm_acts (primitives constants pool) depth functions (record f { code = rest }) fs world (Compute (Li word)) args into words ≢ stuck
       → GoesOn f rest fs world
-      (asm_acts (primitives constants pool) depth functions (record f { code = rest }) fs world (Compute (Li 1)) args into words)
-  constant f fs world args into rest [] good = record { frame = _; is = refl; function = refl; whole = refl; code = refl }
-  constant f fs world args into rest (word ∷ words) good = absurd (good refl)
+      (asm_acts (primitives constants pool) depth functions (record f { code = rest }) fs world (Compute (Li word)) args into words)
+  constant f fs world word args into rest [] good = record { frame = _; is = refl; function = refl; whole = refl; code = refl }
+  constant f fs world word args into rest (other ∷ words) good = absurd (good refl)
 
   passed_by : (f : Frame Line) (fs : List (Frame Line)) (world : World) (args : List ℕ) (into : Option ℕ) (rest : List Line) (words : List ℕ)
-      (action : Action) → (is_copy action ≡ true) ⊎ (gives_one action ≡ true)
+      (action : Action) → (is_copy action ≡ true) ⊎ (is_some (home action) ≡ true)
       → asm_acts (primitives constants pool) depth functions (record f { code = rest }) fs world action args into words ≢ stuck
       → GoesOn f rest fs world (asm_acts (primitives constants pool) depth functions (record f { code = rest }) fs world action args into words)
   passed_by f fs world args into rest words action (inl copy) good =
@@ -77,11 +81,13 @@ module _ (constants : Constants) (pool : Pool) (depth : ℕ) (functions : List L
       = λ a. asm_acts (primitives constants pool) depth functions (record f { code = rest }) fs world a args into words in
       subst (λ a. GoesOn f rest fs world (turn a)) (sym (copy_is action copy))
       (copied f fs world args into rest words (subst (λ a. turn a ≢ stuck) (copy_is action copy) good))
-  passed_by f fs world args into rest words action (inr one) good =
+  passed_by f fs world args into rest words action (inr some) good =
+      let held = some_value (home action) some in
+      let gives = home_is action held.0 held.1 in
       let turn : Action → AsmTurn World Ending
       = λ a. asm_acts (primitives constants pool) depth functions (record f { code = rest }) fs world a args into words in
-      subst (λ a. GoesOn f rest fs world (turn a)) (sym (one_is action one))
-      (constant f fs world args into rest words (subst (λ a. turn a ≢ stuck) (one_is action one) good))
+      subst (λ a. GoesOn f rest fs world (turn a)) (sym gives.1)
+      (constant f fs world gives.0 args into rest words (subst (λ a. turn a ≢ stuck) gives.1 good))
 
   by_line : (f : Frame Line) (fs : List (Frame Line)) (world : World) (line : Line) (rest : List Line) → may_be_none line.action ≡ true
       → asm_line (primitives constants pool) depth functions f fs world (line ∷ rest) ≢ stuck
@@ -91,7 +97,7 @@ module _ (constants : Constants) (pool : Pool) (depth : ℕ) (functions : List L
       (record f { code = rest }) fs world line.action line.args line.into words in
       let there = some_there (all_of (map f.cells line.args)) acts good in
       subst (GoesOn f rest fs world) (sym there.1)
-      (passed_by f fs world line.args line.into rest there.0 line.action (or_cases (is_copy line.action) (gives_one line.action) copy)
+      (passed_by f fs world line.args line.into rest there.0 line.action (or_cases (is_copy line.action) (is_some (home line.action)) copy)
       (subst (λ turn. turn ≢ stuck) there.1 good))
 
   -- Behind copies: the machine has told nothing.

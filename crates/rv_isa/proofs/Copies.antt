@@ -1,11 +1,10 @@
--- A copy is the one action that copies, and 1 that which gives 1.
-use Rattle.std.proofs.Common.{◌≡◌, true, refl, ap}
-use Rattle.std.proofs.lemmas.Bool.{eqb-true}
+-- A copy is the one action that copies, and a constant that which gives a word that a register holds always.
+use Rattle.std.proofs.Common.{◌≡◌, ℕ, Some, true, refl, ap, slice_get}
 use Rattle.rv_isa.specs.declared.asm.Action.{Action}
 use Rattle.rv_isa.specs.declared.asm.Action.TheVariants.{Compute, Label, Jump, Branch, Call, TailCall, Return, Routine, Hold, Unhold}
 use Rattle.rv_isa.specs.declared.asm.Operation.{Operation}
 use Rattle.rv_isa.specs.declared.asm.Operation.TheVariants as OfOperation
-use Rattle.rv_isa.specs.Conventions.{gives_one}
+use Rattle.rv_isa.specs.Conventions.{constant_registers, home}
 use Rattle.rv_isa.specs.LinePlaces.{is_copy}
 
 mv_is : (operation : Operation) → is_copy (Compute operation) ≡ true → operation ≡ OfOperation.Mv
@@ -32,26 +31,30 @@ copy_is (Routine routine) is = cc is
 copy_is Hold is = cc is
 copy_is Unhold is = cc is
 
-li_is : (operation : Operation) → gives_one (Compute operation) ≡ true → operation ≡ OfOperation.Li 1
-li_is (OfOperation.Register operation) is = cc is
-li_is (OfOperation.Immediate operation imm) is = cc is
-li_is (OfOperation.Shift operation amount) is = cc is
-li_is (OfOperation.Li word) is = ap OfOperation.Li (eqb-true word 1 is)
-li_is OfOperation.Mv is = cc is
-li_is (OfOperation.La index) is = cc is
-li_is (OfOperation.Lw imm) is = cc is
-li_is (OfOperation.Sw imm) is = cc is
-li_is OfOperation.Dup is = cc is
-li_is OfOperation.Free is = cc is
+-- what gives a word that a register holds always
+abbrev pub GivesConstant : Action → ℕ → Type 0
+GivesConstant action x = (word : ℕ) × (action ≡ Compute (OfOperation.Li word)) × (slice_get constant_registers word ≡ Some x)
 
-pub one_is : (action : Action) → gives_one action ≡ true → action ≡ Compute (OfOperation.Li 1)
-one_is (Compute operation) is = ap Compute (li_is operation is)
-one_is (Label l) is = cc is
-one_is (Jump l) is = cc is
-one_is (Branch condition l) is = cc is
-one_is (Call f) is = cc is
-one_is (TailCall f) is = cc is
-one_is Return is = cc is
-one_is (Routine routine) is = cc is
-one_is Hold is = cc is
-one_is Unhold is = cc is
+li_is : (operation : Operation) (x : ℕ) → home (Compute operation) ≡ Some x → GivesConstant (Compute operation) x
+li_is (OfOperation.Register operation) x is = cc is
+li_is (OfOperation.Immediate operation imm) x is = cc is
+li_is (OfOperation.Shift operation amount) x is = cc is
+li_is (OfOperation.Li word) x is = (word, refl, is)
+li_is OfOperation.Mv x is = cc is
+li_is (OfOperation.La index) x is = cc is
+li_is (OfOperation.Lw imm) x is = cc is
+li_is (OfOperation.Sw imm) x is = cc is
+li_is OfOperation.Dup x is = cc is
+li_is OfOperation.Free x is = cc is
+
+pub home_is : (action : Action) (x : ℕ) → home action ≡ Some x → GivesConstant action x
+home_is (Compute operation) x is = li_is operation x is
+home_is (Label l) x is = cc is
+home_is (Jump l) x is = cc is
+home_is (Branch condition l) x is = cc is
+home_is (Call f) x is = cc is
+home_is (TailCall f) x is = cc is
+home_is Return x is = cc is
+home_is (Routine routine) x is = cc is
+home_is Hold x is = cc is
+home_is Unhold x is = cc is

@@ -1,5 +1,6 @@
 -- Where values stand for what is done with them: the conventions of calls and routines, and what an instruction can reach.
 use Rattle.std.specs.Prelude.{◌==◌, ℕ, suc, ◌+◌, List, [], ◌∷◌, Option, Some, None, Bool, true, false, not, ◌&&◌, ◌||◌, nat_le, slice_get}
+use Rattle.std.specs.List.{list_any}
 use Rattle.rv_isa.specs.Routines.{taken_by, given_by, is_spoilt_by}
 use Rattle.rv_isa.specs.declared.asm.Action.{Action}
 use Rattle.rv_isa.specs.declared.asm.Action.TheVariants.{Compute, Label, Jump, Branch, Call, TailCall, Return, Routine, Hold, Unhold}
@@ -9,10 +10,10 @@ use Rattle.rv_isa.specs.declared.placed.Place.{Place}
 use Rattle.rv_isa.specs.declared.placed.Place.TheVariants.{Register as register, Slot as slot}
 use Rattle.rv_isa.specs.declared.placed.Operand.{Operand}
 
--- the registers that values may have: all but zero, ra, sp, s0 and s1, which are the chains of free cells and of held tokens,
+-- the registers that values may have: all but ra, sp, s0 and s1, which are the chains of free cells and of held tokens,
 -- and s2 and s3, which bound the cells that were never used
 abbrev pub is_handed_out : ℕ → Bool
-is_handed_out x = (nat_le 3 x && nat_le x 7) || ((nat_le 10 x && nat_le x 17) || (nat_le 20 x && nat_le x 31))
+is_handed_out x = x == 0 || ((nat_le 3 x && nat_le x 7) || ((nat_le 10 x && nat_le x 17) || (nat_le 20 x && nat_le x 31)))
 
 abbrev pub is_in : ℕ → Place → Bool
 is_in x (register r) = r.number == x
@@ -26,13 +27,25 @@ is_in_any (Some x) place = is_in x place
 abbrev pub one_register : ℕ
 one_register = 3
 
-abbrev pub gives_one : Action → Bool
-gives_one (Compute (Li word)) = word == 1
-gives_one _ = false
+-- the registers that hold a word so: each the word that is its index here
+abbrev pub constant_registers : List ℕ
+constant_registers = 0 ∷ one_register ∷ []
 
--- whether an action may write at a place: at gp where it gives 1, which is no instruction then
+abbrev pub is_constant_register : ℕ → Bool
+is_constant_register number = list_any (λ x. x == number) constant_registers
+
+-- the one that holds the word that an action gives, if one does
+abbrev pub home : Action → Option ℕ
+home (Compute (Li word)) = slice_get constant_registers word
+home _ = None
+
+abbrev pub is_of_constant : Place → Bool
+is_of_constant (register r) = is_constant_register r.number
+is_of_constant (slot k) = false
+
+-- whether an action may write at a place: at such a register where it gives its word, which is no instruction then
 abbrev pub may_write : Action → Place → Bool
-may_write action place = gives_one action || not (is_in one_register place)
+may_write action place = is_in_any (home action) place || not (is_of_constant place)
 
 abbrev pub is_register : Place → Bool
 is_register (register r) = true

@@ -9,8 +9,8 @@ use Rattle.rv_isa.specs.PlacedCode.{PlacedLine, does, moves, PlacedLines}
 use Rattle.rv_isa.specs.Primitives.{Primitives}
 
 -- A constant is two instructions at most, and an address two. A count is loaded, raised and stored, unless the reference names no cell;
--- a token is put before the free cells, unless it is null. Each other operation is one, and a copy none where the value stands already, as 1 is none
--- in the register that holds it.
+-- a token is put before the free cells, unless it is null. Each other operation is one, and a copy none where the value stands already, as a
+-- constant is none in the register that holds it always.
 abbrev pub operation_instructions : Operation → ℕ
 operation_instructions (Li word) = 2
 operation_instructions (La constant) = 2

@@ -1,10 +1,10 @@
 -- Where a machine of assembler code or of placed code is in its program: in a function, behind so many of its lines.
-use Rattle.std.specs.Prelude.{◌≡◌, ◌==◌, ℕ, Bool, true, false, ◌&&◌, not, List, ◌∷◌, Some, drop, length, slice_get}
+use Rattle.std.specs.Prelude.{◌≡◌, ◌==◌, ℕ, Bool, true, false, ◌&&◌, not, List, ◌∷◌, Some, is_none, drop, length, slice_get}
 use Rattle.rv_isa.specs.declared.asm.Action.{Action}
 use Rattle.rv_isa.specs.declared.asm.Action.TheVariants.{Compute, Label, Branch}
 use Rattle.rv_isa.specs.declared.asm.Operation.TheVariants.{Mv}
 use Rattle.rv_isa.specs.AsmCode.{Line, Lines}
-use Rattle.rv_isa.specs.Conventions.{gives_one}
+use Rattle.rv_isa.specs.Conventions.{home}
 use Rattle.rv_isa.specs.AsmMachine.{AsmTurn}
 use Rattle.rv_isa.specs.Frames.{Frame}
 use Rattle.rv_isa.specs.PlacedCode.{PlacedLine, does, moves, PlacedLines}
@@ -44,9 +44,9 @@ abbrev pub is_copy : Action → Bool
 is_copy (Compute Mv) = true
 is_copy _ = false
 
--- Neither is 1, for the register that holds it always. Each other action is an instruction at least, wherever its operands stand.
+-- Neither is a constant for the register that holds it always. Each other action is an instruction at least, wherever its operands stand.
 abbrev pub is_always_some : Action → Bool
-is_always_some action = is_no_label action && (not (is_copy action) && not (gives_one action))
+is_always_some action = is_no_label action && (not (is_copy action) && is_none (home action))
 
 -- a branch, but one that compares a single word with zero
 abbrev pub is_test : Action → ℕ → Bool

@@ -6,6 +6,7 @@ mod agreement;
 mod arithmetic;
 mod asm;
 mod code;
+mod conventions;
 mod decoding;
 mod encoding;
 pub mod environment;

@@ -1,17 +1,19 @@
 -- Lines have addresses of their own: functions stand one behind the other behind the runtime, and each line that is always
 -- an instruction is some of its function.
-use Rattle.std.proofs.Common.{◌≡◌, ◌≤◌, ◌<◌, inl, inr, ℕ, zero, suc, ◌+◌, ◌*◌, ◌%◌, List, [], ◌∷◌, Some, Bool, true, false, ◌&&◌, ◌||◌, not, cond}
+use Rattle.std.proofs.Common.{◌≡◌, ◌≤◌, ◌<◌, inl, inr, ℕ, zero, suc, ◌+◌, ◌*◌, ◌%◌, List, [], ◌∷◌, Option, Some, None, is_none, Bool, true, false, ◌&&◌, ◌||◌, not, cond}
 use Rattle.std.proofs.Common.{take, drop, slice_get}
 use Rattle.std.proofs.Common.{refl, sym, ap, ◌∙◌, subst, arith}
 use Rattle.std.proofs.lemmas.Bool.{cases_lt, and_parts}
 use Rattle.rv_isa.specs.declared.asm.Action.{Action}
 use Rattle.rv_isa.specs.declared.asm.Action.TheVariants.{Compute, Label, Jump, Branch, Call, TailCall}
 use Rattle.rv_isa.specs.declared.asm.Action.TheVariants.{Return, Routine, Hold, Unhold}
+use Rattle.rv_isa.specs.declared.placed.Place.{Place}
+use Rattle.rv_isa.specs.declared.placed.Operand.{Operand}
 use Rattle.rv_isa.specs.PlacedCode.{PlacedLine, does, moves, PlacedLines}
-use Rattle.rv_isa.specs.Conventions.{gives_one}
+use Rattle.rv_isa.specs.Conventions.{is_in_any, home}
 use Rattle.rv_isa.specs.LinePlaces.{is_no_label, is_copy, is_instruction, PlacedHasLine}
 use Rattle.rv_isa.specs.Standing.{Code}
-use Rattle.rv_place.specs.Addresses.{stands_there, goes_to_one, is_silent, words_of_action, words_of_line, words_of_lines, forms_of, entry_words, words_of_function}
+use Rattle.rv_place.specs.Addresses.{stands_there, goes_home, is_silent, words_of_action, words_of_line, words_of_lines, forms_of, entry_words, words_of_function}
 use Rattle.rv_place.specs.Addresses.{entries_from, words_of_functions}
 use Rattle.rv_place.specs.LineAddresses.{address_in, line_address}
 use Rattle.rv_place.specs.Lines.{Map, FunctionsAt}
@@ -42,17 +44,25 @@ action_some forms (Routine routine) some = jump_some forms.jumps
 action_some forms Hold some = omega arith
 action_some forms Unhold some = omega arith
 
-neither : (copy one there here : Bool) → (not copy && not one) ≡ true → ((copy && there) || (one && here)) ≡ false
-neither true one there here is = cc is
-neither false true there here is = cc is
-neither false false there here is = refl
+not_at_home : (home : Option ℕ) (place : Place) → is_none home ≡ true → is_in_any home place ≡ false
+not_at_home None place none = refl
+not_at_home (Some x) place none = cc none
 
--- and so is such a line, which is no copy and does not give 1
+goes_nowhere : (action : Action) (into : Option Operand) → is_none (home action) ≡ true → goes_home action into ≡ false
+goes_nowhere action None none = refl
+goes_nowhere action (Some into) none = not_at_home (home action) into.place none
+
+neither : (copy there goes : Bool) → not copy ≡ true → goes ≡ false → ((copy && there) || goes) ≡ false
+neither true there goes is none = cc is
+neither false there goes is none = none
+
+-- and so is such a line, which is no copy, and no constant that a register holds always
 line_some : (forms : Forms) (line : PlacedLine) → is_instruction line ≡ true → 1 ≤ words_of_line forms line
 line_some forms (does alive action args into) some =
-    let both = and_parts (is_no_label action) (not (is_copy action) && not (gives_one action)) some in
+    let both = and_parts (is_no_label action) (not (is_copy action) && is_none (home action)) some in
+    let apart = and_parts (not (is_copy action)) (is_none (home action)) both.1 in
     let loud : is_silent action args into ≡ false
-    = neither (is_copy action) (gives_one action) (stands_there args into) (goes_to_one into) both.1 in
+    = neither (is_copy action) (stands_there args into) (goes_home action into) apart.0 (goes_nowhere action into apart.1) in
     subst (λ silent. 1 ≤ cond silent 0 (words_of_action forms action)) (sym loud) (action_some forms action both.0)
 line_some forms (moves alive value way) some = omega arith
 

@@ -125,7 +125,7 @@ module _ {map_of : Map} {pool : Pool} {functions : List PlacedLines} {depth buff
         comes_go map_of pool functions depth stop code parts most old
         (record { frames = behind ∷ fs; registers = known; shared = with_cells world next }) s u n (walks_done done)
         (runs_on map_of pool functions depth stop code parts
-        (record { frames = f ∷ fs; registers = known; shared = world }) next s u (behind ∷ fs) known sp running done (outside_handed changed none one_register refl)
+        (record { frames = f ∷ fs; registers = known; shared = world }) next s u (behind ∷ fs) known sp running done (outside_handed changed none one_register refl (λ e. cc))
         (constants_kept ground f fs known world s running at v allowed) running.room (done.kept 2 outside ∙ running.base_is)
         (frames_kept map_of code (most_lines functions) stop (stack_end map_of depth) ground.some_frame s.memory
         (with_number at 4 v s.memory) (s.pc + 4 * words_of_operation operation) sp (behind ∷ fs)

@@ -1,6 +1,7 @@
 -- What the processor comes to by a line of the machine of the placed form, and how the relation is kept.
-use Rattle.std.proofs.Common.{◌≡◌, ◌≢◌, ◌≤◌, ◌<◌, ℕ, zero, suc, ◌+◌, ◌*◌, ◌%◌, ◌^◌, List, [], ◌∷◌, length, Option, Some, None, true, false, All, refl, sym, ap, ◌∙◌, subst, arith, lit<}
+use Rattle.std.proofs.Common.{◌≡◌, ◌≢◌, ◌≤◌, ◌<◌, ◌==◌, ◌&&◌, Bool, not, ℕ, zero, suc, ◌+◌, ◌*◌, ◌%◌, ◌^◌, List, [], ◌∷◌, length, Option, Some, None, true, false, All, refl, sym, ap, ◌∙◌, subst, arith, lit<}
 use Rattle.std.proofs.Math.Nat.{suc-mul, mul-le-mul_right}
+use Rattle.std.proofs.lemmas.Bool.{and_from, ne_eqb, false≢true}
 use Rattle.kk_base.specs.Memory.{Part}
 use Rattle.rv_isa.specs.PlacedCode.{PlacedLine, PlacedLines}
 use Rattle.rv_isa.specs.Conventions.{is_handed_out, one_register}
@@ -25,8 +26,9 @@ use Rattle.rv_place.specs.Grounds.{Ground, stack_end, constant_bytes}
 use Rattle.rv_place.specs.Running.{most_lines, IsIn, FramesAt, links_of, Agrees, Running, lines_left, StandsFor, Passing}
 use Rattle.rv_place.proofs.RunningExecuting.{Done, Gets}
 use Rattle.rv_place.proofs.RunningInside.{Walks, walks_done}
-use Rattle.rv_place.proofs.RunningFrames.{handed_apart, agrees_put, agrees_kept, frames_sum}
+use Rattle.rv_place.proofs.RunningFrames.{value_kept, agrees_put, agrees_kept, frames_sum}
 use Rattle.rv_place.proofs.RunningLinks.{is_fixed, outside_fixed, none_own, roots_done, cells_done}
+use Rattle.rv_place.proofs.RunningTargets.{is_target, target_handed, target_apart}
 
 -- ---- turns
 
@@ -69,24 +71,30 @@ base_word base n frame bottom depth sum word bottom_word =
 
 -- ---- registers
 
+-- whether a value may be lost where the register changes: zero does not
+abbrev pub may_lose : ℕ → Bool
+may_lose x = is_handed_out x && not (x == 0)
+
 -- registers of which no value has any
 abbrev pub NoneHanded : List ℕ → Type 0
 NoneHanded [] = Unit {0}
-NoneHanded (y ∷ ys) = (is_handed_out y ≡ false) × NoneHanded ys
+NoneHanded (y ∷ ys) = (may_lose y ≡ false) × NoneHanded ys
 
-pub outside_handed : (changed : List ℕ) → NoneHanded changed → (x : ℕ) → is_handed_out x ≡ true → IsOutside x changed
-outside_handed [] none x handed = tt
-outside_handed (y ∷ ys) none x handed = (handed_apart x y none.0 handed, outside_handed ys none.1 x handed)
+pub outside_handed : (changed : List ℕ) → NoneHanded changed → (x : ℕ) → is_handed_out x ≡ true → x ≢ 0 → IsOutside x changed
+outside_handed [] none x handed some = tt
+outside_handed (y ∷ ys) none x handed some =
+    let has : may_lose x ≡ true = and_from (is_handed_out x) (not (x == 0)) handed (ap not (ne_eqb x 0 some)) in
+    ((λ same. false≢true (sym none.0 ∙ ap may_lose (sym same) ∙ has)), outside_handed ys none.1 x handed some)
 
 pub agrees_done : {cells : ℕ} {code : Code} {n : ℕ} {changed : List ℕ} {memory : ℕ → ℕ} {next : ℕ} (s u : Processor) (known : ℕ → Option ℕ) → Done cells code n changed memory next s u → NoneHanded changed → Agrees known s.registers → Agrees known u.registers
-agrees_done {changed = changed} s u known done none agrees = agrees_kept known s.registers u.registers agrees (λ x handed. done.kept x (outside_handed changed none x handed))
+agrees_done {changed = changed} s u known done none agrees = agrees_kept known s.registers u.registers agrees (λ x handed. value_kept x s.registers u.registers (λ some. done.kept x (outside_handed changed none x handed some)))
 
 -- a register that got a word, which may be known
-pub agrees_got : {cells : ℕ} {code : Code} {n rd word next : ℕ} (s : Processor) (known : ℕ → Option ℕ) (w : Option ℕ) (gets : Gets cells code n (rd ∷ []) rd word next s) → is_handed_out rd ≡ true
+pub agrees_got : {cells : ℕ} {code : Code} {n rd word next : ℕ} (s : Processor) (known : ℕ → Option ℕ) (w : Option ℕ) (gets : Gets cells code n (rd ∷ []) rd word next s) → is_target rd ≡ true
     → ((v : ℕ) → w ≡ Some v → (word ≡ v) × (v < 2 ^ 32)) → Agrees known s.registers → Agrees (put rd w known) gets.after.registers
-agrees_got {rd = rd} {word = word} s known w gets handed new agrees =
-    agrees_put rd w known s.registers gets.after.registers agrees handed
-    (λ v is. let both = new v is in (gets.value_is (handed_apart rd 0 refl handed) ∙ both.0, both.1))
+agrees_got {rd = rd} {word = word} s known w gets target new agrees =
+    agrees_put rd w known s.registers gets.after.registers agrees (target_handed rd target)
+    (λ v is. let both = new v is in (gets.value_is (target_apart rd 0 refl target) ∙ both.0, both.1))
     (λ x some apart. gets.done.kept x (apart, tt))
 
 -- ---- what is come to

@@ -1,5 +1,5 @@
 -- The frames of the stack in memory: where they end, what keeps them, and what a store to a slot of the newest one changes.
-use Rattle.std.proofs.Common.{◌≡◌, ◌≢◌, ◌==◌, ◌≤◌, ◌<◌, ◌⊎◌, ℕ, suc, ◌+◌, ◌*◌, ◌^◌, inl, inr, List, [], ◌∷◌, length, Option, Some, None, Bool, true, false, cond, refl, sym, ap, ◌∙◌, subst, arith}
+use Rattle.std.proofs.Common.{◌≡◌, ◌≢◌, ◌==◌, ◌≤◌, ◌<◌, ◌⊎◌, ℕ, zero, suc, ◌+◌, ◌*◌, ◌^◌, inl, inr, List, [], ◌∷◌, length, Option, Some, None, Bool, true, false, cond, refl, sym, ap, ◌∙◌, subst, arith}
 use Rattle.std.proofs.Math.Nat.{suc-mul}
 use Rattle.std.proofs.lemmas.Bool.{eqb-true, eqb-false}
 use Rattle.rv_isa.specs.PlacedCode.{PlacedLine}
@@ -30,6 +30,11 @@ known_put at word cells x w is = put_turned x at w word cells (put_by (x == at) 
 -- a register that is handed out is none that is not
 pub handed_apart : (x n : ℕ) → is_handed_out n ≡ false → is_handed_out x ≡ true → x ≢ n
 handed_apart x n none some same = let both : is_handed_out n ≡ true = subst (λ y. is_handed_out y ≡ true) same some in cc
+
+-- zero has the same value always
+pub value_kept : (x : ℕ) (registers after : ℕ → ℕ) → (x ≢ 0 → value after x ≡ value registers x) → value after x ≡ value registers x
+value_kept zero registers after kept = refl
+value_kept (suc x) registers after kept = kept (λ e. cc)
 
 pub agrees_put : (at : ℕ) (word : Option ℕ) (known : ℕ → Option ℕ) (registers after : ℕ → ℕ) → Agrees known registers → is_handed_out at ≡ true
     → ((w : ℕ) → word ≡ Some w → (value after at ≡ w) × (w < 2 ^ 32)) → ((x : ℕ) → is_handed_out x ≡ true → x ≢ at → value after x ≡ value registers x) → Agrees (put at word known) after

@@ -1,5 +1,5 @@
 -- Labels, moves and operations of the machine of the placed form, followed by the processor.
-use Rattle.std.proofs.Common.{◌≡◌, ◌≢◌, ◌≤◌, ◌<◌, ◌&&◌, inl, inr, ℕ, ◌+◌, ◌*◌, ◌%◌, ◌^◌, List, [], ◌∷◌, length, Option, Some, None, true, false, map, option_map, eqb-true, refl, sym, ap, ◌∙◌, subst, arith, lit<}
+use Rattle.std.proofs.Common.{◌≡◌, ◌≢◌, ◌≤◌, ◌<◌, ◌&&◌, inl, inr, ℕ, zero, suc, ◌+◌, ◌*◌, ◌%◌, ◌^◌, List, [], ◌∷◌, length, Option, Some, None, true, false, map, option_map, slice_get, eqb-true, refl, sym, ap, ◌∙◌, subst, arith, lit<}
 use Rattle.std.proofs.lemmas.Bool.{and_parts, or_from, or_cases}
 use Rattle.kk_base.specs.Memory.{Part}
 use Rattle.rv_isa.specs.declared.register.Register.{Register}
@@ -15,7 +15,7 @@ use Rattle.rv_isa.specs.declared.placed.Way.{Way}
 use Rattle.rv_isa.specs.declared.placed.Way.TheVariants.{Copy, Load, Store}
 use Rattle.rv_isa.specs.PlacedCode.{PlacedLine, PlacedLines, from_of, to_of}
 use Rattle.rv_isa.specs.Arithmetic.{sum_word}
-use Rattle.rv_isa.specs.Conventions.{is_handed_out, is_in, one_register, gives_one, is_register, conforms, computes_at, gives_into, take_from}
+use Rattle.rv_isa.specs.Conventions.{is_handed_out, is_in, is_in_any, one_register, constant_registers, home, is_register, conforms, computes_at, gives_into, take_from}
 use Rattle.rv_isa.specs.Costs.{operation_instructions}
 use Rattle.rv_isa.specs.Primitives.{stuck}
 use Rattle.rv_isa.specs.Frames.{Frame, put, all_of, is_among}
@@ -24,7 +24,7 @@ use Rattle.rv_isa.specs.PlacedMachine.{PlacedState, PlacedTurn, is_held, read_at
 use Rattle.rv_isa.specs.Bytes.{number_at, with_number}
 use Rattle.rv_isa.specs.Processor.{Processor, Ending, value, can_load, can_store}
 use Rattle.rv_isa.specs.Standing.{Code}
-use Rattle.rv_isa.proofs.Copies.{copy_is, one_is}
+use Rattle.rv_isa.proofs.Copies.{copy_is, home_is}
 use Rattle.rv_isa.proofs.Memory.{word-apart}
 use Rattle.cell_heap.specs.Known.{HoldsCells, SameRoots}
 use Rattle.cell_heap.proofs.Frames.{SameInside, SameInside-store}
@@ -34,7 +34,7 @@ use Rattle.cell_heap.specs.Pool.{Pool}
 use Rattle.cell_heap.proofs.Blocks.{mapped}
 use Rattle.rv_world.specs.World.{World, computed_in, primitives}
 use Rattle.rv_place.specs.Registers.{zero_register, sp}
-use Rattle.rv_place.specs.Addresses.{is_same_register, stands_there, goes_to_one, is_silent, frame_bias, slot_offset}
+use Rattle.rv_place.specs.Addresses.{is_same_register, stands_there, goes_home, is_silent, frame_bias, slot_offset}
 use Rattle.rv_place.specs.Instructions.{form_of, words_of_form, words_of_operation}
 use Rattle.rv_place.specs.declared.constant.WordForm.{WordForm}
 use Rattle.rv_place.specs.declared.constant.WordForm.TheVariants.{Short, Upper, Both}
@@ -45,12 +45,17 @@ use Rattle.rv_place.specs.Running.{most_lines, IsIn, links_of, Running}
 use Rattle.rv_place.proofs.RunningExecuting.{MissesFree, Gets, addi_row, plain_gets, load_gets, store_goes}
 use Rattle.rv_place.proofs.RunningFree.{behind_misses}
 use Rattle.rv_place.proofs.RunningRows.{from_pointer}
-use Rattle.rv_place.proofs.RunningFrames.{handed_apart, agrees_put, agrees_kept, frames_put}
+use Rattle.rv_place.proofs.RunningFrames.{value_kept, agrees_put, agrees_kept, frames_put}
 use Rattle.rv_place.proofs.RunningLinks.{is_fixed, roots_done, links_put, slots_apart}
-use Rattle.rv_place.proofs.RunningTargets.{is_target, IsTarget, GivesTarget, target_handed, target_apart, target_fixed}
+use Rattle.rv_place.proofs.RunningTargets.{is_target, IsTarget, GivesTarget, target_apart, target_fixed}
 use Rattle.rv_place.proofs.RunningWords.{some_cons, words_in, in_registers, Computed, computes}
 use Rattle.rv_place.proofs.RunningInside.{walks_done}
 use Rattle.rv_place.proofs.RunningComes.{or_stuck_some, Comes, comes_go, comes_idle, runs_on, agrees_got, sp_low, sp_word, sp_high, constants_kept, stays}
+
+-- a place that is the register of a number, if there is one
+home_place : (home : Option ℕ) (place : Place) → is_in_any home place ≡ true → (x : ℕ) × (home ≡ Some x) × (is_in x place ≡ true)
+home_place None place there = cc there
+home_place (Some x) place there = (x, refl, there)
 
 -- a slot is a word of the stack
 pub slot_word : (base k : ℕ) → base % 4 ≡ 0 → (base + slot_offset k) % 4 ≡ 0
@@ -112,7 +117,7 @@ module _ {map_of : Map} {pool : Pool} {functions : List PlacedLines} {depth buff
         cells = running.cells;
       }) less
 
-  -- ---- copies, and 1, that are no instruction
+  -- ---- copies and constants that are no instruction
 
   -- a register has already the word that goes to it
   holds_already : (old word : ℕ) (q : Register) → is_handed_out q.number ≡ true → (value s.registers q.number ≡ word) × (word < 2 ^ 32)
@@ -168,23 +173,43 @@ module _ {map_of : Map} {pool : Pool} {functions : List PlacedLines} {depth buff
       (has_already old split.0 arg.place into.place stands split.2 is_in less)
   stays_there old (arg ∷ other ∷ args) into words turn stands is_in less words_are is = cc stands
 
-  -- the register that holds 1
-  one_already : (old : ℕ) (place : Place) → is_in one_register place ≡ true → IsIn map_of code (most_lines functions) s.pc behind
-      → 1 + length rest ≤ old
-      → Comes map_of pool functions depth stop code parts 0 old (placed_writes place (Some 1) behind fs known world) s
-  one_already old (slot k) there is_in less = cc there
-  one_already old (register q) there is_in less =
-      let number : q.number ≡ one_register = eqb-true q.number one_register there in
-      holds_already old 1 q (rw number refl) (rw number running.one, lit< tt) is_in less
+  -- a register that holds a word always
+  constant_held : (word x : ℕ) → slice_get constant_registers word ≡ Some x → (is_handed_out x ≡ true) × ((value s.registers x ≡ word) × (word < 2 ^ 32))
+  constant_held zero x is = let same : 0 ≡ x = cc in subst (λ y. (is_handed_out y ≡ true) × ((value s.registers y ≡ 0) × (0 < 2 ^ 32))) same (refl, (refl, lit< tt))
+  constant_held (suc zero) x is =
+      let same : one_register ≡ x = cc in
+      subst (λ y. (is_handed_out y ≡ true) × ((value s.registers y ≡ 1) × (1 < 2 ^ 32))) same (refl, (running.one, lit< tt))
+  constant_held (suc (suc word)) x is = cc is
 
-  one_is_there : (old : ℕ) (args : List Operand) (into : Option Operand) (words : List ℕ) (turn : PlacedTurn World Ending)
-      → goes_to_one into ≡ true → IsIn map_of code (most_lines functions) s.pc behind → 1 + length rest ≤ old
-      → placed_acts (primitives map_of.constants pool) depth functions behind fs known world (Compute (OfOperation.Li 1)) args into words ≡ turn → turn ≢ stuck
+  constant_already : (old word x : ℕ) (place : Place) → slice_get constant_registers word ≡ Some x → is_in x place ≡ true
+      → IsIn map_of code (most_lines functions) s.pc behind → 1 + length rest ≤ old
+      → Comes map_of pool functions depth stop code parts 0 old (placed_writes place (Some word) behind fs known world) s
+  constant_already old word x (slot k) held there is_in less = cc there
+  constant_already old word x (register q) held there is_in less =
+      let number : q.number ≡ x = eqb-true q.number x there in
+      let has = constant_held word x held in
+      holds_already old word q (rw number has.0) (rw number has.1) is_in less
+
+  constant_is_there : (old word x : ℕ) (args : List Operand) (into : Operand) (words : List ℕ) (turn : PlacedTurn World Ending)
+      → slice_get constant_registers word ≡ Some x → is_in x into.place ≡ true
+      → IsIn map_of code (most_lines functions) s.pc behind → 1 + length rest ≤ old
+      → placed_acts (primitives map_of.constants pool) depth functions behind fs known world (Compute (OfOperation.Li word)) args (Some into) words ≡ turn → turn ≢ stuck
       → Comes map_of pool functions depth stop code parts 0 old turn s
-  one_is_there old args into (word ∷ words) turn there is_in less is good = absurd (good (sym is))
-  one_is_there old args None [] turn there is_in less is good = cc there
-  one_is_there old args (Some into) [] turn there is_in less is good =
-      subst (λ t. Comes map_of pool functions depth stop code parts 0 old t s) is (one_already old into.place there is_in less)
+  constant_is_there old word x args into (other ∷ words) turn held there is_in less is good = absurd (good (sym is))
+  constant_is_there old word x args into [] turn held there is_in less is good =
+      subst (λ t. Comes map_of pool functions depth stop code parts 0 old t s) is (constant_already old word x into.place held there is_in less)
+
+  is_at_home : (old : ℕ) (action : Action) (args : List Operand) (into : Option Operand) (words : List ℕ) (turn : PlacedTurn World Ending)
+      → goes_home action into ≡ true → IsIn map_of code (most_lines functions) s.pc behind → 1 + length rest ≤ old
+      → placed_acts (primitives map_of.constants pool) depth functions behind fs known world action args into words ≡ turn → turn ≢ stuck
+      → Comes map_of pool functions depth stop code parts 0 old turn s
+  is_at_home old action args None words turn goes is_in less is good = cc goes
+  is_at_home old action args (Some into) words turn goes is_in less is good =
+      let there = home_place (home action) into.place goes in
+      let gives = home_is action there.0 there.1 in
+      constant_is_there old gives.0 there.0 args into words turn gives.2 there.2 is_in less
+      (subst (λ a. placed_acts (primitives map_of.constants pool) depth functions behind fs known world a args (Some into) words ≡ turn) gives.1 is)
+      good
 
   pub follow_silent : (old : ℕ) (action : Action) (args : List Operand) (into : Option Operand) (words : List ℕ) (turn : PlacedTurn World Ending)
       → is_silent action args into ≡ true → IsIn map_of code (most_lines functions) s.pc behind → 1 + length rest ≤ old
@@ -192,17 +217,13 @@ module _ {map_of : Map} {pool : Pool} {functions : List PlacedLines} {depth buff
       → placed_acts (primitives map_of.constants pool) depth functions behind fs known world action args into words ≡ turn → turn ≢ stuck
       → Comes map_of pool functions depth stop code parts 0 old turn s
   follow_silent old action args into words turn silent is_in less words_are is good =
-      elim (or_cases (is_copy action && stands_there args into) (gives_one action && goes_to_one into) silent) [
+      elim (or_cases (is_copy action && stands_there args into) (goes_home action into) silent) [
         | inl copies ↦
             let both = and_parts (is_copy action) (stands_there args into) copies in
             stays_there old args into words turn both.1 is_in less words_are
             (subst (λ a. placed_acts (primitives map_of.constants pool) depth functions behind fs known world a args into words ≡ turn)
             (copy_is action both.0) is)
-        | inr gives ↦
-            let both = and_parts (gives_one action) (goes_to_one into) gives in
-            one_is_there old args into words turn both.1 is_in less
-            (subst (λ a. placed_acts (primitives map_of.constants pool) depth functions behind fs known world a args into words ≡ turn)
-            (one_is action both.0) is) good
+        | inr goes ↦ is_at_home old action args into words turn goes is_in less is good
       ]
 
   -- ---- slots
@@ -261,7 +282,7 @@ module _ {map_of : Map} {pool : Pool} {functions : List PlacedLines} {depth buff
         → Comes map_of pool functions depth stop code parts 1 old (placed_goes behind fs (put rd.number w known) world) s
     got_stays rd w word gets fits target new =
         stays ground f fs known world s running 1 old gets.after rest (put rd.number w known) gets.done ((λ e. target_apart rd.number 2 refl target (sym e)), tt) (or_from (is_fixed rd.number) false (target_fixed rd.number target) refl) (is_in f.cells (s.pc + 4) refl fits)
-        (agrees_got s known w gets (target_handed rd.number target) new running.registers) (omega arith) (omega arith)
+        (agrees_got s known w gets target new running.registers) (omega arith) (omega arith)
 
     pub follow_move : (way : Way) → MovesBy map_of code s.pc way → IsTarget (to_of way) → is_held f.held (to_of way) ≡ false
         → Comes map_of pool functions depth stop code parts 1 old (placed_writes (to_of way) (read_at known f.cells (from_of way)) behind fs known world) s
@@ -302,7 +323,7 @@ module _ {map_of : Map} {pool : Pool} {functions : List PlacedLines} {depth buff
         let result = computed zero_register refl in
         let size = operation_weighs operation in
         stays ground f fs known world s running (operation_instructions operation) old result.gets.after rest known result.gets.done ((λ e. cc), tt) refl (is_in (s.pc + 4 * words_of_operation operation) refl result.next_fits)
-        (agrees_kept known s.registers result.gets.after.registers running.registers (λ x some. result.gets.done.kept x (handed_apart x 0 refl some, tt))) size.0 size.1
+        (agrees_kept known s.registers result.gets.after.registers running.registers (λ x handed. value_kept x s.registers result.gets.after.registers (λ apart. result.gets.done.kept x (apart, tt)))) size.0 size.1
     gives_word (Some into) word gives handed computed = at_place into.place refl
       where
         at_place : (place : Place) → into.place ≡ place → Comes map_of pool functions depth stop code parts (operation_instructions operation) old (placed_writes into.place (Some word) behind fs known world) s
@@ -313,7 +334,7 @@ module _ {map_of : Map} {pool : Pool} {functions : List PlacedLines} {depth buff
             let size = operation_weighs operation in
             rw is (stays ground f fs known world s running (operation_instructions operation) old result.gets.after rest (put r.number (Some word) known) result.gets.done ((λ e. target_apart r.number 2 refl some (sym e)), tt) (or_from (is_fixed r.number) false (target_fixed r.number some) refl)
             (is_in (s.pc + 4 * words_of_operation operation) refl result.next_fits)
-            (agrees_got s known (Some word) result.gets (target_handed r.number some) (λ v same. let e : word ≡ v = cc in (e, subst (λ w. w < 2 ^ 32) e result.fits)) running.registers) size.0 size.1)
+            (agrees_got s known (Some word) result.gets some (λ v same. let e : word ≡ v = cc in (e, subst (λ w. w < 2 ^ 32) e result.fits)) running.registers) size.0 size.1)
 
     -- an operation on words alone
     pub follow_words : (forms : Forms) (start : ℕ) (args : List Operand) (into : Option Operand) (words : List ℕ) (turn : PlacedTurn World Ending) → ActsAt map_of forms code start f.whole s.pc (Compute operation) args into

@@ -21,7 +21,6 @@ use Rattle.rv_isa.specs.Standing.{Code}
 use Rattle.cell_heap.specs.Pool.{Pool}
 use Rattle.rv_world.specs.World.{World, primitives}
 use Rattle.rv_place.specs.Addresses.{is_silent, words_of_action, words_of_line}
-use Rattle.rv_place.specs.Instructions.{words_of_operation}
 use Rattle.rv_place.specs.Lines.{Map}
 use Rattle.rv_place.specs.Grounds.{Ground}
 use Rattle.rv_place.specs.Running.{AllPlain, most_lines, Running, lines_left, NeverStuck, Related, Passing}
@@ -60,6 +59,11 @@ module _ {map_of : Map} {pool : Pool} {functions : List PlacedLines} {depth buff
   module _ (f : Frame PlacedLine) (fs : List (Frame PlacedLine)) (known : ℕ → Option ℕ) (world : World) (s : Processor)
       (running : Running map_of pool functions depth stop code parts (record { frames = f ∷ fs; registers = known; shared = world }) s) (rest : List PlacedLine) where
     module _ (alive : List Listed) (args : List Operand) (into : Option Operand) (words : List ℕ) (words_are : all_of (map (λ (arg : Operand). read_at known f.cells arg.place) args) ≡ Some words) (turn : PlacedTurn World Ending) (good : turn ≢ stuck) where
+      -- an action that is not silent has the instructions of its own
+      loud_words : (action : Action) → is_silent action args into ≡ false
+          → s.pc + 4 * words_of_line running.frames.0.forms (does alive action args into) ≡ s.pc + 4 * words_of_action running.frames.0.forms action
+      loud_words action loud = ap (λ silent. s.pc + 4 * cond silent 0 (words_of_action running.frames.0.forms action)) loud
+
       -- what an action does
       follow_action : (action : Action) → f.code ≡ does alive action args into ∷ rest → conforms action args into ≡ true
           → is_silent action args into ≡ false → placed_acts (primitives map_of.constants pool) depth functions (record f { code = rest }) fs known world action args into words ≡ turn
@@ -69,11 +73,12 @@ module _ {map_of : Map} {pool : Pool} {functions : List PlacedLines} {depth buff
           let writes = line_plain running.frames.0 line rest code_is in
           comes_within (operation_instructions operation + 0) (omega arith)
           (follow_compute ground f fs known world s running rest (suc (length rest)) operation (λ next next_is below. goes_behind running.frames.0 line rest code_is next (record f { code = rest }) refl refl refl
-          (ap (λ silent. s.pc + 4 * cond silent 0 (words_of_operation operation)) loud ∙ next_is) below)
+          (loud_words (Compute operation) loud ∙ next_is) below)
           running.frames.0.forms running.frames.0.start args into words turn (line_at running.frames.0 line rest code_is loud) conform (gives_target (Compute operation) args into writes.0 loud) words_are is good)
       follow_action (Label l) code_is conform loud is =
           let line = does alive (Label l) args into in
-          let here : s.pc + 4 * words_of_line running.frames.0.forms line ≡ s.pc = omega arith in
+          let here : s.pc + 4 * words_of_line running.frames.0.forms line ≡ s.pc
+          = loud_words (Label l) loud ∙ omega arith in
           subst (λ t. Comes map_of pool functions depth stop code parts 0 (suc (length rest)) t s) is
           (follow_label ground f fs known world s running rest (suc (length rest)) (goes_behind running.frames.0 line rest code_is s.pc (record f { code = rest }) refl refl refl here running.frames.0.below) (omega arith))
       follow_action (Jump l) code_is conform loud is =
@@ -81,28 +86,28 @@ module _ {map_of : Map} {pool : Pool} {functions : List PlacedLines} {depth buff
       follow_action (Branch condition l) code_is conform loud is =
           let line = does alive (Branch condition l) args into in
           let writes = line_plain running.frames.0 line rest code_is in
-          follow_branch ground f fs known world s running rest (suc (length rest)) (λ next next_is below. goes_behind running.frames.0 line rest code_is next (record f { code = rest }) refl refl refl next_is below) condition l
+          follow_branch ground f fs known world s running rest (suc (length rest)) (λ next next_is below. goes_behind running.frames.0 line rest code_is next (record f { code = rest }) refl refl refl (loud_words (Branch condition l) loud ∙ next_is) below) condition l
           args into words turn (line_at running.frames.0 line rest code_is loud) writes.1 conform words_are is good
       follow_action (Call g) code_is conform loud is =
           let line = does alive (Call g) args into in
           follow_call ground plain f fs known world s running rest (suc (length rest)) running.frames.0.forms g args into words running.frames.0.start turn
-          (λ next next_is below. goes_behind running.frames.0 line rest code_is next (record f { code = rest; into = awaited into }) refl refl refl next_is below) (line_at running.frames.0 line rest code_is loud) conform words_are is good
+          (λ next next_is below. goes_behind running.frames.0 line rest code_is next (record f { code = rest; into = awaited into }) refl refl refl (loud_words (Call g) loud ∙ next_is) below) (line_at running.frames.0 line rest code_is loud) conform words_are is good
       follow_action (TailCall g) code_is conform loud is =
           follow_tail_call ground plain f fs known world s running rest (suc (length rest)) running.frames.0.forms g args into words running.frames.0.start turn (line_at running.frames.0 (does alive (TailCall g) args into) rest code_is loud) conform words_are is good
       follow_action Return code_is conform loud is =
           follow_return ground f known world s (suc (length rest)) (line_at running.frames.0 (does alive Return args into) rest code_is loud) fs rest args into words turn running conform words_are is good
       follow_action (Routine routine) code_is conform loud is =
           let line = does alive (Routine routine) args into in
-          follow_routine ground f fs known world s running rest (suc (length rest)) running.frames.0.forms (λ next next_is below. goes_behind running.frames.0 line rest code_is next (record f { code = rest }) refl refl refl next_is below) into turn good
+          follow_routine ground f fs known world s running rest (suc (length rest)) running.frames.0.forms (λ next next_is below. goes_behind running.frames.0 line rest code_is next (record f { code = rest }) refl refl refl (loud_words (Routine routine) loud ∙ next_is) below) into turn good
           routine running.frames.0.start args words (line_at running.frames.0 line rest code_is loud) conform words_are is
       follow_action Hold code_is conform loud is =
           let line = does alive Hold args into in
           follow_hold ground f fs known world s running rest (suc (length rest)) args into words turn good words_are
-          (λ next next_is below. goes_behind running.frames.0 line rest code_is next (record f { code = rest }) refl refl refl next_is below) (line_at running.frames.0 line rest code_is loud) is
+          (λ next next_is below. goes_behind running.frames.0 line rest code_is next (record f { code = rest }) refl refl refl (loud_words Hold loud ∙ next_is) below) (line_at running.frames.0 line rest code_is loud) is
       follow_action Unhold code_is conform loud is =
           let line = does alive Unhold args into in
           follow_unhold ground f fs known world s running rest (suc (length rest)) args into words turn good words_are
-          (λ next next_is below. goes_behind running.frames.0 line rest code_is next (record f { code = rest }) refl refl refl next_is below) (line_at running.frames.0 line rest code_is loud) is
+          (λ next next_is below. goes_behind running.frames.0 line rest code_is next (record f { code = rest }) refl refl refl (loud_words Unhold loud ∙ next_is) below) (line_at running.frames.0 line rest code_is loud) is
 
       -- or what it does without an instruction
       follow_statement : (silent : Bool) (action : Action) → is_silent action args into ≡ silent → f.code ≡ does alive action args into ∷ rest → conforms action args into ≡ true

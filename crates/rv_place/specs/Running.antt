@@ -8,7 +8,7 @@ use Rattle.rv_isa.specs.declared.placed.Place.{Place}
 use Rattle.rv_isa.specs.declared.placed.Place.TheVariants.{Register as register, Slot as slot}
 use Rattle.rv_isa.specs.declared.placed.Operand.{Operand}
 use Rattle.rv_isa.specs.PlacedCode.{PlacedLine, does, moves, PlacedLines, to_of}
-use Rattle.rv_isa.specs.Conventions.{is_handed_out, is_in, one_register, may_write}
+use Rattle.rv_isa.specs.Conventions.{is_handed_out, one_register, is_of_constant, may_write}
 use Rattle.rv_isa.specs.Primitives.{go, ended, stuck}
 use Rattle.rv_isa.specs.Frames.{Frame, found}
 use Rattle.rv_isa.specs.PlacedMachine.{PlacedState, PlacedTurn, is_label_line, placed_machine}
@@ -30,7 +30,7 @@ use Rattle.rv_place.specs.declared.reach.Forms.{Forms}
 
 -- ---- what code is asked for
 
--- a register that is written is one that values may have, and the one that holds 1 is written by 1 alone
+-- a register that is written is one that values may have, and one that holds a word always is written by that word alone
 abbrev pub IsHandedOut : Place → Type 0
 IsHandedOut (register r) = is_handed_out r.number ≡ true
 IsHandedOut (slot k) = Unit {0}
@@ -47,7 +47,7 @@ HasLabel whole _ = Unit {0}
 -- a line of a function, `whole`: it writes only what is handed out, and has its label
 abbrev pub IsPlain : List PlacedLine → PlacedLine → Type 0
 IsPlain whole (does alive action args into) = GivesHandedOut action into × HasLabel whole action
-IsPlain whole (moves alive value way) = IsHandedOut (to_of way) × (is_in one_register (to_of way) ≡ false)
+IsPlain whole (moves alive value way) = IsHandedOut (to_of way) × (is_of_constant (to_of way) ≡ false)
 
 abbrev pub ArePlain : List PlacedLine → List PlacedLine → Type 0
 ArePlain whole [] = Unit {0}

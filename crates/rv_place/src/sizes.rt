@@ -3,12 +3,11 @@
 ghost use Rattle.std.specs.Prelude.{◌≡◌, ◌+◌, ◌*◌, ◌≤◌, length, map, max};
 ghost use Rattle.rv_isa.specs.Costs.{operation_instructions, action_instructions, placed_line_length, placed_code_length, placed_functions_length};
 ghost use Rattle.rv_isa.specs.PlacedCode.{placed_line_of, placed_lines_of, placed_functions, from_of, to_of};
-ghost use Rattle.rv_isa.specs.Conventions.{gives_one};
 ghost use Rattle.rv_world.specs.Operations.{all_bytes};
 ghost use Rattle.cell_runtime.specs.Lines.{words_of};
 ghost use Rattle.rv_place.specs.Instructions.{words_of_operation};
 ghost use Rattle.rv_isa.specs.LinePlaces.{is_copy};
-ghost use Rattle.rv_place.specs.Addresses.{is_same_register, stands_there, goes_to_one, is_silent, words_of_action, words_of_line, words_of_lines, words_of_function, words_of_functions, forms_of, slots_of_place, slots_of_operands, slots_of_line, slots_of_lines, slots_of_functions, frame_size, most_frame_slots};
+ghost use Rattle.rv_place.specs.Addresses.{is_same_register, stands_there, goes_home, is_silent, words_of_action, words_of_line, words_of_lines, words_of_function, words_of_functions, forms_of, slots_of_place, slots_of_operands, slots_of_line, slots_of_lines, slots_of_functions, frame_size, most_frame_slots};
 ghost use Rattle.rv_place.specs.Texts.{most_text_length, most_functions, most_runtime_words, most_constant_bytes};
 
 use crate::constant::WordForm;
@@ -77,33 +76,21 @@ fn stands_there(args: &[Operand], into: Option<Operand>) -> bool
     }
 }
 
-fn gives_one(action: Action) -> bool
-    ensures { result ≡ gives_one action }
-{
-    match action {
-        Action::Compute(Operation::Li(word)) => word == 1,
-        _ => false,
-    }
-}
-
-fn goes_to_one(into: Option<Operand>) -> bool
-    ensures { result ≡ goes_to_one into }
+fn goes_home(action: Action, into: Option<Operand>) -> bool
+    ensures { result ≡ goes_home action into }
 {
     match into {
-        Some(into) => match into.place {
-            Place::Register(register) => register.number == Register::GP.number,
-            Place::Slot(_) => false,
-        },
+        Some(into) => action.is_home(into.place),
         None => false,
     }
 }
 
-/// Whether the action is no instruction: a copy whose argument stands already where the value goes, or 1 for the register that
-/// holds it always.
+/// Whether the action is no instruction: a copy whose argument stands already where the value goes, or a constant for the register
+/// that holds it always.
 pub fn is_silent(action: Action, args: &[Operand], into: Option<Operand>) -> bool
     ensures { result ≡ is_silent action args.now into }
 {
-    is_copy(action) && stands_there(args, into) || gives_one(action) && goes_to_one(into)
+    is_copy(action) && stands_there(args, into) || goes_home(action, into)
 }
 
 /// How many instructions an item is.

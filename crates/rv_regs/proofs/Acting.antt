@@ -14,7 +14,7 @@ use Rattle.rv_isa.specs.AsmCode.{Line}
 use Rattle.rv_isa.specs.AsmMachine.{is_label}
 use Rattle.rv_isa.specs.PlacedCode.{PlacedLine, does}
 use Rattle.rv_isa.specs.PlacedMachine.{is_label_line}
-use Rattle.rv_isa.specs.Conventions.{is_handed_out, gives_one, is_register, is_slot, takes_at, gives_at, take_from, gives_into, conforms}
+use Rattle.rv_isa.specs.Conventions.{is_handed_out, is_in_any, home, is_register, is_slot, takes_at, gives_at, take_from, gives_into, conforms}
 use Rattle.rv_isa.specs.Frames.{is_among, found}
 use Rattle.rv_isa.specs.WellFormed.{is_written, is_alive, is_alive_at, is_alive_behind, most_args, has_value, may_give, hands_over, goes_straight_on, AreDistinct, IsLineFormed}
 use Rattle.rv_regs.specs.declared.slots.Loaded.{Loaded}
@@ -31,10 +31,10 @@ use Rattle.rv_regs.proofs.Fitting.{is_listed, listed_there, stands_there, old_ke
 -- ---- the registers of an action
 
 handed_low : (k : ℕ) → 3 ≤ k → k ≤ 7 → is_handed_out k ≡ true
-handed_low k low high = or_left _ _ (and_from _ _ (le-leb 3 k low) (le-leb k 7 high))
+handed_low k low high = or_right _ _ (or_left _ _ (and_from _ _ (le-leb 3 k low) (le-leb k 7 high)))
 
 pub handed_argument : (k : ℕ) → 10 ≤ k → k ≤ 17 → is_handed_out k ≡ true
-handed_argument k low high = or_right _ _ (or_left _ _ (and_from _ _ (le-leb 10 k low) (le-leb k 17 high)))
+handed_argument k low high = or_right _ _ (or_right _ _ (or_left _ _ (and_from _ _ (le-leb 10 k low) (le-leb k 17 high))))
 
 -- no action takes more arguments than there are registers for
 pub most_registers : (action : Action) → first_register action + most_args action ≤ 18
@@ -191,7 +191,7 @@ result_loadable action = (refl, refl)
 
 result_handed : (action : Action) (into : Option ℕ) → WriteIsHandedOut (Some action) (result_of action into)
 result_handed action None = tt
-result_handed action (Some v) = let is = result_loadable action in (is.0, or_right (gives_one action) _ is.1)
+result_handed action (Some v) = let is = result_loadable action in (is.0, or_right (is_in_any (home action) (register (numbered (result_register action)))) _ is.1)
 
 pub none_given : (action : Action) (into : Option ℕ) → may_give action ≡ false → (has_value into ≡ true → may_give action ≡ true) → into ≡ None
 none_given action None none gives = refl

@@ -2,11 +2,11 @@
 use Rattle.std.proofs.Common.{◌≡◌, ◌≢◌, ◌==◌, ◌⊎◌, ◌<◌, ◌≤◌, ◌+◌, ℕ, suc, List, [], ◌∷◌, Option, Some, None, Bool, true, false, not, cond, refl, sym, ◌∙◌, ap, inl, inr, arith, eq-eqb, length}
 use Rattle.std.specs.List.{AllByRecursion, filter}
 use Rattle.std.proofs.Math.Nat.{mod-eq_of_lt}
-use Rattle.std.proofs.lemmas.Bool.{eqb-true, ne_eqb, cond-true, cond-false, cases_eq, or_cases, or_right, or_left, false≢true, cases_Bool, cond_both}
+use Rattle.std.proofs.lemmas.Bool.{eqb-true, ne_eqb, cond-true, cond-false, cases_eq, or_cases, or_from, or_right, or_left, false≢true, cases_Bool, cond_both}
 use Rattle.rv_isa.specs.declared.register.Register.{Register}
 use Rattle.rv_isa.specs.declared.placed.Place.{Place}
 use Rattle.rv_isa.specs.declared.placed.Place.TheVariants.{Register as register, Slot as slot}
-use Rattle.rv_isa.specs.Conventions.{is_handed_out, one_register, is_register, argument}
+use Rattle.rv_isa.specs.Conventions.{is_handed_out, one_register, is_constant_register, is_register, argument}
 use Rattle.rv_isa.specs.Frames.{is_among}
 use Rattle.rv_isa.specs.PlacedMachine.{number_of}
 use Rattle.rv_regs.specs.declared.slots.Loaded.{Loaded}
@@ -184,6 +184,10 @@ number_is n small = mod-eq_of_lt small
 numbers_differ : (n k : ℕ) → k < 32 → suc n ≤ k → (numbered n).number ≢ (numbered k).number
 numbers_differ n k small less e = omega (arith, number_is n (omega arith), number_is k small, e)
 
+-- a register from x4 on holds no word always
+high_variable : (x : ℕ) → 4 ≤ x → is_constant_register x ≡ false
+high_variable x high = or_from (0 == x) _ (ne_eqb 0 x (λ e. omega (arith, e))) (or_from (one_register == x) false (ne_eqb one_register x (λ e. omega (arith, e))) refl)
+
 pub loads_are : (n : ℕ) (vs : List ℕ) → 4 ≤ n → n + length vs ≤ 32 → ((k : ℕ) → n ≤ k → k < n + length vs → is_handed_out k ≡ true) → AreLoads (load_from n vs)
 loads_are n [] high few handed = tt
 loads_are n (v ∷ vs) high few handed =
@@ -194,7 +198,7 @@ loads_are n (v ∷ vs) high few handed =
       all_both (λ (m : Loaded). v ≢ m.value) (λ (m : Loaded). (numbered n).number ≢ m.register.number) (Differ l) (load_from (suc n) vs) (λ m a b. (a, b))
           (load_values (λ u. v ≢ u) (suc n) vs (λ u there same. false≢true (sym t ∙ ap (λ w. is_among w vs) same ∙ there)))
           (load_numbers (λ k. (numbered n).number ≢ k) (suc n) vs (λ k low high. numbers_differ n k (omega arith) low)),
-      ((ap is_handed_out (number_is n (omega arith)) ∙ handed n (omega arith) (omega arith), ap not (ne_eqb (numbered n).number one_register (λ e. omega (arith, number_is n (omega arith), e)))), later),
+      ((ap is_handed_out (number_is n (omega arith)) ∙ handed n (omega arith) (omega arith), ap not (high_variable (numbered n).number (omega (arith, number_is n (omega arith))))), later),
     ))
 
 pub once_loaded : (n v : ℕ) (vs : List ℕ) → is_among v vs ≡ false → load_from n (v ∷ vs) ≡ record { value = v; register = numbered n } ∷ load_from (suc n) vs

@@ -10,7 +10,7 @@ use Rattle.rv_isa.specs.declared.placed.Place.TheVariants.{Register as register,
 use Rattle.rv_isa.specs.declared.placed.Operand.{Operand}
 use Rattle.rv_isa.specs.declared.placed.Listed.{Listed}
 use Rattle.rv_isa.specs.PlacedCode.{PlacedLine, does, moves, PlacedLines, from_of, to_of}
-use Rattle.rv_isa.specs.Conventions.{is_handed_out, is_in, one_register, may_write, argument, conforms}
+use Rattle.rv_isa.specs.Conventions.{is_handed_out, is_of_constant, may_write, is_in, argument, conforms}
 use Rattle.rv_regs.specs.Listings.{first_alive, alive_behind, alive_at_label, both_of, listed_as, with_copy, is_read_in, spoils_by, marks}
 
 abbrev pub value_of : Operand → ℕ
@@ -116,13 +116,13 @@ IsKept alive action reads write l =
     IsNew write l ⊎ (IsCopied alive action write l
     ⊎ (StaysListed alive (marks action reads) l × (IsClearOf write l × AtBoth (IsSafe (spoils_by action)) l)))
 
--- 9. Registers of values, and of their copies, are handed out. The one that holds 1 always is written by 1 alone, and by no move.
+-- 9. Registers of values, and of their copies, are handed out. One that holds a word always is written by that word alone, and by no move.
 abbrev pub IsHandedOut : Place → Type 0
 IsHandedOut (register r) = is_handed_out r.number ≡ true
 IsHandedOut (slot k) = ⊤
 
 abbrev pub may_set : Option Action → Place → Bool
-may_set None place = not (is_in one_register place)
+may_set None place = not (is_of_constant place)
 may_set (Some action) place = may_write action place
 
 abbrev pub WriteIsHandedOut : Option Action → Option Operand → Type 0

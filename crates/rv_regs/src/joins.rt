@@ -5,8 +5,7 @@ use crate::moving::{KeptState, Walk, put_away, put_store, spare_register};
 use crate::places::listing;
 use crate::plans::{Care, Plans};
 use crate::state::{
-    is_constant, is_copied_in, is_in_slot, is_of_constant, is_to_be_had, register_of, same_state,
-    stands_in, state_at,
+    is_copied_in, is_in_slot, is_to_be_had, register_of, same_state, stands_in, state_at,
 };
 use kk_base::NoMemory;
 use rv_isa::{Listed, Place, Register};
@@ -151,7 +150,7 @@ fn found_first(
     let mut goals = Vec::new(alloc);
     for value in alive_at(&plans.alive, label) {
         if let Some(listed) = listing(state, *value) {
-            let is_apart = listed.copy.is_some_and(is_of_constant);
+            let is_apart = listed.copy.is_some_and(Register::is_of_constant);
             if !is_lone && (is_apart || care.is_early(*value)) {
                 goals.push(Listed {
                     copy: None,
@@ -175,7 +174,7 @@ fn leave_constants(
     if !is_one_of(label, &plans.lone) {
         for value in alive_at(&plans.alive, label) {
             if let Some(listed) = listing(&walk.state, *value) {
-                if is_constant(listed) {
+                if listed.place.is_of_constant() {
                     let to = spare_register(walk, &[])?;
                     put_away(alloc, walk, listed, to)?;
                 }
@@ -231,8 +230,8 @@ pub fn kept_register(walk: &Walk, keep: &[u32], ahead: &[u32], value: u32) -> Op
             if let Some(listed) = listing(&walk.kept[at].state, value) {
                 return match register_of(listed) {
                     Some(register)
-                        if is_to_be_had(&walk.state, keep, register) && !is_of_constant(register) =>
-                        { Some(register) }
+                        if is_to_be_had(&walk.state, keep, register)
+                            && !register.is_of_constant() => { Some(register) }
                     _ => None,
                 };
             }

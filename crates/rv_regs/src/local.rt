@@ -7,9 +7,9 @@ use crate::moving::{Walk, put_away, put_copy, put_store, spare_register};
 use crate::places::listing;
 use crate::plans::{Care, Due, Plan, Plans, goes_on, plans_of, spoils_many};
 use crate::state::{
-    argument_register, constant_register, is_free, is_in, is_of_constant, is_to_be_had,
-    is_wished_for, operands_at, register_of, same_state, standing_in, stands_in, state_at,
-    state_behind, state_clear_of, state_uncopied, state_without, wished_register,
+    argument_register, is_free, is_in, is_to_be_had, is_wished_for, operands_at, register_of,
+    same_state, standing_in, stands_in, state_at, state_behind, state_clear_of, state_uncopied,
+    state_without, wished_register,
 };
 use kk_base::NoMemory;
 use rv_isa::{
@@ -84,13 +84,13 @@ fn idle_register(
     value: u32,
     plan: &Plan,
 ) -> Option<Register> {
-    if let Some(register) = constant_register(operation) {
+    if let Some(register) = Action::Compute(operation).home() {
         let is_open = is_to_be_had(state, &[], register) && !is_one_of(value, &plan.joining);
         return if is_open { Some(register) } else { None };
     }
     if let (Operation::Mv, Some(arg)) = (operation, args.first()) {
         if let Place::Register(register) = arg.place {
-            if is_free(state, register) && !is_of_constant(register) {
+            if is_free(state, register) && !register.is_of_constant() {
                 return Some(register);
             }
         }

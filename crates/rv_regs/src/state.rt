@@ -5,7 +5,7 @@ use crate::liveness::{Point, is_one_of};
 use crate::places::listing;
 use crate::plans::Wish;
 use kk_base::NoMemory;
-use rv_isa::{Action, Listed, Operand, Operation, Place, Register};
+use rv_isa::{Action, Listed, Operand, Place, Register};
 use std::alloc::Global;
 
 /// The register that has the value: its place, or its copy.
@@ -84,27 +84,6 @@ pub fn is_to_be_had(state: &[Listed], keep: &[u32], register: Register) -> bool 
 pub const NUMBERS: [u8; 19] = [
     6, 7, 28, 29, 30, 31, 20, 21, 22, 23, 24, 25, 26, 27, 4, 17, 16, 15, 14,
 ];
-
-/// The register where a constant stands that has one of its own. No other value is ever there.
-pub fn constant_register(operation: Operation) -> Option<Register> {
-    match operation {
-        Operation::Li(1) => Some(Register::GP),
-        _ => None,
-    }
-}
-
-/// Whether the register is one of a constant.
-pub fn is_of_constant(register: Register) -> bool {
-    register.number == Register::GP.number
-}
-
-/// Whether the value's place is the register of a constant.
-pub fn is_constant(listed: Listed) -> bool {
-    match listed.place {
-        Place::Register(register) => is_of_constant(register),
-        Place::Slot(_) => false,
-    }
-}
 
 fn free_register(state: &[Listed]) -> Option<Register> {
     for number in NUMBERS {
