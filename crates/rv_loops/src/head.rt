@@ -34,13 +34,13 @@ pub struct Head {
     pub args: Vec<Operand>,
 }
 
-/// A copy may be no instruction, and neither may 1; a label is none.
+/// A copy may be no instruction, and so may 0 and 1; a label is none.
 fn is_straight_action(action: Action) -> bool
     ensures { result ≡ is_straight_action action }
 {
     matches!(
         action,
-        Action::Compute(Operation::Mv | Operation::Li(1)) | Action::Label(_)
+        Action::Compute(Operation::Mv | Operation::Li(0 | 1)) | Action::Label(_)
     )
 }
 
