@@ -9,7 +9,7 @@ use Rattle.kk_syntax.specs.declared.program.Statement.{Statement}
 use Rattle.kk_syntax.specs.OwnedPositions.{is_val, opens, builds, builds_any, builds_rows, reuses}
 use Rattle.kk_syntax.specs.OwnedSearch.{builds_statements}
 use Rattle.kk_syntax.specs.Patterns.{pattern_tree}
-use Rattle.kk_syntax.specs.Trees.{Tree, branch, match, Rows, row, StatementTree, expr_tree, trees_of, row_tree, rows_of, statement_tree}
+use Rattle.kk_syntax.specs.Trees.{Tree, branch, match, Rows, row, row_parts, StatementTree, expr_tree, trees_of, row_tree, rows_of, statement_tree}
 use Rattle.kk_syntax.proofs.Views.{row_tree_is, statement_tree_is}
 use Rattle.kk_borrow.specs.declared.owned_place.Place.{Place}
 use Rattle.kk_borrow.specs.declared.owned_place.Place.TheVariants.{Never, Always}
@@ -77,10 +77,10 @@ module _ (es : List Expr) (i : ℕ) (e : Expr) (less : i < length es) (is : e �
 
 module _ (rs : List Row) (i : ℕ) (r : Row) (less : i < length rs) (is : r ≡ get_or rs i r) where
   next_row : rows_of (map row_tree (drop i rs))
-      ≡ row (pattern_tree r.pattern) (expr_tree r.body) (rows_of (map row_tree (drop (i + 1) rs)))
+      ≡ row (row_parts (pattern_tree r.pattern) (expr_tree r.body)) (rows_of (map row_tree (drop (i + 1) rs)))
   next_row =
       ap (λ (all : List Row). rows_of (map row_tree all)) (rest_at rs i r less is)
-      ∙ ap (λ one. row one.pattern one.body (rows_of (map row_tree (drop (i + 1) rs)))) (row_tree_is r)
+      ∙ ap (λ one. row one (rows_of (map row_tree (drop (i + 1) rs)))) (row_tree_is r)
 
   pub row_rules : (f : ℕ) (old new whole : List RuleTree) → new ≡ old ++ placed f Always (expr_tree r.body)
       → old ++ placed_rows f (rows_of (map row_tree (drop i rs))) ≡ whole

@@ -9,7 +9,7 @@ use Rattle.kk_syntax.specs.Patterns.{Pattern, anything, variable as pattern_vari
 use Rattle.kk_syntax.specs.Programs.{ProgramTree}
 use Rattle.kk_syntax.proofs.Walks.{nodes_bound}
 use Rattle.kk_syntax.specs.Shapes.{nodes_of, nodes_of_rows, nodes_of_pattern}
-use Rattle.kk_syntax.specs.Trees.{Tree, Rows, no_row, row}
+use Rattle.kk_syntax.specs.Trees.{Tree, Rows, no_row, row, row_parts}
 use Rattle.kk_cover.specs.declared.problem.Asked.{Asked}
 use Rattle.kk_cover.specs.declared.problem.Asked.TheVariants as OfAsked
 use Rattle.kk_cover.specs.Covered.{row_outlines}
@@ -69,7 +69,7 @@ some_nodes (constructor c parts) = omega arith
 
 rows_nodes : (rows : Rows) → length (asked_by rows) ≤ nodes_of_rows rows
 rows_nodes no_row = omega arith
-rows_nodes (row pattern body rest) = omega (arith, some_nodes pattern, rows_nodes rest)
+rows_nodes (row (row_parts pattern body) rest) = omega (arith, some_nodes pattern, rows_nodes rest)
 
 pub match_nodes : (e : Tree) → Each (Within (nodes_of e)) (matches e)
 match_nodes e = nodes_bound of_matches Within (λ m n le rows few. omega (arith, le, few)) (λ form. tt) (λ p. tt) (λ rows. (rows_nodes rows, tt)) e

@@ -11,7 +11,7 @@ use Rattle.kk_syntax.specs.declared.program.Program.{Program}
 use Rattle.std.specs.Prelude.{All}
 use Rattle.kk_syntax.specs.Programs.{FunctionTree, ProgramTree, function_tree, program_tree}
 use Rattle.kk_syntax.specs.Shapes.{nodes_of, gathered_rows}
-use Rattle.kk_syntax.specs.Trees.{RowTree, rows_of, expr_tree, row_tree}
+use Rattle.kk_syntax.specs.Trees.{RowTree, pattern_of_row, rows_of, expr_tree, row_tree}
 use Rattle.kk_syntax.proofs.Views.{match_tree, row_tree_is}
 use Rattle.kk_syntax.specs.Covered.{Each, asked_by}
 use Rattle.kk_syntax.specs.Matches.{IsMatchCovered}
@@ -25,8 +25,8 @@ use Rattle.kk_cover.proofs.Keeping.{each-append, each_back}
 rows_outlines : (rows : List Row) → row_outlines rows ≡ asked_by (rows_of (map row_tree rows))
 rows_outlines [] = refl
 rows_outlines (r ∷ rows) =
-    ap (λ (x : RowTree). outline_of x.pattern ∷ row_outlines rows) (sym (row_tree_is r))
-    ∙ ap (λ (os : List Outline). outline_of (row_tree r).pattern ∷ os) (rows_outlines rows)
+    ap (λ (x : RowTree). outline_of (pattern_of_row x) ∷ row_outlines rows) (sym (row_tree_is r))
+    ∙ ap (λ (os : List Outline). outline_of (pattern_of_row (row_tree r)) ∷ os) (rows_outlines rows)
 
 pub matches_match : (e : _) (rows : _) → matches (expr_tree (Match e rows)) ≡ row_outlines rows.items ∷ (matches (expr_tree e.value) ++ gathered_rows of_matches (rows_of (map row_tree rows.items)))
 matches_match e rows =

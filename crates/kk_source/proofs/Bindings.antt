@@ -12,7 +12,7 @@ use Rattle.kk_syntax.specs.Outlines.{outline_of, outlines_of}
 use Rattle.kk_syntax.specs.Patterns.{Pattern, anything, variable, exactly, constructor, Patterns, no_part, part}
 use Rattle.kk_syntax.specs.Programs.{ConstructorTree}
 use Rattle.kk_syntax.specs.Shapes.{variable_of}
-use Rattle.kk_syntax.specs.Trees.{Tree, Rows, no_row, row}
+use Rattle.kk_syntax.specs.Trees.{Tree, Rows, no_row, row, row_parts}
 use Rattle.kk_syntax.specs.Types.{TypeTree}
 use Rattle.kk_syntax.specs.Typing.{Scope, type_in, with_parameters, with_binder}
 use Rattle.kk_source.specs.State.{Value, Store, Environment}
@@ -143,7 +143,7 @@ module _ (constructors : List ConstructorTree) (store more : Store) where
 pub rows_of_type : (table : Table) (scope : Scope) (of : Rows) (u t : TypeTree) → AreRowsTyped table scope of u t
     → Each (IsPatternOf (values_of table.constructors) u) (asked_by of)
 rows_of_type table scope no_row u t typed = tt
-rows_of_type table scope (row p body rest) u t typed = (typed.0, rows_of_type table scope rest u t typed.2)
+rows_of_type table scope (row (row_parts p body) rest) u t typed = (typed.0, rows_of_type table scope rest u t typed.2)
 
 -- a chosen row has a type
 abbrev pub IsChosenTyped : Table → Store → TypeTree → Chosen → Type 0
@@ -168,6 +168,6 @@ module _ (table : Table) (store : Store) (u t : TypeTree) (v : Value) (scope : S
   pub chosen_typed : (of : Rows) (chosen : Chosen) → IsOf table.constructors store u v → AreKnown table.constructors store scope env
       → AreRowsTyped table scope of u t → first_match store of v env ≡ Some chosen → IsChosenTyped table store t chosen
   chosen_typed no_row chosen is known typed found = absurd (cc)
-  chosen_typed (row p body rest) chosen is known typed found =
+  chosen_typed (row (row_parts p body) rest) chosen is known typed found =
       chosen_of p body (matched store p v env) (first_match store rest v env) chosen is known refl typed.0 typed.1
       (λ later. chosen_typed rest chosen is known typed.2 later) found

@@ -7,7 +7,7 @@ use Rattle.kk_base.specs.Trace.{output, input, input_end}
 use Rattle.kk_syntax.specs.declared.operator.BinaryOperator.TheVariants.{Add, Subtract, Multiply, Equal, GreaterEqual}
 use Rattle.kk_syntax.specs.declared.positions.Ownership.TheVariants.{Lent}
 use Rattle.kk_syntax.specs.Patterns.{anything, variable as names}
-use Rattle.kk_syntax.specs.Trees.{Tree, variable, branch, match, no_row, row}
+use Rattle.kk_syntax.specs.Trees.{Tree, variable, branch, match, no_row, row, row_parts}
 use Rattle.kk_source.specs.State.{Setting, ended, heap_full, stack_full}
 use Rattle.kk_source.specs.SourceAfter.{source_after}
 use Rattle.kk_source.proofs.Builder.{number, unit, read_byte, binary, called, made, printed, of_made, bound_to, then, program}
@@ -44,8 +44,8 @@ build =
 abbrev len : Tree
 len =
     match (variable 0)
-    (row (of_made 2 []) (number (pos 0))
-    (row (of_made 3 (anything ∷ names 1 ∷ [])) (binary Add (number (pos 1)) (called 1 (variable 1 ∷ [])))
+    (row (row_parts (of_made 2 []) (number (pos 0)))
+    (row (row_parts (of_made 3 (anything ∷ names 1 ∷ [])) (binary Add (number (pos 1)) (called 1 (variable 1 ∷ []))))
     no_row))
 
 -- fun main() { println(len(build(3))) }
@@ -76,8 +76,8 @@ too_deep = refl
 abbrev rev : Tree
 rev =
     match (variable 0)
-    (row (of_made 3 (names 2 ∷ names 3 ∷ [])) (called 2 (variable 3 ∷ cons (variable 2) (variable 1) ∷ []))
-    (row (of_made 2 []) (variable 1)
+    (row (row_parts (of_made 3 (names 2 ∷ names 3 ∷ [])) (called 2 (variable 3 ∷ cons (variable 2) (variable 1) ∷ [])))
+    (row (row_parts (of_made 2 []) (variable 1))
     no_row))
 
 -- fun main() { match rev(build(3), Nil) { Cons(x, _) -> println(x); Nil -> println(0) } }: three cells are enough, since
@@ -87,8 +87,8 @@ reversed cells =
     program
     (build ∷ len ∷ rev
     ∷ match (called 2 (called 0 (number (pos 3) ∷ []) ∷ nil ∷ []))
-    (row (of_made 3 (names 0 ∷ anything ∷ [])) (printed (variable 0))
-    (row (of_made 2 []) (printed (number (pos 0)))
+    (row (row_parts (of_made 3 (names 0 ∷ anything ∷ [])) (printed (variable 0)))
+    (row (row_parts (of_made 2 []) (printed (number (pos 0))))
     no_row)) ∷ [])
     3 cells 4096
 
@@ -107,8 +107,8 @@ lent_cell cells = record
     (program
     (build ∷ len
     ∷ match (variable 0)
-    (row (of_made 2 []) (number (pos 0))
-    (row (of_made 3 (names 1 ∷ anything ∷ [])) (called 1 (called 0 (variable 1 ∷ []) ∷ []))
+    (row (row_parts (of_made 2 []) (number (pos 0)))
+    (row (row_parts (of_made 3 (names 1 ∷ anything ∷ [])) (called 1 (called 0 (variable 1 ∷ []) ∷ [])))
     no_row))
     ∷ printed (called 2 (cons (number (pos 3)) nil ∷ [])) ∷ [])
     3 cells 4096)
@@ -149,8 +149,8 @@ unchosen cells =
     (build ∷ len
     ∷ bound_to 0 (called 0 (number (pos 1) ∷ []))
     (match (called 0 (number (pos 2) ∷ []))
-    (row anything (printed (number (pos 1)))
-    (row (of_made 2 []) (printed (called 1 (variable 0 ∷ [])))
+    (row (row_parts anything (printed (number (pos 1))))
+    (row (row_parts (of_made 2 []) (printed (called 1 (variable 0 ∷ []))))
     no_row))) ∷ [])
     2 cells 4096
 

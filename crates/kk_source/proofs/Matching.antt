@@ -8,7 +8,7 @@ use Rattle.kk_syntax.specs.OfType.{IsPatternOf, ArePatternsOf, field_types, is_i
 use Rattle.kk_syntax.specs.Outlines.{Outline, any, exactly as asks_exactly, made, Outlines, no_outline, outline, outline_of, outlines_of, Clash, ClashIn}
 use Rattle.kk_syntax.specs.Patterns.{Pattern, anything, variable, exactly, constructor, Patterns, no_part, part}
 use Rattle.kk_syntax.specs.Programs.{ConstructorTree}
-use Rattle.kk_syntax.specs.Trees.{Tree, Rows, no_row, row}
+use Rattle.kk_syntax.specs.Trees.{Tree, Rows, no_row, row, pattern_of_row, body_of_row}
 use Rattle.kk_syntax.specs.Types.{TypeTree, unit_type}
 use Rattle.kk_source.specs.State.{Value, integer, Store, Environment}
 use Rattle.kk_source.specs.Matching.{is_integer, fields_under, and_then, matched, matched_all, Chosen, chosen_or, first_match}
@@ -127,8 +127,9 @@ module _ (constructors : List ConstructorTree) (store : Store) where
       → Each (IsPatternOf (values_of constructors) t) (asked_by of) → HasContent store v what → IsContentOf constructors t what
       → first_match store of v env ≡ None → Each (Clash (outline_in what)) (asked_by of)
   none_chosen no_row t what v env patterns has typed none = tt
-  none_chosen (row p body rest) t what v env patterns has typed none =
-      let both = neither body (matched store p v env) (first_match store rest v env) none in
+  none_chosen (row first rest) t what v env patterns has typed none =
+      let p : Pattern = pattern_of_row first in
+      let both = neither (body_of_row first) (matched store p v env) (first_match store rest v env) none in
       (clashes p t what v env patterns.0 has typed both.0, none_chosen rest t what v env patterns.1 has typed both.1)
 
   -- a match that is covered takes a row

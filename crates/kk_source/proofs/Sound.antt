@@ -10,7 +10,7 @@ use Rattle.kk_syntax.specs.declared.program.Form.TheVariants.{Number, Unit as No
 use Rattle.kk_syntax.specs.Programs.{FunctionTree}
 use Rattle.kk_syntax.specs.PositionsOf.{is_lent}
 use Rattle.kk_syntax.specs.Patterns.{Pattern, anything, variable, exactly, constructor, Patterns, no_part, part}
-use Rattle.kk_syntax.specs.Trees.{Tree, variable as variable_tree, apply, branch, match, sequence, no_tree, tree, Rows, no_row, row}
+use Rattle.kk_syntax.specs.Trees.{Tree, variable as variable_tree, apply, branch, match, sequence, no_tree, tree, Rows, no_row, row, pattern_of_row, body_of_row}
 use Rattle.kk_source.specs.State.{Value, integer, unit, constant, place, Cell, Store, Environment, Frame, arguments, branches, rows, statement, call, heap_full, stack_full, Control, expression, value, stopped, Configuration, Setting, start}
 use Rattle.kk_source.specs.Live.{value_of, fields_in, fields_at}
 use Rattle.kk_source.specs.Matching.{is_integer, fields_made_by, fields_under, and_then, matched, matched_all, Chosen, chosen_or, first_match}
@@ -126,8 +126,9 @@ module _ (store : Store) (older : IsOlder store) where
   chosen_within : (of : Rows) (v : Value) (env : Environment) → Within (length store) v → BoundWithin (length store) env → ChosenWithin (length store) (first_match store of v env)
   unfolding ChosenWithin
   chosen_within no_row v env w e = tt
-  chosen_within (row p body rest) v env w e =
-      chosen_or_within (length store) body (matched store p v env) (first_match store rest v env) (matched_within p v env w e) (chosen_within rest v env w e)
+  chosen_within (row first rest) v env w e =
+      let p : Pattern = pattern_of_row first in
+      chosen_or_within (length store) (body_of_row first) (matched store p v env) (first_match store rest v env) (matched_within p v env w e) (chosen_within rest v env w e)
 
 -- one more cell
 longer_from : (k : ℕ) (store : Store) (cell : Cell) → ((i n : ℕ) → n ≡ k + i → AllWithin n (fields_at store i)) → ((n : ℕ) → n ≡ k + length store → AllWithin n cell.fields) → (i n : ℕ) → n ≡ k + i → AllWithin n (fields_at (store ++ cell ∷ []) i)

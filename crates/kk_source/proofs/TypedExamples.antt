@@ -11,7 +11,7 @@ use Rattle.kk_syntax.specs.Outlines.{Outline, any, exactly, made as made_by, Out
 use Rattle.kk_syntax.specs.Patterns.{anything, variable as names}
 use Rattle.kk_syntax.specs.Programs.{ConstructorTree, FunctionTree, ProgramTree}
 use Rattle.kk_syntax.specs.PositionsOf.{all_owned}
-use Rattle.kk_syntax.specs.Trees.{variable, match, Rows, no_row, row}
+use Rattle.kk_syntax.specs.Trees.{variable, match, Rows, no_row, row, row_parts}
 use Rattle.kk_syntax.specs.Types.{TypeTree, int32, unit_type, named, no_type}
 use Rattle.kk_syntax.specs.Typing.{bool, with_parameters}
 use Rattle.kk_source.specs.NeverStuck.{StateFits}
@@ -32,9 +32,9 @@ constructors = declared 0 0 [] ∷ declared 0 1 [] ∷ declared 1 0 [] ∷ decla
 -- fun second(xs : list) : int32 { match xs { Nil -> 0; Cons(x, Nil) -> x; Cons(_, Cons(y, _)) -> y } }
 abbrev second_rows : Rows
 second_rows =
-    row (of_made 2 []) (number (pos 0))
-    (row (of_made 3 (names 1 ∷ of_made 2 [] ∷ [])) (variable 1)
-    (row (of_made 3 (anything ∷ of_made 3 (names 2 ∷ anything ∷ []) ∷ [])) (variable 2)
+    row (row_parts (of_made 2 []) (number (pos 0)))
+    (row (row_parts (of_made 3 (names 1 ∷ of_made 2 [] ∷ [])) (variable 1))
+    (row (row_parts (of_made 3 (anything ∷ of_made 3 (names 2 ∷ anything ∷ []) ∷ [])) (variable 2))
     no_row))
 
 abbrev second : FunctionTree

@@ -2,7 +2,7 @@
 use Rattle.std.specs.Prelude.{ℕ, ℤ, ◌==◌, List, [], ◌∷◌, Bool, false, Option, Some, None, if◌then◌else◌, slice_get}
 use Rattle.std.specs.Ordering.{int_eq}
 use Rattle.kk_syntax.specs.Patterns.{Pattern, anything, variable, exactly, constructor, Patterns, no_part, part}
-use Rattle.kk_syntax.specs.Trees.{Tree, Rows, no_row, row}
+use Rattle.kk_syntax.specs.Trees.{Tree, Rows, no_row, row, pattern_of_row, body_of_row}
 use Rattle.kk_source.specs.State.{Value, integer, constant, place, Cell, Store, Environment}
 
 abbrev pub is_integer : ℤ → Value → Bool
@@ -51,5 +51,5 @@ chosen_or body (Some environment) later = Some (record { body = body; environmen
 -- the first row whose pattern matches a value, if there is one
 abbrev pub first_match : Store → Rows → Value → Environment → Option Chosen
 first_match store no_row v environment = None
-first_match store (row pattern body rest) v environment =
-    chosen_or body (matched store pattern v environment) (first_match store rest v environment)
+first_match store (row first rest) v environment =
+    chosen_or (body_of_row first) (matched store (pattern_of_row first) v environment) (first_match store rest v environment)

@@ -2,16 +2,17 @@
 use Rattle.std.proofs.Common.{◌≡◌, List, [], ◌∷◌, ◌++◌, refl, ap, sym, ◌∙◌, append_assoc}
 use Rattle.std.specs.List.{flat_map}
 use Rattle.kk_syntax.specs.Shapes.{Gathers, gathered, gathered_all, gathered_rows}
-use Rattle.kk_syntax.specs.Trees.{Tree, trees_of, RowTree, rows_of, StatementTree, block_of}
+use Rattle.kk_syntax.specs.Trees.{Tree, trees_of, RowTree, row_parts, pattern_of_row, body_of_row, rows_of, StatementTree, block_of}
 
 module _ {A : Type 0} (from : Gathers A) where
   pub gathered_each : (es : List Tree) → gathered_all from (trees_of es) ≡ flat_map (gathered from) es
   gathered_each [] = refl
   gathered_each (e ∷ es) = ap (λ (l : List A). gathered from e ++ l) (gathered_each es)
 
-  pub gathered_each_row : (rs : List RowTree) → gathered_rows from (rows_of rs) ≡ flat_map (λ r. from.at_pattern r.pattern ++ gathered from r.body) rs
+  pub gathered_each_row : (rs : List RowTree) → gathered_rows from (rows_of rs) ≡ flat_map (λ r. from.at_pattern (pattern_of_row r) ++ gathered from (body_of_row r)) rs
   gathered_each_row [] = refl
-  gathered_each_row (r ∷ rs) = ap (λ (l : List A). (from.at_pattern r.pattern ++ gathered from r.body) ++ l) (gathered_each_row rs)
+  gathered_each_row (row_parts pattern body ∷ rs) =
+      ap (λ (l : List A). (from.at_pattern pattern ++ gathered from body) ++ l) (gathered_each_row rs)
 
   pub gathered_block : (ss : List StatementTree) (last : Tree) → gathered from (block_of ss last) ≡ flat_map (λ s. gathered from s.value) ss ++ gathered from last
   gathered_block [] last = refl

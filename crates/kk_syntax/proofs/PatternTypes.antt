@@ -8,7 +8,7 @@ use Rattle.kk_syntax.specs.OfType.{IsPatternOf, ArePatternsOf, with_arguments, f
 use Rattle.kk_syntax.specs.Outlines.{outline_of, outlines_of}
 use Rattle.kk_syntax.specs.Patterns.{Pattern, anything, variable as pattern_variable, exactly, constructor, Patterns, no_part, part}
 use Rattle.kk_syntax.specs.Programs.{ConstructorTree, ProgramTree, if_declared, declared_in}
-use Rattle.kk_syntax.specs.Trees.{Rows, no_row, row}
+use Rattle.kk_syntax.specs.Trees.{Rows, no_row, row, row_parts}
 use Rattle.kk_syntax.specs.Types.{TypeTree, unit_type, type_variable, named, TypeTrees, types_of, type_list, put, put_each, type_at, variables_below}
 use Rattle.kk_syntax.specs.Typing.{Scope, Scheme, Choice, variables_of_type, scheme_in, constructor_scheme, IsPatternTyped, ArePatternsTyped, AreRowsTypedBy}
 
@@ -112,6 +112,6 @@ module _ (program : ProgramTree) where
   pub rows_of_type : (scope : Scope) (rows : Rows) (u t : TypeTree) (choices : List Choice)
       → AreRowsTypedBy program scope rows u t choices → Each (IsPatternOf (values_of program.constructors) u) (asked_by rows)
   rows_of_type scope no_row u t choices typed = tt
-  rows_of_type scope (row pattern body rest) u t choices typed =
+  rows_of_type scope (row (row_parts pattern body) rest) u t choices typed =
       let parts = typed.3.inside in
       (pattern_of_type _ pattern u parts.0 parts.3, rows_of_type scope rest u t typed.1 typed.4)

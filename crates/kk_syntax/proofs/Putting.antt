@@ -7,7 +7,7 @@ use Rattle.kk_syntax.specs.OfType.{IsPatternOf, ArePatternsOf, with_arguments, f
 use Rattle.kk_syntax.specs.Outlines.{outline_of, outlines_of}
 use Rattle.kk_syntax.specs.Patterns.{Pattern, anything, variable as pattern_variable, exactly, constructor, Patterns, no_part, part}
 use Rattle.kk_syntax.specs.Programs.{ConstructorTree, ProgramTree}
-use Rattle.kk_syntax.specs.Trees.{Rows, no_row, row}
+use Rattle.kk_syntax.specs.Trees.{Rows, no_row, row, row_parts}
 use Rattle.kk_syntax.specs.Types.{TypeTree, TypeTrees, int32, unit_type, type_variable, named, no_type, type, type_list, put, put_each, type_at, variables_below}
 use Rattle.kk_syntax.specs.Typing.{Scope, Scheme, Choice, constructor_scheme, IsPatternTyped, ArePatternsTyped, AreRowsTypedBy}
 use Rattle.kk_syntax.proofs.PatternTypes.{variables_put, is_declared, fields_found}
@@ -135,6 +135,6 @@ module _ (program : ProgramTree) (s : ℕ → TypeTree) where
   pub rows_put : (scope : Scope) (rows : Rows) (u t : TypeTree) (choices : List Choice)
       → AreRowsTypedBy program scope rows u t choices → Each (IsPatternOf (values_of program.constructors) (put s u)) (asked_by rows)
   rows_put scope no_row u t choices typed = tt
-  rows_put scope (row pattern body rest) u t choices typed =
+  rows_put scope (row (row_parts pattern body) rest) u t choices typed =
       let parts = typed.3.inside in
       (pattern_put _ pattern u parts.0 parts.3, rows_put scope rest u t typed.1 typed.4)

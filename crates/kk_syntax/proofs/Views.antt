@@ -6,7 +6,7 @@ use Rattle.kk_syntax.specs.declared.program.Expr.TheFolds.{fold-roll-Expr, fold_
 use Rattle.kk_syntax.specs.declared.program.Row.{Row}
 use Rattle.kk_syntax.specs.declared.program.Statement.{Statement}
 use Rattle.kk_syntax.specs.Patterns.{pattern_tree}
-use Rattle.kk_syntax.specs.Trees.{Tree, variable, apply, branch, match, trees_of, rows_of, block_of, RowTree, StatementTree, expr_step, row_step, statement_step, expr_tree, row_tree, statement_tree}
+use Rattle.kk_syntax.specs.Trees.{Tree, variable, apply, branch, match, trees_of, rows_of, block_of, RowTree, row_parts, StatementTree, expr_step, row_step, statement_step, expr_tree, row_tree, statement_tree}
 
 pub variable_tree : (of : ℕ) → expr_tree (Variable of) ≡ variable of
 variable_tree of = ap expr_tree (sym (rolls-Variable of)) ∙ fold-roll-Expr Tree RowTree StatementTree expr_step row_step statement_step _
@@ -61,5 +61,5 @@ block_is e x all statements value is first second =
 pub statement_tree_is : (s : Statement) → statement_tree s ≡ record { binder = s.binder; value = expr_tree s.value }
 statement_tree_is s = fold_out-Statement Tree RowTree StatementTree expr_step row_step statement_step s
 
-pub row_tree_is : (r : Row) → row_tree r ≡ record { pattern = pattern_tree r.pattern; body = expr_tree r.body }
+pub row_tree_is : (r : Row) → row_tree r ≡ row_parts (pattern_tree r.pattern) (expr_tree r.body)
 row_tree_is r = fold_out-Row Tree RowTree StatementTree expr_step row_step statement_step r

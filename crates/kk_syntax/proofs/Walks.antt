@@ -13,7 +13,7 @@ use Rattle.kk_syntax.specs.Programs.{ProgramTree}
 use Rattle.kk_syntax.specs.Shapes.{bound, free, free_all, free_rows, nodes_of, nodes_of_all, nodes_of_rows, nodes_of_pattern}
 use Rattle.kk_syntax.specs.Shapes.{TailWalk, tail_walked, tail_walked_rows, Gathers, gathered, gathered_all, gathered_rows}
 use Rattle.kk_syntax.specs.Shapes.{Replaces, replaced, replaced_all, replaced_rows}
-use Rattle.kk_syntax.specs.Trees.{Tree, variable, apply, branch, match, sequence, Trees, no_tree, tree, Rows, no_row, row}
+use Rattle.kk_syntax.specs.Trees.{Tree, variable, apply, branch, match, sequence, Trees, no_tree, tree, Rows, no_row, row, RowTree, row_parts}
 use Rattle.kk_syntax.specs.Types.{TypeTree, put, type_at}
 use Rattle.kk_syntax.specs.Typing.{Scope, with_binder, Scheme, Choice, holding, form_scheme, chosen_at}
 use Rattle.kk_syntax.specs.Typing.{IsPatternTyped, IsTypedBy, AreTypedBy, AreRowsTypedBy}
@@ -47,7 +47,7 @@ module _ {Known Told A Other Heard B : Type 0} (first : TailWalk Known Told A) (
     tail_rows_agree : (k : Known) (o : Other) → Same k o → (u : Told) (v : Heard) → Alike k o u v → (rows : Rows)
         → Agree (tail_walked_rows first k u rows) (tail_walked_rows second o v rows)
     tail_rows_agree k o same u v alike no_row = none
-    tail_rows_agree k o same u v alike (row p body rest) =
+    tail_rows_agree k o same u v alike (row (row_parts p body) rest) =
         let one = tail_walked first (first.enter k u p) body in
         let other = tail_walked second (second.enter o v p) body in
         both (first.at_row k u p ++ one) (tail_walked_rows first k u rest) (second.at_row o v p ++ other)
@@ -61,7 +61,7 @@ module _ {Known Told A Other Heard B : Type 0} (first : TailWalk Known Told A) (
 module _ {Known Told A Other Heard B From : Type 0} (with : Replaces From) (Fits : From → Type 0)
     (behind : (from : From) → Fits from → (e : Tree) → Fits (with.behind from e))
     (behind_pattern : (from : From) → Fits from → (p : Pattern) → Fits (with.behind_pattern from p))
-    (behind_row : (from : From) → Fits from → (p : Pattern) (e : Tree) → Fits (with.behind_row from p e))
+    (behind_row : (from : From) → Fits from → (r : RowTree) → Fits (with.behind_row from r))
     (first : TailWalk Known Told A) (second : TailWalk Other Heard B)
     (Agree : List A → List B → Type 0) (none : Agree [] [])
     (both : (xs ys : List A) (us vs : List B) → Agree xs us → Agree ys vs → Agree (xs ++ ys) (us ++ vs))
@@ -103,9 +103,9 @@ module _ {Known Told A Other Heard B From : Type 0} (with : Replaces From) (Fits
         → (rows : Rows)
         → Agree (tail_walked_rows first k u rows) (tail_walked_rows second o v (replaced_rows with from rows))
     tail_rows_replaced from fits k o same u v alike no_row = none
-    tail_rows_replaced from fits k o same u v alike (row p body rest) =
+    tail_rows_replaced from fits k o same u v alike (row (row_parts p body) rest) =
         let within = with.behind_pattern from p in
-        let after = with.behind_row from p body in
+        let after = with.behind_row from (row_parts p body) in
         let q = with.pattern from p in
         let one = tail_walked first (first.enter k u p) body in
         let other = tail_walked second (second.enter o v q) (replaced with within body) in
@@ -114,7 +114,7 @@ module _ {Known Told A Other Heard B From : Type 0} (with : Replaces From) (Fits
         (both (first.at_row k u p) one (second.at_row o v q) other (at_row from fits k o same u v alike p)
         (tails_replaced within (behind_pattern from fits p) (first.enter k u p) (second.enter o v q)
         (enter from fits k o same u v alike p) body))
-        (tail_rows_replaced after (behind_row from fits p body) k o same u v alike rest)
+        (tail_rows_replaced after (behind_row from fits (row_parts p body)) k o same u v alike rest)
 
 -- Two walks over the variables of an expression agree, where they agree at each variable whose places are alike.
 module _ {Place Other A B : Type 0} (first : PlaceWalk Place A) (second : PlaceWalk Other B)
@@ -148,7 +148,7 @@ module _ {Place Other A B : Type 0} (first : PlaceWalk Place A) (second : PlaceW
 
     row_places_agree : (rows : Rows) → Agree (place_walked_rows first rows) (place_walked_rows second rows)
     row_places_agree no_row = none
-    row_places_agree (row p body rest) =
+    row_places_agree (row (row_parts p body) rest) =
         both _ _ _ _ (places_agree (first.owned true) (second.owned true) (owned true) body) (row_places_agree rest)
 
 -- What is gathered from an expression agrees with what is chosen in its typing, where that is so of forms, patterns and
@@ -215,7 +215,7 @@ module _ (program : ProgramTree) {A : Type 0} (from : Gathers A) (Agree : List C
     row_typings_agree : (scope : Scope) (rows : Rows) (u t : TypeTree) (choices : List Choice)
         → AreRowsTypedBy program scope rows u t choices → Agree choices (gathered_rows from rows)
     row_typings_agree scope no_row u t choices is = same choices [] [] is none
-    row_typings_agree scope (row pattern body rest) u t choices (one, other, is, binds, rest_typed) =
+    row_typings_agree scope (row (row_parts pattern body) rest) u t choices (one, other, is, binds, rest_typed) =
         let parts = binds.inside in
         let here = from.at_pattern pattern ++ gathered from body in
         same choices (one ++ other) (here ++ gathered_rows from rest) is
@@ -272,8 +272,8 @@ module _ {A : Type 0} (from : Gathers A) (Within : ℕ → A → Type 0) (wider 
 
     row_nodes_bound : (rows : Rows) → Each (Within (nodes_of_rows rows)) (gathered_rows from rows)
     row_nodes_bound no_row = tt
-    row_nodes_bound (row pattern body rest) =
-        two (nodes_of_pattern pattern + nodes_of body) (nodes_of_rows rest) (nodes_of_rows (row pattern body rest))
+    row_nodes_bound (row (row_parts pattern body) rest) =
+        two (nodes_of_pattern pattern + nodes_of body) (nodes_of_rows rest) (nodes_of_rows (row (row_parts pattern body) rest))
         (from.at_pattern pattern ++ gathered from body) (gathered_rows from rest)
         (omega arith) (omega arith)
         (two (nodes_of_pattern pattern) (nodes_of body) (nodes_of_pattern pattern + nodes_of body) (from.at_pattern pattern)
@@ -315,7 +315,7 @@ module _ (table : Table) {A : Type 0} (from : Gathers A) (Has : A → Type 0) (f
     typed_rows_gathered : (rows : Rows) (scope : Scope) (u t : TypeTree) → AreRowsTyped table scope rows u t
         → Each Has (gathered_rows from rows)
     typed_rows_gathered no_row scope u t are = tt
-    typed_rows_gathered (row pattern body rest) scope u t are =
+    typed_rows_gathered (row (row_parts pattern body) rest) scope u t are =
         each_both Has (from.at_pattern pattern ++ gathered from body) (gathered_rows from rest)
         (each_both Has (from.at_pattern pattern) (gathered from body) (patterns pattern)
         (typed_gathered body (with_pattern table.constructors pattern u scope) t are.1))
@@ -346,12 +346,12 @@ module _ {Known : Type 0} (with : Replaces Known) where
 
       row_nodes_replaced : (known : Known) (rs : Rows) → nodes_of_rows (replaced_rows with known rs) ≡ nodes_of_rows rs
       row_nodes_replaced known no_row = refl
-      row_nodes_replaced known (row pattern body rest) =
+      row_nodes_replaced known (row (row_parts pattern body) rest) =
           omega (
             arith,
             same known pattern,
             nodes_replaced (with.behind_pattern known pattern) body,
-            row_nodes_replaced (with.behind_row known pattern body) rest,
+            row_nodes_replaced (with.behind_row known (row_parts pattern body)) rest,
           )
 
   module _ (same : (known : Known) (p : Pattern) → bound (with.pattern known p) ≡ bound p) where
@@ -376,9 +376,9 @@ module _ {Known : Type 0} (with : Replaces Known) where
 
       pub row_free_replaced : (known : Known) (rs : Rows) → free_rows (replaced_rows with known rs) ≡ free_rows rs
       row_free_replaced known no_row = refl
-      row_free_replaced known (row pattern body rest) =
+      row_free_replaced known (row (row_parts pattern body) rest) =
           rw (
             same known pattern,
             free_replaced (with.behind_pattern known pattern) body,
-            row_free_replaced (with.behind_row known pattern body) rest,
+            row_free_replaced (with.behind_row known (row_parts pattern body)) rest,
           ) refl

@@ -2,7 +2,7 @@
 use Rattle.std.specs.Prelude.{List, [], ◌∷◌}
 use Rattle.kk_syntax.specs.Outlines.{Outline, outline_of, Clash}
 use Rattle.kk_syntax.specs.OfType.{Values, IsPatternOf}
-use Rattle.kk_syntax.specs.Trees.{Rows, no_row, row}
+use Rattle.kk_syntax.specs.Trees.{Rows, no_row, row, pattern_of_row}
 
 -- each element of a list has a property
 abbrev pub Each : {X : Type 0} → (X → Type 0) → List X → Type 0
@@ -21,4 +21,4 @@ IsCovered values t rows = (e : Outline) → IsMissed values t rows e → ⊥
 -- the rows of a match: what their patterns ask
 abbrev pub asked_by : Rows → List Outline
 asked_by no_row = []
-asked_by (row pattern body rest) = outline_of pattern ∷ asked_by rest
+asked_by (row first rest) = outline_of (pattern_of_row first) ∷ asked_by rest

@@ -8,7 +8,7 @@ use Rattle.kk_syntax.specs.OfType.{IsPatternOf, values_of, field_types}
 use Rattle.kk_syntax.specs.Outlines.{outline_of}
 use Rattle.kk_syntax.specs.Patterns.{Pattern, anything, variable as pattern_variable, exactly, constructor, Patterns, no_part, part}
 use Rattle.kk_syntax.specs.Programs.{ConstructorTree, FunctionTree, ProgramTree}
-use Rattle.kk_syntax.specs.Trees.{Tree, variable, apply, branch, match, sequence, Trees, no_tree, tree, Rows, no_row, row}
+use Rattle.kk_syntax.specs.Trees.{Tree, variable, apply, branch, match, sequence, Trees, no_tree, tree, Rows, no_row, row, row_parts}
 use Rattle.kk_syntax.specs.Types.{TypeTree, int32, unit_type}
 use Rattle.kk_syntax.specs.Typing.{bool, Scope, type_in, with_parameters, with_binder, unary_type, binary_type}
 
@@ -80,7 +80,7 @@ abbrev mutual
 
   pub AreRowsTyped : Table → Scope → Rows → TypeTree → TypeTree → Type 0
   AreRowsTyped table scope no_row u t = Unit {0}
-  AreRowsTyped table scope (row pattern body rest) u t =
+  AreRowsTyped table scope (row (row_parts pattern body) rest) u t =
       IsPatternOf (values_of table.constructors) u (outline_of pattern) × HasType table (with_pattern table.constructors pattern u scope) body t
       × AreRowsTyped table scope rest u t
 

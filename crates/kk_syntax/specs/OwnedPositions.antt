@@ -18,7 +18,7 @@ use Rattle.kk_syntax.specs.Patterns.{Pattern, anything, variable as pattern_vari
 use Rattle.kk_syntax.specs.PositionsOf.{PositionTable, lends}
 use Rattle.kk_syntax.specs.Programs.{FunctionTree, ProgramTree, no_function}
 use Rattle.kk_syntax.specs.Shapes.{bound, is_among, Opening, Tail, tails}
-use Rattle.kk_syntax.specs.Trees.{Tree, variable, apply, branch, match, sequence, Trees, no_tree, tree, Rows, no_row, row}
+use Rattle.kk_syntax.specs.Trees.{Tree, variable, apply, branch, match, sequence, Trees, no_tree, tree, Rows, no_row, row, row_parts, pattern_of_row, body_of_row}
 
 -- whether a position is in a set
 abbrev pub PositionSet : Type 0
@@ -74,13 +74,13 @@ abbrev mutual
 
   pub builds_rows : Rows → Bool
   builds_rows no_row = false
-  builds_rows (row pattern body rest) = builds body || builds_rows rest
+  builds_rows (row (row_parts pattern body) rest) = builds body || builds_rows rest
 
 -- o4: the scrutinee of a match stands at an owned place if a row's pattern has a constructor with fields and the row's
 -- body holds a construction with fields
 abbrev pub reuses : Rows → Bool
 reuses no_row = false
-reuses (row pattern body rest) = (opens pattern && builds body) || reuses rest
+reuses (row first rest) = (opens (pattern_of_row first) && builds (body_of_row first)) || reuses rest
 
 -- What the variables of an expression give, put together in the order in which rows come before the scrutinee that they tell the
 -- place of, by the place at which each variable stands: whether it is owned, or on what that hangs. The expression stands at a
@@ -112,7 +112,7 @@ abbrev mutual
 
   pub place_walked_rows : {Place A : Type 0} → PlaceWalk Place A → Rows → A
   place_walked_rows walk no_row = walk.none
-  place_walked_rows walk (row pattern body rest) =
+  place_walked_rows walk (row (row_parts pattern body) rest) =
       walk.both (place_walked walk (walk.owned true) body) (place_walked_rows walk rest)
 
 -- whether a variable stands at an owned place of an expression; the flag tells whether the expression itself stands at one

@@ -5,7 +5,7 @@ use Rattle.kk_syntax.specs.declared.program.Binder.{Binder}
 use Rattle.kk_syntax.specs.declared.program.Binder.TheVariants as OfBinder
 use Rattle.kk_syntax.specs.declared.program.Form.{Form}
 use Rattle.kk_syntax.specs.Patterns.{Pattern, anything, variable as pattern_variable, exactly, constructor, Patterns, no_part, part}
-use Rattle.kk_syntax.specs.Trees.{Tree, variable, apply, branch, match, sequence, Trees, no_tree, tree, Rows, no_row, row, StatementTree}
+use Rattle.kk_syntax.specs.Trees.{Tree, variable, apply, branch, match, sequence, Trees, no_tree, tree, Rows, no_row, row, RowTree, row_parts, StatementTree}
 use Rattle.kk_syntax.specs.Programs.{FunctionTree, ProgramTree}
 
 -- the variables of a pattern, from left to right
@@ -56,7 +56,7 @@ abbrev mutual
 
   pub free_rows : Rows → List ℕ
   free_rows no_row = []
-  free_rows (row pattern body rest) = without (bound pattern) (free body) ++ free_rows rest
+  free_rows (row (row_parts pattern body) rest) = without (bound pattern) (free body) ++ free_rows rest
 
 -- the nodes of a pattern: 1, and those of its parts
 abbrev mutual
@@ -93,7 +93,7 @@ abbrev mutual
 
   pub nodes_of_rows : Rows → ℕ
   nodes_of_rows no_row = 0
-  nodes_of_rows (row pattern body rest) = nodes_of_pattern pattern + nodes_of body + nodes_of_rows rest
+  nodes_of_rows (row (row_parts pattern body) rest) = nodes_of_pattern pattern + nodes_of body + nodes_of_rows rest
 
 -- the nodes of statements
 abbrev pub nodes_of_statements : List StatementTree → ℕ
@@ -139,7 +139,7 @@ abbrev mutual
 
   pub tail_walked_rows : {Known Told A : Type 0} → TailWalk Known Told A → Known → Told → Rows → List A
   tail_walked_rows walk known told no_row = []
-  tail_walked_rows walk known told (row pattern body rest) =
+  tail_walked_rows walk known told (row (row_parts pattern body) rest) =
       (walk.at_row known told pattern ++ tail_walked walk (walk.enter known told pattern) body)
       ++ tail_walked_rows walk known told rest
 
@@ -183,7 +183,7 @@ abbrev mutual
 
   pub gathered_rows : {A : Type 0} → Gathers A → Rows → List A
   gathered_rows from no_row = []
-  gathered_rows from (row pattern body rest) = (from.at_pattern pattern ++ gathered from body) ++ gathered_rows from rest
+  gathered_rows from (row (row_parts pattern body) rest) = (from.at_pattern pattern ++ gathered from body) ++ gathered_rows from rest
 
 -- What stands in place of the forms and patterns of an expression, by what is known where they stand; and what is known
 -- behind a form, a pattern, an expression and a row.
@@ -193,7 +193,7 @@ pub record Replaces (Known : Type 0) : Type 0 where
   pub behind_form : Known → Form → Known
   pub behind_pattern : Known → Pattern → Known
   pub behind : Known → Tree → Known
-  pub behind_row : Known → Pattern → Tree → Known
+  pub behind_row : Known → RowTree → Known
 
 -- an expression with other forms and patterns, in the order of the text
 abbrev mutual
@@ -215,6 +215,6 @@ abbrev mutual
 
   pub replaced_rows : {Known : Type 0} → Replaces Known → Known → Rows → Rows
   replaced_rows with known no_row = no_row
-  replaced_rows with known (row pattern body rest) =
-      row (with.pattern known pattern) (replaced with (with.behind_pattern known pattern) body)
-      (replaced_rows with (with.behind_row known pattern body) rest)
+  replaced_rows with known (row (row_parts pattern body) rest) =
+      row (row_parts (with.pattern known pattern) (replaced with (with.behind_pattern known pattern) body))
+      (replaced_rows with (with.behind_row known (row_parts pattern body)) rest)

@@ -11,7 +11,8 @@ use Rattle.kk_syntax.specs.declared.program.Expr.TheFolds.{fold-Expr, fold-Row, 
 use Rattle.kk_syntax.specs.Patterns.{Pattern, pattern_tree}
 
 -- An expression: a variable by its number; a form and its arguments; an `if` with its two branches; a match with its rows;
--- and a block, as a statement and the rest of the block behind it. A block without statements is its last expression.
+-- and a block, as a statement and the rest of the block behind it. A block without statements is its last expression. A row of
+-- a match is a value by itself, which has a pattern and a body.
 mutual
   pub data Tree : Type 0 where
     variable : (of : ℕ) → Tree
@@ -24,20 +25,26 @@ mutual
     no_tree : Trees
     tree : (first : Tree) → (rest : Trees) → Trees
 
+  pub data RowTree : Type 0 where
+    row_parts : (pattern : Pattern) → (body : Tree) → RowTree
+
   pub data Rows : Type 0 where
     no_row : Rows
-    row : (pattern : Pattern) → (body : Tree) → (rest : Rows) → Rows
+    row : (first : RowTree) → (rest : Rows) → Rows
+
+-- the parts of a row, by their names
+abbrev pub pattern_of_row : RowTree → Pattern
+pattern_of_row (row_parts pattern body) = pattern
+
+abbrev pub body_of_row : RowTree → Tree
+body_of_row (row_parts pattern body) = body
 
 -- a list of expressions as a list of its own type
 abbrev pub trees_of : List Tree → Trees
 trees_of [] = no_tree
 trees_of (t ∷ ts) = tree t (trees_of ts)
 
--- a row of a match, and a statement, each by itself
-pub record RowTree : Type 0 where
-  pub pattern : Pattern
-  pub body : Tree
-
+-- a statement by itself
 pub record StatementTree : Type 0 where
   pub binder : Binder
   pub value : Tree
@@ -45,7 +52,7 @@ pub record StatementTree : Type 0 where
 -- a list of rows as a list of its own type
 abbrev pub rows_of : List RowTree → Rows
 rows_of [] = no_row
-rows_of (r ∷ rs) = row r.pattern r.body (rows_of rs)
+rows_of (r ∷ rs) = row r (rows_of rs)
 
 -- statements, and what comes behind them
 abbrev pub block_of : List StatementTree → Tree → Tree
@@ -61,7 +68,7 @@ expr_step (Match scrutinee rows) = match scrutinee.value (rows_of rows.items)
 expr_step (Block statements value) = block_of statements.items value.value
 
 abbrev pub row_step : Row-F Tree RowTree StatementTree → RowTree
-row_step r = record { pattern = pattern_tree r.pattern; body = r.body }
+row_step r = row_parts (pattern_tree r.pattern) r.body
 
 abbrev pub statement_step : Statement-F Tree RowTree StatementTree → StatementTree
 statement_step s = record { binder = s.binder; value = s.value }

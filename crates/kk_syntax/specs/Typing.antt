@@ -13,7 +13,7 @@ use Rattle.kk_syntax.specs.declared.program.TypeDecl.{TypeDecl}
 use Rattle.kk_syntax.specs.Patterns.{Pattern, anything, variable as pattern_variable, exactly, constructor, Patterns, no_part, part}
 use Rattle.kk_syntax.specs.Programs.{ConstructorTree, FunctionTree, ProgramTree, declared_in}
 use Rattle.kk_syntax.specs.Shapes.{bound}
-use Rattle.kk_syntax.specs.Trees.{Tree, variable, apply, branch, match, sequence, Trees, no_tree, tree, Rows, no_row, row}
+use Rattle.kk_syntax.specs.Trees.{Tree, variable, apply, branch, match, sequence, Trees, no_tree, tree, Rows, no_row, row, row_parts}
 use Rattle.kk_syntax.specs.Types.{TypeTree, int32, unit_type, type_variable, named, no_type, types_of, put, type_at, variables_below}
 
 -- `bool` is the first type of each program, and `False` and `True` are its first constructors
@@ -195,7 +195,7 @@ abbrev mutual
 
   pub AreRowsTypedBy : ProgramTree → Scope → Rows → TypeTree → TypeTree → List Choice → Type 0
   AreRowsTypedBy program scope no_row u t choices = choices ≡ []
-  AreRowsTypedBy program scope (row pattern body rest) u t choices =
+  AreRowsTypedBy program scope (row (row_parts pattern body) rest) u t choices =
       InTurn
       (Binds (bound pattern) scope (λ inner. InTurn (IsPatternTyped program inner pattern u) (IsTypedBy program inner body t)))
       (AreRowsTypedBy program scope rest u t) choices
