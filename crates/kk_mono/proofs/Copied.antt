@@ -7,7 +7,7 @@ use Rattle.kk_syntax.specs.declared.program.Form.TheVariants.{Call, Construct}
 use Rattle.kk_syntax.specs.Patterns.{Pattern, anything, variable as pattern_variable, exactly, constructor, Patterns, no_part, part}
 use Rattle.kk_syntax.proofs.Walks.{nodes_replaced}
 use Rattle.kk_syntax.specs.Shapes.{nodes_of_pattern, nodes_of_patterns, nodes_of}
-use Rattle.kk_syntax.specs.Trees.{Tree, variable, apply, branch, match, sequence, Trees, no_tree, tree, Rows, no_row, row, RowTree}
+use Rattle.kk_syntax.specs.Trees.{Tree, variable, apply, branch, match, sequence, Trees, no_tree, tree, Rows, no_row, row, row_parts, RowTree}
 use Rattle.kk_mono.specs.Instances.{Renaming, renames, renamed_form, renamed_pattern, renamed_patterns, renamed, renamed_all, renamed_rows}
 use Rattle.kk_mono.specs.Labels.{Names, both, no_names, names_of_form, names_of_pattern, names_of_patterns, names, names_of_all, names_of_rows, behind, labelled_form, only_constructor, labelled_pattern, labelled_patterns, labelled, labelled_all, labelled_rows, row_names, labelled_row}
 use Rattle.kk_mono.proofs.Labelled.{both_assoc}
@@ -193,9 +193,11 @@ module _ (origin : Renaming) where
       (renamed origin copies.positive ≡ positive) × (renamed origin copies.negative ≡ negative)
       × (both (names copies.positive) (names copies.negative) ≡ labels)
 
+  abbrev renamed_row : RowTree → RowTree
+  renamed_row (row_parts pattern body) = row_parts (renamed_pattern origin pattern) (renamed origin body)
+
   abbrev IsCopiedRow : RowTree → Names → RowTree → Type 0
-  IsCopiedRow r labels copy = (renamed_pattern origin copy.pattern ≡ r.pattern) × (renamed origin copy.body ≡ r.body)
-      × (row_names copy ≡ labels)
+  IsCopiedRow r labels copy = (renamed_row copy ≡ r) × (row_names copy ≡ labels)
 
   -- copies of one tree, whatever labels are behind
   abbrev Copies : Tree → Type 0
@@ -211,12 +213,11 @@ module _ (origin : Renaming) where
 
   row_copied : (p : Pattern) (body : Tree) → Copies body → (labels more : Names)
       → origins origin labels ≡ both (names_of_pattern p) (names body)
-      → IsCopiedRow (record { pattern = p; body = body }) labels
-      (labelled_row (both labels more) (record { pattern = p; body = body }))
+      → IsCopiedRow (row_parts p body) labels (labelled_row (both labels more) (row_parts p body))
   row_copied p body body_copied labels more are =
       let halves = both_are (λ ls. labelled_pattern ls p) (λ ls. labelled ls body) (IsCopiedPattern p) (IsCopy body)
       (names_of_pattern p) (names body) (pattern_copied p) body_copied labels more are in
-      (halves.3.0, halves.4.0, (λ i. both (halves.3.1 i) (halves.4.1 i)) ∙ sym halves.2)
+      ((λ i. row_parts (halves.3.0 i) (halves.4.0 i)), (λ i. both (halves.3.1 i) (halves.4.1 i)) ∙ sym halves.2)
 
   mutual
     pub copied : (t : Tree) (labels more : Names) → origins origin labels ≡ names t
@@ -252,11 +253,11 @@ module _ (origin : Renaming) where
     rows_copied : (rs : Rows) (labels more : Names) → origins origin labels ≡ names_of_rows rs
         → AreCopied rs labels (labelled_rows (both labels more) rs)
     rows_copied no_row labels more are = (refl, none_left labels are)
-    rows_copied (row pattern body rest) labels more are =
-        let first : RowTree = record { pattern = pattern; body = body } in
+    rows_copied (row (row_parts pattern body) rest) labels more are =
+        let first : RowTree = row_parts pattern body in
         let halves = both_are (λ ls. labelled_row ls first) (λ ls. labelled_rows ls rest) (IsCopiedRow first) (AreCopied rest)
         (row_names first) (names_of_rows rest) (row_copied pattern body (copied body)) (rows_copied rest) labels more are in
-        ((λ i. row (halves.3.0 i) (halves.3.1 i) (halves.4.0 i)), (λ i. both (halves.3.2 i) (halves.4.1 i)) ∙ sym halves.2)
+        ((λ i. row (halves.3.0 i) (halves.4.0 i)), (λ i. both (halves.3.1 i) (halves.4.1 i)) ∙ sym halves.2)
 
 -- copies have the nodes of what they copy
 mutual

@@ -10,7 +10,7 @@ use Rattle.kk_syntax.specs.declared.program.Pat.TheVariants as OfPat
 use Rattle.kk_syntax.specs.declared.program.Row.{Row}
 use Rattle.kk_syntax.specs.declared.program.Statement.{Statement}
 use Rattle.kk_syntax.specs.Patterns.{Pattern, constructor, part, patterns_of, pattern_tree}
-use Rattle.kk_syntax.specs.Trees.{Tree, apply, match, sequence, tree, row, RowTree, StatementTree, trees_of, rows_of, block_of, expr_tree, row_tree, statement_tree}
+use Rattle.kk_syntax.specs.Trees.{Tree, apply, match, sequence, tree, row, RowTree, row_parts, StatementTree, trees_of, rows_of, block_of, expr_tree, row_tree, statement_tree}
 use Rattle.kk_syntax.proofs.PatternViews.{constructor_tree}
 use Rattle.kk_syntax.proofs.Views.{apply_tree, match_tree, block_tree, apply_is, match_is, block_is, row_tree_is, statement_tree_is}
 use Rattle.kk_mono.specs.Labels.{Names, both, no_names, names_of_form, names_of_pattern, names_of_patterns, names, names_of_all, names_of_rows, behind, labelled_form, only_constructor, labelled_pattern, labelled_patterns, labelled, labelled_all, labelled_rows, names_of_each, labelled_each, row_names, labelled_row, statement_names, labelled_statement}
@@ -82,7 +82,7 @@ all_named (t ∷ ts) = ap (both (names t)) (all_named ts)
 
 rows_named : (rs : List RowTree) → names_of_rows (rows_of rs) ≡ names_of_each row_names rs
 rows_named [] = refl
-rows_named (r ∷ rs) = ap (both (row_names r)) (rows_named rs)
+rows_named (row_parts pattern body ∷ rs) = ap (both (row_names (row_parts pattern body))) (rows_named rs)
 
 block_named : (ss : List StatementTree) (last : Tree) → names (block_of ss last) ≡ both (names_of_each statement_names ss) (names last)
 block_named [] last = refl
@@ -100,9 +100,9 @@ all_labelled labels (t ∷ ts) = ap (λ us. tree (labelled labels t) us) (all_la
 
 rows_labelled : (labels : Names) (rs : List RowTree) → labelled_rows labels (rows_of rs) ≡ rows_of (labelled_each row_names labelled_row labels rs)
 rows_labelled labels [] = refl
-rows_labelled labels (r ∷ rs) =
-    ap (λ rest. row (labelled_pattern labels r.pattern) (labelled (behind labels (names_of_pattern r.pattern)) r.body) rest)
-    (rows_labelled (behind labels (row_names r)) rs)
+rows_labelled labels (row_parts pattern body ∷ rs) =
+    let r : RowTree = row_parts pattern body in
+    ap (row (labelled_row labels r)) (rows_labelled (behind labels (row_names r)) rs)
 
 block_labelled : (labels : Names) (ss : List StatementTree) (last : Tree)
     → labelled labels (block_of ss last) ≡ block_of (labelled_each statement_names labelled_statement labels ss) (labelled (behind labels (names_of_each statement_names ss)) last)
@@ -220,7 +220,7 @@ row_copied labels then after r p e pattern_is then_is body_is after_is =
     let body_copied : expr_tree e ≡ labelled (behind labels (names_of_pattern (pattern_tree r.pattern))) (expr_tree r.body) =
     body_is ∙ ap (λ ls. labelled ls (expr_tree r.body)) then_is in (
       row_tree_is (record { pattern = p; body = e })
-          ∙ ((λ i. record { pattern = pattern_is i; body = body_copied i }) ∙ ap (labelled_row labels) (sym (row_tree_is r))),
+          ∙ ((λ i. row_parts (pattern_is i) (body_copied i)) ∙ ap (labelled_row labels) (sym (row_tree_is r))),
       after_is
           ∙ (ap (λ ls. behind ls (names (expr_tree r.body))) then_is
           ∙ (behind_both labels (names_of_pattern (pattern_tree r.pattern)) (names (expr_tree r.body))

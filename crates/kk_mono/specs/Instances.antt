@@ -191,7 +191,7 @@ renames = record {
   behind_form = λ new form. new;
   behind_pattern = λ new pattern. new;
   behind = λ new e. new;
-  behind_row = λ new pattern body. new;
+  behind_row = λ new r. new;
 }
 
 abbrev pub renamed : Renaming → Tree → Tree

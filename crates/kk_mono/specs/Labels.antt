@@ -5,7 +5,7 @@ use Rattle.kk_syntax.specs.declared.program.Form.{Form}
 use Rattle.kk_syntax.specs.declared.program.Form.TheVariants.{Construct, Call}
 use Rattle.kk_syntax.specs.Patterns.{Pattern, anything, variable as pattern_variable, exactly, constructor, Patterns, no_part, part}
 use Rattle.kk_syntax.specs.Shapes.{Replaces, replaced, replaced_all, replaced_rows}
-use Rattle.kk_syntax.specs.Trees.{Tree, Trees, Rows, RowTree, StatementTree}
+use Rattle.kk_syntax.specs.Trees.{Tree, Trees, Rows, RowTree, row_parts, pattern_of_row, body_of_row, StatementTree}
 use Rattle.kk_mono.specs.declared.labels.Labels.{Labels}
 use Rattle.kk_mono.specs.Instances.{called_by, calls, calls_of_all, calls_of_rows, built_by, tested, tested_all, constructors_in, constructors_in_all, constructors_in_rows}
 
@@ -83,6 +83,10 @@ abbrev mutual
   labelled_patterns labels (part first rest) =
       part (labelled_pattern labels first) (labelled_patterns (behind labels (names_of_pattern first)) rest)
 
+-- what a row names
+abbrev pub row_names : RowTree → Names
+row_names r = both (names_of_pattern (pattern_of_row r)) (names (body_of_row r))
+
 -- an expression with labels for what it names
 abbrev pub labels_names : Replaces Names
 labels_names = record {
@@ -91,7 +95,7 @@ labels_names = record {
   behind_form = λ labels form. behind labels (names_of_form form);
   behind_pattern = λ labels pattern. behind labels (names_of_pattern pattern);
   behind = λ labels e. behind labels (names e);
-  behind_row = λ labels pattern body. behind labels (both (names_of_pattern pattern) (names body));
+  behind_row = λ labels r. behind labels (row_names r);
 }
 
 abbrev pub labelled : Names → Tree → Tree
@@ -113,12 +117,9 @@ abbrev pub labelled_each : {X : Type 0} → (X → Names) → (Names → X → X
 labelled_each named change labels [] = []
 labelled_each named change labels (x ∷ xs) = change labels x ∷ labelled_each named change (behind labels (named x)) xs
 
-abbrev pub row_names : RowTree → Names
-row_names r = both (names_of_pattern r.pattern) (names r.body)
-
 abbrev pub labelled_row : Names → RowTree → RowTree
-labelled_row labels r =
-    record { pattern = labelled_pattern labels r.pattern; body = labelled (behind labels (names_of_pattern r.pattern)) r.body }
+labelled_row labels (row_parts pattern body) =
+    row_parts (labelled_pattern labels pattern) (labelled (behind labels (names_of_pattern pattern)) body)
 
 abbrev pub statement_names : StatementTree → Names
 statement_names s = names s.value
