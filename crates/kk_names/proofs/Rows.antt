@@ -22,16 +22,16 @@ use Rattle.kk_names.proofs.Patterns.{names_with_pattern}
 -- rows, and those behind them
 abbrev before : List RowTree → Rows → Rows
 before [] rest = rest
-before (t ∷ ts) rest = program.row t.pattern t.body (before ts rest)
+before (t ∷ ts) rest = program.row t (before ts rest)
 
 before_one_more : (ts : List RowTree) (t : RowTree) (rest : Rows)
-    → before (ts ++ t ∷ []) rest ≡ before ts (program.row t.pattern t.body rest)
+    → before (ts ++ t ∷ []) rest ≡ before ts (program.row t rest)
 before_one_more [] t rest = refl
-before_one_more (first ∷ ts) t rest = ap (program.row first.pattern first.body) (before_one_more ts t rest)
+before_one_more (first ∷ ts) t rest = ap (program.row first) (before_one_more ts t rest)
 
 before_none : (ts : List RowTree) → before ts program.no_row ≡ program.rows_of ts
 before_none [] = refl
-before_none (t ∷ ts) = ap (program.row t.pattern t.body) (before_none ts)
+before_none (t ∷ ts) = ap (program.row t) (before_none ts)
 
 abbrev behind_rows : WrittenRows → State → State
 behind_rows rows state = grown state (past_rows rows state.before) (faults_in_rows state.known (names_in state.scope) rows)
@@ -55,6 +55,7 @@ rows_more old now new r left all trees t so_far one =
     let here = pattern_faults s.known [] r.pattern ++ faults_in s.known (pattern_names r.pattern [] ++ names) r.body in
     let rest = meant_rows_at (state_of new) left in
     let body = meant s.known (in_row r.pattern s.before s.scope) between r.body in
+    let made : RowTree = program.row_parts (pattern_meant s.known s.before r.pattern) body in
     record {
       state =
           ap (behind_rows left) one.state
@@ -63,10 +64,8 @@ rows_more old now new r left all trees t so_far one =
       scope = one.scope ∙ so_far.scope;
       trees_are =
           before_one_more trees t rest
-          ∙ (ap (λ p. before trees (program.row p t.body rest)) one.pattern_is
-          ∙ (ap (λ e. before trees (program.row (pattern_meant s.known s.before r.pattern) e rest)) one.body_is
-          ∙ (ap (λ state. before trees (program.row (pattern_meant s.known s.before r.pattern) body
-          (meant_rows_at state left))) one.state ∙ so_far.trees_are)));
+          ∙ (ap (λ u. before trees (program.row u rest)) one.tree_is
+          ∙ (ap (λ state. before trees (program.row made (meant_rows_at state left))) one.state ∙ so_far.trees_are));
     }
 
 pub rows_done : (old now : Resolver) (all : WrittenRows) (trees : List RowTree)
@@ -100,7 +99,7 @@ pub row_resolved : (pattern : WrittenPattern) (body : Written) (old matched seen
     → Resolves body seen valued t
     → known_of new ≡ known_of valued → new.scope.items ≡ take (length old.scope.items) valued.scope.items
     → before_of new ≡ before_of valued → new.first ≡ valued.first
-    → ResolvesRow (record { pattern = pattern; body = body }) old new (record { pattern = p; body = t })
+    → ResolvesRow (record { pattern = pattern; body = body }) old new (program.row_parts p t)
 row_resolved pattern body old matched seen valued new bound p t one known scope next first value new_known new_scope new_next new_first =
     let s : State = state_of old in
     let between = past_pattern pattern s.before in
@@ -128,8 +127,10 @@ row_resolved pattern body old matched seen valued new bound p t one known scope 
           ∙ (ap (λ f. first_with f (faults_in s.known names body)) (ap (λ state. state.first) one.state)
           ∙ sym (first_more s.first (pattern_faults s.known [] pattern) (faults_in s.known names body))))));
       scope = back;
-      pattern_is = one.tree_is;
-      body_is = value.tree_is ∙ ap (λ state. meant_at state body) seen_so;
+      tree_is =
+          ap (λ q. program.row_parts q t) one.tree_is
+          ∙ ap (program.row_parts (pattern_meant s.known s.before pattern))
+          (value.tree_is ∙ ap (λ state. meant_at state body) seen_so);
     }
 
 -- ---- a match

@@ -84,5 +84,6 @@ abbrev mutual
   pub meant_rows : Known → Scope → Before → WrittenRows → program.Rows
   meant_rows known scope before no_row = program.no_row
   meant_rows known scope before (row pattern body rest) =
-      program.row (pattern_meant known before pattern) (meant known (in_row pattern before scope) (past_pattern pattern before) body)
+      program.row
+      (program.row_parts (pattern_meant known before pattern) (meant known (in_row pattern before scope) (past_pattern pattern before) body))
       (meant_rows known scope (past body (past_pattern pattern before)) rest)

@@ -9,7 +9,7 @@ use Rattle.kk_syntax.specs.Programs.{constructor_tree, function_tree, program_tr
 use Rattle.kk_syntax.specs.Surface.{WrittenPattern, WrittenPatterns, WrittenRow, WrittenRows, Written, branch, branch_alone, Writtens, WrittenStatement, WrittenType, WrittenTypes, WrittenParameter, WrittenConstructor, WrittenDeclaration, block_of}
 use Rattle.kk_syntax.specs.Patterns.{Pattern, Patterns}
 use Rattle.kk_syntax.specs.Trees as program
-use Rattle.kk_syntax.specs.Trees.{RowTree, StatementTree}
+use Rattle.kk_syntax.specs.Trees.{RowTree, row_parts, StatementTree}
 use Rattle.kk_syntax.specs.Types.{TypeTree, TypeTrees}
 use Rattle.kk_names.specs.declared.fault.Fault.{Fault}
 use Rattle.kk_names.specs.declared.fault.FaultKind.{FaultKind}
@@ -149,8 +149,8 @@ pub record ResolvesRow (row : WrittenRow) (old new : Resolver) (tree : RowTree) 
   pub state : state_of new ≡ grown (state_of old) (past row.body (past_pattern row.pattern (before_of old)))
       (pattern_faults (known_of old) [] row.pattern ++ faults_in (known_of old) (pattern_names row.pattern [] ++ names_in (newest_first old.scope.items)) row.body)
   pub scope : new.scope.items ≡ old.scope.items
-  pub pattern_is : tree.pattern ≡ pattern_meant (known_of old) (before_of old) row.pattern
-  pub body_is : tree.body ≡ meant (known_of old) (in_row row.pattern (before_of old) (newest_first old.scope.items)) (past_pattern row.pattern (before_of old)) row.body
+  pub tree_is : tree ≡ row_parts (pattern_meant (known_of old) (before_of old) row.pattern)
+      (meant (known_of old) (in_row row.pattern (before_of old) (newest_first old.scope.items)) (past_pattern row.pattern (before_of old)) row.body)
 
 -- the variables of a resolver are the first ones of another
 abbrev pub KeepsScope : Resolver → Resolver → Type 0
