@@ -9,7 +9,7 @@ use Rattle.kk_syntax.specs.OfType.{IsPatternOf, ArePatternsOf, field_types, valu
 use Rattle.kk_syntax.specs.Outlines.{outline_of, outlines_of}
 use Rattle.kk_syntax.specs.Patterns.{Pattern, anything, variable, exactly, constructor, Patterns, no_part, part}
 use Rattle.kk_syntax.specs.Programs.{ConstructorTree}
-use Rattle.kk_syntax.specs.Trees.{Rows, no_row, row}
+use Rattle.kk_syntax.specs.Trees.{Rows, no_row, row, row_parts}
 use Rattle.kk_syntax.specs.Types.{TypeTree, int32, unit_type}
 use Rattle.kk_source.specs.Matching.{is_integer, and_then, matched, matched_all, Chosen, chosen_or, first_match}
 use Rattle.kk_source.specs.State.{Value, integer, unit, constant, place, Store, Environment}
@@ -147,7 +147,7 @@ module _ (constructors : List ConstructorTree) (new : Renaming) (apart : AreApar
       → first_match (store_image new store) (renamed_rows new of) (image new v) (environment_image new env)
       ≡ option_map choice_image (first_match store of v env)
   chosen_image no_row t v env patterns of = refl
-  chosen_image (row p body rest) t v env patterns of =
+  chosen_image (row (row_parts p body) rest) t v env patterns of =
       by_match (matched store p v env) (matched_image p t of.what v env patterns.0 of.has of.typed)
       (chosen_image rest t v env patterns.1 of)
     where

@@ -12,7 +12,7 @@ use Rattle.kk_syntax.specs.OfType.{IsPatternOf, ArePatternsOf, field_types, valu
 use Rattle.kk_syntax.specs.Outlines.{Outline, any, exactly as asks_exactly, made as asks, Outlines, no_outline, outline, outline_of, outlines_of, Clash, ClashIn}
 use Rattle.kk_syntax.specs.Patterns.{Pattern, anything, variable as pattern_variable, exactly, constructor, Patterns, no_part, part}
 use Rattle.kk_syntax.specs.Programs.{ConstructorTree, ProgramTree, no_constructor, constructor_in}
-use Rattle.kk_syntax.specs.Trees.{Rows, no_row, row}
+use Rattle.kk_syntax.specs.Trees.{Rows, no_row, row, row_parts}
 use Rattle.kk_syntax.specs.Types.{TypeTree, put}
 use Rattle.kk_syntax.specs.Typing.{Choice, Scheme, Scope, constructor_scheme, IsPatternTyped, ArePatternsTyped, AreRowsTypedBy}
 use Rattle.kk_syntax.proofs.PatternTypes.{is_declared}
@@ -162,7 +162,7 @@ module _ (program made : ProgramTree) (typings : List (List Choice)) (instances 
       → Each (IsPatternOf (values_of made.constructors) t) (asked_by rows) → Each (Clash e) (asked_by rows)
       → Each (Clash (outline_image e)) (asked_by (renamed_rows new rows))
   clashes_image no_row scope u t r choices e typed e_of of clashes = tt
-  clashes_image (row p body rest) scope u t r choices e typed e_of of clashes =
+  clashes_image (row (row_parts p body) rest) scope u t r choices e typed e_of of clashes =
       let parts = typed.3.inside in (
         clash_image p u t _ parts.0 e parts.3 e_of of.0 clashes.0,
         clashes_image rest scope u t r typed.1 e typed.4 e_of of.1 clashes.1,

@@ -18,7 +18,7 @@ use Rattle.kk_syntax.specs.Patterns.{Pattern, anything, variable as pattern_vari
 use Rattle.kk_syntax.specs.GroundTyping.{Signature, signature_of}
 use Rattle.kk_syntax.specs.Programs.{FunctionTree, ProgramTree}
 use Rattle.kk_syntax.specs.Shapes.{bound, gathered_all, gathered_rows}
-use Rattle.kk_syntax.specs.Trees.{Tree, variable, apply, branch, match, sequence, Trees, no_tree, tree, Rows, no_row, row}
+use Rattle.kk_syntax.specs.Trees.{Tree, variable, apply, branch, match, sequence, Trees, no_tree, tree, Rows, no_row, row, row_parts}
 use Rattle.kk_syntax.specs.Types.{TypeTree, put, type_at}
 use Rattle.kk_syntax.specs.Typing.{bool, Scope, Scheme, Choice, holding, unary_type, binary_type, with_binder, with_bound, function_scheme, form_scheme, chosen_at, IsPatternTyped, ArePatternsTyped, IsTypedBy, AreTypedBy, AreRowsTypedBy}
 use Rattle.kk_syntax.proofs.Elements.{each_parts}
@@ -350,7 +350,7 @@ module _ (program made : ProgramTree) (typings : List (List Choice)) (instances 
         → AreNamed (choices ++ more) (calls_of_rows rows ++ ns) (constructors_in_rows rows ++ gs)
         → AreRowsTyped table inner rows (ground u) (ground t) × AreNamed more ns gs
     rows_typed no_row scope inner u t choices more ns gs stands none sound named = (tt, along choices [] more ns gs none named)
-    rows_typed (row p body rest) scope inner u t choices more ns gs stands (one, other, whole, binds, rest_typed) sound named =
+    rows_typed (row (row_parts p body) rest) scope inner u t choices more ns gs stands (one, other, whole, binds, rest_typed) sound named =
         let typed = binds.inside in
         let bound_scope = with_bound (bound (renamed_pattern new p)) binds.at scope in
         let both = parts (matches_in body) (matches_in_rows rest) (printed_in body) (printed_in_rows rest) sound in
