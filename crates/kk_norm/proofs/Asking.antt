@@ -6,7 +6,7 @@ use Rattle.kk_syntax.specs.declared.program.Form.{Form}
 use Rattle.kk_syntax.specs.declared.program.Form.TheVariants.{Number, Unit as Nothing, ReadByte, PrintText, Unary, Binary, Print, Construct, Call}
 use Rattle.kk_syntax.specs.Patterns.{Pattern, anything, variable as pattern_variable, exactly, constructor, Patterns, no_part, part}
 use Rattle.kk_syntax.specs.Programs.{ConstructorTree, FunctionTree, ProgramTree}
-use Rattle.kk_syntax.specs.Trees.{Tree, variable, apply, branch, match, sequence, Trees, no_tree, tree, Rows, no_row, row}
+use Rattle.kk_syntax.specs.Trees.{Tree, variable, apply, branch, match, sequence, Trees, no_tree, tree, Rows, no_row, row, row_parts}
 use Rattle.kk_core.specs.Kinds.{AskTyped, ArmsAskTyped, AllAskTyped}
 use Rattle.kk_core.specs.Codes.{Code, Arms, FunctionCode, ProgramCode}
 use Rattle.kk_core.specs.Kinds.{AsksTyped}
@@ -100,7 +100,7 @@ module _ (constructors : List ConstructorTree) where
     arms_ask : (k : Then) (names : Names) (a n : ℕ) (rows : Rows) (arms : Arms) → AreArms constructors k names a n rows arms → ThenAsksTyped k
         → ArmsAskTyped constructors arms
     arms_ask k names a n no_row arms are then = subst (ArmsAskTyped constructors) (sym are) tt
-    arms_ask k names a n (row pattern body rest) arms are then =
+    arms_ask k names a n (row (row_parts pattern body) rest) arms are then =
         subst (ArmsAskTyped constructors) (sym are.2)
         (opened_asks a n pattern are.0 (code_asks k _ _ body are.0 are.3 then), arms_ask k names a _ rest are.1 are.4 then)
 

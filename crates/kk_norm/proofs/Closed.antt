@@ -8,7 +8,7 @@ use Rattle.kk_syntax.specs.OfType.{field_types}
 use Rattle.kk_syntax.specs.Patterns.{Pattern, anything, variable as pattern_variable, exactly, constructor, Patterns, no_part, part}
 use Rattle.kk_syntax.specs.Programs.{ConstructorTree, FunctionTree}
 use Rattle.kk_syntax.specs.Shapes.{bound, bound_all, bound_by, free, free_all, free_rows, is_among, without}
-use Rattle.kk_syntax.specs.Trees.{Tree, variable, apply, branch, match, sequence, Trees, no_tree, tree, Rows, no_row, row}
+use Rattle.kk_syntax.specs.Trees.{Tree, variable, apply, branch, match, sequence, Trees, no_tree, tree, Rows, no_row, row, row_parts}
 use Rattle.kk_syntax.specs.Types.{TypeTree}
 use Rattle.kk_syntax.specs.Typing.{Scope, type_in, with_binder, with_parameters}
 use Rattle.kk_norm.proofs.PatternNames.{out_left, out_right}
@@ -91,7 +91,7 @@ mutual
   rows_typed : (table : Table) (of : Rows) (scope : Scope) (u t : TypeTree) (x : ℕ) → AreRowsTyped table scope of u t
       → is_among (free_rows of) x ≡ true → HasSome scope x
   rows_typed table no_row scope u t x typed is = absurd (cc)
-  rows_typed table (row pattern body rest) scope u t x typed is =
+  rows_typed table (row (row_parts pattern body) rest) scope u t x typed is =
       among_each (without (bound pattern) (free body)) (free_rows rest) x (HasSome scope x)
       (λ in_body. let over = left_over (bound pattern) (free body) x in_body in
       pattern_before table.constructors pattern u scope x over.0

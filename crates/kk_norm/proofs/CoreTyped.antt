@@ -12,7 +12,7 @@ use Rattle.kk_syntax.specs.Programs.{ConstructorTree}
 use Rattle.kk_syntax.specs.Shapes.{is_among, variable_of}
 use Rattle.kk_syntax.specs.Types.{TypeTree}
 use Rattle.kk_syntax.specs.Typing.{Scope, bool, with_binder}
-use Rattle.kk_syntax.specs.Trees.{Tree, variable, apply, branch, match, sequence, Trees, no_tree, tree, Rows, no_row, row}
+use Rattle.kk_syntax.specs.Trees.{Tree, variable, apply, branch, match, sequence, Trees, no_tree, tree, Rows, no_row, row, row_parts}
 use Rattle.kk_core.specs.Choosing.{Decides}
 use Rattle.kk_core.specs.Codes.{Code, give, tail_call, case, compute, use_of, unpack, inside, Arms, no_arm, arm, patterns_of}
 use Rattle.kk_core.specs.CoreTyping as Typed
@@ -350,7 +350,7 @@ mutual
 pub patterns_are : (constructors : List ConstructorTree) (k : Then) (names : Names) (a n : ℕ) (of : Rows) (arms : Arms)
     → AreArms constructors k names a n of arms → patterns_of arms ≡ patterns_in of
 patterns_are constructors k names a n no_row arms are = ap patterns_of are
-patterns_are constructors k names a n (row pattern body rest) arms are =
+patterns_are constructors k names a n (row (row_parts pattern body) rest) arms are =
     ap patterns_of are.2 ∙ ap (λ (more : List Pattern). pattern ∷ more)
     (patterns_are constructors k names a (n + pattern_size pattern + size body) rest are.1 are.4)
 
@@ -459,7 +459,7 @@ mutual
       → FitArms table tail facts a u low arms high t
   arms_fit table truths tail k names a n no_row arms scope facts low to high u s t m x coded typed are has less le goes room =
       subst (λ (all : Arms). FitArms table tail facts a u low all high t) (sym coded) (record { typed = tt; ordered = omega arith })
-  arms_fit table truths tail k names a n (row pattern body rest) arms scope facts low to high u s t m x coded typed are has less le goes
+  arms_fit table truths tail k names a n (row (row_parts pattern body) rest) arms scope facts low to high u s t m x coded typed are has less le goes
       room =
       let from : ℕ = n + pattern_size pattern in
       let end : ℕ = from + size body in

@@ -7,7 +7,7 @@ use Rattle.kk_syntax.specs.declared.program.Form.TheVariants.{Binary}
 use Rattle.kk_syntax.specs.Patterns.{Pattern, anything, variable as pattern_variable, constructor, no_part, part}
 use Rattle.kk_syntax.specs.Programs.{ConstructorTree}
 use Rattle.kk_syntax.specs.Shapes.{is_among}
-use Rattle.kk_syntax.specs.Trees.{Tree, variable, apply, match, no_tree, tree, no_row, row}
+use Rattle.kk_syntax.specs.Trees.{Tree, variable, apply, match, no_tree, tree, no_row, row, row_parts}
 use Rattle.kk_source.specs.State.{Value, Cell}
 use Rattle.kk_core.specs.Choosing.{Decides, matches}
 use Rattle.kk_core.specs.Codes.{Code, give, case, compute, use_of, unpack, Arms, no_arm, arm}
@@ -32,7 +32,7 @@ nested =
 
 -- match p { Pair(x, Pair(_, y)) -> x - y }, where p is parameter 0, x is variable 1 and y is variable 2
 abbrev body : Tree
-body = match (variable 0) (row nested (apply (Binary Subtract) (tree (variable 1) (tree (variable 2) no_tree))) no_row)
+body = match (variable 0) (row (row_parts nested (apply (Binary Subtract) (tree (variable 1) (tree (variable 2) no_tree)))) no_row)
 
 -- what is done in the arm behind its openings
 abbrev subtraction : Code

@@ -8,7 +8,7 @@ use Rattle.kk_syntax.specs.declared.program.Form.TheVariants.{Call}
 use Rattle.kk_syntax.specs.Patterns.{Pattern, anything, variable as pattern_variable, exactly, constructor, Patterns, no_part, part}
 use Rattle.kk_syntax.specs.Programs.{ConstructorTree, FunctionTree, ProgramTree}
 use Rattle.kk_syntax.specs.Shapes.{nodes_of, nodes_of_all, nodes_of_rows, nodes_of_pattern, nodes_of_patterns, greatest_of, greatest_nodes, variable_of}
-use Rattle.kk_syntax.specs.Trees.{Tree, variable, apply, branch, match, sequence, Trees, no_tree, tree, Rows, no_row, row}
+use Rattle.kk_syntax.specs.Trees.{Tree, variable, apply, branch, match, sequence, Trees, no_tree, tree, Rows, no_row, row, row_parts}
 use Rattle.kk_core.specs.Cases.{EachCase, EachCaseOfArms, EachCaseOfAll, IsWhole, CasesAreWhole, IsLean, CasesAreLean}
 use Rattle.kk_core.specs.Codes.{Code, give, tail_call, case, compute, use_of, unpack, inside, Arms, patterns_of, no_arm, arm, FunctionCode, ProgramCode}
 use Rattle.kk_core.specs.Decisions.{NodeTree}
@@ -45,7 +45,7 @@ atoms_few names n (tree first rest) = omega (arith, tree_some first, atoms_few n
 
 patterns_few : (of : Rows) → sum_by nodes_of_pattern (patterns_in of) ≤ nodes_of_rows of
 patterns_few no_row = omega arith
-patterns_few (row pattern body rest) =
+patterns_few (row (row_parts pattern body) rest) =
     omega (arith, sum_by-cons nodes_of_pattern pattern (patterns_in rest), patterns_few rest)
 
 -- ---- form by form
@@ -162,7 +162,7 @@ module _ (constructors : List ConstructorTree) (most : ℕ) (Q : Code → Type 0
     arms_hold : (k : Then) (names : Names) (a n : ℕ) (of : Rows) (arms : Arms) → AreArms constructors k names a n of arms
         → nodes_of_rows of ≤ most → HoldsThen k → Each arms
     arms_hold k names a n no_row arms are few later = subst Each (sym are) holds.none
-    arms_hold k names a n (row pattern body rest) arms are few later =
+    arms_hold k names a n (row (row_parts pattern body) rest) arms are few later =
         let from : ℕ = n + pattern_size pattern in
         let here : Q are.0 = code_holds k (pattern_names a n pattern names) from body are.0 are.3 (omega (arith, few)) later in
         subst Each (sym are.2)

@@ -4,7 +4,7 @@ use Rattle.kk_syntax.specs.declared.program.Form.{Form}
 use Rattle.kk_syntax.specs.declared.program.Form.TheVariants.{Call}
 use Rattle.kk_syntax.specs.Patterns.{Pattern, anything, variable as pattern_variable, exactly, constructor, Patterns, no_part, part}
 use Rattle.kk_syntax.specs.Shapes.{nodes_of, nodes_of_all, nodes_of_rows, nodes_of_pattern, nodes_of_patterns, variable_of}
-use Rattle.kk_syntax.specs.Trees.{Tree, variable, apply, branch, match, sequence, Trees, no_tree, tree, Rows, no_row, row}
+use Rattle.kk_syntax.specs.Trees.{Tree, variable, apply, branch, match, sequence, Trees, no_tree, tree, Rows, no_row, row, row_parts}
 use Rattle.kk_syntax.specs.Programs.{ConstructorTree, FunctionTree, ProgramTree}
 use Rattle.kk_core.specs.Codes.{Code, case, Arms, FunctionCode, ProgramCode}
 use Rattle.kk_core.specs.CoreTyping.{IsFunctionSmall, AreSmall, all_forms, IsSmall}
@@ -42,7 +42,7 @@ mutual
 
   size_rows_small : (rows : Rows) → size_rows rows ≤ nodes_of_rows rows
   size_rows_small no_row = omega arith
-  size_rows_small (row pattern body rest) = omega (arith, pattern_small pattern, size_small body, size_rows_small rest)
+  size_rows_small (row (row_parts pattern body) rest) = omega (arith, pattern_small pattern, size_small body, size_rows_small rest)
 
 -- ---- forms
 
@@ -127,7 +127,7 @@ mutual
 
   arms_small : (constructors : List ConstructorTree) (k : Then) (names : Names) (a n : ℕ) (rows : Rows) (arms : Arms) → AreArms constructors k names a n rows arms → forms_then k ≡ 0 → forms_of_arms arms ≤ 2 * nodes_of_rows rows
   arms_small constructors k names a n no_row arms are none = omega (arith, ap forms_of_arms are)
-  arms_small constructors k names a n (row pattern body rest) arms are none =
+  arms_small constructors k names a n (row (row_parts pattern body) rest) arms are none =
       let from : ℕ = n + pattern_size pattern in
       let one : forms (opened a n pattern are.0) ≤ nodes_of_pattern pattern + forms are.0 = opened_small a n pattern are.0 in
       let two : forms are.0 ≤ 2 * nodes_of body + forms_then k = forms_small constructors k (pattern_names a n pattern names) from body are.0 are.3 in

@@ -6,7 +6,7 @@ use Rattle.kk_syntax.specs.declared.program.Form.{Form}
 use Rattle.kk_syntax.specs.declared.program.Form.TheVariants.{Call}
 use Rattle.kk_syntax.specs.Patterns.{Pattern, anything, variable as pattern_variable, exactly, constructor, Patterns, no_part, part}
 use Rattle.kk_syntax.specs.Shapes.{nodes_of, nodes_of_all, nodes_of_rows, nodes_of_pattern, variable_of}
-use Rattle.kk_syntax.specs.Trees.{Tree, variable, apply, branch, match, sequence, Trees, no_tree, tree, Rows, no_row, row}
+use Rattle.kk_syntax.specs.Trees.{Tree, variable, apply, branch, match, sequence, Trees, no_tree, tree, Rows, no_row, row, row_parts}
 use Rattle.kk_syntax.specs.Programs.{ConstructorTree, FunctionTree}
 use Rattle.kk_core.specs.Codes.{Code, case, Arms, FunctionCode}
 use Rattle.kk_core.specs.CaseLengths.{tests_length, cases_length, arms_cases_length, all_cases_length}
@@ -76,7 +76,7 @@ mutual
 -- a row has its pattern, and a node in its body
 rows_nodes : (rows : Rows) → sum_by nodes_of_pattern (patterns_in rows) + length (patterns_in rows) ≤ nodes_of_rows rows
 rows_nodes no_row = omega arith
-rows_nodes (row pattern body rest) =
+rows_nodes (row (row_parts pattern body) rest) =
     omega (arith, sum_by-cons nodes_of_pattern pattern (patterns_in rest), rows_nodes rest, tree_some body)
 
 -- patterns of so many nodes and rows
@@ -143,7 +143,7 @@ mutual
       → AreArms constructors k names a n rows arms → cases_then k ≡ 0 → nodes_of_rows rows ≤ 480
       → arms_cases_length arms + 38400 * sum_by nodes_of_pattern (patterns_in rows) ≤ 38400 * nodes_of_rows rows
   arms_short constructors k names a n no_row arms are none few = omega (arith, ap arms_cases_length are)
-  arms_short constructors k names a n (row pattern body rest) arms are none few =
+  arms_short constructors k names a n (row (row_parts pattern body) rest) arms are none few =
       let from : ℕ = n + pattern_size pattern in
       let one = code_short constructors k (pattern_names a n pattern names) from body are.0 are.3 (omega (arith, few)) in
       let others = arms_short constructors k names a (from + size body) rest are.1 are.4 none (omega (arith, few)) in

@@ -9,7 +9,7 @@ use Rattle.kk_syntax.specs.Outlines.{any}
 use Rattle.kk_syntax.specs.Patterns.{Pattern}
 use Rattle.kk_syntax.specs.Programs.{ProgramTree}
 use Rattle.kk_syntax.specs.Shapes.{gathered, gathered_all, gathered_rows}
-use Rattle.kk_syntax.specs.Trees.{Tree, Trees, tree, Rows, no_row, row}
+use Rattle.kk_syntax.specs.Trees.{Tree, Trees, tree, Rows, no_row, row, row_parts}
 use Rattle.kk_syntax.specs.Types.{TypeTree}
 use Rattle.kk_norm.specs.MatchRows.{gathers_rows, MatchesHaveRows, AllMatchesHaveRows, IsSomeRow, BodiesHaveRows, FunctionsHaveRows}
 
@@ -17,7 +17,7 @@ use Rattle.kk_norm.specs.MatchRows.{gathers_rows, MatchesHaveRows, AllMatchesHav
 covered_rows : (table : Table) (rows : Rows) (u : TypeTree) → IsCovered (values_of table.constructors) u (asked_by rows)
     → IsSomeRow rows
 covered_rows table no_row u covered = covered any (record { typed = tt; clashes = tt })
-covered_rows table (row pattern body rest) u covered = tt
+covered_rows table (row first rest) u covered = tt
 
 pub functions_have_rows : (program : ProgramTree) → IsGroundTyped program → FunctionsHaveRows program.functions
 functions_have_rows program typed =
@@ -35,6 +35,6 @@ of_parts e other = each_parts IsSomeRow (gathered gathers_rows e) (gathered gath
 pub of_first : (e : Tree) (es : Trees) → AllMatchesHaveRows (tree e es) → MatchesHaveRows e × AllMatchesHaveRows es
 of_first e es = each_parts IsSomeRow (gathered gathers_rows e) (gathered_all gathers_rows es)
 
-pub of_body : (pattern : Pattern) (body : Tree) (rest : Rows) → BodiesHaveRows (row pattern body rest) → MatchesHaveRows body
+pub of_body : (pattern : Pattern) (body : Tree) (rest : Rows) → BodiesHaveRows (row (row_parts pattern body) rest) → MatchesHaveRows body
     × BodiesHaveRows rest
 of_body pattern body rest = each_parts IsSomeRow (gathered gathers_rows body) (gathered_rows gathers_rows rest)

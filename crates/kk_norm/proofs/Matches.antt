@@ -8,7 +8,7 @@ use Rattle.kk_syntax.specs.OfType.{IsPatternOf, values_of}
 use Rattle.kk_syntax.specs.Outlines.{outline_of}
 use Rattle.kk_syntax.specs.Programs.{ConstructorTree}
 use Rattle.kk_syntax.specs.Shapes.{free, nodes_of_rows}
-use Rattle.kk_syntax.specs.Trees.{Rows, no_row, row}
+use Rattle.kk_syntax.specs.Trees.{Rows, no_row, row, row_parts}
 use Rattle.kk_syntax.specs.Types.{TypeTree}
 use Rattle.kk_source.specs.Actions.{performed}
 use Rattle.kk_source.specs.Live.{value_of}
@@ -48,7 +48,7 @@ pub record RowFound (constructors : List ConstructorTree) (of : Rows) (store : S
 pub rows_open_few : (given : Bounds) (of : Rows) (v : Value) (store : Store) (environment : Environment) → RowsOpenAtMost given of
     → openings_of_rows store of v environment ≤ given.cells
 rows_open_few given no_row v store environment few = omega arith
-rows_open_few given (row pattern body rest) v store environment few =
+rows_open_few given (row (row_parts pattern body) rest) v store environment few =
     by_match (matched store pattern v environment) (rows_open_few given rest v store environment (of_match given body rest few.1).1)
   where
     by_match : (found : Option Environment) → openings_of_rows store rest v environment ≤ given.cells

@@ -5,7 +5,7 @@ use Rattle.kk_syntax.specs.declared.program.Binder.TheVariants as OfBinder
 use Rattle.kk_syntax.specs.declared.program.Form.{Form}
 use Rattle.kk_syntax.specs.declared.program.Form.TheVariants.{Call}
 use Rattle.kk_syntax.specs.Programs.{ConstructorTree}
-use Rattle.kk_syntax.specs.Trees.{Tree, variable, apply, branch, match, sequence, Trees, no_tree, tree, Rows, no_row, row}
+use Rattle.kk_syntax.specs.Trees.{Tree, variable, apply, branch, match, sequence, Trees, no_tree, tree, Rows, no_row, row, row_parts}
 use Rattle.kk_syntax.specs.Patterns.{Pattern}
 use Rattle.kk_syntax.specs.Shapes.{free, free_all, free_rows, is_among, without, bound, bound_by, variable_of}
 use Rattle.kk_source.specs.Live.{awaited}
@@ -213,7 +213,7 @@ pub arms_keep : (constructors : List ConstructorTree) (later : List ℕ) (k : Th
     → is_among (needed_by_arms later arms) y ≡ true
 arms_keep constructors later k names a n no_row arms y are is =
     subst (λ (all : Arms). is_among (needed_by_arms later all) y ≡ true) (sym are) is
-arms_keep constructors later k names a n (row pattern body rest) arms y are is =
+arms_keep constructors later k names a n (row (row_parts pattern body) rest) arms y are is =
     let c : Code = are.0 in
     let others : Arms = are.1 in
     subst (λ (all : Arms). is_among (needed_by_arms later all) y ≡ true) (sym are.2)
@@ -323,7 +323,7 @@ module _ (constructors : List ConstructorTree) where
         → IsNameOf names (free_rows of) y ⊎ NeededAfter later (within k) a y
     only_rows later k names a n no_row arms y are other is =
         inr (end_is later k a y (subst (λ (all : Arms). is_among (needed_by_arms later all) y ≡ true) are is))
-    only_rows later k names a n (row pattern body rest) arms y are other is =
+    only_rows later k names a n (row (row_parts pattern body) rest) arms y are other is =
         let c : Code = are.0 in
         let from : ℕ = n + pattern_size pattern in
         let names_here : Names = pattern_names a n pattern names in
@@ -449,7 +449,7 @@ module _ (constructors : List ConstructorTree) where
         → AreArms constructors (within k) names a n of arms → IsNameOf names (free_rows of) y → y < n
         → is_among (needed_by_arms later arms) y ≡ true
     named_needed_rows later k names a n no_row arms y are is low = absurd (let wrong : false ≡ true = is.1 in cc)
-    named_needed_rows later k names a n (row pattern body rest) arms y are is low =
+    named_needed_rows later k names a n (row (row_parts pattern body) rest) arms y are is low =
         let c : Code = are.0 in
         let from : ℕ = n + pattern_size pattern in
         let own : List ℕ = needed later (opened a n pattern c) in

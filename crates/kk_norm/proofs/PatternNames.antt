@@ -6,7 +6,7 @@ use Rattle.kk_syntax.specs.Covered.{asked_by}
 use Rattle.kk_syntax.specs.Outlines.{Outline, outline_of}
 use Rattle.kk_syntax.specs.Patterns.{Pattern, anything, variable, exactly, constructor, Patterns, no_part, part}
 use Rattle.kk_syntax.specs.Shapes.{is_among, without, bound, bound_all}
-use Rattle.kk_syntax.specs.Trees.{Rows, no_row, row}
+use Rattle.kk_syntax.specs.Trees.{Rows, no_row, row, pattern_of_row}
 use Rattle.kk_core.specs.Codes.{Code}
 use Rattle.kk_core.specs.Needed.{needed}
 use Rattle.kk_norm.specs.Names.{Names, name_of}
@@ -16,7 +16,7 @@ use Rattle.kk_norm.proofs.Variables.{same_number, or_else, among_split, among_he
 -- what the rows of a match ask is what their patterns ask
 pub asked_are : (of : Rows) → asked_by of ≡ map outline_of (patterns_in of)
 asked_are no_row = refl
-asked_are (row pattern body rest) = ap (λ (more : List Outline). outline_of pattern ∷ more) (asked_are rest)
+asked_are (row first rest) = ap (λ (more : List Outline). outline_of (pattern_of_row first) ∷ more) (asked_are rest)
 
 -- ---- numbers that follow one another
 

@@ -3,7 +3,7 @@ use Rattle.std.proofs.Common.{◌≡◌, ℕ, suc, ◌+◌, ◌≤◌, Bool, tru
 use Rattle.std.specs.Prelude.{if◌then◌else◌, is_some}
 use Rattle.kk_syntax.specs.Patterns.{Pattern, anything, variable, exactly, constructor, Patterns, no_part, part}
 use Rattle.kk_syntax.specs.Shapes.{bound, free, free_rows, nodes_of, nodes_of_rows, without}
-use Rattle.kk_syntax.specs.Trees.{Tree, Rows, no_row, row}
+use Rattle.kk_syntax.specs.Trees.{Tree, Rows, no_row, row, row_parts, pattern_of_row, body_of_row}
 use Rattle.kk_source.specs.State.{Value, Store, Environment}
 use Rattle.kk_source.specs.Matching.{Chosen, is_integer, fields_under, and_then, matched, matched_all, chosen_or, first_match}
 use Rattle.kk_core.specs.Codes.{Code, Arms, arm}
@@ -70,7 +70,7 @@ row_if (Some bound) later = Some 0
 -- its number, by recursion on the rows
 abbrev row_of : Store → Rows → Value → Option ℕ
 row_of store no_row v = None
-row_of store (row pattern body rest) v = row_if (matched store pattern v []) (row_of store rest v)
+row_of store (row first rest) v = row_if (matched store (pattern_of_row first) v []) (row_of store rest v)
 
 -- numbers that begin one later are one greater
 one_later : (store : Store) (k : ℕ) (ps : List Pattern) (v : Value)
@@ -86,8 +86,8 @@ one_later store k (p ∷ ps) v = by_match (matched store p v []) (one_later stor
 
 first_is : (store : Store) (of : Rows) (v : Value) → first_row store 0 (patterns_in of) v ≡ row_of store of v
 first_is store no_row v = refl
-first_is store (row pattern body rest) v =
-    by_match (matched store pattern v []) (one_later store 0 (patterns_in rest) v) (first_is store rest v)
+first_is store (row first rest) v =
+    by_match (matched store (pattern_of_row first) v []) (one_later store 0 (patterns_in rest) v) (first_is store rest v)
   where
     by_match : (found : Option Environment) → first_row store (0 + 1) (patterns_in rest) v ≡ option_map suc
         (first_row store 0 (patterns_in rest) v) → first_row store 0 (patterns_in rest) v ≡ row_of store rest v
@@ -119,10 +119,10 @@ pub record Picked (given : Bounds) (k : Then) (names : Names) (a n : ℕ) (of : 
 
 picked_first : (given : Bounds) (k : Then) (names : Names) (a n : ℕ) (pattern : Pattern) (body : Tree) (rest : Rows) (arms : Arms)
     (store : Store) (v : Value) (environment core later : Environment) (low : ℕ)
-    → AreArms given.constructors k names a n (row pattern body rest) arms → RowsOpenAtMost given (row pattern body rest)
-    → Stands names environment core low (free_rows (row pattern body rest))
+    → AreArms given.constructors k names a n (row (row_parts pattern body) rest) arms → RowsOpenAtMost given (row (row_parts pattern body) rest)
+    → Stands names environment core low (free_rows (row (row_parts pattern body) rest))
     → matched store pattern v environment ≡ Some later
-    → Picked given k names a n (row pattern body rest) arms store v environment core low 0
+    → Picked given k names a n (row (row_parts pattern body) rest) arms store v environment core low 0
 picked_first given k names a n pattern body rest arms store v environment core later low are open_few stands found =
     record {
       pattern = pattern;
@@ -147,7 +147,7 @@ picked_later : (given : Bounds) (k : Then) (names : Names) (a n : ℕ) (pattern 
     (arms others : Arms) (own : Code) (store : Store) (v : Value) (environment core : Environment) (low i : ℕ)
     → arms ≡ arm pattern own others → matched store pattern v environment ≡ None
     → Picked given k names a (n + pattern_size pattern + size body) rest others store v environment core low i
-    → Picked given k names a n (row pattern body rest) arms store v environment core low (suc i)
+    → Picked given k names a n (row (row_parts pattern body) rest) arms store v environment core low (suc i)
 picked_later given k names a n pattern body rest arms others own store v environment core low i arms_are none picked =
     record {
       pattern = picked.pattern;
@@ -176,14 +176,14 @@ picks_row : (given : Bounds) (k : Then) (names : Names) (a n : ℕ) (of : Rows) 
     → row_of store of v ≡ Some i
     → Picked given k names a n of arms store v environment core low i
 picks_row given k names a n no_row arms store v environment core low i are open_few stands is = absurd (cc)
-picks_row given k names a n (row pattern body rest) arms store v environment core low i are open_few stands is =
+picks_row given k names a n (row (row_parts pattern body) rest) arms store v environment core low i are open_few stands is =
     by_match (matched store pattern v environment) refl (matched store pattern v []) refl is
     (λ j later_is. picks_row given k names a (n + pattern_size pattern + size body) rest are.1 store v environment core low j are.4
     (of_match given body rest open_few.1).1
     (stands_right names environment core low (without (bound pattern) (free body)) (free_rows rest) stands) later_is)
   where
     Goal : ℕ → Type 0
-    Goal i = Picked given k names a n (row pattern body rest) arms store v environment core low i
+    Goal i = Picked given k names a n (row (row_parts pattern body) rest) arms store v environment core low i
 
     by_row : (o : Option ℕ) (i : ℕ) → row_of store rest v ≡ o → option_map suc o ≡ Some i
         → matched store pattern v environment ≡ None
@@ -217,22 +217,22 @@ picks_row given k names a n (row pattern body rest) arms store v environment cor
 row_there : (store : Store) (of : Rows) (v : Value) (environment : Environment) (chosen : Chosen)
     → first_match store of v environment ≡ Some chosen → (i : ℕ) × (row_of store of v ≡ Some i)
 row_there store no_row v environment chosen is = absurd (cc)
-row_there store (row pattern body rest) v environment chosen is =
-    by_match (matched store pattern v environment) refl (matched store pattern v []) refl is
+row_there store (row first rest) v environment chosen is =
+    by_match (matched store (pattern_of_row first) v environment) refl (matched store (pattern_of_row first) v []) refl is
     (λ later_is. row_there store rest v environment chosen later_is)
   where
-    by_match : (found : Option Environment) → matched store pattern v environment ≡ found → (empty : Option Environment)
-        → matched store pattern v [] ≡ empty → chosen_or body (matched store pattern v environment)
+    by_match : (found : Option Environment) → matched store (pattern_of_row first) v environment ≡ found → (empty : Option Environment)
+        → matched store (pattern_of_row first) v [] ≡ empty → chosen_or (body_of_row first) (matched store (pattern_of_row first) v environment)
         (first_match store rest v environment) ≡ Some chosen
         → (first_match store rest v environment ≡ Some chosen → (i : ℕ) × (row_of store rest v ≡ Some i))
-        → (i : ℕ) × (row_of store (row pattern body rest) v ≡ Some i)
+        → (i : ℕ) × (row_of store (row first rest) v ≡ Some i)
     by_match found found_is (Some bound) empty_is is recurse =
         (0, ap (λ (o : Option Environment). row_if o (row_of store rest v)) empty_is)
     by_match (Some later) found_is None empty_is is recurse =
         absurd (subst (λ (o : Option Environment). IsSome o) empty_is
-        (matches_anyway store pattern v environment [] (some_is (matched store pattern v environment) later found_is)))
+        (matches_anyway store (pattern_of_row first) v environment [] (some_is (matched store (pattern_of_row first) v environment) later found_is)))
     by_match None found_is None empty_is is recurse =
-        let one = recurse (sym (ap (λ (o : Option Environment). chosen_or body o (first_match store rest v environment)) found_is)
+        let one = recurse (sym (ap (λ (o : Option Environment). chosen_or (body_of_row first) o (first_match store rest v environment)) found_is)
         ∙ is) in
         (suc one.0, ap (λ (o : Option Environment). row_if o (row_of store rest v)) empty_is ∙ ap (option_map suc) one.1)
 

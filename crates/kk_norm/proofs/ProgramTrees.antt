@@ -6,7 +6,7 @@ use Rattle.kk_syntax.specs.declared.program.Pat.{Pat}
 use Rattle.kk_syntax.specs.declared.program.Row.{Row}
 use Rattle.kk_syntax.specs.declared.program.Statement.{Statement}
 use Rattle.kk_syntax.specs.Patterns.{part, pattern_tree, patterns_of}
-use Rattle.kk_syntax.specs.Trees.{expr_tree, row_tree, rows_of, row, statement_tree, trees_of, tree}
+use Rattle.kk_syntax.specs.Trees.{expr_tree, row_tree, rows_of, row, row_parts, statement_tree, trees_of, tree}
 use Rattle.kk_syntax.proofs.Views.{row_tree_is, statement_tree_is}
 
 -- the first of the expressions that are left
@@ -16,11 +16,11 @@ next_expr es i e is less = ap (λ all. trees_of (map expr_tree all)) (rest_at es
 
 -- the first of the rows that are left
 pub next_row : (rs : List Row) (i : ℕ) (r : Row) → r ≡ get_or rs i r → i < length rs
-    → rows_of (map row_tree (drop i rs)) ≡ row (pattern_tree r.pattern) (expr_tree r.body)
+    → rows_of (map row_tree (drop i rs)) ≡ row (row_parts (pattern_tree r.pattern) (expr_tree r.body))
     (rows_of (map row_tree (drop (i + 1) rs)))
 next_row rs i r is less =
     ap (λ all. rows_of (map row_tree all)) (rest_at rs i r less is)
-    ∙ ap (λ one. row one.pattern one.body (rows_of (map row_tree (drop (i + 1) rs)))) (row_tree_is r)
+    ∙ ap (λ one. row one (rows_of (map row_tree (drop (i + 1) rs)))) (row_tree_is r)
 
 -- the first of the parts of a pattern that are left
 pub next_part : (ps : List Pat) (i : ℕ) (p : Pat) → p ≡ get_or ps i p → i < length ps

@@ -15,7 +15,7 @@ use Rattle.kk_syntax.specs.declared.program.Form.TheVariants.{Number, Binary, Pr
 use Rattle.kk_syntax.specs.Patterns.{Pattern, anything, variable as names}
 use Rattle.kk_syntax.specs.PositionsOf.{PositionTable, all_owned}
 use Rattle.kk_syntax.specs.Programs.{ConstructorTree}
-use Rattle.kk_syntax.specs.Trees.{Tree, variable, branch as if_tree, match, no_row, row}
+use Rattle.kk_syntax.specs.Trees.{Tree, variable, branch as if_tree, match, no_row, row, row_parts}
 use Rattle.kk_source.specs.Notes.{Note, seen, built, called as calls}
 use Rattle.kk_source.specs.State.{Setting, End, ended, heap_full}
 use Rattle.kk_source.specs.SourceAfter.{store_machine, first_state}
@@ -110,8 +110,8 @@ build_is = λ constructors.
 abbrev rev : Tree
 rev =
     match (variable 0)
-    (row (cons_pattern (names 2) (names 3)) (called 1 (variable 3 ∷ cons (variable 2) (variable 1) ∷ []))
-    (row nil_pattern (variable 1)
+    (row (row_parts (cons_pattern (names 2) (names 3)) (called 1 (variable 3 ∷ cons (variable 2) (variable 1) ∷ [])))
+    (row (row_parts nil_pattern (variable 1))
     no_row))
 
 abbrev rev_code : FunctionCode
@@ -132,8 +132,8 @@ rev_is = λ constructors are.
 abbrev reversing : Tree
 reversing =
     match (called 1 (called 0 (number (pos 3) ∷ []) ∷ nil ∷ []))
-    (row (cons_pattern (names 0) anything) (printed (variable 0))
-    (row nil_pattern (printed (number (pos 0)))
+    (row (row_parts (cons_pattern (names 0) anything) (printed (variable 0)))
+    (row (row_parts nil_pattern (printed (number (pos 0))))
     no_row))
 
 abbrev reversing_code : FunctionCode
@@ -185,9 +185,9 @@ one_or_more =
 abbrev first_two : Tree
 first_two =
     match (variable 0)
-    (row (cons_pattern (names 1) nil_pattern) (variable 1)
-    (row (cons_pattern (names 1) (cons_pattern (names 2) anything)) (binary Add (variable 1) (variable 2))
-    (row nil_pattern (number (pos 0))
+    (row (row_parts (cons_pattern (names 1) nil_pattern) (variable 1))
+    (row (row_parts (cons_pattern (names 1) (cons_pattern (names 2) anything)) (binary Add (variable 1) (variable 2)))
+    (row (row_parts nil_pattern (number (pos 0)))
     no_row)))
 
 abbrev first_two_code : FunctionCode
@@ -235,8 +235,8 @@ two_are_added = record { tells = refl; ends = refl; core_tells = refl; core_ends
 abbrev len : ℕ → ℕ → ℕ → Tree
 len self none some =
     match (variable 0)
-    (row (of_made none []) (number (pos 0))
-    (row (of_made some (anything ∷ names 1 ∷ [])) (binary Add (number (pos 1)) (called self (variable 1 ∷ [])))
+    (row (row_parts (of_made none []) (number (pos 0)))
+    (row (row_parts (of_made some (anything ∷ names 1 ∷ [])) (binary Add (number (pos 1)) (called self (variable 1 ∷ []))))
     no_row))
 
 abbrev len_code : FunctionCode
@@ -257,8 +257,8 @@ len_is = λ constructors are.
 abbrev lent : Tree
 lent =
     match (variable 0)
-    (row nil_pattern (number (pos 0))
-    (row (cons_pattern (names 1) anything) (called 1 (called 0 (variable 1 ∷ []) ∷ []))
+    (row (row_parts nil_pattern (number (pos 0)))
+    (row (row_parts (cons_pattern (names 1) anything) (called 1 (called 0 (variable 1 ∷ []) ∷ [])))
     no_row))
 
 abbrev lent_code : FunctionCode
@@ -327,8 +327,8 @@ abbrev unchosen : Tree
 unchosen =
     bound_to 0 (called 0 (number (pos 1) ∷ []))
     (match (called 0 (number (pos 2) ∷ []))
-    (row anything (printed (number (pos 1)))
-    (row nil_pattern (printed (called 1 (variable 0 ∷ [])))
+    (row (row_parts anything (printed (number (pos 1))))
+    (row (row_parts nil_pattern (printed (called 1 (variable 0 ∷ []))))
     no_row)))
 
 abbrev unchosen_code : FunctionCode

@@ -7,7 +7,7 @@ use Rattle.kk_syntax.specs.declared.program.Form.TheVariants.{Call}
 use Rattle.kk_syntax.specs.Patterns.{Pattern, anything, variable as pattern_variable, exactly, constructor, Patterns, no_part, part}
 use Rattle.kk_syntax.specs.Programs.{ConstructorTree, FunctionTree, ProgramTree}
 use Rattle.kk_syntax.specs.Shapes.{nodes_of, nodes_of_all, nodes_of_rows, nodes_of_pattern, nodes_of_patterns, greatest_of, greatest_nodes, variable_of}
-use Rattle.kk_syntax.specs.Trees.{Tree, variable, apply, branch, match, sequence, Trees, no_tree, tree, Rows, no_row, row}
+use Rattle.kk_syntax.specs.Trees.{Tree, variable, apply, branch, match, sequence, Trees, no_tree, tree, Rows, no_row, row, row_parts}
 use Rattle.kk_core.specs.Codes.{Code, case, Arms, FunctionCode, ProgramCode}
 use Rattle.kk_core.specs.Truths.{truth_case}
 use Rattle.kk_core.specs.Unpackings.{unpackings, unpackings_of, UnpackAtMost}
@@ -122,7 +122,7 @@ mutual
   arms_open : (constructors : List ConstructorTree) (k : Then) (names : Names) (a n : ℕ) (rows : Rows) (arms : Arms)
       → AreArms constructors k names a n rows arms → unpackings_then k ≡ 0 → unpackings_of arms ≤ nodes_of_rows rows
   arms_open constructors k names a n no_row arms are none = omega (arith, ap unpackings_of are)
-  arms_open constructors k names a n (row pattern body rest) arms are none =
+  arms_open constructors k names a n (row (row_parts pattern body) rest) arms are none =
       let from : ℕ = n + pattern_size pattern in
       omega (
         arith,

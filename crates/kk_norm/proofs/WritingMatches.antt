@@ -4,7 +4,7 @@ use Rattle.std.proofs.lemmas.List.{append-nil, drop_all}
 use Rattle.kk_syntax.specs.declared.program.Row.{Row}
 use Rattle.kk_syntax.specs.Patterns.{Pattern, pattern_tree}
 use Rattle.kk_syntax.specs.Programs.{ConstructorTree}
-use Rattle.kk_syntax.specs.Trees.{Tree, match, Rows, no_row, row, row_tree, rows_of}
+use Rattle.kk_syntax.specs.Trees.{Tree, match, Rows, no_row, row, row_parts, row_tree, rows_of}
 use Rattle.kk_syntax.proofs.Views.{row_tree_is}
 use Rattle.kk_core.specs.Codes.{Code, inside, case, Arms, arm, ArmCode, arms_of, runs, plug, step_piece}
 use Rattle.kk_core.specs.Decisions.{NodeTree}
@@ -70,7 +70,7 @@ arms_start tail a writer all bodies =
 
 pub arms_more : {constructors : List ConstructorTree} → (tail : Bool) (a : ℕ) (old now new : Writer) (pattern : Pattern)
     (body : Tree) (left all : Rows) (arms : List ArmCode) (block : Code)
-    → ArmsSoFar constructors tail a old now (row pattern body left) all arms
+    → ArmsSoFar constructors tail a old now (row (row_parts pattern body) left) all arms
     → WritesArm constructors tail pattern body a now new block
     → ArmsSoFar constructors tail a old new left all (arms ++ record { pattern = pattern; body = block } ∷ [])
 arms_more {constructors} tail a old now new pattern body left all arms block so_far writes =
@@ -110,10 +110,10 @@ arms_done {constructors} tail a old now all arms so_far =
 -- what is asked of the call in the loop
 pub arm_asked : {constructors : List ConstructorTree} → (tail : Bool) (a : ℕ) (old now : Writer) (left all : Rows)
     (arms : List ArmCode) (pattern : Pattern) (body : Tree) (rest : Rows)
-    → ArmsSoFar constructors tail a old now left all arms → left ≡ row pattern body rest → old.next + size_rows all < 4294967296
+    → ArmsSoFar constructors tail a old now left all arms → left ≡ row (row_parts pattern body) rest → old.next + size_rows all < 4294967296
     → MatchesHaveRows body × (now.next + pattern_size pattern + size body < 4294967296)
 arm_asked {constructors} tail a old now left all arms pattern body rest so_far is room =
-    let here : ArmsSoFar constructors tail a old now (row pattern body rest) all arms = subst
+    let here : ArmsSoFar constructors tail a old now (row (row_parts pattern body) rest) all arms = subst
     (λ (rows : Rows). ArmsSoFar constructors tail a old now rows all arms) is so_far in
     ((of_body pattern body rest here.bodies).0, omega (arith, here.number))
 
@@ -222,7 +222,7 @@ pub patterns_are : (rows : List Row) → map (λ r. pattern_tree r.pattern) rows
 patterns_are [] = refl
 patterns_are (r ∷ rows) =
     ap (λ ps. pattern_tree r.pattern ∷ ps) (patterns_are rows)
-    ∙ ap (λ one. patterns_in (row one.pattern one.body (rows_of (map row_tree rows)))) (sym (row_tree_is r))
+    ∙ ap (λ one. patterns_in (row one (rows_of (map row_tree rows)))) (sym (row_tree_is r))
 
 -- the patterns of all rows are listed
 pub all_pushed : (pushed : List Pattern) (rows : List Row) (i : ℕ)

@@ -7,7 +7,7 @@ use Rattle.kk_syntax.specs.Trees.{Tree, Trees, Rows, no_row, row}
 
 abbrev pub IsSomeRow : Rows → Type 0
 IsSomeRow no_row = ⊥
-IsSomeRow (row pattern body rest) = Unit {0}
+IsSomeRow (row first rest) = Unit {0}
 
 -- the matches of an expression, each as its rows
 abbrev pub gathers_rows : Gathers Rows

@@ -5,7 +5,7 @@ use Rattle.kk_base.specs.Machines.{Machine, weighing, state}
 use Rattle.kk_syntax.specs.Shapes.{greatest_nodes}
 use Rattle.kk_syntax.specs.Programs.{ProgramTree}
 use Rattle.kk_syntax.specs.PositionsOf.{PositionTable}
-use Rattle.kk_syntax.specs.Trees.{Rows, no_row, row}
+use Rattle.kk_syntax.specs.Trees.{Rows, no_row, row, pattern_of_row}
 use Rattle.kk_source.specs.Matching.{matched}
 use Rattle.kk_source.specs.Notes.{Note}
 use Rattle.kk_source.specs.State.{Setting, End, Value, Store, Environment, Frame, rows, Control, value}
@@ -34,8 +34,8 @@ openings_if (Some bound) own later = own
 
 abbrev pub openings_of_rows : Store → Rows → Value → Environment → ℕ
 openings_of_rows store no_row v environment = 0
-openings_of_rows store (row pattern body rest) v environment =
-    openings_if (matched store pattern v environment) (openings pattern) (openings_of_rows store rest v environment)
+openings_of_rows store (row first rest) v environment =
+    openings_if (matched store (pattern_of_row first) v environment) (openings (pattern_of_row first)) (openings_of_rows store rest v environment)
 
 abbrev pub openings_by_frames : Store → Value → List Frame → ℕ
 openings_by_frames store v (rows of environment ∷ older) = openings_of_rows store of v environment

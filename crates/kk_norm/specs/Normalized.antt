@@ -4,7 +4,7 @@
 use Rattle.std.specs.Prelude.{ℕ, ◌≡◌, ◌+◌, List, [], ◌∷◌, Bool, true, false, length}
 use Rattle.kk_syntax.specs.declared.program.Form.{Form}
 use Rattle.kk_syntax.specs.declared.program.Form.TheVariants.{Call}
-use Rattle.kk_syntax.specs.Trees.{Tree, variable, apply, branch, match, sequence, Trees, no_tree, tree, Rows, no_row, row}
+use Rattle.kk_syntax.specs.Trees.{Tree, variable, apply, branch, match, sequence, Trees, no_tree, tree, Rows, no_row, row, row_parts, pattern_of_row}
 use Rattle.kk_syntax.specs.Programs.{ConstructorTree, FunctionTree, ProgramTree}
 use Rattle.kk_syntax.specs.Patterns.{Pattern, anything, variable as pattern_variable, exactly, constructor, Patterns, no_part, part}
 use Rattle.kk_syntax.specs.Shapes.{variable_of}
@@ -48,7 +48,7 @@ abbrev mutual
 
   pub size_rows : Rows → ℕ
   size_rows no_row = 0
-  size_rows (row pattern body rest) = pattern_size pattern + size body + size_rows rest
+  size_rows (row (row_parts pattern body) rest) = pattern_size pattern + size body + size_rows rest
 
 -- the variable that has the value of an expression whose numbers begin at n
 abbrev pub atom : Names → ℕ → Tree → ℕ
@@ -135,7 +135,7 @@ abbrev mutual
 -- the patterns of rows
 abbrev pub patterns_in : Rows → List Pattern
 patterns_in no_row = []
-patterns_in (row pattern body rest) = pattern ∷ patterns_in rest
+patterns_in (row first rest) = pattern_of_row first ∷ patterns_in rest
 
 -- A code is that of an expression whose numbers begin at n, and of what comes after it. The value is in `atom names n e`. It
 -- is determined but for the decisions of the matches, which are any that choose among the rows, ask what types tell, and are small.
@@ -166,7 +166,7 @@ abbrev mutual
   -- The arms of a match on variable a. An arm opens the cells of its pattern first. A row that is never chosen has its arm too.
   pub AreArms : List ConstructorTree → Then → Names → ℕ → ℕ → Rows → Arms → Type 0
   AreArms constructors k names a n no_row arms = arms ≡ no_arm
-  AreArms constructors k names a n (row pattern body rest) arms =
+  AreArms constructors k names a n (row (row_parts pattern body) rest) arms =
       (c : Code) × (others : Arms) × (arms ≡ arm pattern (opened a n pattern c) others)
       × IsCode constructors k (pattern_names a n pattern names) (n + pattern_size pattern) body c
       × AreArms constructors k names a (n + pattern_size pattern + size body) rest others

@@ -3,7 +3,9 @@ use Rattle.std.proofs.Common.{rules}
 use Rattle.std.proofs.lemmas.List.{drop_all}
 use Rattle.std.proofs.lemmas.Result.{IfOk-weaker}
 use Rattle.kk_syntax.specs.declared.program.Expr.TheViews.{the_lemmas}
+use Rattle.kk_syntax.specs.declared.program.Expr.{Expr}
 use Rattle.kk_syntax.specs.declared.program.Row.{Row}
+use Rattle.kk_syntax.specs.declared.program.Statement.{Statement}
 use Rattle.kk_syntax.specs.Patterns.{pattern_tree}
 use Rattle.kk_syntax.specs.GroundPrograms.{ground_program}
 use Rattle.kk_syntax.specs.Trees.{StatementTree, Trees, Rows, expr_tree, row_tree, rows_of, statement_tree, trees_of}
@@ -17,7 +19,7 @@ use Rattle.kk_syntax.proofs.Views.{variable_is, apply_is, branch_is, match_is, b
 use Rattle.kk_norm.proofs.ProgramTrees.{next_expr, next_row, next_statement}
 use Rattle.kk_norm.proofs.Writing.{return_code, case_code, arms_pushed}
 use Rattle.kk_norm.proofs.Writing as Writing
-use Rattle.kk_norm.proofs.WritingAll.{if_ok_three, ValuesSoFar, values_more, variable_end, apply_end, choice_value, choice_end, choice_done, block_done, StatementsSoFar, statements_more, value_asked, statement_asked, statements_asked, choice_asked, last_asked, names_back, block_value, block_end, variable_value, apply_value}
+use Rattle.kk_norm.proofs.WritingAll.{if_ok_three, ValuesSoFar, values_more, values_done, variable_end, apply_end, choice_value, choice_end, choice_done, block_done, StatementsSoFar, statements_more, statements_done, value_asked, statement_asked, statements_asked, choice_asked, last_asked, names_back, block_value, block_end, variable_value, apply_value}
 use Rattle.kk_norm.proofs.WritingMatches.{ArmsSoFar, arms_more, arms_done, arm_asked, case_asked, arm_done, case_done, case_value, case_end}
 use Rattle.kk_norm.proofs.writer.Writer.+code.Goals as goal
 
@@ -362,3 +364,19 @@ end-case-requires t c = (
       c.deref-in-Match-2.ensures c.deref-in-Match.ensures.value)
       c.requires.rows c.requires.room,
 )
+
+pub values-returns : goal.values-returns
+values-returns t c =
+    let all = trees_of (map expr_tree c.args.exprs.now) in
+    values_done c.args.self.now c.loop-expr.self all c.loop-expr.variables.items
+    (subst (λ (left : List Expr). ValuesSoFar (ground_program c.args.given.now).constructors c.args.self.now c.loop-expr.self
+    (trees_of (map expr_tree left)) all c.loop-expr.variables.items)
+    (drop_all c.loop-expr.expr-index c.args.exprs.now c.loop-expr-test.false) c.loop-expr.invariant)
+
+pub statements-returns-clause-statements : goal.statements-returns-clause-statements
+statements-returns-clause-statements t c =
+    let all = map statement_tree c.args.statements.now in
+    statements_done c.args.self.now c.loop-statement.self all
+    (subst (λ (left : List Statement). StatementsSoFar (ground_program c.args.given.now).constructors c.args.self.now
+    c.loop-statement.self (map statement_tree left) all)
+    (drop_all c.loop-statement.statement-index c.args.statements.now c.loop-statement-test.false) c.loop-statement.invariant)
