@@ -51,10 +51,10 @@ parameter_more arguments bound more i d environment whole lt is before =
 -- a row that matches, and one that does not
 pub row_matches : (store : Store) (row : Row) (rest : List Row) (v : Value) (environment : Environment) (bound : Environment) → matched store (pattern_tree row.pattern) v environment ≡ Some bound → first_match store (rows_of (map row_tree (row ∷ rest))) v environment ≡ Some (record { body = expr_tree row.body; environment = bound })
 row_matches store row rest v environment bound is =
-    ap (λ r. chosen_or r.body (matched store r.pattern v environment) (first_match store (rows_of (map row_tree rest)) v environment)) (row_tree_is row)
+    ap (λ r. first_match store (rows_of (r ∷ map row_tree rest)) v environment) (row_tree_is row)
     ∙ ap (λ m. chosen_or (expr_tree row.body) m (first_match store (rows_of (map row_tree rest)) v environment)) is
 
 pub row_does_not : (store : Store) (row : Row) (rest : List Row) (v : Value) (environment : Environment) → matched store (pattern_tree row.pattern) v environment ≡ None → first_match store (rows_of (map row_tree (row ∷ rest))) v environment ≡ first_match store (rows_of (map row_tree rest)) v environment
 row_does_not store row rest v environment is =
-    ap (λ r. chosen_or r.body (matched store r.pattern v environment) (first_match store (rows_of (map row_tree rest)) v environment)) (row_tree_is row)
+    ap (λ r. first_match store (rows_of (r ∷ map row_tree rest)) v environment) (row_tree_is row)
     ∙ ap (λ m. chosen_or (expr_tree row.body) m (first_match store (rows_of (map row_tree rest)) v environment)) is

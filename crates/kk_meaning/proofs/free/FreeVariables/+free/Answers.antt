@@ -40,7 +40,7 @@ of_rows-loop-row-preserved t c =
     let bs = now.bound.items in
     let cs = bound (pattern_tree row.pattern) in
     let others = free_rows (rows_of (map row_tree (drop (c.loop-row.row-index + 1) c.args.rows.now))) in
-    let row_is : free_rows (rows_of (map row_tree (row ∷ drop (c.loop-row.row-index + 1) c.args.rows.now))) ≡ without cs (free (expr_tree row.body)) ++ others = ap (λ r. without (bound r.pattern) (free r.body) ++ others) (row_tree_is row) in
+    let row_is : free_rows (rows_of (map row_tree (row ∷ drop (c.loop-row.row-index + 1) c.args.rows.now))) ≡ without cs (free (expr_tree row.body)) ++ others = ap (λ r. free_rows (rows_of (r ∷ map row_tree (drop (c.loop-row.row-index + 1) c.args.rows.now)))) (row_tree_is row) in
     let kept : c.truncate.new.self.items ≡ bs =
     c.truncate.ensures.items
     ∙ front_again bs cs _ c.len-outside.result (c.len-outside.ensures ∙ now.bound.ok.0) (c.in_ok-of_expr.ensures.bound ∙ c.in_ok-bind_pattern.ensures.bound) in
