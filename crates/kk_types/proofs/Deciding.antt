@@ -9,7 +9,7 @@ use Rattle.kk_syntax.specs.declared.program.Form.TheVariants.{Construct}
 use Rattle.kk_syntax.specs.Patterns.{Pattern, anything, variable as pattern_variable, exactly, constructor, Patterns, no_part, part}
 use Rattle.kk_syntax.specs.Programs.{ProgramTree}
 use Rattle.kk_syntax.specs.Shapes.{bound}
-use Rattle.kk_syntax.specs.Trees.{Tree, variable, apply, branch, match, sequence, Trees, no_tree, tree, Rows, no_row, row}
+use Rattle.kk_syntax.specs.Trees.{Tree, variable, apply, branch, match, sequence, Trees, no_tree, tree, Rows, no_row, row, row_parts}
 use Rattle.kk_syntax.specs.Types.{TypeTree, int32}
 use Rattle.kk_syntax.specs.Typing.{Choice, bool, Scheme, InTurn, with_binder, with_bound, form_scheme, constructor_scheme, chosen_at, ArePatternsTyped, IsTypedBy, AreTypedBy, AreRowsTypedBy}
 use Rattle.kk_unify.specs.Graphs.{NodeTree, Assignment, IsFormed, EachJoinIsDecided}
@@ -209,7 +209,7 @@ module _ (variables : ℕ) (joins : EachJoinIsDecided) where
 
       pub rows_decided : (rows : Rows) (g : List NodeTree) → IsFormed variables g → (bounds : List Bound) → AreBoundBelow (length g) bounds → (scrutinee want : ℕ) → scrutinee < length g → want < length g → Decided variables g (rows_at program bounds rows scrutinee want)
       rows_decided no_row g formed bounds inside scrutinee want first lt = nothing_decided g formed
-      rows_decided (row p body rest) g formed bounds inside scrutinee want first lt =
+      rows_decided (row (row_parts p body) rest) g formed bounds inside scrutinee want first lt =
           decided_both g (one_row program p body scrutinee want bounds) (rows_at program bounds rest scrutinee want) (rows_of_claim (length g) program bounds inside rest scrutinee want first lt)
           (row_decided p body g formed bounds inside scrutinee want first lt (λ h formed_h inner inner_inside less. expression_decided body h formed_h inner inner_inside want less))
           (λ h formed_h le. rows_decided rest h formed_h bounds (bound_more (length g) (length h) bounds le inside) scrutinee want (omega (arith, le)) (omega (arith, le)))

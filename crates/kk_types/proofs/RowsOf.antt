@@ -144,7 +144,7 @@ module _ (program : ProgramTree) (bounds : List Bound) (scrutinee want : ℕ) wh
   module _ (a b : Walk) (Whole : Claim) (rows : List Row) (i : ℕ) (r : Row) (lt : i < length rows) (is : r ≡ get_or rows i r) (goes : Goes a b Whole (cases_at (drop i rows))) where
     next_case : Goes a b Whole (both (case_at r) (cases_at (drop (i + 1) rows)))
     next_case =
-        subst (λ (t : RowTree). Goes a b Whole (both (λ q. Binds (bound t.pattern) (scope_at q bounds) (λ inner. InTurn (IsPatternTyped program inner t.pattern (q scrutinee)) (IsTypedBy program inner t.body (q want)))) (cases_at (drop (i + 1) rows)))) (row_tree_is r)
+        subst (λ (t : RowTree). Goes a b Whole (rows_at program bounds (rows_of (t ∷ map row_tree (drop (i + 1) rows))) scrutinee want)) (row_tree_is r)
         (subst (λ rs. Goes a b Whole (cases_at rs)) (drop_more rows i r lt ∙ ap (λ s. s ∷ drop (i + 1) rows) (sym is)) goes)
 
     pub case_refused : Refused (nodes_of b) (case_at r) → Refused (nodes_of a) Whole
