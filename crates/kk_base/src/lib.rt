@@ -3,6 +3,7 @@
 #![tactic(auto)]
 
 mod error;
+mod exits;
 mod fault_count;
 mod items;
 mod limit;
@@ -13,8 +14,10 @@ mod simulation;
 mod sizes;
 mod span;
 mod status;
+mod strings;
 
 pub use error::{LexError, NameError, NoMemory, ParseError};
+pub use exits::{HEAP_FULL_EXIT, STACK_FULL_EXIT};
 pub use fault_count::FaultCount;
 pub use items::{Bytes, Items, Text};
 pub use limit::{Limit, LimitKind};
@@ -28,3 +31,4 @@ pub use simulation::{
 pub use sizes::{GREATEST_CELLS, GREATEST_DEPTH};
 pub use span::Span;
 pub use status::Status;
+pub use strings::GREATEST_STRING;
