@@ -21,7 +21,7 @@ use Rattle.kk_lexer.specs.declared.lexeme.Lexeme.{Lexeme}
 use Rattle.kk_lexer.specs.Fronts.{begins_with, HasNoFront, IsLongest}
 use Rattle.kk_lexer.specs.Lexemes.{Meaning, passed, kept, refused, IsLexeme, SpellsLexeme, name, keyword, constructor_name, wildcard, number, negative_number, symbol, is_blank, blank, line_comment, comment, open_comment, string, open_string, bad_escape, string_meaning, number_meaning, negative_meaning, BeginsWith, lexeme, no_lexeme}
 use Rattle.kk_lexer.specs.Names.{ends_name, is_name, is_constructor_name, is_wildcard, is_word_byte}
-use Rattle.kk_lexer.specs.Numbers.{IsNumber}
+use Rattle.kk_lexer.specs.Numbers.{IsNumber, greatest_number, greatest_negative}
 use Rattle.kk_lexer.specs.declared.strings.Part.TheVariants.{Quote, BadEscape, End}
 use Rattle.kk_lexer.specs.Parts.{IsFirstPart}
 use Rattle.kk_lexer.specs.Strings.{IsInside}
@@ -128,15 +128,15 @@ number_begins text n signed at v digit found spelled =
 
 -- a number as the code answers it: x is its value, or a number that is far away
 pub number_too_large : (text : List ℕ) (n : ℕ) (signed : Bool) (at x : ℕ) → IsAsciiDigit (get_or text 0 0) → IsLongest IsSomeNumber text n
-    → (v : ℕ) × IsNumber (take n text) v × (x ≡ min v 3000000000) → 2147483647 < x → BeginsWith signed at text n (refused (NumberTooLarge at))
+    → (v : ℕ) × IsNumber (take n text) v × (x ≡ min v (greatest_negative + 1)) → greatest_number < x → BeginsWith signed at text n (refused (NumberTooLarge at))
 number_too_large text n signed at x digit found (v, spelled, is) large =
-    let test : nat_lt 2147483647 v ≡ true = lt-ltb _ _ (omega arith) in
+    let test : nat_lt greatest_number v ≡ true = lt-ltb _ _ (omega arith) in
     subst (BeginsWith signed at text n) (rw test refl) (number_begins text n signed at v digit found spelled)
 
 pub number_fits : (text : List ℕ) (n : ℕ) (signed : Bool) (at x : ℕ) (z : ℤ) → IsAsciiDigit (get_or text 0 0) → IsLongest IsSomeNumber text n
-    → (v : ℕ) × IsNumber (take n text) v × (x ≡ min v 3000000000) → x ≤ 2147483647 → z ≡ pos x → BeginsWith signed at text n (kept (OfToken.Number z))
+    → (v : ℕ) × IsNumber (take n text) v × (x ≡ min v (greatest_negative + 1)) → x ≤ greatest_number → z ≡ pos x → BeginsWith signed at text n (kept (OfToken.Number z))
 number_fits text n signed at x z digit found (v, spelled, is) small z_is =
-    let test : nat_lt 2147483647 v ≡ false = le-ltb _ _ (omega arith) in
+    let test : nat_lt greatest_number v ≡ false = le-ltb _ _ (omega arith) in
     let value : x ≡ v = omega arith in
     subst (BeginsWith signed at text n) (rw (test, z_is, value) refl) (number_begins text n signed at v digit found spelled)
 
@@ -217,15 +217,15 @@ negative_begins text n at v long dash digit found spelled =
     (rw (front text n (omega arith), dash) (negative_number _ v refl spelled))
 
 pub negative_too_large : (text : List ℕ) (n at x : ℕ) → 1 < length text → get_or text 0 0 ≡ 45 → IsAsciiDigit (get_or text 1 0) → IsLongest IsSomeNumber (rest_of text) n
-    → (v : ℕ) × IsNumber (take n (rest_of text)) v × (x ≡ min v 3000000000) → 2147483648 < x → BeginsWith true at text (1 + n) (refused (NumberTooLarge at))
+    → (v : ℕ) × IsNumber (take n (rest_of text)) v × (x ≡ min v (greatest_negative + 1)) → greatest_negative < x → BeginsWith true at text (1 + n) (refused (NumberTooLarge at))
 negative_too_large text n at x long dash digit found (v, spelled, is) large =
-    let test : nat_lt 2147483648 v ≡ true = lt-ltb _ _ (omega arith) in
+    let test : nat_lt greatest_negative v ≡ true = lt-ltb _ _ (omega arith) in
     subst (BeginsWith true at text (1 + n)) (rw test refl) (negative_begins text n at v long dash digit found spelled)
 
 pub negative_fits : (text : List ℕ) (n at x : ℕ) (z : ℤ) → 1 < length text → get_or text 0 0 ≡ 45 → IsAsciiDigit (get_or text 1 0) → IsLongest IsSomeNumber (rest_of text) n
-    → (v : ℕ) × IsNumber (take n (rest_of text)) v × (x ≡ min v 3000000000) → x ≤ 2147483648 → z ≡ neg_ℤ (pos x) → BeginsWith true at text (1 + n) (kept (OfToken.Number z))
+    → (v : ℕ) × IsNumber (take n (rest_of text)) v × (x ≡ min v (greatest_negative + 1)) → x ≤ greatest_negative → z ≡ neg_ℤ (pos x) → BeginsWith true at text (1 + n) (kept (OfToken.Number z))
 negative_fits text n at x z long dash digit found (v, spelled, is) small z_is =
-    let test : nat_lt 2147483648 v ≡ false = le-ltb _ _ (omega arith) in
+    let test : nat_lt greatest_negative v ≡ false = le-ltb _ _ (omega arith) in
     let value : x ≡ v = omega arith in
     subst (BeginsWith true at text (1 + n)) (rw (test, z_is, value) refl) (negative_begins text n at v long dash digit found spelled)
 

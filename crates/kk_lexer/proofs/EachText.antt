@@ -8,6 +8,7 @@ use Rattle.std.proofs.lemmas.List.{same_from_push, length-drop}
 use Rattle.std.proofs.lemmas.Slice.Eq.{bytes_eq-Decides}
 use Rattle.kk_base.specs.declared.error.LexError.TheVariants as OfLexError
 use Rattle.kk_base.specs.declared.span.Span.{Span}
+use Rattle.kk_base.specs.declared.strings.TheConstants.{GREATEST_STRING}
 use Rattle.kk_syntax.specs.declared.token.Keyword.{Keyword}
 use Rattle.kk_syntax.specs.declared.token.LocatedToken.{LocatedToken}
 use Rattle.kk_syntax.specs.declared.token.Symbol.{Symbol}
@@ -17,7 +18,7 @@ use Rattle.kk_lexer.specs.Comments.{is_within_line, begins_with_mark, Closes, cl
 use Rattle.kk_lexer.specs.Fronts.{HasNoFront, IsLongest}
 use Rattle.kk_lexer.specs.Lexemes.{Meaning, passed, kept, refused, is_blank, SpellsLexeme, blank, line_comment, comment, open_comment, name, keyword, constructor_name, wildcard, number, negative_number, string, open_string, bad_escape, symbol, IsLexeme, BeginsWith, lexeme, no_lexeme}
 use Rattle.kk_lexer.specs.Names.{is_name, is_constructor_name, is_wildcard, keyword_spelling}
-use Rattle.kk_lexer.specs.Numbers.{IsNumber, value_behind, decimal, hexadecimal, is_decimal, is_hexadecimal}
+use Rattle.kk_lexer.specs.Numbers.{IsNumber, value_behind, decimal, hexadecimal, is_decimal, is_hexadecimal, greatest_number, greatest_negative}
 use Rattle.kk_lexer.specs.Readings.{is_sign, Outcome, ReadsText, ends, passes, keeps, refuses, EachTextIsRead}
 use Rattle.kk_lexer.specs.Scanners.{IsSomeNumber, IsSymbol}
 use Rattle.kk_lexer.specs.Strings.{IsInside, empty, plain, escape, is_plain, escaped}
@@ -346,9 +347,9 @@ limited_string true at token = tt
 limited_string false at token = tt
 
 lexeme_cause : {signed : Bool} {at : ℕ} {w : List ℕ} {m : Meaning} → SpellsLexeme signed at w m → IsCause m
-lexeme_cause {signed} {at} (number word n h) = limited (nat_lt 2147483647 n) at _
-lexeme_cause {signed} {at} (negative_number word n is h) = limited (nat_lt 2147483648 n) at _
-lexeme_cause {signed} {at} (string word bytes h) = limited_string (nat_lt 255 (length bytes)) at _
+lexeme_cause {signed} {at} (number word n h) = limited (nat_lt greatest_number n) at _
+lexeme_cause {signed} {at} (negative_number word n is h) = limited (nat_lt greatest_negative n) at _
+lexeme_cause {signed} {at} (string word bytes h) = limited_string (nat_lt GREATEST_STRING (length bytes)) at _
 lexeme_cause h = tt
 
 -- what a text begins with

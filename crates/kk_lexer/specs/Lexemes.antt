@@ -2,6 +2,7 @@
 use Rattle.std.specs.Prelude.{◌≡◌, ℕ, ◌+◌, ◌<◌, pos, neg_ℤ, List, [], ◌∷◌, ◌++◌, length, take, Bool, true, ◌==◌, ◌||◌, nat_lt, if◌then◌else◌, codes}
 use Rattle.kk_base.specs.declared.error.LexError.{LexError}
 use Rattle.kk_base.specs.declared.error.LexError.TheVariants.{BadByte, OpenComment, OpenString, NumberTooLarge, StringTooLong}
+use Rattle.kk_base.specs.declared.strings.TheConstants.{GREATEST_STRING}
 use Rattle.kk_syntax.specs.declared.token.Keyword.{Keyword}
 use Rattle.kk_syntax.specs.declared.token.Symbol.{Symbol}
 use Rattle.kk_syntax.specs.declared.token.Token.{Token}
@@ -9,7 +10,7 @@ use Rattle.kk_syntax.specs.declared.token.Token.TheVariants as OfToken
 use Rattle.kk_lexer.specs.Comments.{is_within_line, Closes}
 use Rattle.kk_lexer.specs.Fronts.{HasNoFront, IsLongest}
 use Rattle.kk_lexer.specs.Names.{is_name, is_constructor_name, is_wildcard, keyword_spelling}
-use Rattle.kk_lexer.specs.Numbers.{IsNumber}
+use Rattle.kk_lexer.specs.Numbers.{IsNumber, greatest_number, greatest_negative}
 use Rattle.kk_lexer.specs.Strings.{IsInside}
 use Rattle.kk_lexer.specs.Symbols.{symbol_spelling}
 
@@ -23,17 +24,17 @@ pub data Meaning : Type 0 where
 abbrev pub is_blank : ℕ → Bool
 is_blank b = b == 32 || (b == 9 || (b == 13 || b == 10))
 
--- a number without a `-` is at most 2147483647
+-- a number without a `-` has a greatest value
 abbrev pub number_meaning : ℕ → ℕ → Meaning
-number_meaning at n = if nat_lt 2147483647 n then refused (NumberTooLarge at) else kept (OfToken.Number (pos n))
+number_meaning at n = if nat_lt greatest_number n then refused (NumberTooLarge at) else kept (OfToken.Number (pos n))
 
--- a number with a `-` is at most 2147483648 in size
+-- a number with a `-` has a greatest size
 abbrev pub negative_meaning : ℕ → ℕ → Meaning
-negative_meaning at n = if nat_lt 2147483648 n then refused (NumberTooLarge at) else kept (OfToken.Number (neg_ℤ (pos n)))
+negative_meaning at n = if nat_lt greatest_negative n then refused (NumberTooLarge at) else kept (OfToken.Number (neg_ℤ (pos n)))
 
--- a string stands for at most 255 bytes
+-- a string stands for a greatest number of bytes at most
 abbrev pub string_meaning : ℕ → List ℕ → Meaning
-string_meaning at bytes = if nat_lt 255 (length bytes) then refused (StringTooLong at) else kept (OfToken.String bytes)
+string_meaning at bytes = if nat_lt GREATEST_STRING (length bytes) then refused (StringTooLong at) else kept (OfToken.String bytes)
 
 -- A lexeme by its spelling. `at` is the place of its first byte, and `signed` says whether a `-` belongs to the number
 -- directly behind it. The byte `-` is 45, `"` is 34 and `\` is 92. A comment or a string that is not closed and a string up to

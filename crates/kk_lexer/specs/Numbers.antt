@@ -1,5 +1,5 @@
 -- How numbers are spelled.
-use Rattle.std.specs.Prelude.{◌≡◌, ℕ, ◌+◌, ◌*◌, List, [], ◌∷◌, Bool, true, false, ◌==◌, ◌&&◌, ◌||◌, if◌then◌else◌}
+use Rattle.std.specs.Prelude.{◌≡◌, ℕ, ◌+◌, ◌*◌, ◌-◌, ◌^◌, List, [], ◌∷◌, Bool, true, false, ◌==◌, ◌&&◌, ◌||◌, if◌then◌else◌}
 use Rattle.std.specs.Char.{digit_value, is_digit, is_ascii_digit, is_ascii_hexdigit}
 use Rattle.std.specs.List.{list_all}
 use Rattle.kk_lexer.specs.Fronts.{begins_with}
@@ -36,3 +36,10 @@ value_behind base n (b ∷ after) = value_behind base (value_with base n b) afte
 pub data IsNumber : List ℕ → ℕ → Type 0 where
   decimal : (word : List ℕ) → is_decimal word ≡ true → IsNumber word (value_behind 10 0 word)
   hexadecimal : (digits : List ℕ) → is_hexadecimal digits ≡ true → IsNumber (48 ∷ 120 ∷ digits) (value_behind 16 0 digits)
+
+-- the greatest number of 32 bits in two's complement, and the greatest size of one with a `-`
+abbrev pub greatest_number : ℕ
+greatest_number = 2 ^ 31 - 1
+
+abbrev pub greatest_negative : ℕ
+greatest_negative = 2 ^ 31

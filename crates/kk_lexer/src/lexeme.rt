@@ -1,4 +1,6 @@
 ghost use Rattle.std.specs.Prelude.{◌≡◌, ◌+◌, ◌<◌, ◌≤◌, length};
+ghost use Rattle.kk_base.specs.Limits.{greatest_of};
+ghost use Rattle.kk_base.specs.declared.limit.LimitKind.TheVariants.{Source};
 ghost use Rattle.kk_lexer.specs.FirstLexemes.{IsFirstLexeme};
 
 use crate::comments::slash;
@@ -45,7 +47,7 @@ impl Lexeme {
 /// number behind it.
 pub fn first_lexeme(alloc: Global, text: &[u8], at: u32, signed: bool) -> Result<Lexeme, LexError>
     requires text { 0 < length text.now }
-    requires end { at + length text.now ≤ 65536 }
+    requires end { at + length text.now ≤ greatest_of Source }
     ensures { IsFirstLexeme signed at text.now result }
 {
     match text[0] {

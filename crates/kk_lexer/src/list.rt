@@ -1,4 +1,6 @@
 ghost use Rattle.std.specs.Prelude.{◌≡◌, ◌+◌, ◌≤◌, [], ◌++◌, length, IfOk, OnOk};
+ghost use Rattle.kk_base.specs.Limits.{greatest_of};
+ghost use Rattle.kk_base.specs.declared.limit.LimitKind.TheVariants.{Source};
 ghost use Rattle.kk_lexer.specs.Readings.{ends_operand, is_sign, EachTextIsRead, IsReading, UnlessNoMemory};
 ghost use Rattle.kk_lexer.specs.Scanners.{located};
 
@@ -45,7 +47,7 @@ fn keep(items: &mut Vec<LocatedToken>, token: Option<Token>, span: Span) -> Resu
 
 /// The tokens of a text, or why it has none: the first lexeme that cannot be read.
 pub fn tokens(alloc: Global, text: &[u8]) -> Result<Tokens, LexError>
-    requires { length text.now ≤ 65536 }
+    requires { length text.now ≤ greatest_of Source }
     ensures reading { UnlessNoMemory result (IsReading text.now) }
     ensures few { IfOk result (λ list. length list.items ≤ length text.now) }
 {

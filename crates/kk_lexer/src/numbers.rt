@@ -15,10 +15,10 @@ use kk_syntax::Token;
 const GREATEST: u64 = 2_147_483_647;
 
 /// The greatest size of a number with a `-`.
-const GREATEST_NEGATIVE: u64 = 2_147_483_648;
+const GREATEST_NEGATIVE: u64 = GREATEST + 1;
 
-/// More than each number that fits in 32 bits: a greater value is told as this one.
-const FAR: u64 = 3_000_000_000;
+/// More than the size of each number: a greater value is told as this one.
+const FAR: u64 = GREATEST_NEGATIVE + 1;
 
 /// A number that a text begins with.
 #[derive(Clone, Copy)]

@@ -1,4 +1,6 @@
 ghost use Rattle.std.specs.Prelude.{◌≡◌, ◌+◌, ◌-◌, ◌*◌, ◌/◌, ◌≤◌, length};
+ghost use Rattle.kk_base.specs.Limits.{greatest_of};
+ghost use Rattle.kk_base.specs.declared.limit.LimitKind.TheVariants.{Source};
 ghost use Rattle.kk_syntax.specs.Places.{start, place_behind};
 ghost use Rattle.kk_lexer.specs.Scanners.{IsBounded};
 
@@ -19,7 +21,7 @@ pub fn start() -> Span
 /// The column behind a tab.
 fn behind_tab(column: u32) -> u32
     requires low { 1 ≤ column }
-    requires high { column ≤ 1_000_000 }
+    requires high { column ≤ 8 * greatest_of Source + 1 }
     ensures { result ≡ (column - 1) / 8 * 8 + 9 }
 {
     (column - 1) / 8 * 8 + 9
@@ -27,7 +29,7 @@ fn behind_tab(column: u32) -> u32
 
 /// The place behind these bytes.
 pub fn behind(place: Span, bytes: &[u8]) -> Span
-    requires end { place.at + length bytes.now ≤ 65536 }
+    requires end { place.at + length bytes.now ≤ greatest_of Source }
     requires bounded { IsBounded place }
     ensures place { result ≡ place_behind place bytes.now }
     ensures at { result.at ≡ place.at + length bytes.now }

@@ -1,4 +1,6 @@
 ghost use Rattle.std.specs.Prelude.{◌≡◌, ◌+◌, ◌<◌, ◌≤◌, Bool, length, slice_index};
+ghost use Rattle.kk_base.specs.Limits.{greatest_of};
+ghost use Rattle.kk_base.specs.declared.limit.LimitKind.TheVariants.{Source};
 ghost use Rattle.kk_lexer.specs.FirstLexemes.{AnswersMeaning, IsFirstLexeme};
 ghost use Rattle.kk_lexer.specs.Lexemes.{string_meaning};
 ghost use Rattle.kk_lexer.specs.Parts.{IsFirstPart};
@@ -72,7 +74,7 @@ fn closed(bytes: Vec<u8>, length: usize, at: u32) -> Result<Lexeme, LexError>
 pub fn string(alloc: Global, text: &[u8], at: u32) -> Result<Lexeme, LexError>
     requires text { 0 < length text.now }
     requires quote { slice_index text.now 0 ≡ 34 }
-    requires end { at + length text.now ≤ 65536 }
+    requires end { at + length text.now ≤ greatest_of Source }
     ensures { (signed : Bool) → IsFirstLexeme signed at text.now result }
 {
     let inside = &text[1..];
