@@ -2,6 +2,7 @@
 use Rattle.std.proofs.Common.{◌≡◌, ◌≢◌, ℕ, ◌+◌, ◌*◌, ◌%◌, ◌^◌, ◌<◌, ◌≤◌, ◌⊎◌, inl, inr, List, [], ◌∷◌, Some, None, refl, sym, subst, lit<, arith}
 use Rattle.std.proofs.lemmas.Bool.{cases_lt}
 use Rattle.std.proofs.lemmas.Bool.Decides.{nat_tests}
+use Rattle.kk_base.specs.declared.exits.TheConstants.{HEAP_FULL_EXIT}
 use Rattle.rv_isa.specs.declared.instr.Instr.{Instr}
 use Rattle.rv_isa.specs.declared.instr.Instr.TheVariants.{Beq, Addi, Lw, Sw, Jalr}
 use Rattle.rv_isa.specs.Arithmetic.{sum_word}
@@ -24,7 +25,7 @@ use Rattle.cell_runtime.specs.Calls.{HasWayBack, Exits}
 use Rattle.cell_runtime.specs.Lines.{Makes}
 use Rattle.cell_runtime.specs.Takes.{from_chain, at_border, from_held, IsFull, AfterTake, IsTakeOfPools}
 use Rattle.rv_isa.proofs.Registers.{x0, x1, x5, x8, x9, x10, x18, x19}
-use Rattle.cell_runtime.proofs.Operands.{imm_0, imm_4, imm_32, imm_101, forward_16, forward_24}
+use Rattle.cell_runtime.proofs.Operands.{imm_0, imm_4, imm_32, imm_heap_full, forward_16, forward_24}
 use Rattle.cell_runtime.proofs.Spelling.{plain, plain_makes}
 use Rattle.cell_runtime.proofs.Calling.{leads-back, then_one, exits-after, returns_by}
 use Rattle.cell_runtime.proofs.Stopping.{stop_code, stop_exits}
@@ -32,7 +33,7 @@ use Rattle.cell_runtime.proofs.TakingCells.{first_is, first_free, memory_chained
 
 abbrev pub held_code : List Instr
 held_code =
-    Beq x9 x0 forward_24 ∷ Addi x10 x9 imm_0 ∷ Lw x5 x9 imm_4 ∷ Lw x9 x9 imm_0 ∷ Sw x5 x0 imm_0 ∷ Jalr x0 x1 imm_0 ∷ stop_code imm_101
+    Beq x9 x0 forward_24 ∷ Addi x10 x9 imm_0 ∷ Lw x5 x9 imm_4 ∷ Lw x9 x9 imm_0 ∷ Sw x5 x0 imm_0 ∷ Jalr x0 x1 imm_0 ∷ stop_code imm_heap_full
 
 abbrev pub border_code : List Instr
 border_code = Beq x18 x19 forward_16 ∷ Addi x10 x18 imm_0 ∷ Addi x18 x18 imm_32 ∷ Jalr x0 x1 imm_0 ∷ held_code
@@ -46,7 +47,7 @@ emptied s slot = record s { memory = with_number slot 4 0 s.memory }
 
 module _ (code : Code) (pool : Pool) (view : View) (s : Processor) (stands : Stands code s) (has : Has code s.pc take_code) (way : HasWayBack s) (memory : Memory pool view s) where
   abbrev Served : Type 0
-  Served = ((t : Processor) × AfterTake code pool view s t) ⊎ (IsFull pool view × Exits code 101 6 s)
+  Served = ((t : Processor) × AfterTake code pool view s t) ⊎ (IsFull pool view × Exits code HEAP_FULL_EXIT 6 s)
 
   -- ---- from the chain
 
@@ -215,7 +216,7 @@ module _ (code : Code) (pool : Pool) (view : View) (s : Processor) (stands : Sta
 
       -- ---- from none
 
-      full : view.held ≡ [] → IsFull pool view × Exits code 101 6 s
+      full : view.held ≡ [] → IsFull pool view × Exits code HEAP_FULL_EXIT 6 s
       full no_token =
           let no_held : value s.registers 9 ≡ 0 = subst (IsHeldChain pool s.parts s.memory view.heap (value s.registers 9)) no_token memory.held in
           let has_stop = has_held.1.1.1.1.1.1 in
@@ -223,7 +224,7 @@ module _ (code : Code) (pool : Pool) (view : View) (s : Processor) (stands : Sta
           let leads = then_one stands to_held (λ on. leads-beq_taken on {next = s.pc + 4 + 4 + 4 + 4 + 4 + 4 + 4 + 4 + 4 + 4 + 4 + 4 + 4 + 4} has_held.0 no_held (omega arith) (stands.aligned (s.pc + 4 + 4 + 4 + 4 + 4 + 4 + 4 + 4 + 4 + 4 + 4 + 4 + 4 + 4) _ has_stop.0)) in
           let t = record s { pc = s.pc + 4 + 4 + 4 + 4 + 4 + 4 + 4 + 4 + 4 + 4 + 4 + 4 + 4 + 4; executed = s.executed + 1 + 1 + 1 } in (
             record { chain = none; border = used; held = no_token },
-            exits-after {t = t} leads refl refl refl refl (omega arith) (stop_exits code imm_101 101 refl (omega arith) t (LeadsIn-stands leads stands) has_stop),
+            exits-after {t = t} leads refl refl refl refl (omega arith) (stop_exits code imm_heap_full HEAP_FULL_EXIT refl (omega arith) t (LeadsIn-stands leads stands) has_stop),
           )
 
       by_held : (links : List Link) → view.held ≡ links → Served

@@ -5,6 +5,7 @@ ghost use Rattle.cell_runtime.specs.Lines.{Makes};
 ghost use Rattle.cell_runtime.specs.Stops.{number_of, IsStop};
 
 use crate::assembly::{ecall, set};
+use kk_base::{HEAP_FULL_EXIT, STACK_FULL_EXIT};
 use rv_isa::environment::EXIT;
 use rv_isa::{Native, Register};
 
@@ -27,8 +28,8 @@ impl Ending {
     {
         match self {
             Ending::Ended => 0,
-            Ending::HeapFull => 101,
-            Ending::StackFull => 102,
+            Ending::HeapFull => HEAP_FULL_EXIT,
+            Ending::StackFull => STACK_FULL_EXIT,
         }
     }
 }
