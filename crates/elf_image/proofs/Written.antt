@@ -1,5 +1,5 @@
 -- The file of a program: what is written, piece by piece, and what is read of it again.
-use Rattle.std.proofs.Common.{◌≡◌, ℕ, ◌+◌, ◌-◌, ◌^◌, ◌<◌, ◌≤◌, Bool, true, false, ◌&&◌, ◌||◌, List, [], ◌∷◌, ◌++◌, length, get_or, take, drop, map, filter, replicate, nat_eq, nat_le, nat_lt, refl, sym, ap, subst, ◌∙◌, arith}
+use Rattle.std.proofs.Common.{◌≡◌, ℕ, ◌+◌, ◌-◌, ◌^◌, ◌<◌, ◌≤◌, Bool, true, false, ◌&&◌, ◌||◌, List, [], ◌∷◌, ◌++◌, length, get_or, take, drop, map, filter, replicate, nat_eq, nat_le, nat_lt, refl, sym, ap, subst, ◌∙◌, arith, ◌*◌}
 use Rattle.std.proofs.lemmas.List.{length-append, length-replicate, take_all, drop_at}
 use Rattle.std.specs.List.{list_all}
 use Rattle.std.proofs.lemmas.Bool.{le-leb, leb-true, lt-ltb}
@@ -12,7 +12,7 @@ use Rattle.elf_image.specs.Fields.{entry_of, table_offset_of, header_size_of, he
 use Rattle.elf_image.specs.Parts.{greatest_end, are_apart, are_in_reach, is_entry}
 use Rattle.elf_image.specs.Loaded.{is_elf, is_rv32, is_executable, is_inside, has_segments, greatest_file, part_of, parts_of, IsLoaded}
 use Rattle.elf_image.specs.Reading.{IsFileHeader, HasLoads, HasSegments}
-use Rattle.elf_image.specs.Program.{text_start, memory_start, text_part, memory_part, program_parts, text_of, memory_size_of, IsProgramImage, zeros, file_header, segment_header, program_file}
+use Rattle.elf_image.specs.Program.{text_start, memory_start, text_part, memory_part, program_parts, text_of, memory_size_of, IsProgramImage, zeros, file_header, segment_header, program_file, text_offset, file_header_size, program_header_size}
 use Rattle.elf_image.proofs.Conditions.{both, headers_tell, inside_tells, segments_are, is_loaded}
 
 zeros-is : (n : ℕ) → replicate n 0 ≡ zeros n
@@ -27,14 +27,18 @@ length-zeros n = length-replicate n 0
 headers : List ℕ → ℕ → List ℕ
 headers text size = file_header text_start ++ segment_header (text_part text) ++ segment_header (memory_part text size)
 
-length-headers : (text : List ℕ) (size : ℕ) → length (headers text size) ≡ 116
+-- the bytes of the file header and of two program headers
+abbrev headers_size : ℕ
+headers_size = file_header_size + 2 * program_header_size
+
+length-headers : (text : List ℕ) (size : ℕ) → length (headers text size) ≡ headers_size
 unfolding headers file_header segment_header
 length-headers text size = refl
 
 -- the pieces that are put one behind the other make the file
 pub written : (entry : ℕ) (parts : List Part) (p q : Part) (start head first second padded all text : List ℕ) (len : ℕ) → IsProgramImage entry parts → p ≡ get_or parts 0 p → q ≡ get_or parts 1 q
     → start ≡ [] → head ≡ start ++ file_header entry → first ≡ head ++ segment_header p → second ≡ first ++ segment_header q → len ≡ length second
-    → padded ≡ take 4096 second ++ replicate (4096 - len) 0 → text ≡ p.bytes → all ≡ padded ++ text → all ≡ program_file (text_of parts) (memory_size_of parts)
+    → padded ≡ take text_offset second ++ replicate (text_offset - len) 0 → text ≡ p.bytes → all ≡ padded ++ text → all ≡ program_file (text_of parts) (memory_size_of parts)
 unfolding headers program_file
 written entry parts p q start head first second padded all text len is p-at q-at start-is head-is first-is second-is len-is padded-is text-is all-is =
     let t : List ℕ = text_of parts in
@@ -44,12 +48,12 @@ written entry parts p q start head first second padded all text len is p-at q-at
     let head-whole : head ≡ file_header text_start = head-is ∙ ap (λ (l : List ℕ). l ++ file_header entry) start-is ∙ ap file_header is.entry_is in
     let first-whole : first ≡ file_header text_start ++ segment_header (text_part t) = first-is ∙ ap (λ (l : List ℕ). l ++ segment_header p) head-whole ∙ ap (λ (part : Part). file_header text_start ++ segment_header part) p-is in
     let whole : second ≡ headers t m = second-is ∙ ap (λ (l : List ℕ). l ++ segment_header q) first-whole ∙ ap (λ (part : Part). file_header text_start ++ segment_header (text_part t) ++ segment_header part) q-is in
-    let size : len ≡ 116 = len-is ∙ ap (length {A = ℕ}) whole ∙ length-headers t m in
-    let front : take 4096 second ≡ headers t m = take_all 4096 second (omega (arith, len-is, size)) ∙ whole in
-    let padding : replicate (4096 - len) 0 ≡ zeros (4096 - 116) = zeros-is (4096 - len) ∙ ap (λ (n : ℕ). zeros (4096 - n)) size in
+    let size : len ≡ headers_size = len-is ∙ ap (length {A = ℕ}) whole ∙ length-headers t m in
+    let front : take text_offset second ≡ headers t m = take_all text_offset second (omega (arith, len-is, size)) ∙ whole in
+    let padding : replicate (text_offset - len) 0 ≡ zeros (text_offset - headers_size) = zeros-is (text_offset - len) ∙ ap (λ (n : ℕ). zeros (text_offset - n)) size in
     all-is
-    ∙ ap (λ (l : List ℕ). l ++ text) (padded-is ∙ ap (λ (l : List ℕ). l ++ replicate (4096 - len) 0) front ∙ ap (λ (l : List ℕ). headers t m ++ l) padding)
-    ∙ ap (λ (l : List ℕ). headers t m ++ zeros (4096 - 116) ++ l) (text-is ∙ ap (λ (part : Part). part.bytes) p-is)
+    ∙ ap (λ (l : List ℕ). l ++ text) (padded-is ∙ ap (λ (l : List ℕ). l ++ replicate (text_offset - len) 0) front ∙ ap (λ (l : List ℕ). headers t m ++ l) padding)
+    ∙ ap (λ (l : List ℕ). headers t m ++ zeros (text_offset - headers_size) ++ l) (text-is ∙ ap (λ (part : Part). part.bytes) p-is)
 
 -- ---- what is read of the file
 
@@ -58,14 +62,14 @@ word-again n lt = little_from-bytes 4 0 n [] ∙ omega arith
 
 -- the two program headers
 text_header : ℕ → ProgramHeader
-text_header size = record { kind = 1; offset = 4096; vaddr = text_start; filesz = size; memsz = size; flags = 5 }
+text_header size = record { kind = 1; offset = text_offset; vaddr = text_start; filesz = size; memsz = size; flags = 5 }
 
 memory_header : ℕ → ℕ → ProgramHeader
-memory_header vaddr size = record { kind = 1; offset = 4096; vaddr = vaddr; filesz = 0; memsz = size; flags = 6 }
+memory_header vaddr size = record { kind = 1; offset = text_offset; vaddr = vaddr; filesz = 0; memsz = size; flags = 6 }
 
 -- what the file says, field by field
 record Says (file text : List ℕ) (size : ℕ) : Type 0 where
-  long : length file ≡ 4096 + length text
+  long : length file ≡ text_offset + length text
   elf : is_elf file ≡ true
   rv32 : is_rv32 file ≡ true
   executable : is_executable file ≡ true
@@ -74,10 +78,10 @@ record Says (file text : List ℕ) (size : ℕ) : Type 0 where
   header_size : header_size_of file ≡ 32
   header_count : header_count_of file ≡ 2
   table : headers_of 2 (drop 52 file) ≡ text_header (length text) ∷ memory_header (memory_start (length text)) size ∷ []
-  behind : drop 4096 file ≡ text
+  behind : drop text_offset file ≡ text
 
-length-front : (text : List ℕ) (size : ℕ) → length (headers text size ++ zeros (4096 - 116)) ≡ 4096
-length-front text size = omega (arith, length-append (headers text size) (zeros (4096 - 116)), length-headers text size, length-zeros (4096 - 116))
+length-front : (text : List ℕ) (size : ℕ) → length (headers text size ++ zeros (text_offset - headers_size)) ≡ text_offset
+length-front text size = omega (arith, length-append (headers text size) (zeros (text_offset - headers_size)), length-headers text size, length-zeros (text_offset - headers_size))
 
 table-is : (text : List ℕ) (size : ℕ) → length text < 2 ^ 32 → memory_start (length text) < 2 ^ 32 → size < 2 ^ 32
     → headers_of 2 (drop 52 (program_file text size)) ≡ text_header (length text) ∷ memory_header (memory_start (length text)) size ∷ []
@@ -88,9 +92,9 @@ table-is text size text-lt start-lt size-lt =
 says : (text : List ℕ) (size : ℕ) → length text < 2 ^ 32 → memory_start (length text) < 2 ^ 32 → size < 2 ^ 32 → Says (program_file text size) text size
 unfolding headers file_header segment_header program_file
 says text size text-lt start-lt size-lt =
-    let parts : program_file text size ≡ (headers text size ++ zeros (4096 - 116)) ++ text = refl in
+    let parts : program_file text size ≡ (headers text size ++ zeros (text_offset - headers_size)) ++ text = refl in
     record {
-      long = ap (length {A = ℕ}) parts ∙ omega (arith, length-append (headers text size ++ zeros (4096 - 116)) text, length-front text size);
+      long = ap (length {A = ℕ}) parts ∙ omega (arith, length-append (headers text size ++ zeros (text_offset - headers_size)) text, length-front text size);
       elf = refl;
       rv32 = refl;
       executable = refl;
@@ -99,7 +103,7 @@ says text size text-lt start-lt size-lt =
       header_size = refl;
       header_count = refl;
       table = table-is text size text-lt start-lt size-lt;
-      behind = ap (λ (l : List ℕ). drop 4096 l) parts ∙ drop_at (headers text size ++ zeros (4096 - 116)) text 4096 (length-front text size);
+      behind = ap (λ (l : List ℕ). drop text_offset l) parts ∙ drop_at (headers text size ++ zeros (text_offset - headers_size)) text text_offset (length-front text size);
     }
 
 and-false : (b : Bool) → (b && false) ≡ false
@@ -159,7 +163,7 @@ has-loads file text size s =
 has-inside : (file text : List ℕ) (size : ℕ) → Says file text size → has_segments file ≡ true
 unfolding segments_of text_header memory_header
 has-inside file text size s =
-    let fits : nat_le (4096 + length text) (length file) ≡ true = le-leb _ _ (omega (arith, s.long)) in
+    let fits : nat_le (text_offset + length text) (length file) ≡ true = le-leb _ _ (omega (arith, s.long)) in
     let told : true ≡ list_all (λ h. is_inside h (length file)) (segments_of text size) = sym (rw (fits, or-true (nat_eq (length text) 0)) refl) in
     inside_tells file (segments_of text size) (segments_of text size) true (has-loads file text size s) refl told
 
@@ -174,7 +178,7 @@ has-segments file text size s some room =
 has-parts : (file text : List ℕ) (size : ℕ) → Says file text size → program_parts text size ≡ map (part_of file) (segments_of text size)
 unfolding segments_of text_header memory_header
 has-parts file text size s =
-    let bytes : take (length text) (drop 4096 file) ≡ text = ap (λ (l : List ℕ). take (length text) l) s.behind ∙ take_all (length text) text (omega arith) in
+    let bytes : take (length text) (drop text_offset file) ≡ text = ap (λ (l : List ℕ). take (length text) l) s.behind ∙ take_all (length text) text (omega arith) in
     sym (rw bytes refl)
 
 loads : (file text : List ℕ) (size : ℕ) (parts : List Part) → Says file text size → HasSegments file (segments_of text size) → are_apart (parts_of file) ≡ true → are_in_reach (parts_of file) ≡ true
