@@ -1,6 +1,9 @@
 -- In each state of a run each count is narrow.
 use Rattle.std.proofs.Common.{◌≡◌, ℕ, ◌+◌, ◌*◌, ◌^◌, ◌≤◌, ◌<◌, Bool, List, length, arith}
 use Rattle.std.proofs.Math.Nat.{mul-le-mul_left, mul-le-mul_right}
+use Rattle.kk_base.specs.Limits.{greatest_of}
+use Rattle.kk_base.specs.declared.limit.LimitKind.TheVariants.{Fields}
+use Rattle.kk_base.specs.Sizes.{greatest_cells, greatest_depth}
 use Rattle.kk_syntax.specs.PositionsOf.{PositionTable}
 use Rattle.kk_source.specs.State.{Environment}
 use Rattle.kk_counted.proofs.CountSteps.{always_bounded}
@@ -14,6 +17,7 @@ use Rattle.kk_counted.specs.Heaps.{count_at}
 use Rattle.kk_counted.specs.Keeping.{FitsAlways, counted_after}
 use Rattle.kk_counted.specs.Marks.{CellMarks, field_marks, AreMarked}
 use Rattle.kk_counted.specs.Spending.{IsSpent}
+use Rattle.kk_counted.specs.CountLimits.{greatest_spent}
 
 pub counts_few : (positions : PositionTable) (marks : CellMarks) (holds : ℕ → ℕ → Bool) (setting : CountedSetting)
     (weight : CountedState → ℕ) (input : List ℕ) (most fields : ℕ) → IsSpent positions setting.program
@@ -31,8 +35,9 @@ counts_few positions marks holds setting weight input most fields spent fits mar
 
 pub counts_narrow : (positions : PositionTable) (marks : CellMarks) (holds : ℕ → ℕ → Bool) (setting : CountedSetting)
     (weight : CountedState → ℕ) (input : List ℕ) (most : ℕ) → IsSpent positions setting.program
-    → FitsAlways weight setting input → AreMarked marks holds setting.program → AllSpendAtMost setting.program most → most ≤ 65000
-    → ((c : ℕ) → length (field_marks marks c) ≤ 6) → 1 ≤ setting.depth → setting.depth ≤ 65536 → setting.cells ≤ 1048576
+    → FitsAlways weight setting input → AreMarked marks holds setting.program → AllSpendAtMost setting.program most
+    → most ≤ greatest_spent → ((c : ℕ) → length (field_marks marks c) ≤ greatest_of Fields) → 1 ≤ setting.depth
+    → setting.depth ≤ greatest_depth → setting.cells ≤ greatest_cells
     → (n : ℕ) (code : Counted) (environment : Environment) (joins : List CountedJoin)
     → (counted_after weight setting input n).control ≡ running code environment joins
     → (at : ℕ) → count_at (counted_after weight setting input n).heap at + 1 < 2 ^ 32
@@ -40,9 +45,9 @@ counts_narrow positions marks holds setting weight input most spent fits marked 
     environment joins here at =
     omega (
       arith,
-      counts_few positions marks holds setting weight input most 6 spent fits marked spends few deep n code environment joins here
-          at,
+      counts_few positions marks holds setting weight input most (greatest_of Fields) spent fits marked spends few deep n code
+          environment joins here at,
       mul-le-mul_right most shallow,
-      mul-le-mul_left 65536 small,
+      mul-le-mul_left greatest_depth small,
       cells,
     )

@@ -4,6 +4,7 @@ pub mod CodePlaces
 pub mod Cost
 pub mod CountedCosts
 pub mod CountBounds
+pub mod CountLimits
 pub mod CountedCodes
 pub mod CountedForms
 pub mod CountedMachine

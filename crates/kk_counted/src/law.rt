@@ -1,5 +1,8 @@
 ghost use Rattle.std.specs.Prelude.{◌≡◌, ◌↔◌, ◌+◌, ◌*◌, ◌^◌, ◌≤◌, ◌<◌, ℕ, suc, Bool, true, false, List, [], ◌∷◌, map, length, All, Some, slice_get};
 ghost use Rattle.kk_base.specs.Agreements.{Agree};
+ghost use Rattle.kk_base.specs.Limits.{greatest_of};
+ghost use Rattle.kk_base.specs.declared.limit.LimitKind.TheVariants.{Fields};
+ghost use Rattle.kk_base.specs.Sizes.{greatest_cells, greatest_depth};
 ghost use Rattle.kk_syntax.specs.Shapes.{is_among};
 ghost use Rattle.kk_syntax.specs.PositionsOf.{PositionTable};
 ghost use Rattle.kk_source.specs.State.{Value, place, Cell, Environment};
@@ -31,6 +34,7 @@ ghost use Rattle.kk_counted.specs.MarkKeeping.{FitsMark, RunFits, StateFits, num
 ghost use Rattle.kk_counted.specs.NumberedPool.{IsPlaced, IsPool, Growth, Placing};
 ghost use Rattle.kk_counted.specs.TokenCosts.{token_cost, HasRoom, AreStatesKept};
 ghost use Rattle.kk_counted.specs.TokenRuns.{is_quiet, bare_weight, AllLead, IsFollowed, IsUnseen, IsSameRun, ComesTo, TakesNoCell};
+ghost use Rattle.kk_counted.specs.CountLimits.{greatest_spent};
 
 /// Code that spends each reference that it owns keeps its heap sound: in each state of a run the count of each cell is the
 /// number of the references that own it, fields name older cells, and the cell of each lent variable is reached from what an
@@ -260,8 +264,8 @@ pub fn judged_code_keeps_counts_narrow()
     ensures narrow { (positions : PositionTable) (marks : CellMarks) (holds : ℕ → ℕ → Bool) (setting : CountedSetting)
         (weight : CountedState → ℕ) (input : List ℕ) (most : ℕ) → IsSpent positions setting.program
         → FitsAlways weight setting input → AreMarked marks holds setting.program → AllSpendAtMost setting.program most
-        → most ≤ 65000 → ((c : ℕ) → length (field_marks marks c) ≤ 6) → 1 ≤ setting.depth → setting.depth ≤ 65536
-        → setting.cells ≤ 1048576
+        → most ≤ greatest_spent → ((c : ℕ) → length (field_marks marks c) ≤ greatest_of Fields) → 1 ≤ setting.depth
+        → setting.depth ≤ greatest_depth → setting.cells ≤ greatest_cells
         → (n : ℕ) (code : Counted) (environment : Environment) (joins : List CountedJoin)
         → (counted_after weight setting input n).control ≡ running code environment joins
         → (at : ℕ) → count_at (counted_after weight setting input n).heap at + 1 < 2 ^ 32 }
