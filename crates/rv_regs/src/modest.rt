@@ -93,6 +93,9 @@ fn stores_of(action: Action, args: &[Operand], into: Option<Operand>) -> usize
     }
 }
 
+// How many moves are counted at most.
+const MOST_COUNT: usize = 100;
+
 fn has_few_moves(placed: &PlacedFunction) -> bool
     ensures { IsTrue result → FunctionFewMoves (placed_lines_of placed.now) }
 {
@@ -116,7 +119,7 @@ fn has_few_moves(placed: &PlacedFunction) -> bool
                 count = 0;
             }
             Item::Moves { .. } => {
-                if count == 100 {
+                if count == MOST_COUNT {
                     return false;
                 }
                 count += 1;
@@ -174,6 +177,9 @@ fn length_of(statement: &Statement) -> u32
     }
 }
 
+// A sum of instructions that is as large grows no more: its numbers stay numbers of 32 bits.
+const MOST_SUM: u32 = 1 << 30;
+
 // At most as many instructions as the function is with its moves.
 fn least_length(function: &AsmFunction) -> u32
     ensures { result ≤ length function.now.params.items * move_instructions + code_length (lines_of function.now).code }
@@ -183,7 +189,7 @@ fn least_length(function: &AsmFunction) -> u32
         sum = function.params.len() as u32;
     }
     for statement in &function.code {
-        if sum < 1_000_000_000 {
+        if sum < MOST_SUM {
             sum += length_of(statement);
         }
     }

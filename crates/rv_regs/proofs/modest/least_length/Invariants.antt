@@ -2,9 +2,10 @@ use Rattle.std.proofs.Common.{◌+◌, ◌*◌, ◌≤◌, drop, map, length}
 use Rattle.rv_isa.specs.AsmCode.{line_of, lines_of}
 use Rattle.rv_isa.specs.Costs.{move_instructions, code_length}
 use Rattle.rv_regs.proofs.modest.least_length.Given as goal
+use Rattle.rv_regs.specs.declared.modest.TheConstants.{MOST_SUM}
 
 abbrev pub invariant-loop-statement : goal.invariant-loop-statement
 invariant-loop-statement l = record {
-  small : l.sum ≤ 1000000030;
+  small : l.sum ≤ MOST_SUM + 30;
   rest : l.sum + code_length (map line_of (drop l.statement-index l.statement-items)) ≤ length l.function.params.items * move_instructions + code_length (lines_of l.function).code;
 }
