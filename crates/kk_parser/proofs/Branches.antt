@@ -10,6 +10,7 @@ use Rattle.kk_parser.specs.Methods.{Read}
 use Rattle.kk_parser.specs.Phrases.{Phrase, PhraseValue, token, opener, rule, or, expr, if_, each, perhaps, ◌▸◌}
 use Rattle.kk_parser.specs.Reading.{Finds, finds_token, finds_opener, finds_both, finds_each, finds_something, Failure, ReadingFails, fails_front, fails_behind, fails_each, fails_each_more, fails_something}
 use Rattle.kk_parser.proofs.Steps.{Continues, continues_start, front_read}
+use Rattle.kk_parser.specs.Depths.{most_levels}
 
 -- a branch with its condition; and what stands behind the first
 abbrev pub one_branch : Phrase
@@ -22,10 +23,10 @@ other_branches = each (keyword Elif) one_branch ▸ perhaps (keyword Else) (rule
 abbrev pub turn : PhraseValue branches → PhraseValue other_branches
 turn (condition, (then, (positive, (more, last)))) = ((condition, (then, positive)) ∷ more, last)
 
-elif_found : {n k m : ℕ} {w : Said (keyword Elif)} {v : PhraseValue branches} {ts us ws : List LocatedToken} → Finds 200 (opener (keyword Elif)) n ts w k us → Finds 200 branches k us v m ws → Finds 200 other_branches n ts (turn v) m ws
+elif_found : {n k m : ℕ} {w : Said (keyword Elif)} {v : PhraseValue branches} {ts us ws : List LocatedToken} → Finds most_levels (opener (keyword Elif)) n ts w k us → Finds most_levels branches k us v m ws → Finds most_levels other_branches n ts (turn v) m ws
 elif_found (finds_opener s h) (finds_both a (finds_both b (finds_both c (finds_both d e)))) = finds_both (finds_each s h (finds_both a (finds_both b c)) d) e
 
-elif_failed : {n k : ℕ} {w : Said (keyword Elif)} {ts us : List LocatedToken} {f : Failure} → Finds 200 (opener (keyword Elif)) n ts w k us → ReadingFails 200 branches k us f → ReadingFails 200 other_branches n ts f
+elif_failed : {n k : ℕ} {w : Said (keyword Elif)} {ts us : List LocatedToken} {f : Failure} → Finds most_levels (opener (keyword Elif)) n ts w k us → ReadingFails most_levels branches k us f → ReadingFails most_levels other_branches n ts f
 elif_failed (finds_opener s h) (fails_front a) = fails_front (fails_each s h (fails_front a))
 elif_failed (finds_opener s h) (fails_behind a (fails_front b)) = fails_front (fails_each s h (fails_behind a (fails_front b)))
 elif_failed (finds_opener s h) (fails_behind a (fails_behind b (fails_front c))) = fails_front (fails_each s h (fails_behind a (fails_behind b c)))
@@ -43,10 +44,10 @@ pub behind_first : {condition positive : Written} (start a b here : Parser) → 
 behind_first start a b here r s t = front_read here (front_read b (front_read a (continues_start branches start) r) s) t
 
 -- behind a token that is next a phrase was read
-pub perhaps_found : {k : Kind} {a : Phrase} {n i m : ℕ} {w : Said k} {v : PhraseValue a} {ts us ws : List LocatedToken} → Finds 200 (token k) n ts w i us → Finds 200 a i us v m ws → Finds 200 (perhaps k a) n ts (Some v) m ws
+pub perhaps_found : {k : Kind} {a : Phrase} {n i m : ℕ} {w : Said k} {v : PhraseValue a} {ts us ws : List LocatedToken} → Finds most_levels (token k) n ts w i us → Finds most_levels a i us v m ws → Finds most_levels (perhaps k a) n ts (Some v) m ws
 perhaps_found (finds_token s) r = finds_something s r
 
-pub perhaps_failed : {k : Kind} {a : Phrase} {n i : ℕ} {w : Said k} {ts us : List LocatedToken} {f : Failure} → Finds 200 (token k) n ts w i us → ReadingFails 200 a i us f → ReadingFails 200 (perhaps k a) n ts f
+pub perhaps_failed : {k : Kind} {a : Phrase} {n i : ℕ} {w : Said k} {ts us : List LocatedToken} {f : Failure} → Finds most_levels (token k) n ts w i us → ReadingFails most_levels a i us f → ReadingFails most_levels (perhaps k a) n ts f
 perhaps_failed (finds_token s) r = fails_something s r
 
 -- an `if` means what its branches mean

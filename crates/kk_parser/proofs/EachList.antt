@@ -11,6 +11,7 @@ use Rattle.kk_parser.specs.Forms.{form, form_meaning}
 use Rattle.kk_parser.specs.Reading.{first, nullable, is_quoted, quoted, Finds, finds_token, finds_opener, finds_both, finds_first, finds_second, finds_none, finds_more, finds_absence, finds_presence, finds_level, finds_rule, finds_no_more, finds_each, finds_nothing, finds_something, finds_quoted, finds_unquoted, Failure, unexpected, too_deep, ReadingFails, fails_token, fails_opener, fails_deep, fails_front, fails_behind, fails_first, fails_second, fails_one, fails_more, fails_presence, fails_level, fails_rule, fails_each_deep, fails_each, fails_each_more, fails_something, fails_quoted, fails_unquoted}
 use Rattle.kk_parser.proofs.Apart.{next_of}
 use Rattle.kk_parser.proofs.Passing.{left_few, passes}
+use Rattle.kk_parser.specs.Depths.{most_levels}
 
 -- what a phrase repeats has a token each time
 abbrev pub readable : Phrase → Bool
@@ -148,8 +149,8 @@ starts (quoted_or a) h = starts_quoted (starts a h)
 
 -- a phrase is read, or its reading fails
 pub data ReadOrFailed (p : Phrase) (n : ℕ) (ts : List LocatedToken) : Type 0 where
-  was_read : (v : PhraseValue p) (m : ℕ) (us : List LocatedToken) → Finds 200 p n ts v m us → ReadOrFailed p n ts
-  has_failed : (f : Failure) → ReadingFails 200 p n ts f → ReadOrFailed p n ts
+  was_read : (v : PhraseValue p) (m : ℕ) (us : List LocatedToken) → Finds most_levels p n ts v m us → ReadOrFailed p n ts
+  has_failed : (f : Failure) → ReadingFails most_levels p n ts f → ReadOrFailed p n ts
 
 -- fewer tokens are read, or their reading fails
 abbrev FewerRead : List LocatedToken → Type 0
@@ -172,14 +173,14 @@ read_token k n ts =
 read_opener : (k : Kind) (n : ℕ) (ts : List LocatedToken) → ReadOrFailed (opener k) n ts
 read_opener k n ts =
     elim (told (is_at (classes_of k) ts)) [
-      | inl h ↦ elim (cases_lt n 200) [
+      | inl h ↦ elim (cases_lt n most_levels) [
         | inl shallow ↦ let t = next_of k ts h in subst (ReadOrFailed (opener k) n) (sym t.3) (was_read t.2 (n + 1) t.1 (finds_opener t.4 shallow))
         | inr deep ↦ has_failed (too_deep ts) (fails_deep h deep)
       ]
       | inr h ↦ has_failed (unexpected ts) (fails_opener h)
     ]
 
-read_both : (a b : Phrase) (n : ℕ) (ts : List LocatedToken) → ReadOrFailed a n ts → ((k : ℕ) (us : List LocatedToken) (u : PhraseValue a) → Finds 200 a n ts u k us → ReadOrFailed b k us) → ReadOrFailed (a ▸ b) n ts
+read_both : (a b : Phrase) (n : ℕ) (ts : List LocatedToken) → ReadOrFailed a n ts → ((k : ℕ) (us : List LocatedToken) (u : PhraseValue a) → Finds most_levels a n ts u k us → ReadOrFailed b k us) → ReadOrFailed (a ▸ b) n ts
 read_both a b n ts (has_failed f r) rest = has_failed f (fails_front r)
 read_both a b n ts (was_read u k us r) rest =
     elim (rest k us u r) [
@@ -191,7 +192,7 @@ read_quoted : (n : ℕ) (ts : List LocatedToken) → ReadOrFailed quoted n ts
 read_quoted n ts = read_both (token string) (token (symbol CloseParenthesis)) n ts (read_token string n ts) (λ k us u r. read_token (symbol CloseParenthesis) k us)
 
 -- where a level may be opened, the token that opens it is passed
-read_each_behind : (k : Kind) (a : Phrase) (n : ℕ) (t : LocatedToken) (w : Said k) (ts : List LocatedToken) → readable a ≡ true → says k t ≡ Some w → n < 200 → FewerRead (t ∷ ts) → ReadOrFailed (each k a) n (t ∷ ts)
+read_each_behind : (k : Kind) (a : Phrase) (n : ℕ) (t : LocatedToken) (w : Said k) (ts : List LocatedToken) → readable a ≡ true → says k t ≡ Some w → n < most_levels → FewerRead (t ∷ ts) → ReadOrFailed (each k a) n (t ∷ ts)
 read_each_behind k a n t w ts h said shallow f =
     elim (f a (n + 1) ts h (omega arith)) [
       | has_failed e r ↦ has_failed e (fails_each said shallow r)
@@ -205,7 +206,7 @@ read_each : (k : Kind) (a : Phrase) (n : ℕ) (ts : List LocatedToken) → reada
 read_each k a n ts h f =
     elim (told (is_at (classes_of k) ts)) [
       | inr none ↦ was_read [] n ts (finds_no_more none)
-      | inl one ↦ elim (cases_lt n 200) [
+      | inl one ↦ elim (cases_lt n most_levels) [
         | inr deep ↦ has_failed (too_deep ts) (fails_each_deep one deep)
         | inl shallow ↦
             let t = next_of k ts one in

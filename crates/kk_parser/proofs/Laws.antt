@@ -1,5 +1,5 @@
 -- Tokens have one answer.
-use Rattle.std.proofs.Common.{◌≡◌, ℕ, ◌≤◌, List, [], ◌∷◌, ◌++◌, length, refl, sym, ap, ◌∙◌, subst, inl, inr, append_assoc, length-append, arith}
+use Rattle.std.proofs.Common.{◌≡◌, ℕ, ◌≤◌, List, [], ◌∷◌, ◌++◌, length, refl, sym, ap, ◌∙◌, subst, inl, inr, append_assoc, length-append, arith, ◌+◌}
 use Rattle.std.proofs.lemmas.List.{append_cancel_right, append-nil}
 use Rattle.kk_syntax.specs.declared.token.LocatedToken.{LocatedToken}
 use Rattle.kk_syntax.specs.Surface.{WrittenDeclaration}
@@ -12,6 +12,7 @@ use Rattle.kk_parser.proofs.FewNodes.{tokens_of-length}
 use Rattle.kk_parser.proofs.Functional.{never_both, same_fails}
 use Rattle.kk_parser.proofs.Local.{one_next, fails_alike}
 use Rattle.kk_parser.proofs.Whole.{tokens_of-append, turned_tokens, program_read, tree_found, one_program}
+use Rattle.kk_parser.specs.Depths.{most_levels}
 
 -- marked tokens, cut behind some of the tokens alone
 split_marked : (ts : List Marked) (xs ys : List LocatedToken) → tokens_of ts ≡ xs ++ ys → (front : List Marked) × (later : List Marked) × (ts ≡ front ++ later) × (tokens_of front ≡ xs)
@@ -63,45 +64,45 @@ cons_head : {A : Type 0} {x y : A} {xs ys : List A} → x ∷ xs ≡ y ∷ ys �
 cons_head e = cc e
 
 -- the first token at which too many levels are open is not among those at which that is not so
-too_many_behind : {ts us : List Marked} → Within 200 ts us → (front rest : List Marked) → ts ≡ front ++ rest → Opens 200 us → AtMost 200 front → length us ≤ length rest
+too_many_behind : {ts us : List Marked} → Within most_levels ts us → (front rest : List Marked) → ts ≡ front ++ rest → Opens most_levels us → AtMost most_levels front → length us ≤ length rest
 too_many_behind (all_within {us = us}) [] rest e o h = omega (arith, ap length e)
-too_many_behind (all_within {us = us}) (x ∷ front) rest e o h = absurd (omega (arith, h.0, subst (λ ts. Opens 200 ts) e o))
+too_many_behind (all_within {us = us}) (x ∷ front) rest e o h = absurd (omega (arith, h.0, subst (λ ts. Opens most_levels ts) e o))
 too_many_behind (one_within l r) [] rest e o h = omega (arith, within_length r, ap length e)
 too_many_behind (one_within l r) (x ∷ front) rest e o h = too_many_behind r front rest (cons_tail e) o h.1
 
 -- where the first token at which too many levels are open is known, it is that one
-too_many_there : {ts us : List Marked} → Within 200 ts us → (front rest : List Marked) (opener : Marked) → ts ≡ front ++ opener ∷ rest → Opens 200 us → AtMost 200 front → opener.levels ≡ 201 → us ≡ opener ∷ rest
+too_many_there : {ts us : List Marked} → Within most_levels ts us → (front rest : List Marked) (opener : Marked) → ts ≡ front ++ opener ∷ rest → Opens most_levels us → AtMost most_levels front → opener.levels ≡ most_levels + 1 → us ≡ opener ∷ rest
 too_many_there (all_within {us = us}) [] rest opener e o h l = e
-too_many_there (all_within {us = us}) (x ∷ front) rest opener e o h l = absurd (omega (arith, h.0, subst (λ ts. Opens 200 ts) e o))
+too_many_there (all_within {us = us}) (x ∷ front) rest opener e o h l = absurd (omega (arith, h.0, subst (λ ts. Opens most_levels ts) e o))
 too_many_there (one_within {t = t} m r) [] rest opener e o h l = absurd (omega (arith, m, ap (λ x. x.levels) (cons_head e)))
 too_many_there (one_within m r) (x ∷ front) rest opener e o h l = too_many_there r front rest opener (cons_tail e) o h.1 l
 
-never_whole : {ts us : List Marked} → Within 200 ts us → (front rest : List Marked) (opener : Marked) → ts ≡ front ++ opener ∷ rest → us ≡ [] → opener.levels ≡ 201 → ⊥
+never_whole : {ts us : List Marked} → Within most_levels ts us → (front rest : List Marked) (opener : Marked) → ts ≡ front ++ opener ∷ rest → us ≡ [] → opener.levels ≡ most_levels + 1 → ⊥
 never_whole (all_within {us = us}) [] rest opener e n l = absurd (cc (sym e ∙ n))
 never_whole (all_within {us = us}) (x ∷ front) rest opener e n l = absurd (cc (sym e ∙ n))
 never_whole (one_within m r) [] rest opener e n l = omega (arith, m, ap (λ x. x.levels) (cons_head e))
 never_whole (one_within m r) (x ∷ front) rest opener e n l = never_whole r front rest opener (cons_tail e) n l
 
 -- where the reading fails at a token that opens a level too many, it does so whatever is behind that token
-moved_failure : (before later other : List LocatedToken) (t : LocatedToken) → ReadingFails 200 (rule program) 0 (before ++ t ∷ later) (too_deep (t ∷ later)) → ReadingFails 200 (rule program) 0 (before ++ t ∷ other) (too_deep (t ∷ other))
+moved_failure : (before later other : List LocatedToken) (t : LocatedToken) → ReadingFails most_levels (rule program) 0 (before ++ t ∷ later) (too_deep (t ∷ later)) → ReadingFails most_levels (rule program) 0 (before ++ t ∷ other) (too_deep (t ∷ other))
 moved_failure before later other t r =
-    let a = fails_alike 200 r refl (one_next {us = other}) in
-    subst (λ ts. ReadingFails 200 (rule program) 0 ts (too_deep (t ∷ other))) (turned_tokens before (t ∷ later) (t ∷ other) a.before a.turns) a.fails
+    let a = fails_alike most_levels r refl (one_next {us = other}) in
+    subst (λ ts. ReadingFails most_levels (rule program) 0 ts (too_deep (t ∷ other))) (turned_tokens before (t ∷ later) (t ∷ other) a.before a.turns) a.fails
 
 -- where a token opens a level too many, the reading fails there
-too_deep_fails : (before rest : List LocatedToken) → IsTooDeep before rest → ReadingFails 200 (rule program) 0 (before ++ rest) (too_deep rest)
+too_deep_fails : (before rest : List LocatedToken) → IsTooDeep before rest → ReadingFails most_levels (rule program) 0 (before ++ rest) (too_deep rest)
 too_deep_fails before rest d =
     let later = d.begins.1 in
     let ts = d.front ++ d.opener ∷ later in
     let p : SpellsProgram d.begins.0 ts = subst (λ us. SpellsProgram d.begins.0 us) (append_assoc d.front (d.opener ∷ []) later) d.begins.2 in
     let tokens : tokens_of ts ≡ before ++ d.opener.token ∷ tokens_of later = tokens_of-append d.front (d.opener ∷ later) ∙ ap (λ us. us ++ d.opener.token ∷ tokens_of later) d.tokens_are in
-    elim (program_read p 200).1 [
+    elim (program_read p most_levels).1 [
       | inl w ↦ absurd (never_whole w.within d.front later d.opener refl refl d.opens)
-      | inr q ↦ at_rest (subst (λ us. ReadingFails 200 (rule program) 0 us (too_deep (d.opener.token ∷ tokens_of later))) tokens (subst (λ us. ReadingFails 200 (rule program) 0 (tokens_of ts) (too_deep (tokens_of us))) (too_many_there q.within d.front later d.opener refl q.opens d.shallow d.opens) q.fails))
+      | inr q ↦ at_rest (subst (λ us. ReadingFails most_levels (rule program) 0 us (too_deep (d.opener.token ∷ tokens_of later))) tokens (subst (λ us. ReadingFails most_levels (rule program) 0 (tokens_of ts) (too_deep (tokens_of us))) (too_many_there q.within d.front later d.opener refl q.opens d.shallow d.opens) q.fails))
     ]
   where
-    at_rest : ReadingFails 200 (rule program) 0 (before ++ d.opener.token ∷ tokens_of d.begins.1) (too_deep (d.opener.token ∷ tokens_of d.begins.1)) → ReadingFails 200 (rule program) 0 (before ++ rest) (too_deep rest)
-    at_rest r = subst (λ us. ReadingFails 200 (rule program) 0 (before ++ us) (too_deep us)) (sym d.next_is) (moved_failure before (tokens_of d.begins.1) d.later d.opener.token r)
+    at_rest : ReadingFails most_levels (rule program) 0 (before ++ d.opener.token ∷ tokens_of d.begins.1) (too_deep (d.opener.token ∷ tokens_of d.begins.1)) → ReadingFails most_levels (rule program) 0 (before ++ rest) (too_deep rest)
+    at_rest r = subst (λ us. ReadingFails most_levels (rule program) 0 (before ++ us) (too_deep us)) (sym d.next_is) (moved_failure before (tokens_of d.begins.1) d.later d.opener.token r)
 
 -- what opens a level too many goes on behind each token before it, and behind those alone
 opener_goes_on : (before rest : List LocatedToken) (d : IsTooDeep before rest) (front : List LocatedToken) (t : LocatedToken) (more later : List LocatedToken) → before ++ d.opener.token ∷ [] ≡ front ++ t ∷ more → GoesOn front (t ∷ later)
@@ -109,16 +110,16 @@ opener_goes_on before rest d front t more later e =
     begun_goes_on front t more later (d.front ++ d.opener ∷ []) d.begins (tokens_of-append d.front (d.opener ∷ []) ∙ ap (λ ts. ts ++ d.opener.token ∷ []) d.tokens_are ∙ e)
 
 -- behind a token that opens a level too many, none is the first that is unexpected
-passed : (before rest front : List LocatedToken) (t : LocatedToken) (more later : List LocatedToken) → before ≡ front ++ t ∷ more → IsUnexpected before rest → ReadingFails 200 (rule program) 0 (front ++ t ∷ later) (too_deep (t ∷ later)) → ⊥
+passed : (before rest front : List LocatedToken) (t : LocatedToken) (more later : List LocatedToken) → before ≡ front ++ t ∷ more → IsUnexpected before rest → ReadingFails most_levels (rule program) 0 (front ++ t ∷ later) (too_deep (t ∷ later)) → ⊥
 passed before rest front t more later e u r =
     let behind = u.begins.1 in
     let tokens : tokens_of (u.front ++ behind) ≡ front ++ t ∷ (more ++ tokens_of behind) =
     tokens_of-append u.front behind ∙ ap (λ ts. ts ++ tokens_of behind) (u.tokens_are ∙ e) ∙ append_assoc front (t ∷ more) (tokens_of behind) in
-    let s : ReadingFails 200 (rule program) 0 (tokens_of (u.front ++ behind)) (too_deep (t ∷ (more ++ tokens_of behind))) =
-    subst (λ ts. ReadingFails 200 (rule program) 0 ts (too_deep (t ∷ (more ++ tokens_of behind)))) (sym tokens) (moved_failure front later (more ++ tokens_of behind) t r) in
-    elim (program_read u.begins.2 200).1 [
-      | inl w ↦ never_both 200 w.finds s
-      | inr q ↦ let f : too_deep (tokens_of q.rest) ≡ too_deep (t ∷ (more ++ tokens_of behind)) = same_fails 200 q.fails s in
+    let s : ReadingFails most_levels (rule program) 0 (tokens_of (u.front ++ behind)) (too_deep (t ∷ (more ++ tokens_of behind))) =
+    subst (λ ts. ReadingFails most_levels (rule program) 0 ts (too_deep (t ∷ (more ++ tokens_of behind)))) (sym tokens) (moved_failure front later (more ++ tokens_of behind) t r) in
+    elim (program_read u.begins.2 most_levels).1 [
+      | inl w ↦ never_both most_levels w.finds s
+      | inr q ↦ let f : too_deep (tokens_of q.rest) ≡ too_deep (t ∷ (more ++ tokens_of behind)) = same_fails most_levels q.fails s in
           let g : tokens_of q.rest ≡ t ∷ (more ++ tokens_of behind) = cc f in
           omega (arith, too_many_behind q.within u.front behind refl q.opens u.shallow, tokens_of-length q.rest, ap length g, length-append more (tokens_of behind), tokens_of-length behind)
     ]
@@ -128,7 +129,7 @@ unexpected_or_too_deep before rest front later e u d =
     elim (fronts before front rest later e) [
       | same_front f g ↦ u.stuck (subst (λ ts. GoesOn before ts) (sym (g ∙ d.next_is)) (opener_goes_on front later d before d.opener.token [] d.later (ap (λ ts. ts ++ d.opener.token ∷ []) (sym f))))
       | first_shorter t more f g ↦ u.stuck (subst (λ ts. GoesOn before ts) (sym g) (opener_goes_on front later d before t (more ++ d.opener.token ∷ []) (more ++ later) (ap (λ ts. ts ++ d.opener.token ∷ []) f ∙ append_assoc before (t ∷ more) (d.opener.token ∷ []))))
-      | second_shorter t more f g ↦ passed before rest front t more (more ++ rest) f u (subst (λ ts. ReadingFails 200 (rule program) 0 (front ++ ts) (too_deep ts)) g (too_deep_fails front later d))
+      | second_shorter t more f g ↦ passed before rest front t more (more ++ rest) f u (subst (λ ts. ReadingFails most_levels (rule program) 0 (front ++ ts) (too_deep ts)) g (too_deep_fails front later d))
     ]
 
 one_unexpected : (before rest front later : List LocatedToken) → before ++ rest ≡ front ++ later → IsUnexpected before rest → IsUnexpected front later → before ≡ front
@@ -141,7 +142,7 @@ one_unexpected before rest front later e u w =
 
 one_too_deep : (before rest front later : List LocatedToken) → before ++ rest ≡ front ++ later → IsTooDeep before rest → IsTooDeep front later → before ≡ front
 one_too_deep before rest front later e d c =
-    let f : too_deep rest ≡ too_deep later = same_fails 200 (subst (λ ts. ReadingFails 200 (rule program) 0 ts (too_deep rest)) e (too_deep_fails before rest d)) (too_deep_fails front later c) in
+    let f : too_deep rest ≡ too_deep later = same_fails most_levels (subst (λ ts. ReadingFails most_levels (rule program) 0 ts (too_deep rest)) e (too_deep_fails before rest d)) (too_deep_fails front later c) in
     let g : rest ≡ later = cc f in
     append_cancel_right before front later (ap (λ ts. before ++ ts) (sym g) ∙ e)
 
@@ -159,7 +160,7 @@ pub record OneAnswer : Type 0 where
 pub answer_law : OneAnswer
 answer_law = record {
   tree_or_unexpected = λ before rest declarations h u. u.stuck (tree_goes_on before rest declarations h);
-  tree_or_too_deep = λ before rest declarations h d. never_both 200 (tree_found h).1 (too_deep_fails before rest d);
+  tree_or_too_deep = λ before rest declarations h d. never_both most_levels (tree_found h).1 (too_deep_fails before rest d);
   unexpected_or_too_deep = unexpected_or_too_deep;
   one_unexpected = one_unexpected;
   one_too_deep = one_too_deep;

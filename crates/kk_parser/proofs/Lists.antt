@@ -11,6 +11,7 @@ use Rattle.kk_parser.specs.Methods.{Read}
 use Rattle.kk_parser.specs.Phrases.{Phrase, PhraseValue, token, ◌▸◌, many, optional}
 use Rattle.kk_parser.specs.Reading.{first, Failure, ReadingFails, finds_both, finds_absence, finds_presence, fails_front, fails_behind, fails_one, fails_presence}
 use Rattle.kk_parser.proofs.Steps.{Continues, continues_many, ends_many}
+use Rattle.kk_parser.specs.Depths.{most_levels}
 
 -- a comma, and one more
 abbrev pub next_listed : Phrase → Phrase
@@ -48,10 +49,10 @@ lists_end a given start here l h =
     (l.says [], l.meant [] ∙ append-nil given, ends_many l.read h)
 
 -- the first failed, or one behind a comma
-pub lists_fails_first : (a : Phrase) (start : Parser) (f : Failure) → is_at (first (a ▸ many (next_listed a))) start.rest.now ≡ true → ReadingFails 200 a start.depth start.rest.now f → ReadingFails 200 (listed a) start.depth start.rest.now f
+pub lists_fails_first : (a : Phrase) (start : Parser) (f : Failure) → is_at (first (a ▸ many (next_listed a))) start.rest.now ≡ true → ReadingFails most_levels a start.depth start.rest.now f → ReadingFails most_levels (listed a) start.depth start.rest.now f
 lists_fails_first a start f h r = fails_presence h (fails_front r)
 
-pub lists_fails : (a : Phrase) (given : List (PhraseValue a)) (start here mid : Parser) (f : Failure) → Lists a given start here → is_at (classes_of (symbol Comma)) here.rest.now ≡ true → Read (token (symbol Comma)) tt here mid → ReadingFails 200 a mid.depth mid.rest.now f → ReadingFails 200 (listed a) start.depth start.rest.now f
+pub lists_fails : (a : Phrase) (given : List (PhraseValue a)) (start here mid : Parser) (f : Failure) → Lists a given start here → is_at (classes_of (symbol Comma)) here.rest.now ≡ true → Read (token (symbol Comma)) tt here mid → ReadingFails most_levels a mid.depth mid.rest.now f → ReadingFails most_levels (listed a) start.depth start.rest.now f
 lists_fails a given start here mid f l h r s = l.read.failed f (fails_one h (fails_behind r s))
 
 -- the same of lists with at least one

@@ -18,7 +18,7 @@ use Rattle.kk_syntax.specs.declared.tree.Declaration.TheVariants as OfDeclaratio
 use Rattle.kk_syntax.specs.Depths.{deepest, surface_step, surface_row_step, surface_statement_step, surface_depth, surface_row_depth, surface_statement_depth, body_depth}
 use Rattle.kk_syntax.specs.Surface.{Written, WrittenRow, WrittenStatement, expr_step, row_step, statement_step, written_declaration, written_expr, written_row, written_statement, number, unit, variable, print_text, call, dot_call, construct, branch, branch_alone, writtens_of, block_of, unary, binary, both, either, match, rows_of}
 use Rattle.kk_parser.specs.declared.fault.Fault.{Fault}
-use Rattle.kk_parser.specs.Depths.{pattern_depth, with_rest, written_depth, writtens_depth, rows_depth, IsNoDeeper, AreNoDeeper, RowsAreNoDeeper, StatementsAreNoDeeper, BodyIsNoDeeper, deepest_body, IsShallow}
+use Rattle.kk_parser.specs.Depths.{pattern_depth, with_rest, written_depth, writtens_depth, rows_depth, IsNoDeeper, AreNoDeeper, RowsAreNoDeeper, StatementsAreNoDeeper, BodyIsNoDeeper, deepest_body, IsShallow, most_levels}
 use Rattle.kk_parser.specs.Methods.{Makes}
 use Rattle.kk_parser.specs.Views.{boxed_expr}
 use Rattle.kk_parser.proofs.Blocks.{block_of-append}
@@ -222,13 +222,13 @@ joined_under before all more last value inner some i is items h k =
 
 -- ---- declarations
 
--- the body of a declaration that is shallow within 200 levels
-body_under : (d : Declaration) → BodyIsNoDeeper d → IsShallow 200 (written_declaration d) → body_depth d ≤ deepest_body
+-- the body of a declaration that is shallow within the levels that may be open
+body_under : (d : Declaration) → BodyIsNoDeeper d → IsShallow most_levels (written_declaration d) → body_depth d ≤ deepest_body
 body_under (OfDeclaration.Type d) h k = omega arith
 body_under (OfDeclaration.Function d) h k = omega (arith, h, k.2)
 
-pub bodies_under : (ds : List Declaration) → All BodyIsNoDeeper ds → All (λ d. IsShallow 200 d) (map written_declaration ds) → All (λ d. body_depth d ≤ deepest_body) ds
+pub bodies_under : (ds : List Declaration) → All BodyIsNoDeeper ds → All (λ d. IsShallow most_levels d) (map written_declaration ds) → All (λ d. body_depth d ≤ deepest_body) ds
 bodies_under [] h k = All-nil (λ d. body_depth d ≤ deepest_body)
 bodies_under (d ∷ ds) h k =
-    All-cons (λ d. body_depth d ≤ deepest_body) d ds (body_under d (All-head BodyIsNoDeeper d ds h) (All-head (λ d. IsShallow 200 d) (written_declaration d) (map written_declaration ds) k))
-    (bodies_under ds (All-tail BodyIsNoDeeper d ds h) (All-tail (λ d. IsShallow 200 d) (written_declaration d) (map written_declaration ds) k))
+    All-cons (λ d. body_depth d ≤ deepest_body) d ds (body_under d (All-head BodyIsNoDeeper d ds h) (All-head (λ d. IsShallow most_levels d) (written_declaration d) (map written_declaration ds) k))
+    (bodies_under ds (All-tail BodyIsNoDeeper d ds h) (All-tail (λ d. IsShallow most_levels d) (written_declaration d) (map written_declaration ds) k))

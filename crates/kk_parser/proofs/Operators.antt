@@ -12,6 +12,7 @@ use Rattle.kk_parser.specs.Methods.{ReadsIfNext, Deepens}
 use Rattle.kk_parser.proofs.Apart.{apart, apart-is_at}
 use Rattle.kk_parser.proofs.Begins.{is_at-front, is_at-back}
 use Rattle.kk_parser.proofs.Steps.{said_next, opener_read, deepen_failed, passed_on, gives_up_if_next}
+use Rattle.kk_parser.specs.Depths.{most_levels}
 
 -- Placed s p v: a phrase p that is one of some phrases may be the opener of the symbol s, and it then says v
 pub data Placed (s : Symbol) : (p : Phrase) → PhraseValue p → Type 0 where
@@ -24,12 +25,12 @@ placed_next ts alone h = h
 placed_next ts (sooner {a = a} {b = b} l) h = is_at-front (first a) (first b) ts (placed_next ts l h)
 placed_next ts (later {a = a} {b = b} e l) h = is_at-back (first a) (first b) ts (placed_next ts l h)
 
-placed_found : {s : Symbol} {p : Phrase} {v : PhraseValue p} {n m : ℕ} {us : List LocatedToken} (ts : List LocatedToken) → Placed s p v → is_at (symbol_class s ∷ []) ts ≡ true → Finds 200 (opener (symbol s)) n ts tt m us → Finds 200 p n ts v m us
+placed_found : {s : Symbol} {p : Phrase} {v : PhraseValue p} {n m : ℕ} {us : List LocatedToken} (ts : List LocatedToken) → Placed s p v → is_at (symbol_class s ∷ []) ts ≡ true → Finds most_levels (opener (symbol s)) n ts tt m us → Finds most_levels p n ts v m us
 placed_found ts alone h r = r
 placed_found ts (sooner l) h r = finds_first (placed_next ts l h) (placed_found ts l h r)
 placed_found {s} ts (later {a = a} e l) h r = finds_second (apart-is_at (symbol_class s ∷ []) (first a) ts e h) (placed_found ts l h r)
 
-placed_failed : {s : Symbol} {p : Phrase} {v : PhraseValue p} {n : ℕ} (ts : List LocatedToken) (f : Failure) → Placed s p v → is_at (symbol_class s ∷ []) ts ≡ true → ReadingFails 200 (opener (symbol s)) n ts f → ReadingFails 200 p n ts f
+placed_failed : {s : Symbol} {p : Phrase} {v : PhraseValue p} {n : ℕ} (ts : List LocatedToken) (f : Failure) → Placed s p v → is_at (symbol_class s ∷ []) ts ≡ true → ReadingFails most_levels (opener (symbol s)) n ts f → ReadingFails most_levels p n ts f
 placed_failed ts f alone h r = r
 placed_failed ts f (sooner l) h r = fails_first (placed_next ts l h) (placed_failed ts f l h r)
 placed_failed {s} ts f (later {a = a} e l) h r = fails_second (apart-is_at (symbol_class s ∷ []) (first a) ts e h) (placed_failed ts f l h r)

@@ -14,9 +14,10 @@ use Rattle.kk_parser.specs.Reading.{Failure, ReadingFails}
 use Rattle.kk_parser.specs.Views.{boxed_expr, boxed_pattern}
 use Rattle.kk_parser.proofs.Steps.{passed_on}
 use Rattle.kk_parser.proofs.Trees.{written-row}
+use Rattle.kk_parser.specs.Depths.{most_levels}
 
 pub gives_up_row : (before after : List WrittenRow) (q : Phrase) (r : Result (Unit {0}) Fault) (e : Fault) (old mid new : Parser) →
-    ((f : Failure) → ReadingFails 200 q mid.depth mid.rest.now f → ReadingFails 200 (rule row) old.depth old.rest.now f) → IsErrAnd
+    ((f : Failure) → ReadingFails most_levels q mid.depth mid.rest.now f → ReadingFails most_levels (rule row) old.depth old.rest.now f) → IsErrAnd
     r (λ y. y ≡ e) → FailedBy e q mid new → ReadsRow before after r old new
 gives_up_row before after q (Ok x) e old mid new t i h = absurd i
 gives_up_row before after q (Err y) e old mid new t i h = subst (λ x. FailedBy x (rule row) old new) (sym i)

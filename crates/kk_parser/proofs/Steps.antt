@@ -20,12 +20,13 @@ use Rattle.kk_parser.specs.Forms.{form, form_meaning, items}
 use Rattle.kk_parser.specs.Reading.{first, Finds, finds_token, finds_opener, Failure, unexpected, too_deep, ReadingFails, fails_deep, finds_first, finds_second, finds_none, finds_more, finds_both, finds_rule, fails_rule, fails_front, fails_behind, fails_first, fails_second, fails_more}
 use Rattle.kk_parser.proofs.Apart.{next_says_class}
 use Rattle.kk_parser.specs.Methods.{behind, Read, FailedBy, ReadsPhrase, ReadsFor, ReadsAs, ReadsItems, ReadsIfNext, Deepens, Makes}
+use Rattle.kk_parser.specs.Depths.{most_levels}
 
-finds_next : (k : Kind) (n : ℕ) (ts : List LocatedToken) (v : Said k) → next_says k ts ≡ Some v → Finds 200 (token k) n ts v n (behind ts)
+finds_next : (k : Kind) (n : ℕ) (ts : List LocatedToken) (v : Said k) → next_says k ts ≡ Some v → Finds most_levels (token k) n ts v n (behind ts)
 finds_next k n [] v e = absurd (cc e)
 finds_next k n (t ∷ ts) v e = finds_token e
 
-opens_next : (k : Kind) (n : ℕ) (ts : List LocatedToken) (v : Said k) → next_says k ts ≡ Some v → n < 200 → Finds 200 (opener k) n ts v (n + 1) (behind ts)
+opens_next : (k : Kind) (n : ℕ) (ts : List LocatedToken) (v : Said k) → next_says k ts ≡ Some v → n < most_levels → Finds most_levels (opener k) n ts v (n + 1) (behind ts)
 opens_next k n [] v e h = absurd (cc e)
 opens_next k n (t ∷ ts) v e h = finds_opener e h
 
@@ -39,11 +40,11 @@ said_next k ts h = of (next_says k ts) (next_says_class k ts ∙ h)
 -- a token of a kind was next, and was passed
 pub token_read : (k : Kind) (old new : Parser) (v : Said k) → next_says k old.rest.now ≡ Some v → new.rest.now ≡ behind old.rest.now → new.depth ≡ old.depth → Read (token k) v old new
 token_read k old new v e r d =
-    subst (λ us. Finds 200 (token k) old.depth old.rest.now v new.depth us) (sym r) (subst (λ m. Finds 200 (token k) old.depth old.rest.now v m (behind old.rest.now)) (sym d) (finds_next k old.depth old.rest.now v e))
+    subst (λ us. Finds most_levels (token k) old.depth old.rest.now v new.depth us) (sym r) (subst (λ m. Finds most_levels (token k) old.depth old.rest.now v m (behind old.rest.now)) (sym d) (finds_next k old.depth old.rest.now v e))
 
-pub opener_read : (k : Kind) (old new : Parser) (v : Said k) → next_says k old.rest.now ≡ Some v → old.depth < 200 → new.rest.now ≡ behind old.rest.now → new.depth ≡ old.depth + 1 → Read (opener k) v old new
+pub opener_read : (k : Kind) (old new : Parser) (v : Said k) → next_says k old.rest.now ≡ Some v → old.depth < most_levels → new.rest.now ≡ behind old.rest.now → new.depth ≡ old.depth + 1 → Read (opener k) v old new
 opener_read k old new v e h r d =
-    subst (λ us. Finds 200 (opener k) old.depth old.rest.now v new.depth us) (sym r) (subst (λ m. Finds 200 (opener k) old.depth old.rest.now v m (behind old.rest.now)) (sym d) (opens_next k old.depth old.rest.now v e h))
+    subst (λ us. Finds most_levels (opener k) old.depth old.rest.now v new.depth us) (sym r) (subst (λ m. Finds most_levels (opener k) old.depth old.rest.now v m (behind old.rest.now)) (sym d) (opens_next k old.depth old.rest.now v e h))
 
 -- a symbol was next, and was passed
 pub symbol_read : (s : Symbol) (old new : Parser) → is_at (classes_of (symbol s)) old.rest.now ≡ true → new.rest.now ≡ behind old.rest.now → new.depth ≡ old.depth → Read (token (symbol s)) tt old new
@@ -53,9 +54,9 @@ pub keyword_read : (w : Keyword) (old new : Parser) → is_at (classes_of (keywo
 keyword_read w old new h r d = token_read (keyword w) old new tt ((said_next (keyword w) old.rest.now h).1) r d
 
 -- a token that is next may open a level too many
-pub too_deep_failed : (p : Phrase) (old new : Parser) (e : Fault) → (200 ≤ old.depth → ReadingFails 200 p old.depth old.rest.now (too_deep old.rest.now)) → Deepens (Err e) old new → FailedBy e p old new
+pub too_deep_failed : (p : Phrase) (old new : Parser) (e : Fault) → (most_levels ≤ old.depth → ReadingFails most_levels p old.depth old.rest.now (too_deep old.rest.now)) → Deepens (Err e) old new → FailedBy e p old new
 too_deep_failed p old new e h d =
-    subst (λ x. FailedBy x p old new) (sym d.0) (subst (λ us. ReadingFails 200 p old.depth old.rest.now (too_deep us)) (sym d.2) (h d.1))
+    subst (λ x. FailedBy x p old new) (sym d.0) (subst (λ us. ReadingFails most_levels p old.depth old.rest.now (too_deep us)) (sym d.2) (h d.1))
 
 pub deepen_failed : (k : Kind) (old new : Parser) (e : Fault) → is_at (classes_of k) old.rest.now ≡ true → Deepens (Err e) old new → FailedBy e (opener k) old new
 deepen_failed k old new e h d = too_deep_failed (opener k) old new e (fails_deep h) d
@@ -70,7 +71,7 @@ deepen_reads_keyword w old new (Ok _) h d = opener_read (keyword w) old new tt (
 deepen_reads_keyword w old new (Err e) h d = deepen_failed (keyword w) old new e h d
 
 -- a failure of a part is one of the whole
-pub passed_on : (p q : Phrase) (old mid new : Parser) → ((f : Failure) → ReadingFails 200 q mid.depth mid.rest.now f → ReadingFails 200 p old.depth old.rest.now f) → (e : Fault) → FailedBy e q mid new → FailedBy e p old new
+pub passed_on : (p q : Phrase) (old mid new : Parser) → ((f : Failure) → ReadingFails most_levels q mid.depth mid.rest.now f → ReadingFails most_levels p old.depth old.rest.now f) → (e : Fault) → FailedBy e q mid new → FailedBy e p old new
 passed_on p q old mid new t Unexpected h = t (unexpected new.rest.now) h
 passed_on p q old mid new t TooDeep h = t (too_deep new.rest.now) h
 passed_on p q old mid new t NoMemory h = tt
@@ -106,13 +107,13 @@ gives_up_if_next p means (Ok x) e old new i t h = absurd i
 gives_up_if_next p means (Err y) e old new i t h = (t, subst (λ x. FailedBy x p old new) (sym i) h)
 
 -- where a method gives up by `?`, the phrase that it reads fails as the part that it called for
-pub gives_up_in : {A : Type 0} (p q : Phrase) (view : A → PhraseValue p) (r : Result A Fault) (e : Fault) (old mid new : Parser) → ((f : Failure) → ReadingFails 200 q mid.depth mid.rest.now f → ReadingFails 200 p old.depth old.rest.now f) → IsErrAnd r (λ y. y ≡ e) → FailedBy e q mid new → ReadsPhrase p view r old new
+pub gives_up_in : {A : Type 0} (p q : Phrase) (view : A → PhraseValue p) (r : Result A Fault) (e : Fault) (old mid new : Parser) → ((f : Failure) → ReadingFails most_levels q mid.depth mid.rest.now f → ReadingFails most_levels p old.depth old.rest.now f) → IsErrAnd r (λ y. y ≡ e) → FailedBy e q mid new → ReadsPhrase p view r old new
 gives_up_in p q view r e old mid new t i h = gives_up p view r e old new i (passed_on p q old mid new t e h)
 
-pub gives_up_for_in : {A : Type 0} (p q : Phrase) (means : PhraseValue p → A) (r : Result A Fault) (e : Fault) (old mid new : Parser) → ((f : Failure) → ReadingFails 200 q mid.depth mid.rest.now f → ReadingFails 200 p old.depth old.rest.now f) → IsErrAnd r (λ y. y ≡ e) → FailedBy e q mid new → ReadsFor p means r old new
+pub gives_up_for_in : {A : Type 0} (p q : Phrase) (means : PhraseValue p → A) (r : Result A Fault) (e : Fault) (old mid new : Parser) → ((f : Failure) → ReadingFails most_levels q mid.depth mid.rest.now f → ReadingFails most_levels p old.depth old.rest.now f) → IsErrAnd r (λ y. y ≡ e) → FailedBy e q mid new → ReadsFor p means r old new
 gives_up_for_in p q means r e old mid new t i h = gives_up_for p means r e old new i (passed_on p q old mid new t e h)
 
-pub gives_up_as_in : {A B : Type 0} (p q : Phrase) (means : PhraseValue p → B) (view : A → B) (r : Result A Fault) (e : Fault) (old mid new : Parser) → ((f : Failure) → ReadingFails 200 q mid.depth mid.rest.now f → ReadingFails 200 p old.depth old.rest.now f) → IsErrAnd r (λ y. y ≡ e) → FailedBy e q mid new → ReadsAs p means view r old new
+pub gives_up_as_in : {A B : Type 0} (p q : Phrase) (means : PhraseValue p → B) (view : A → B) (r : Result A Fault) (e : Fault) (old mid new : Parser) → ((f : Failure) → ReadingFails most_levels q mid.depth mid.rest.now f → ReadingFails most_levels p old.depth old.rest.now f) → IsErrAnd r (λ y. y ≡ e) → FailedBy e q mid new → ReadsAs p means view r old new
 gives_up_as_in p q means view r e old mid new t i h = gives_up_as p means view r e old new i (passed_on p q old mid new t e h)
 
 -- what the next token says, where one is next
@@ -170,8 +171,8 @@ name_taken k view i (Err y) old new e c b d f = subst (λ x. FailedBy x (token k
 
 -- Continues p q says start here: to read q from here is to read p from the start, which then says what `says` gives
 pub record Continues (p q : Phrase) (says : PhraseValue q → PhraseValue p) (start here : Parser) : Type 0 where
-  pub found : (v : PhraseValue q) (m : ℕ) (us : List LocatedToken) → Finds 200 q here.depth here.rest.now v m us → Finds 200 p start.depth start.rest.now (says v) m us
-  pub failed : (f : Failure) → ReadingFails 200 q here.depth here.rest.now f → ReadingFails 200 p start.depth start.rest.now f
+  pub found : (v : PhraseValue q) (m : ℕ) (us : List LocatedToken) → Finds most_levels q here.depth here.rest.now v m us → Finds most_levels p start.depth start.rest.now (says v) m us
+  pub failed : (f : Failure) → ReadingFails most_levels q here.depth here.rest.now f → ReadingFails most_levels p start.depth start.rest.now f
 
 pub continues_start : (p : Phrase) (start : Parser) → Continues p p (λ v. v) start start
 continues_start p start = record { found = λ v m us r. r; failed = λ f r. r }
@@ -190,17 +191,17 @@ continues_many_before p a b says u start here next c h r = record {
   failed = λ f s. c.failed f (more_failed s);
 }
   where
-    more_found : {v : PhraseValue (many a ▸ b)} {m : ℕ} {us : List LocatedToken} → Finds 200 (many a ▸ b) next.depth next.rest.now v m us → Finds 200 (many a ▸ b) here.depth here.rest.now (u ∷ v.0, v.1) m us
+    more_found : {v : PhraseValue (many a ▸ b)} {m : ℕ} {us : List LocatedToken} → Finds most_levels (many a ▸ b) next.depth next.rest.now v m us → Finds most_levels (many a ▸ b) here.depth here.rest.now (u ∷ v.0, v.1) m us
     more_found (finds_both s t) = finds_both (finds_more h r s) t
 
-    more_failed : {f : Failure} → ReadingFails 200 (many a ▸ b) next.depth next.rest.now f → ReadingFails 200 (many a ▸ b) here.depth here.rest.now f
+    more_failed : {f : Failure} → ReadingFails most_levels (many a ▸ b) next.depth next.rest.now f → ReadingFails most_levels (many a ▸ b) here.depth here.rest.now f
     more_failed (fails_front s) = fails_front (fails_more h r s)
     more_failed (fails_behind s t) = fails_behind (finds_more h r s) t
 
 -- the same in other words
 pub continues_as : (p q : Phrase) (says other : PhraseValue q → PhraseValue p) (start here : Parser) → ((v : PhraseValue q) → says v ≡ other v) → Continues p q says start here → Continues p q other start here
 continues_as p q says other start here e c = record {
-  found = λ v m us r. subst (λ w. Finds 200 p start.depth start.rest.now w m us) (e v) (c.found v m us r);
+  found = λ v m us r. subst (λ w. Finds most_levels p start.depth start.rest.now w m us) (e v) (c.found v m us r);
   failed = c.failed;
 }
 
@@ -225,16 +226,16 @@ first_absent c h = record { found = λ v m us r. c.found (inr v) m us (finds_sec
 -- what was read from the start to a state was read to one with the same tokens and levels
 pub read_to : (p : Phrase) (v : PhraseValue p) (start here next : Parser) → next.depth ≡ here.depth → next.rest.now ≡ here.rest.now → Read p v start here → Read p v start next
 read_to p v start here next d e r =
-    subst (λ us. Finds 200 p start.depth start.rest.now v next.depth us) (sym e) (subst (λ m. Finds 200 p start.depth start.rest.now v m here.rest.now) (sym d) r)
+    subst (λ us. Finds most_levels p start.depth start.rest.now v next.depth us) (sym e) (subst (λ m. Finds most_levels p start.depth start.rest.now v m here.rest.now) (sym d) r)
 
 -- what is read from one state is read from one with the same tokens and levels
 pub read_from : (p : Phrase) (v : PhraseValue p) (start here next : Parser) → here.depth ≡ start.depth → here.rest.now ≡ start.rest.now → Read p v here next → Read p v start next
 read_from p v start here next d e r =
-    subst (λ ts. Finds 200 p start.depth ts v next.depth next.rest.now) e (subst (λ n. Finds 200 p n here.rest.now v next.depth next.rest.now) d r)
+    subst (λ ts. Finds most_levels p start.depth ts v next.depth next.rest.now) e (subst (λ n. Finds most_levels p n here.rest.now v next.depth next.rest.now) d r)
 
-pub fails_from : (p : Phrase) (f : Failure) (start here : Parser) → here.depth ≡ start.depth → here.rest.now ≡ start.rest.now → ReadingFails 200 p here.depth here.rest.now f → ReadingFails 200 p start.depth start.rest.now f
+pub fails_from : (p : Phrase) (f : Failure) (start here : Parser) → here.depth ≡ start.depth → here.rest.now ≡ start.rest.now → ReadingFails most_levels p here.depth here.rest.now f → ReadingFails most_levels p start.depth start.rest.now f
 fails_from p f start here d e r =
-    subst (λ ts. ReadingFails 200 p start.depth ts f) e (subst (λ n. ReadingFails 200 p n here.rest.now f) d r)
+    subst (λ ts. ReadingFails most_levels p start.depth ts f) e (subst (λ n. ReadingFails most_levels p n here.rest.now f) d r)
 
 -- the last part of a phrase was read, or failed
 pub reads_on : {A : Type 0} (p q : Phrase) (view : A → PhraseValue p) (part : A → PhraseValue q) (says : PhraseValue q → PhraseValue p) (r : Result A Fault) (start here next : Parser) → Continues p q says start here → ((x : A) → says (part x) ≡ view x) → ReadsPhrase q part r here next → ReadsPhrase p view r start next
@@ -244,14 +245,14 @@ reads_on p q view part says (Err e) start here next c d r = passed_on p q start 
 -- one more operator and its operand on the right
 pub continues_left : {p a b : Phrase} {u : PhraseValue a} {v : PhraseValue b} (says : Written → List (PhraseValue (a ▸ b)) → PhraseValue p) (left next_left : Written) (start here mid next : Parser) → Continues p (many (a ▸ b)) (says left) start here → is_at (first (a ▸ b)) here.rest.now ≡ true → Read a u here mid → Read b v mid next → ((vs : List (PhraseValue (a ▸ b))) → says left ((u, v) ∷ vs) ≡ says next_left vs) → Continues p (many (a ▸ b)) (says next_left) start next
 continues_left {p} says left next_left start here mid next c h r s e = record {
-  found = λ vs m us t. subst (λ w. Finds 200 p start.depth start.rest.now w m us) (e vs) (c.found _ m us (finds_more h (finds_both r s) t));
+  found = λ vs m us t. subst (λ w. Finds most_levels p start.depth start.rest.now w m us) (e vs) (c.found _ m us (finds_more h (finds_both r s) t));
   failed = λ f t. c.failed f (fails_more h (finds_both r s) t);
 }
 
 -- what continues from a state continues from one with the same tokens and levels
 pub continues_to : (p q : Phrase) (says : PhraseValue q → PhraseValue p) (start here next : Parser) → next.depth ≡ here.depth → next.rest.now ≡ here.rest.now → Continues p q says start here → Continues p q says start next
 continues_to p q says start here next d e c = record {
-  found = λ v m us r. c.found v m us (subst (λ n. Finds 200 q n here.rest.now v m us) d (subst (λ ts. Finds 200 q next.depth ts v m us) e r));
+  found = λ v m us r. c.found v m us (subst (λ n. Finds most_levels q n here.rest.now v m us) d (subst (λ ts. Finds most_levels q next.depth ts v m us) e r));
   failed = λ f r. c.failed f (fails_from q f here next d e r);
 }
 

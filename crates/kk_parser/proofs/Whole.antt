@@ -13,6 +13,7 @@ use Rattle.kk_parser.proofs.Complete.{Within, all_within, one_within, Opens, Rea
 use Rattle.kk_parser.proofs.Sound.{Fronts, no_front, one_front, spelled, onward_calm, rest_of, Opened, Reaches, there, behind, begun}
 use Rattle.kk_parser.proofs.Functional.{same_finds, never_both, same_fails}
 use Rattle.kk_parser.proofs.Local.{SameNext, no_next, one_next, Turns, turns_here, turns_behind, finds_alike, fails_alike}
+use Rattle.kk_parser.specs.Depths.{most_levels}
 
 pub tokens_of-append : (xs ys : List Marked) → tokens_of (xs ++ ys) ≡ tokens_of xs ++ tokens_of ys
 tokens_of-append [] ys = refl
@@ -44,9 +45,9 @@ reached (behind {x = x} h r) =
     record { rest = s.rest; cut = record { front = x ∷ c.front; marked = ap (λ ys. x ∷ ys) c.marked; tokens = ap (λ ys. x.token ∷ ys) c.tokens; shallow = (h, c.shallow) }; opened = s.opened }
 
 -- what is found whole has a tree
-pub has_tree : {declarations : List WrittenDeclaration} {m : ℕ} {ts : List LocatedToken} → Finds 200 (rule program) 0 ts declarations m [] → HasTree ts declarations
+pub has_tree : {declarations : List WrittenDeclaration} {m : ℕ} {ts : List LocatedToken} → Finds most_levels (rule program) 0 ts declarations m [] → HasTree ts declarations
 has_tree {declarations} {m} {ts} r =
-    let s = spelled 200 r (omega arith) refl [] (onward_calm refl) in
+    let s = spelled most_levels r (omega arith) refl [] (onward_calm refl) in
     let c = cut_front s.2 in
     record {
       marked = c.front;
@@ -92,31 +93,31 @@ turned_tokens before us rest other r =
 pub program_read : {declarations : List WrittenDeclaration} {ts : List Marked} → SpellsProgram declarations ts → (limit : ℕ) → (m : ℕ) × Read limit (rule program) 0 declarations m ts []
 program_read p limit = (p.0, read limit (formed p.1) [] true refl (inr (refl, refl)) (omega arith))
 
-unmoved : {p : Phrase} {n : ℕ} {ts us : List LocatedToken} {f : Failure} → ts ≡ us → ReadingFails 200 p n ts f → ReadingFails 200 p n us f
-unmoved {p} {n} {ts} {us} {f} e r = subst (λ x. ReadingFails 200 p n x f) e r
+unmoved : {p : Phrase} {n : ℕ} {ts us : List LocatedToken} {f : Failure} → ts ≡ us → ReadingFails most_levels p n ts f → ReadingFails most_levels p n us f
+unmoved {p} {n} {ts} {us} {f} e r = subst (λ x. ReadingFails most_levels p n x f) e r
 
 -- where a reading fails since a token is unexpected, no program goes on with it
-stuck_fails : (before us : List LocatedToken) → ReadingFails 200 (rule program) 0 (before ++ us) (unexpected us) → GoesOn before us → ⊥
+stuck_fails : (before us : List LocatedToken) → ReadingFails most_levels (rule program) 0 (before ++ us) (unexpected us) → GoesOn before us → ⊥
 stuck_fails before us r g =
     let c = continued before us g in
-    let a = fails_alike 200 r refl c.next in
-    let s : ReadingFails 200 (rule program) 0 (tokens_of c.marked) (unexpected c.rest) = unmoved (turned_tokens before us c.rest a.before a.turns ∙ sym c.tokens) a.fails in
-    elim (program_read c.program 200).1 [ inl w ↦ never_both 200 w.finds s | inr q ↦ absurd (cc (same_fails 200 q.fails s)) ]
+    let a = fails_alike most_levels r refl c.next in
+    let s : ReadingFails most_levels (rule program) 0 (tokens_of c.marked) (unexpected c.rest) = unmoved (turned_tokens before us c.rest a.before a.turns ∙ sym c.tokens) a.fails in
+    elim (program_read c.program most_levels).1 [ inl w ↦ never_both most_levels w.finds s | inr q ↦ absurd (cc (same_fails most_levels q.fails s)) ]
 
 no_rest : (t : LocatedToken) (us rest : List LocatedToken) → SameNext (t ∷ us) rest → [] ≡ rest → ⊥
 no_rest t us (u ∷ rest) h e = cc e
 no_rest t us [] h e = elim h [ ]
 
 -- where a program is found before other tokens, no program goes on with the first of them
-stuck_finds : (before : List LocatedToken) (t : LocatedToken) (us : List LocatedToken) {declarations : List WrittenDeclaration} {m : ℕ} → Finds 200 (rule program) 0 (before ++ t ∷ us) declarations m (t ∷ us) → GoesOn before (t ∷ us) → ⊥
+stuck_finds : (before : List LocatedToken) (t : LocatedToken) (us : List LocatedToken) {declarations : List WrittenDeclaration} {m : ℕ} → Finds most_levels (rule program) 0 (before ++ t ∷ us) declarations m (t ∷ us) → GoesOn before (t ∷ us) → ⊥
 stuck_finds before t us {declarations} {m} r g =
     let c = continued before (t ∷ us) g in
-    let a = finds_alike 200 r refl c.next in
-    let s : Finds 200 (rule program) 0 (tokens_of c.marked) declarations m c.rest = subst (λ x. Finds 200 (rule program) 0 x declarations m c.rest) (turned_tokens before (t ∷ us) c.rest a.before a.turns ∙ sym c.tokens) a.finds in
-    elim (program_read c.program 200).1 [ inl w ↦ no_rest t us c.rest c.next ((same_finds 200 w.finds s).rest) | inr q ↦ never_both 200 s q.fails ]
+    let a = finds_alike most_levels r refl c.next in
+    let s : Finds most_levels (rule program) 0 (tokens_of c.marked) declarations m c.rest = subst (λ x. Finds most_levels (rule program) 0 x declarations m c.rest) (turned_tokens before (t ∷ us) c.rest a.before a.turns ∙ sym c.tokens) a.finds in
+    elim (program_read c.program most_levels).1 [ inl w ↦ no_rest t us c.rest c.next ((same_finds most_levels w.finds s).rest) | inr q ↦ never_both most_levels s q.fails ]
 
 -- where tokens of a program are cut, and no program goes on behind the cut, the token there is unexpected
-cut_unexpected : {xs zs : List Marked} {ts us : List LocatedToken} (declarations : List WrittenDeclaration) (m : ℕ) → Cut 200 xs zs ts us → Spells program_grammar (rule program) 0 declarations m xs [] → ((before : List LocatedToken) → ts ≡ before ++ us → GoesOn before us → ⊥) → (before : List LocatedToken) × (before ++ us ≡ ts) × IsUnexpected before us
+cut_unexpected : {xs zs : List Marked} {ts us : List LocatedToken} (declarations : List WrittenDeclaration) (m : ℕ) → Cut most_levels xs zs ts us → Spells program_grammar (rule program) 0 declarations m xs [] → ((before : List LocatedToken) → ts ≡ before ++ us → GoesOn before us → ⊥) → (before : List LocatedToken) × (before ++ us ≡ ts) × IsUnexpected before us
 cut_unexpected {xs} {zs} {ts} {us} declarations m c p stuck =
     let before = tokens_of c.front in (
       before,
@@ -131,27 +132,27 @@ cut_unexpected {xs} {zs} {ts} {us} declarations m c p stuck =
     )
 
 -- where the reading of a program fails since a token is unexpected, it is the first such token
-pub fails_unexpected : {ts us : List LocatedToken} → ReadingFails 200 (rule program) 0 ts (unexpected us) → (before : List LocatedToken) × (before ++ us ≡ ts) × IsUnexpected before us
+pub fails_unexpected : {ts us : List LocatedToken} → ReadingFails most_levels (rule program) 0 ts (unexpected us) → (before : List LocatedToken) × (before ++ us ≡ ts) × IsUnexpected before us
 fails_unexpected {ts} {us} r =
-    let b = begun 200 r (omega arith) refl in
+    let b = begun most_levels r (omega arith) refl in
     let x = b.text [] refl in
     cut_unexpected b.value b.levels (reached x.2).cut (unformed x.1) (λ before e. stuck_fails before us (unmoved e r))
 
 -- where the reading of a program leaves tokens, the first of them is unexpected
-pub finds_unexpected : {declarations : List WrittenDeclaration} {m : ℕ} {ts : List LocatedToken} {t : LocatedToken} {us : List LocatedToken} → Finds 200 (rule program) 0 ts declarations m (t ∷ us) → (before : List LocatedToken) × (before ++ t ∷ us ≡ ts) × IsUnexpected before (t ∷ us)
+pub finds_unexpected : {declarations : List WrittenDeclaration} {m : ℕ} {ts : List LocatedToken} {t : LocatedToken} {us : List LocatedToken} → Finds most_levels (rule program) 0 ts declarations m (t ∷ us) → (before : List LocatedToken) × (before ++ t ∷ us ≡ ts) × IsUnexpected before (t ∷ us)
 finds_unexpected {declarations} {m} {ts} {t} {us} r =
-    let s = spelled 200 r (omega arith) refl [] (onward_calm refl) in
-    cut_unexpected declarations m (cut_front s.2) (unformed s.1) (λ before e. stuck_finds before t us (subst (λ x. Finds 200 (rule program) 0 x declarations m (t ∷ us)) e r))
+    let s = spelled most_levels r (omega arith) refl [] (onward_calm refl) in
+    cut_unexpected declarations m (cut_front s.2) (unformed s.1) (λ before e. stuck_finds before t us (subst (λ x. Finds most_levels (rule program) 0 x declarations m (t ∷ us)) e r))
 
 -- where the reading of a program fails for depth, the token there opens the first level too many
-pub fails_too_deep : {ts us : List LocatedToken} → ReadingFails 200 (rule program) 0 ts (too_deep us) → (before : List LocatedToken) × (before ++ us ≡ ts) × IsTooDeep before us
+pub fails_too_deep : {ts us : List LocatedToken} → ReadingFails most_levels (rule program) 0 ts (too_deep us) → (before : List LocatedToken) × (before ++ us ≡ ts) × IsTooDeep before us
 fails_too_deep {ts} {us} r =
-    let b = begun 200 r (omega arith) refl in
+    let b = begun most_levels r (omega arith) refl in
     let x = b.text [] refl in
     let s = reached x.2 in
     (tokens_of s.cut.front, sym s.cut.tokens, deep b.value b.levels s.cut.front s.rest s.opened s.cut.shallow (subst (λ xs. Spells program_grammar (rule program) 0 b.value b.levels xs []) s.cut.marked (unformed x.1)))
   where
-    deep : (declarations : List WrittenDeclaration) (m : ℕ) (front rest : List Marked) → Opened 200 (too_deep us) rest → AtMost 200 front → Spells program_grammar (rule program) 0 declarations m (front ++ rest) [] → IsTooDeep (tokens_of front) us
+    deep : (declarations : List WrittenDeclaration) (m : ℕ) (front rest : List Marked) → Opened most_levels (too_deep us) rest → AtMost most_levels front → Spells program_grammar (rule program) 0 declarations m (front ++ rest) [] → IsTooDeep (tokens_of front) us
     deep declarations m front [] o h s = absurd o
     deep declarations m front (x ∷ rest) o h s = record {
       front = front;
@@ -179,10 +180,10 @@ program_found limit p h =
     (r.0, elim r.1 [ inl w ↦ w.finds | inr q ↦ absurd (too_many q.within q.opens h) ])
 
 -- what has a tree is found whole
-pub tree_found : {declarations : List WrittenDeclaration} {ts : List LocatedToken} → HasTree ts declarations → (m : ℕ) × Finds 200 (rule program) 0 ts declarations m []
+pub tree_found : {declarations : List WrittenDeclaration} {ts : List LocatedToken} → HasTree ts declarations → (m : ℕ) × Finds most_levels (rule program) 0 ts declarations m []
 tree_found {declarations} {ts} h =
-    let r = program_found 200 h.program h.shallow in
-    (r.0, subst (λ x. Finds 200 (rule program) 0 x declarations r.0 []) h.tokens_are r.1)
+    let r = program_found most_levels h.program h.shallow in
+    (r.0, subst (λ x. Finds most_levels (rule program) 0 x declarations r.0 []) h.tokens_are r.1)
 
 -- a number of levels that suffices
 abbrev all_levels : List Marked → ℕ

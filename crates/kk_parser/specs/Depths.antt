@@ -1,6 +1,7 @@
 -- How deep the trees of a program are, how deep they may be within some levels of nesting, and when an expression is no
 -- deeper in memory.
-use Rattle.std.specs.Prelude.{ℕ, ◌+◌, ◌*◌, ◌-◌, ◌≤◌, max, List, All, IfSome}
+use Rattle.std.specs.Prelude.{ℕ, ◌+◌, ◌*◌, ◌-◌, ◌/◌, ◌≤◌, max, List, All, IfSome}
+use Rattle.kk_parser.specs.declared.parser.TheConstants.{LEVELS}
 use Rattle.kk_syntax.specs.declared.tree.SurfaceExpr.{SurfaceExpr}
 use Rattle.kk_syntax.specs.declared.tree.SurfaceRow.{SurfaceRow}
 use Rattle.kk_syntax.specs.declared.tree.SurfaceStatement.{SurfaceStatement}
@@ -78,6 +79,10 @@ abbrev pub BodyIsNoDeeper : Declaration → Type 0
 BodyIsNoDeeper (OfDeclaration.Type d) = Unit {0}
 BodyIsNoDeeper (OfDeclaration.Function d) = IsNoDeeper d.body
 
--- how deep the body of a function is at most within 200 levels
+-- the most levels of nesting that may be open at once
+abbrev pub most_levels : ℕ
+most_levels = LEVELS
+
+-- how deep the body of a function is at most within these levels
 abbrev pub deepest_body : ℕ
-deepest_body = 19901
+deepest_body = most_levels * (most_levels - 1) / 2 + 1

@@ -15,16 +15,17 @@ use Rattle.kk_parser.specs.Phrases.{Phrase, PhraseValue, rule, row}
 use Rattle.kk_parser.specs.Views.{boxed_expr}
 pub use Rattle.kk_parser.specs.Reading.{behind}
 use Rattle.kk_parser.specs.Reading.{first, Finds, ReadingFails, unexpected, too_deep}
+use Rattle.kk_parser.specs.Depths.{most_levels}
 
 -- from one state of the parser to another it read a phrase that says v
 abbrev pub Read : (p : Phrase) → PhraseValue p → Parser → Parser → Type 0
-Read p v old new = Finds 200 p old.depth old.rest.now v new.depth new.rest.now
+Read p v old new = Finds most_levels p old.depth old.rest.now v new.depth new.rest.now
 
 -- The reading of a phrase failed by a fault, and the parser stands at the token that is the cause. Want of memory is
 -- free.
 abbrev pub FailedBy : Fault → Phrase → Parser → Parser → Type 0
-FailedBy Unexpected p old new = ReadingFails 200 p old.depth old.rest.now (unexpected new.rest.now)
-FailedBy TooDeep p old new = ReadingFails 200 p old.depth old.rest.now (too_deep new.rest.now)
+FailedBy Unexpected p old new = ReadingFails most_levels p old.depth old.rest.now (unexpected new.rest.now)
+FailedBy TooDeep p old new = ReadingFails most_levels p old.depth old.rest.now (too_deep new.rest.now)
 FailedBy NoMemory p old new = Unit {0}
 
 -- a method read a phrase that says what its result says
@@ -70,8 +71,8 @@ TakesIfNext p (Some v) old new = (is_at (first p) old.rest.now ≡ true) × Read
 
 -- the next token was passed, and opened a level, or that would have been one too many
 abbrev pub Deepens : Result (Unit {0}) Fault → Parser → Parser → Type 0
-Deepens (Ok _) old new = (old.depth < 200) × (new.depth ≡ old.depth + 1) × (new.rest.now ≡ behind old.rest.now)
-Deepens (Err fault) old new = (fault ≡ TooDeep) × (200 ≤ old.depth) × (new.rest.now ≡ old.rest.now)
+Deepens (Ok _) old new = (old.depth < most_levels) × (new.depth ≡ old.depth + 1) × (new.rest.now ≡ behind old.rest.now)
+Deepens (Err fault) old new = (fault ≡ TooDeep) × (most_levels ≤ old.depth) × (new.rest.now ≡ old.rest.now)
 
 -- the error that a fault is where some tokens were passed, at the place of the next
 abbrev pub error_for : Fault → ℕ → Span → ParseError

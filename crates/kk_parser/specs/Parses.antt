@@ -1,6 +1,6 @@
 -- What a list of tokens comes to: the tree that it spells, or the first token with which no program goes on, or the
 -- token that opens a level of nesting too many.
-use Rattle.std.specs.Prelude.{◌≡◌, ℕ, ◌-◌, ◌^◌, ◌≤◌, min, All, List, [], ◌∷◌, ◌++◌, length, Result, Ok, Err}
+use Rattle.std.specs.Prelude.{◌≡◌, ℕ, ◌+◌, ◌-◌, ◌^◌, ◌≤◌, min, All, List, [], ◌∷◌, ◌++◌, length, Result, Ok, Err}
 use Rattle.kk_base.specs.Exactly.{IsOnly, ExactlyOne}
 use Rattle.kk_base.specs.declared.span.Span.{Span}
 use Rattle.kk_base.specs.declared.error.ParseError.{ParseError}
@@ -9,7 +9,7 @@ use Rattle.kk_syntax.specs.declared.token.LocatedToken.{LocatedToken}
 use Rattle.kk_syntax.specs.declared.tree.Tree.{Tree}
 use Rattle.kk_syntax.specs.Surface.{WrittenDeclaration, WrittenTree, written_tree}
 use Rattle.kk_syntax.specs.TokenList.{TokenList}
-use Rattle.kk_parser.specs.Depths.{IsShallow}
+use Rattle.kk_parser.specs.Depths.{IsShallow, most_levels}
 use Rattle.kk_parser.specs.Grammar.{program_grammar}
 use Rattle.kk_parser.specs.Phrases.{program, rule}
 use Rattle.kk_parser.specs.Spells.{Marked, tokens_of, Spells}
@@ -27,11 +27,11 @@ abbrev pub AtMost : ℕ → List Marked → Type 0
 AtMost limit [] = Unit {0}
 AtMost limit (t ∷ ts) = (t.levels ≤ limit) × AtMost limit ts
 
--- the tokens are a program with these declarations, within 200 open levels
+-- the tokens are a program with these declarations, within the levels that may be open
 pub record HasTree (tokens : List LocatedToken) (declarations : List WrittenDeclaration) : Type 0 where
   pub marked : List Marked
   pub tokens_are : tokens_of marked ≡ tokens
-  pub shallow : AtMost 200 marked
+  pub shallow : AtMost most_levels marked
   pub program : SpellsProgram declarations marked
 
 -- behind these tokens some program goes on with the first of `rest`; where there is none, some program ends
@@ -44,20 +44,20 @@ GoesOn before (t ∷ rest) = (front : List Marked) × BeginsProgram front × (to
 pub record IsUnexpected (before rest : List LocatedToken) : Type 0 where
   pub front : List Marked
   pub tokens_are : tokens_of front ≡ before
-  pub shallow : AtMost 200 front
+  pub shallow : AtMost most_levels front
   pub begins : BeginsProgram front
   pub stuck : GoesOn before rest → ⊥
 
--- The first of `rest` behind these tokens opens the first level too many, the 201st; up to it the tokens begin a program.
+-- The first of `rest` behind these tokens opens the first level too many; up to it the tokens begin a program.
 pub record IsTooDeep (before rest : List LocatedToken) : Type 0 where
   pub front : List Marked
   pub opener : Marked
   pub later : List LocatedToken
   pub tokens_are : tokens_of front ≡ before
   pub next_is : rest ≡ opener.token ∷ later
-  pub shallow : AtMost 200 front
+  pub shallow : AtMost most_levels front
   pub begins : BeginsProgram (front ++ opener ∷ [])
-  pub opens : opener.levels ≡ 201
+  pub opens : opener.levels ≡ most_levels + 1
 
 -- where the first of some tokens stands, or where the text ends
 abbrev pub next_place : List LocatedToken → Span → Span

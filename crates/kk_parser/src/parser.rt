@@ -15,7 +15,7 @@ use kk_syntax::{Identifier, Keyword, LocatedToken, PrintForm, StringLiteral, Sym
 use std::alloc::Global;
 
 /// The most levels of nesting that may be open at once.
-const LEVELS: usize = 200;
+pub const LEVELS: usize = 200;
 
 /// A reader of tokens.
 #[derive(Drop)]

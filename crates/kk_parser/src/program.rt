@@ -2,7 +2,7 @@ ghost use Rattle.std.specs.Prelude.{◌≡◌, ◌-◌, ◌*◌, ◌≤◌, [], 
 ghost use Rattle.kk_syntax.specs.Surface.{written_declaration, written_expr, written_parameter};
 ghost use Rattle.kk_syntax.specs.WrittenNodes.{nodes_in};
 ghost use Rattle.kk_syntax.specs.Depths.{body_depth};
-ghost use Rattle.kk_parser.specs.Depths.{IsShallow, IsNoDeeper, BodyIsNoDeeper, deepest_body};
+ghost use Rattle.kk_parser.specs.Depths.{IsShallow, IsNoDeeper, BodyIsNoDeeper, deepest_body, most_levels};
 ghost use Rattle.kk_parser.specs.Forms.{head as OfHead, head_of};
 ghost use Rattle.kk_parser.specs.Grammar.{parameters as OfParameters, declared_function, function_of as OfFunction, listed, listed_of, some_listed, some_listed_of};
 ghost use Rattle.kk_parser.specs.Methods.{ReadsPhrase, ReadsFor, ReadsAs, error_for};
@@ -34,9 +34,9 @@ pub fn parse(alloc: Global, tokens: &Tokens) -> Result<Tree, ParseError>
     ensures few_nodes { IfOk result (λ tree.
         All (λ declaration. nodes_in declaration ≤ 2 * length tokens.now.items) (map written_declaration tree.declarations.items)) }
 
-    // Its trees are as shallow as 200 levels make them: its types at most 200 deep, its body at most 19,901.
+    // Its trees are as shallow as the levels make them that may be open at once.
     ensures shallow { IfOk result (λ tree.
-        All (λ declaration. IsShallow 200 declaration) (map written_declaration tree.declarations.items)) }
+        All (λ declaration. IsShallow most_levels declaration) (map written_declaration tree.declarations.items)) }
 
     // In memory its bodies are no deeper, each block counted.
     ensures depth { IfOk result (λ tree. All (λ declaration. body_depth declaration ≤ deepest_body) tree.declarations.items) }

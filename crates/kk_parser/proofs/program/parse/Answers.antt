@@ -12,6 +12,7 @@ use Rattle.kk_parser.proofs.Whole.{has_tree}
 use Rattle.kk_parser.proofs.Told.{found_all, left_answered, fault_answered}
 use Rattle.kk_parser.proofs.program.parse.Goals.{In-Ok}
 use Rattle.kk_parser.proofs.program.parse.Goals as goal
+use Rattle.kk_parser.specs.Depths.{most_levels}
 
 none_left : (ts : List LocatedToken) (b : Bool) → b ≡ eqb (length ts) 0 → b ≡ true → ts ≡ []
 none_left [] b e h = refl
@@ -21,8 +22,8 @@ some_left : (ts : List LocatedToken) (b : Bool) → b ≡ eqb (length ts) 0 → 
 some_left ts b e h d = eqb-false (length ts) 0 (sym e ∙ h) (ap length d)
 
 -- what the parser read
-read : (c : In-Ok) → Finds 200 (rule program) 0 c.args.tokens.now.items (map written_declaration c.in-Ok.declarations.items) c.program.new.self.depth c.program.new.self.rest.now
-read c = subst (λ ts. Finds 200 (rule program) 0 ts (map written_declaration c.in-Ok.declarations.items) c.program.new.self.depth c.program.new.self.rest.now) c.as_slice.ensures c.in-Ok.ensures.reads
+read : (c : In-Ok) → Finds most_levels (rule program) 0 c.args.tokens.now.items (map written_declaration c.in-Ok.declarations.items) c.program.new.self.depth c.program.new.self.rest.now
+read c = subst (λ ts. Finds most_levels (rule program) 0 ts (map written_declaration c.in-Ok.declarations.items) c.program.new.self.depth c.program.new.self.rest.now) c.as_slice.ensures c.in-Ok.ensures.reads
 
 pub returns-then-is_empty-clause-parsed : goal.returns-then-is_empty-clause-parsed
 returns-then-is_empty-clause-parsed c =
@@ -30,17 +31,17 @@ returns-then-is_empty-clause-parsed c =
 
 pub returns-then-is_empty-clause-few_nodes : goal.returns-then-is_empty-clause-few_nodes
 returns-then-is_empty-clause-few_nodes c =
-    few_nodes (has_tree (subst (λ us. Finds 200 (rule program) 0 c.args.tokens.now.items (map written_declaration c.in-Ok.declarations.items) c.program.new.self.depth us) (none_left c.program.new.self.rest.now c.is_empty.result c.is_empty.ensures c.if-is_empty.true) (read (goal.at.returns-then-is_empty-clause-few_nodes c).In-Ok)))
+    few_nodes (has_tree (subst (λ us. Finds most_levels (rule program) 0 c.args.tokens.now.items (map written_declaration c.in-Ok.declarations.items) c.program.new.self.depth us) (none_left c.program.new.self.rest.now c.is_empty.result c.is_empty.ensures c.if-is_empty.true) (read (goal.at.returns-then-is_empty-clause-few_nodes c).In-Ok)))
 
 pub returns-then-is_empty-clause-shallow : goal.returns-then-is_empty-clause-shallow
 returns-then-is_empty-clause-shallow c =
-    let tree = has_tree (subst (λ us. Finds 200 (rule program) 0 c.args.tokens.now.items (map written_declaration c.in-Ok.declarations.items) c.program.new.self.depth us) (none_left c.program.new.self.rest.now c.is_empty.result c.is_empty.ensures c.if-is_empty.true) (read (goal.at.returns-then-is_empty-clause-shallow c).In-Ok)) in
-    shallow 200 tree.program tree.shallow
+    let tree = has_tree (subst (λ us. Finds most_levels (rule program) 0 c.args.tokens.now.items (map written_declaration c.in-Ok.declarations.items) c.program.new.self.depth us) (none_left c.program.new.self.rest.now c.is_empty.result c.is_empty.ensures c.if-is_empty.true) (read (goal.at.returns-then-is_empty-clause-shallow c).In-Ok)) in
+    shallow most_levels tree.program tree.shallow
 
 pub returns-then-is_empty-clause-depth : goal.returns-then-is_empty-clause-depth
 returns-then-is_empty-clause-depth c =
-    let tree = has_tree (subst (λ us. Finds 200 (rule program) 0 c.args.tokens.now.items (map written_declaration c.in-Ok.declarations.items) c.program.new.self.depth us) (none_left c.program.new.self.rest.now c.is_empty.result c.is_empty.ensures c.if-is_empty.true) (read (goal.at.returns-then-is_empty-clause-depth c).In-Ok)) in
-    bodies_under c.in-Ok.declarations.items c.in-Ok.ensures.depth (shallow 200 tree.program tree.shallow)
+    let tree = has_tree (subst (λ us. Finds most_levels (rule program) 0 c.args.tokens.now.items (map written_declaration c.in-Ok.declarations.items) c.program.new.self.depth us) (none_left c.program.new.self.rest.now c.is_empty.result c.is_empty.ensures c.if-is_empty.true) (read (goal.at.returns-then-is_empty-clause-depth c).In-Ok)) in
+    bodies_under c.in-Ok.declarations.items c.in-Ok.ensures.depth (shallow most_levels tree.program tree.shallow)
 
 pub returns-else-is_empty-clause-parsed : goal.returns-else-is_empty-clause-parsed
 returns-else-is_empty-clause-parsed c =
