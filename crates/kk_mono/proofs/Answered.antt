@@ -5,6 +5,8 @@ use Rattle.std.specs.List.{AllZip}
 use Rattle.std.proofs.lemmas.Bool.{cases_Bool, ltb-false, cond-true, cond-false}
 use Rattle.std.proofs.lemmas.List.{length-map, get_or-map, get_or_default, same_lists, take_all}
 use Rattle.std.proofs.lemmas.Option.{slice_get_within, get_or_from_slice_get, slice_get-get_or}
+use Rattle.kk_base.specs.Limits.{greatest_of}
+use Rattle.kk_base.specs.declared.limit.LimitKind.TheVariants.{FunctionNodes}
 use Rattle.kk_syntax.specs.declared.ground.Ground.{Ground}
 use Rattle.kk_syntax.specs.declared.ground.Instance.{Instance}
 use Rattle.kk_syntax.specs.declared.typed.Typed.{Typed}
@@ -109,15 +111,15 @@ module _ (program : ProgramTree) (typings : List (List Choice)) (principal : Are
           (λ i. record { functions = calls_are i; constructors = constructors_are i })
 
 -- no function has too many nodes
-pub each_few : (functions : List FunctionTree) (f : ℕ) → too_many_nodes functions ≡ None → nodes_of (get_or functions f no_function).body ≤ 480
+pub each_few : (functions : List FunctionTree) (f : ℕ) → too_many_nodes functions ≡ None → nodes_of (get_or functions f no_function).body ≤ greatest_of FunctionNodes
 each_few [] f none = omega arith
-each_few (function ∷ functions) zero none = elim (cases_Bool (nat_lt 480 (nodes_of function.body))) [
-  | inl many ↦ let some = sym (cond-true (nat_lt 480 (nodes_of function.body)) (Some (nodes_of function.body)) (too_many_nodes functions) many) ∙ none in cc
-  | inr few ↦ ltb-false 480 (nodes_of function.body) few
+each_few (function ∷ functions) zero none = elim (cases_Bool (nat_lt (greatest_of FunctionNodes) (nodes_of function.body))) [
+  | inl many ↦ let some = sym (cond-true (nat_lt (greatest_of FunctionNodes) (nodes_of function.body)) (Some (nodes_of function.body)) (too_many_nodes functions) many) ∙ none in cc
+  | inr few ↦ ltb-false (greatest_of FunctionNodes) (nodes_of function.body) few
 ]
-each_few (function ∷ functions) (suc f) none = elim (cases_Bool (nat_lt 480 (nodes_of function.body))) [
-  | inl many ↦ let some = sym (cond-true (nat_lt 480 (nodes_of function.body)) (Some (nodes_of function.body)) (too_many_nodes functions) many) ∙ none in cc
-  | inr few ↦ each_few functions f (sym (cond-false (nat_lt 480 (nodes_of function.body)) (Some (nodes_of function.body)) (too_many_nodes functions) few) ∙ none)
+each_few (function ∷ functions) (suc f) none = elim (cases_Bool (nat_lt (greatest_of FunctionNodes) (nodes_of function.body))) [
+  | inl many ↦ let some = sym (cond-true (nat_lt (greatest_of FunctionNodes) (nodes_of function.body)) (Some (nodes_of function.body)) (too_many_nodes functions) many) ∙ none in cc
+  | inr few ↦ each_few functions f (sym (cond-false (nat_lt (greatest_of FunctionNodes) (nodes_of function.body)) (Some (nodes_of function.body)) (too_many_nodes functions) few) ∙ none)
 ]
 
 some_looked : (xs : List Looked) (i : ℕ) → i < length xs → Looked

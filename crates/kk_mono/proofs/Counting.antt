@@ -5,7 +5,8 @@ use Rattle.std.proofs.lemmas.Bool.{cases_lt}
 use Rattle.std.proofs.lemmas.List.Elements.{All-contains}
 use Rattle.kk_base.specs.Exactly.{IsOnly, ExactlyOne}
 use Rattle.kk_base.specs.declared.limit.Limit.{Limit}
-use Rattle.kk_base.specs.declared.limit.LimitKind.TheVariants.{FunctionNodes, ProgramNodes}
+use Rattle.kk_base.specs.declared.limit.LimitKind.TheVariants.{FunctionNodes, ProgramNodes, Instances}
+use Rattle.kk_base.specs.Limits.{greatest_of}
 use Rattle.kk_syntax.specs.Programs.{ProgramTree}
 use Rattle.kk_syntax.specs.Typing.{Choice, ArePrincipal}
 use Rattle.kk_mono.specs.Counts.{too_many_nodes, summed_nodes, AreTooMany, KeepsCounts, PassesFirst, of_function, of_instances, of_program, CountsAs, EachProgramIsCounted}
@@ -22,7 +23,7 @@ module _ (program : ProgramTree) where
   apart count none some = let wrong = sym none ∙ some in cc
 
   -- the instances are few, or too many
-  few_or_many : (some others : List (List Choice)) → ArePrincipal program some → ArePrincipal program others → (all known : List InstanceTree) → AreInstances program.main some all → length all ≤ 1024 → AreTooMany program.main others known → ⊥
+  few_or_many : (some others : List (List Choice)) → ArePrincipal program some → ArePrincipal program others → (all known : List InstanceTree) → AreInstances program.main some all → length all ≤ greatest_of Instances → AreTooMany program.main others known → ⊥
   few_or_many some others one two all known are few too_many =
       let many = also_too_many program others some two one known too_many in
       let no_more = as_many known all many.once (λ x there. are.all x (All-contains (IsInstance program.main some) known x many.each there)) in
@@ -74,7 +75,7 @@ module _ (program : ProgramTree) where
     where
       by : (many : Option ℕ) → too_many_nodes program.functions ≡ many → ExactlyOne (CountsAs program)
       by None none = elim (counted program.main typings) [
-        | inl all ↦ elim (cases_lt 8192 (summed_nodes program all.0)) [
+        | inl all ↦ elim (cases_lt (greatest_of ProgramNodes) (summed_nodes program all.0)) [
           | inl large ↦ (Err _, only_counts (Err _) (of_program none principal all.1 all.2 large refl))
           | inr small ↦ (Ok tt, only_counts (Ok tt) (record { functions = none; typings = typings; principal = principal; instances = all.0; are = all.1; few = all.2; small = small }))
         ]

@@ -4,6 +4,8 @@ use Rattle.std.proofs.Common.{◌≡◌, ◌⊎◌, ℕ, zero, suc, ◌+◌, ◌
 use Rattle.std.proofs.lemmas.Bool.{cases_lt, cases_eq}
 use Rattle.std.proofs.lemmas.List.{get_or_default}
 use Rattle.std.proofs.lemmas.List.Elements.{Contains-append_cases, Contains-append_left, Contains-append_right, Contains-get_or}
+use Rattle.kk_base.specs.Limits.{greatest_of}
+use Rattle.kk_base.specs.declared.limit.LimitKind.TheVariants.{Instances}
 use Rattle.kk_syntax.specs.Types.{TypeTree, TypeTrees, int32, unit_type, type_variable, named, no_type, type}
 use Rattle.kk_syntax.specs.Typing.{Choice}
 use Rattle.kk_mono.specs.Counts.{AreTooMany}
@@ -102,8 +104,8 @@ module _ (main : ℕ) (typings : List (List Choice)) where
           ]
 
   -- the instances are at most as many as are allowed, or more are known
-  pub counted : ((all : List InstanceTree) × AreInstances main typings all × (length all ≤ 1024)) ⊎ ((known : List InstanceTree) × AreTooMany main typings known)
-  counted = elim (searched 1024) [
+  pub counted : ((all : List InstanceTree) × AreInstances main typings all × (length all ≤ greatest_of Instances)) ⊎ ((known : List InstanceTree) × AreTooMany main typings known)
+  counted = elim (searched (greatest_of Instances)) [
     | inl done ↦ inl done
-    | inr more ↦ inr (more.0, search_passes main typings more.0 1024 more.1 more.2)
+    | inr more ↦ inr (more.0, search_passes main typings more.0 (greatest_of Instances) more.1 more.2)
   ]

@@ -3,6 +3,8 @@ use Rattle.std.proofs.Common.{◌≡◌, ℕ, ◌<◌, ◌≤◌, List, [], ◌�
 use Rattle.std.specs.List.{AllZip}
 use Rattle.std.proofs.lemmas.List.{append-nil, take-map}
 use Rattle.std.proofs.lemmas.List.Elements.{All-cons, All-nil, All-weaker}
+use Rattle.kk_base.specs.Limits.{greatest_of}
+use Rattle.kk_base.specs.declared.limit.LimitKind.TheVariants.{Instances}
 use Rattle.kk_syntax.specs.declared.ground.GroundConstructor.{GroundConstructor}
 use Rattle.kk_syntax.specs.declared.program.Program.{Program}
 use Rattle.kk_syntax.specs.declared.typed.Typed.{Typed}
@@ -75,7 +77,7 @@ module _ (typed : Typed) (found : Found) (table : Types) (grows : Grows (types_i
     };
     ends = elim searched.ends [
       | inl all ↦ inl (subst (λ xs. length xs ≤ length found.looked.items) (sym same_known) all)
-      | inr many ↦ inr (subst (λ xs. 1024 < length xs) (sym same_known) many)
+      | inr many ↦ inr (subst (λ xs. greatest_of Instances < length xs) (sym same_known) many)
     ];
   }
 

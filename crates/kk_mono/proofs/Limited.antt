@@ -4,7 +4,8 @@ use Rattle.std.specs.Prelude.{All, Ok, ◌==◌, if◌then◌else◌, sum, optio
 use Rattle.std.specs.List.{AllZip}
 use Rattle.std.proofs.lemmas.Bool.{eq-eqb}
 use Rattle.std.proofs.lemmas.List.{length-map, get_or-map, same_lists}
-use Rattle.kk_base.specs.declared.limit.LimitKind.TheVariants.{FunctionNodes}
+use Rattle.kk_base.specs.declared.limit.LimitKind.TheVariants.{FunctionNodes, Constructors, ProgramNodes, Fields, Parameters}
+use Rattle.kk_base.specs.Limits.{greatest_of}
 use Rattle.kk_syntax.specs.declared.ground.GroundConstructor.{GroundConstructor}
 use Rattle.kk_syntax.specs.declared.ground.Instance.{Instance}
 use Rattle.kk_syntax.specs.declared.program.Fun.{Fun}
@@ -92,14 +93,14 @@ as_many types numbers of xs are =
 -- ---- the functions of a program
 
 -- what stands behind the last function has no parameters
-few_at : (functions : List FunctionTree) → All (λ (f : FunctionTree). length f.parameters ≤ 8) functions → (n : ℕ) → length (get_or functions n no_function).parameters ≤ 8
+few_at : (functions : List FunctionTree) → All (λ (f : FunctionTree). length f.parameters ≤ greatest_of Parameters) functions → (n : ℕ) → length (get_or functions n no_function).parameters ≤ greatest_of Parameters
 few_at [] few n = omega arith
 few_at (f ∷ fs) few zero = few zero f (omega arith)
 few_at (f ∷ fs) few (suc n) = few_at fs (λ k d lt. few (suc k) d (omega (arith, lt))) n
 
 -- what has been looked at has few parameters
 pub all_few : (typed : Typed) (found : Found) → DeclarationsAs (program_tree typed.program) (Ok tt) → HasSearched typed found
-    → All (λ (looked : Looked). length looked.parameters.items ≤ 8) found.looked.items
+    → All (λ (looked : Looked). length looked.parameters.items ≤ greatest_of Parameters) found.looked.items
 all_few typed found declared searched i d lt =
     let instance = get_or (known_in found) i (main_instance 0) in
     let seen = searched.searching.looked i d lt in
@@ -109,7 +110,7 @@ all_few typed found declared searched i d lt =
     omega (arith, many, few)
 
 -- the greatest number of nodes is of a function
-most_few : (functions : List FunctionTree) → ((n : ℕ) → nodes_of (get_or functions n no_function).body ≤ 480) → nodes_at_most functions ≤ 480
+most_few : (functions : List FunctionTree) → ((n : ℕ) → nodes_of (get_or functions n no_function).body ≤ greatest_of FunctionNodes) → nodes_at_most functions ≤ greatest_of FunctionNodes
 most_few [] few = omega arith
 most_few (f ∷ fs) few =
     let first = few zero in
@@ -117,7 +118,7 @@ most_few (f ∷ fs) few =
     omega (arith, first, rest)
 
 pub greatest_few : (program : Program) (slice : List Fun) → slice ≡ program.functions.items → None ≡ option_map (told FunctionNodes) (too_many_nodes (map function_tree slice))
-    → nodes_at_most (map function_tree slice) ≤ 480
+    → nodes_at_most (map function_tree slice) ≤ greatest_of FunctionNodes
 greatest_few program slice same none =
     let functions = (program_tree program).functions in
     let few = most_few functions (λ n. each_few functions n (none_large program slice same none)) in
@@ -135,14 +136,14 @@ module _ (program : Program) (found : Found) (none : PassesNone (program_tree pr
       (let long = length-map program.constructors.items constructor_tree in omega (arith, long, lt))
 
   few_fields : (types : List TypeTree) (key : KeyTree) (made : GroundConstructor) → key.number < length program.constructors.items
-      → IsMadeOf constructors types key made → length made.fields.items ≤ 6
+      → IsMadeOf constructors types key made → length made.fields.items ≤ greatest_of Fields
   few_fields types key made lt is =
       let kept = (keeps key lt).fields in
       let many = as_many types made.fields.items _ (get_or constructors key.number no_constructor).fields is.fields in
       omega (arith, kept, many)
 
   small_tag : (types : List TypeTree) (key : KeyTree) (made : GroundConstructor) → key.number < length program.constructors.items
-      → IsMadeOf constructors types key made → made.tag < 255
+      → IsMadeOf constructors types key made → made.tag < greatest_of Constructors
   small_tag types key made lt is =
       let kept = (keeps key lt).of_type in
       let tag = is.tag_is in
@@ -166,7 +167,7 @@ module _ (program : Program) (found : Found) (none : PassesNone (program_tree pr
         → IsBuiltOf (function_in (program_tree program) (key_at i).number) (key_at i) (get_or found.looked.items i looked) (get_or instances i d)
     made_at i d looked lt = built.each i (record { number = 0; at = [] }) looked d (looked_at i lt)
 
-    few_of : (i : ℕ) (d : Instance) → i < length instances → length (get_or instances i d).parameters.items ≤ 8
+    few_of : (i : ℕ) (d : Instance) → i < length instances → length (get_or instances i d).parameters.items ≤ greatest_of Parameters
     few_of i d lt =
         let looked = some_of found.looked.items i (looked_at i lt) in
         let same = ap length (made_at i d looked lt).parameters in
@@ -194,12 +195,12 @@ module _ (program : Program) (found : Found) (none : PassesNone (program_tree pr
       → AllZip (IsMadeOf constructors types) (keys_in found.constructors) made
       → All (λ (key : KeyTree). key.number < length program.constructors.items) (keys_in found.constructors)
       → AreBuilt program (keys_in found.keys) found.looked.items instances → length found.looked.items ≡ length (keys_in found.keys)
-      → greatest ≤ 480 → summed ≤ 8192 → AreWithinLimits made instances greatest summed
+      → greatest ≤ greatest_of FunctionNodes → summed ≤ greatest_of ProgramNodes → AreWithinLimits made instances greatest summed
   are_within types made instances greatest summed zip below built full greatest_few summed_few = record {
     parameters = few_of types made instances zip below built full;
-    fields = zip_all (λ (key : KeyTree). key.number < length program.constructors.items) (IsMadeOf constructors types) (λ (m : GroundConstructor). length m.fields.items ≤ 6)
+    fields = zip_all (λ (key : KeyTree). key.number < length program.constructors.items) (IsMadeOf constructors types) (λ (m : GroundConstructor). length m.fields.items ≤ greatest_of Fields)
         (few_fields types) (keys_in found.constructors) made below zip;
-    tags = zip_all (λ (key : KeyTree). key.number < length program.constructors.items) (IsMadeOf constructors types) (λ (m : GroundConstructor). m.tag < 255)
+    tags = zip_all (λ (key : KeyTree). key.number < length program.constructors.items) (IsMadeOf constructors types) (λ (m : GroundConstructor). m.tag < greatest_of Constructors)
         (small_tag types) (keys_in found.constructors) made below zip;
     nodes = λ i d lt.
         let same = nodes_at types made instances zip below built full i d lt in

@@ -6,7 +6,7 @@ use Rattle.std.proofs.lemmas.List.{drop_more, length-map}
 use Rattle.kk_base.specs.Exactly.{IsOnly, ExactlyOne}
 use Rattle.kk_base.specs.Limits.{greatest_of}
 use Rattle.kk_base.specs.declared.limit.Limit.{Limit}
-use Rattle.kk_base.specs.declared.limit.LimitKind.TheVariants.{Fields, Constructors}
+use Rattle.kk_base.specs.declared.limit.LimitKind.TheVariants.{Fields, Constructors, Parameters}
 use Rattle.kk_syntax.specs.declared.program.Constructor.{Constructor}
 use Rattle.kk_syntax.specs.declared.program.Fun.{Fun}
 use Rattle.kk_syntax.specs.declared.program.Program.{Program}
@@ -171,8 +171,8 @@ both_keep one two none = (
 
 -- a constructor keeps its limits, among all of a program
 pub record KeepsLimits (all : List ConstructorTree) (constructor : ConstructorTree) : Type 0 where
-  pub of_type : length (members all constructor.of_type) ≤ 255
-  pub fields : length constructor.fields ≤ 6
+  pub of_type : length (members all constructor.of_type) ≤ greatest_of Constructors
+  pub fields : length constructor.fields ≤ greatest_of Fields
 
 module _ (program : ProgramTree) where
   constructor_keeps : (c : ConstructorTree) → first_over (quantities_of_constructor program c) ≡ None → KeepsLimits program.constructors c
@@ -193,7 +193,7 @@ module _ (program : ProgramTree) where
       (none_second (first_over (quantities_of_constructor program c)) (first_over (flat_map (quantities_of_constructor program) cs))
       (sym (first_append (quantities_of_constructor program c) (flat_map (quantities_of_constructor program) cs)) ∙ none)) i d (omega (arith, lt))
 
-functions_keep : (functions : List FunctionTree) → first_over (map quantity_of_function functions) ≡ None → All (λ (f : FunctionTree). length f.parameters ≤ 8) functions
+functions_keep : (functions : List FunctionTree) → first_over (map quantity_of_function functions) ≡ None → All (λ (f : FunctionTree). length f.parameters ≤ greatest_of Parameters) functions
 functions_keep [] none i d lt = absurd (omega (arith, lt))
 functions_keep (f ∷ fs) none zero d lt = keeps (quantity_of_function f) (none_first (if_over (quantity_of_function f)) (first_over (map quantity_of_function fs)) none)
 functions_keep (f ∷ fs) none (suc i) d lt =
@@ -208,7 +208,7 @@ module _ (program : ProgramTree) (none : first_over (declared_quantities program
       constructors_keep program program.constructors
       (none_first (first_over (flat_map (quantities_of_constructor program) program.constructors)) (first_over (map quantity_of_function program.functions)) both_none)
 
-  pub few_parameters : All (λ (f : FunctionTree). length f.parameters ≤ 8) program.functions
+  pub few_parameters : All (λ (f : FunctionTree). length f.parameters ≤ greatest_of Parameters) program.functions
   few_parameters =
       functions_keep program.functions
       (none_second (first_over (flat_map (quantities_of_constructor program) program.constructors)) (first_over (map quantity_of_function program.functions)) both_none)

@@ -5,6 +5,8 @@ use Rattle.std.proofs.lemmas.Bool.{cases_lt}
 use Rattle.std.proofs.lemmas.List.{length-append, take_all, take_more, take-append-le, take-append-drop, append-nil, flat_map_more}
 use Rattle.std.proofs.lemmas.List.Elements.{All-nil, All-cons, All-append, All-contains, All-from_get_or, Contains-get_or, Contains-append_left, Contains-append_right}
 use Rattle.std.proofs.lemmas.List.Kept.{AllPairs-cons}
+use Rattle.kk_base.specs.Limits.{greatest_of}
+use Rattle.kk_base.specs.declared.limit.LimitKind.TheVariants.{Instances}
 use Rattle.kk_syntax.specs.Typing.{Choice}
 use Rattle.kk_mono.specs.Counts.{AreTooMany}
 use Rattle.kk_mono.specs.Instances.{InstanceTree, main_instance, called_in, IsInstance, main_is, called_is, FirstSights, none_left, AreInstances}
@@ -70,7 +72,7 @@ module _ (main : ℕ) (typings : List (List Choice)) where
       all_looked : FirstSights (main_instance main ∷ []) (flat_map (called_in typings) known) so_far.others
       all_looked = subst (λ xs. FirstSights (main_instance main ∷ []) (flat_map (called_in typings) xs) so_far.others) (take_all looked known past) so_far.in_order
 
-  pub search_passes : (known : List InstanceTree) (looked : ℕ) → Searched main typings known looked → 1024 < length known → AreTooMany main typings known
+  pub search_passes : (known : List InstanceTree) (looked : ℕ) → Searched main typings known looked → greatest_of Instances < length known → AreTooMany main typings known
   search_passes known looked so_far many = record { each = so_far.each; once = known_once known looked so_far; many = many }
 
   -- the instances that are known where the first so many of all have been looked at

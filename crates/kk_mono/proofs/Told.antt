@@ -7,6 +7,7 @@ use Rattle.std.proofs.lemmas.List.Sums.{sum-map, sum_by-drop_more}
 use Rattle.std.proofs.lemmas.Option.{slice_get_within, get_or_from_slice_get}
 use Rattle.kk_base.specs.declared.limit.Limit.{Limit}
 use Rattle.kk_base.specs.declared.limit.LimitKind.TheVariants.{FunctionNodes, Instances, ProgramNodes}
+use Rattle.kk_base.specs.Limits.{greatest_of}
 use Rattle.kk_syntax.specs.declared.program.Fun.{Fun}
 use Rattle.kk_syntax.specs.declared.program.Program.{Program}
 use Rattle.kk_syntax.specs.Programs.{FunctionTree, ProgramTree, function_tree, program_tree, no_function, body_of}
@@ -43,14 +44,14 @@ summed_more program keys i key function found within is =
     omega (arith, whole, rest, more, nodes)
 
 -- one function more, that has not too many nodes
-pub few_more : (functions : List Fun) (i : ℕ) (function : Fun) → i < length functions → function ≡ get_or functions i function → nodes_of (expr_tree function.body) ≤ 480
+pub few_more : (functions : List Fun) (i : ℕ) (function : Fun) → i < length functions → function ≡ get_or functions i function → nodes_of (expr_tree function.body) ≤ greatest_of FunctionNodes
     → too_many_nodes (map function_tree (drop i functions)) ≡ too_many_nodes (map function_tree (drop (i + 1) functions))
 few_more functions i function lt is few =
     ap (λ fs. too_many_nodes (map function_tree fs)) (drop_more functions i function lt)
     ∙ (ap (λ (f : Fun). too_many_nodes (function_tree f ∷ map function_tree (drop (i + 1) functions))) (sym is)
-    ∙ elim (cases_Bool (nat_lt 480 (nodes_of (expr_tree function.body)))) [
-      | inl many ↦ absurd (let lt = ltb-true 480 (nodes_of (expr_tree function.body)) many in omega (arith, lt, few))
-      | inr none ↦ cond-false (nat_lt 480 (nodes_of (expr_tree function.body))) (Some (nodes_of (expr_tree function.body))) (too_many_nodes (map function_tree (drop (i + 1) functions))) none
+    ∙ elim (cases_Bool (nat_lt (greatest_of FunctionNodes) (nodes_of (expr_tree function.body)))) [
+      | inl many ↦ absurd (let lt = ltb-true (greatest_of FunctionNodes) (nodes_of (expr_tree function.body)) many in omega (arith, lt, few))
+      | inr none ↦ cond-false (nat_lt (greatest_of FunctionNodes) (nodes_of (expr_tree function.body))) (Some (nodes_of (expr_tree function.body))) (too_many_nodes (map function_tree (drop (i + 1) functions))) none
     ])
 
 pub greatest_more : (functions : List Fun) (i : ℕ) (function : Fun) → i < length functions → function ≡ get_or functions i function
@@ -83,11 +84,11 @@ summed_viewed program types keys = ap sum (map-map (viewed types) (λ (x : Insta
 
 -- the search has ended: the instances keep the limits, or pass one
 module _ (program : ProgramTree) (typings : List (List Choice)) (principal : ArePrincipal program typings) (types : List TypeTree) (keys : List KeyTree) (looked : ℕ)
-    (searched : Searched program.main typings (map (viewed types) keys) looked) (ends : (length (map (viewed types) keys) ≤ looked) ⊎ (1024 < length (map (viewed types) keys))) (none : too_many_nodes program.functions ≡ None) where
+    (searched : Searched program.main typings (map (viewed types) keys) looked) (ends : (length (map (viewed types) keys) ≤ looked) ⊎ (greatest_of Instances < length (map (viewed types) keys))) (none : too_many_nodes program.functions ≡ None) where
   long : length (map (viewed types) keys) ≡ length keys
   long = length-map keys (viewed types)
 
-  pub ended : length keys ≤ 1024 → (length keys ≤ looked) × AreInstances program.main typings (map (viewed types) keys)
+  pub ended : length keys ≤ greatest_of Instances → (length keys ≤ looked) × AreInstances program.main typings (map (viewed types) keys)
   ended few = elim ends [
     | inl all ↦ ((let same = long in omega (arith, same, all)), search_ends program.main typings (map (viewed types) keys) looked searched all)
     | inr many ↦ absurd (let same = long in omega (arith, same, few, many))
@@ -109,7 +110,7 @@ module _ (program : ProgramTree) (typings : List (List Choice)) (principal : Are
 
   pub passed_answered : (limit : Limit) → PassedBy program keys limit → AnswersCounts program (Err limit)
   passed_answered limit (inl (many, is)) = (
-    record { kind = Instances; count = 1025 },
+    record { kind = Instances; count = greatest_of Instances + 1 },
     only_counts program (Err _) (of_instances none principal (search_passes program.main typings (map (viewed types) keys) looked searched (let same = long in omega (arith, same, many))) refl),
     is,
   )

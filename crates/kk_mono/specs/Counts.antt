@@ -10,7 +10,7 @@ use Rattle.kk_syntax.specs.Typing.{Choice, ArePrincipal}
 use Rattle.kk_mono.specs.Declarations.{DeclarationsAs}
 use Rattle.kk_mono.specs.Instances.{InstanceTree, IsInstance, AreInstances}
 
--- the nodes of the first function that has more than 480
+-- the nodes of the first function that has more than the limit
 abbrev pub too_many_nodes : List FunctionTree → Option ℕ
 too_many_nodes functions = find (λ count. nat_lt (greatest_of FunctionNodes) count) (map (λ function. nodes_of function.body) functions)
 

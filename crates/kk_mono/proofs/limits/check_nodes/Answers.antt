@@ -1,6 +1,7 @@
 use Rattle.std.proofs.Common.{◌≤◌, map, ap, sym, ◌∙◌, arith}
 use Rattle.std.proofs.lemmas.List.{drop_all}
 use Rattle.kk_base.specs.declared.limit.LimitKind.TheVariants.{FunctionNodes}
+use Rattle.kk_base.specs.Limits.{greatest_of}
 use Rattle.kk_syntax.specs.Programs.{function_tree}
 use Rattle.kk_syntax.specs.Shapes.{greatest_of, nodes_of}
 use Rattle.kk_syntax.specs.Trees.{expr_tree}
@@ -16,7 +17,7 @@ loop-function-preserved c =
     let i = c.loop-function.function-index in
     let nodes = c.nodes-count.ensures in
     let greatest = c.greatest.ensures in
-    let few : nodes_of (expr_tree c.function-item.result.body) ≤ 480 = omega (arith, nodes, greatest, c.if-count-greatest.false) in
+    let few : nodes_of (expr_tree c.function-item.result.body) ≤ greatest_of FunctionNodes = omega (arith, nodes, greatest, c.if-count-greatest.false) in
     let more = greatest_more functions i c.function-item.result c.loop-function-test.true c.function-item.is in
     let so_far = c.loop-function.invariant.greatest in
     let most = c.max-greatest.ensures in
