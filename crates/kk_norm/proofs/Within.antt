@@ -3,6 +3,7 @@ use Rattle.std.proofs.Common.{◌≡◌, ◌≤◌, ℕ, zero, suc, List, [], �
 use Rattle.std.specs.Prelude.{All, sum}
 use Rattle.std.proofs.lemmas.List.{length-map}
 use Rattle.std.proofs.lemmas.List.Sums.{sum_by-cons}
+use Rattle.kk_core.specs.Sizes.{most_parameters, most_nodes}
 use Rattle.kk_syntax.specs.declared.ground.Ground.{Ground}
 use Rattle.kk_syntax.specs.declared.ground.Instance.{Instance}
 use Rattle.kk_syntax.specs.GroundLimits.{nodes_of_instance}
@@ -11,8 +12,8 @@ use Rattle.kk_syntax.specs.Types.{TypeTree, type_at}
 use Rattle.kk_norm.specs.Normal.{AreWithin, all_nodes, IsWithin}
 
 module _ (types : List TypeTree) where
-  are_within : (instances : List Instance) → All (λ (i : Instance). length i.parameters.items ≤ 8) instances
-      → All (λ (i : Instance). nodes_of_instance i ≤ 480) instances → AreWithin (map (instance_tree types) instances)
+  are_within : (instances : List Instance) → All (λ (i : Instance). length i.parameters.items ≤ most_parameters) instances
+      → All (λ (i : Instance). nodes_of_instance i ≤ most_nodes) instances → AreWithin (map (instance_tree types) instances)
   are_within [] few small = tt
   are_within (x ∷ xs) few small =
       let many = length-map x.parameters.items (type_at types) in
