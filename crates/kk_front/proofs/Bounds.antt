@@ -7,6 +7,8 @@ use Rattle.std.proofs.lemmas.List.Sums.{sum_by-cons}
 use Rattle.kk_base.specs.declared.error.ParseError.{ParseError}
 use Rattle.kk_base.specs.declared.error.ParseError.TheVariants.{Unexpected, TooDeep, NoMemory}
 use Rattle.kk_base.specs.declared.limit.Limit.{Limit}
+use Rattle.kk_base.specs.Limits.{greatest_of}
+use Rattle.kk_base.specs.declared.limit.LimitKind.TheVariants.{FunctionNodes}
 use Rattle.kk_syntax.specs.Programs.{FunctionTree, ProgramTree, body_of, no_function}
 use Rattle.kk_syntax.specs.Shapes.{nodes_of}
 use Rattle.kk_syntax.specs.TokenList.{TokenList}
@@ -40,33 +42,33 @@ behind_first f fs few = λ k d lt. few (suc k) d (omega arith)
 -- what is found is among what is looked at
 found_few : (functions : List FunctionTree) (count : ℕ) → All (λ f. nodes_of f.body < 2 ^ 31) functions → too_many_nodes functions ≡ Some count → count < 2 ^ 64
 found_few [] count few e = cc
-found_few (f ∷ fs) count few e = by (nat_lt 480 (nodes_of f.body)) (All-head (λ g. nodes_of g.body < 2 ^ 31) f fs few) (λ d. found_few fs count (behind_first f fs few) d) e
+found_few (f ∷ fs) count few e = by (nat_lt (greatest_of FunctionNodes) (nodes_of f.body)) (All-head (λ g. nodes_of g.body < 2 ^ 31) f fs few) (λ d. found_few fs count (behind_first f fs few) d) e
   where
     by : (b : Bool) → nodes_of f.body < 2 ^ 31 → (too_many_nodes fs ≡ Some count → count < 2 ^ 64) → cond b (Some (nodes_of f.body)) (too_many_nodes fs) ≡ Some count → count < 2 ^ 64
     by true here rest e = let same : nodes_of f.body ≡ count = cc in omega arith
     by false here rest e = rest e
 
-not_above : (n : ℕ) → nat_lt 480 n ≡ false → n ≤ 480
+not_above : (n : ℕ) → nat_lt (greatest_of FunctionNodes) n ≡ false → n ≤ greatest_of FunctionNodes
 not_above n h = grind (arith, nat_tests)
 
 -- where no function has too many nodes, none has
-none_large : (functions : List FunctionTree) → too_many_nodes functions ≡ None → (f : ℕ) → nodes_of (slice_index_or functions f no_function).body ≤ 480
+none_large : (functions : List FunctionTree) → too_many_nodes functions ≡ None → (f : ℕ) → nodes_of (slice_index_or functions f no_function).body ≤ greatest_of FunctionNodes
 none_large [] e f = omega arith
-none_large (g ∷ gs) e f = by (nat_lt 480 (nodes_of g.body)) refl (none_large gs) e f
+none_large (g ∷ gs) e f = by (nat_lt (greatest_of FunctionNodes) (nodes_of g.body)) refl (none_large gs) e f
   where
-    by : (b : Bool) → nat_lt 480 (nodes_of g.body) ≡ b → (too_many_nodes gs ≡ None → (k : ℕ) → nodes_of (slice_index_or gs k no_function).body ≤ 480) → cond b (Some (nodes_of g.body)) (too_many_nodes gs) ≡ None
-        → (k : ℕ) → nodes_of (slice_index_or (g ∷ gs) k no_function).body ≤ 480
+    by : (b : Bool) → nat_lt (greatest_of FunctionNodes) (nodes_of g.body) ≡ b → (too_many_nodes gs ≡ None → (k : ℕ) → nodes_of (slice_index_or gs k no_function).body ≤ greatest_of FunctionNodes) → cond b (Some (nodes_of g.body)) (too_many_nodes gs) ≡ None
+        → (k : ℕ) → nodes_of (slice_index_or (g ∷ gs) k no_function).body ≤ greatest_of FunctionNodes
     by true is rest e k = cc
     by false is rest e zero = not_above (nodes_of g.body) is
     by false is rest e (suc k) = rest e k
 
 -- the nodes of instances
-summed_few : (program : ProgramTree) (instances : List InstanceTree) → too_many_nodes program.functions ≡ None → summed_nodes program instances ≤ 480 * length instances
+summed_few : (program : ProgramTree) (instances : List InstanceTree) → too_many_nodes program.functions ≡ None → summed_nodes program instances ≤ greatest_of FunctionNodes * length instances
 summed_few program [] none = omega arith
 summed_few program (instance ∷ instances) none =
     let nodes : InstanceTree → ℕ = λ one. nodes_of (body_of program one.function) in
-    let first : nodes instance ≤ 480 = none_large program.functions none instance.function in
-    let rest : summed_nodes program instances ≤ 480 * length instances = summed_few program instances none in
+    let first : nodes instance ≤ greatest_of FunctionNodes = none_large program.functions none instance.function in
+    let rest : summed_nodes program instances ≤ greatest_of FunctionNodes * length instances = summed_few program instances none in
     let sum_is : summed_nodes program (instance ∷ instances) ≡ nodes instance + summed_nodes program instances = sum_by-cons (λ (n : ℕ). n) (nodes instance) (map nodes instances) in
     omega (arith, first, rest, sum_is)
 

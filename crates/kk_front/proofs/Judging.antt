@@ -1,5 +1,5 @@
 -- What a text comes to, judgement by judgement.
-use Rattle.std.proofs.Common.{◌≡◌, ℕ, ◌*◌, ◌<◌, ◌≤◌, ◌^◌, List, [], ◌∷◌, length, map, get_or, None, Some, false, refl, sym, ap, ◌∙◌, subst, inl, inr, arith}
+use Rattle.std.proofs.Common.{◌≡◌, ℕ, ◌*◌, ◌<◌, ◌≤◌, ◌^◌, List, [], ◌∷◌, length, map, get_or, None, Some, false, refl, sym, ap, ◌∙◌, subst, inl, inr, arith, ◌+◌}
 use Rattle.std.specs.Prelude.{All, IfOk, IfErr, OnOk, Result, Ok, Err, slice_get}
 use Rattle.std.proofs.lemmas.Bool.{cases_lt}
 use Rattle.std.proofs.lemmas.List.{length-map, get_or-map}
@@ -15,6 +15,7 @@ use Rattle.kk_base.specs.declared.limit.Limit.{Limit}
 use Rattle.kk_base.specs.declared.limit.LimitKind.TheVariants.{Source}
 use Rattle.kk_base.specs.declared.refusal.Refusal.{Refusal}
 use Rattle.kk_base.specs.declared.refusal.Refusal.TheVariants as OfText
+use Rattle.kk_base.specs.Limits.{greatest_of}
 use Rattle.kk_syntax.specs.declared.accepted.Accepted.{Accepted}
 use Rattle.kk_syntax.specs.declared.program.Program.{Program}
 use Rattle.kk_syntax.specs.declared.tree.Tree.{Tree}
@@ -102,8 +103,8 @@ only_length text outcome h = record { holds = h; only = λ other k. one outcome 
 
 exactly_length : (text : List ℕ) → ExactlyOne (ChecksLength text)
 exactly_length text =
-    elim (cases_lt 65536 (length text)) [
-      | inl long ↦ let limit : Limit = record { kind = Source; count = 65537 } in (Err limit, only_length text (Err limit) (long, refl))
+    elim (cases_lt (greatest_of Source) (length text)) [
+      | inl long ↦ let limit : Limit = record { kind = Source; count = greatest_of Source + 1 } in (Err limit, only_length text (Err limit) (long, refl))
       | inr short ↦ (Ok tt, only_length text (Ok tt) short)
     ]
 
