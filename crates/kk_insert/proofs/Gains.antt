@@ -10,7 +10,7 @@ use Rattle.kk_syntax.specs.declared.program.Form.{Form}
 use Rattle.kk_syntax.specs.declared.program.Form.TheVariants.{Number, Unit as Nothing, ReadByte, PrintText, Unary, Binary, Print, Construct, Call}
 use Rattle.kk_core.specs.Codes.{Code, give, tail_call, case, compute, use_of, unpack, inside, Arms, no_arm, arm, FunctionCode}
 use Rattle.kk_core.specs.CoreTyping.{Facts, HasCodeType, AreArmsTyped}
-use Rattle.kk_core.specs.Sizes.{forms, forms_of_arms}
+use Rattle.kk_core.specs.Sizes.{forms, forms_of_arms, most_parameters}
 use Rattle.kk_counted.proofs.ListLengths.{total_ones, filter_few, positions_few}
 use Rattle.kk_counted.proofs.OwnedBounds.{few_used}
 use Rattle.kk_counted.specs.CountedCodes as Counted
@@ -69,13 +69,13 @@ opening_gains false x c now fields code = omega arith
 
 -- ---- typed code
 
--- a program whose functions have at most eight parameters, and whose constructors at most eight fields
+-- a program whose functions have few parameters, and whose constructors have no more fields than those
 pub record HasFew (table : Table) : Type 0 where
-  pub parameters : (f : ℕ) (signature : Signature) → slice_get table.functions f ≡ Some signature → length signature.parameters ≤ 8
-  pub fields : (t : TypeTree) (c : ℕ) (us : List TypeTree) → field_types table.constructors t c ≡ Some us → length us ≤ 8
+  pub parameters : (f : ℕ) (signature : Signature) → slice_get table.functions f ≡ Some signature → length signature.parameters ≤ most_parameters
+  pub fields : (t : TypeTree) (c : ℕ) (us : List TypeTree) → field_types table.constructors t c ≡ Some us → length us ≤ most_parameters
 
 module _ (table : Table) (few : HasFew table) where
-  pub form_few : (form : Form) (ts : List TypeTree) (t : TypeTree) → IsFormTyped table form ts t → length ts ≤ 8
+  pub form_few : (form : Form) (ts : List TypeTree) (t : TypeTree) → IsFormTyped table form ts t → length ts ≤ most_parameters
   form_few (Number n) ts t is = let none : ts ≡ [] = is.0 in rw none (omega arith)
   form_few Nothing ts t is = let none : ts ≡ [] = is.0 in rw none (omega arith)
   form_few ReadByte ts t is = let none : ts ≡ [] = is.0 in rw none (omega arith)

@@ -9,7 +9,7 @@ use Rattle.kk_syntax.specs.Programs.{ConstructorTree}
 use Rattle.kk_syntax.specs.Types.{TypeTree, TypeTrees, int32, unit_type, type_variable, named}
 use Rattle.kk_core.specs.Codes.{FunctionCode, ProgramCode}
 use Rattle.kk_core.specs.CoreTyping.{IsCoreTyped, IsFunctionSmall, AreSmall, IsSmall, typing_parameters}
-use Rattle.kk_core.specs.Sizes.{most_variables}
+use Rattle.kk_core.specs.Sizes.{most_variables, most_parameters}
 use Rattle.kk_counted.specs.CountBounds.{SpendsAtMost, gains, AllSpendAtMost}
 use Rattle.kk_counted.specs.CountedCodes.{CountedFunction}
 use Rattle.kk_counted.specs.Lengths.{AreShort}
@@ -32,31 +32,31 @@ use Rattle.kk_insert.proofs.Typed.{signature_there, function_there}
 -- ---- limits
 
 few_with : (own : Option TypeTrees) (fields us : List TypeTree) (arguments : TypeTrees) → length fields ≤ most_fields
-    → fields_with own fields arguments ≡ Some us → length us ≤ 8
+    → fields_with own fields arguments ≡ Some us → length us ≤ most_parameters
 few_with None fields us arguments few is = by (some is)
   where
     some : Some (map (with_arguments arguments) fields) ≡ Some us → map (with_arguments arguments) fields ≡ us
     some same = cc
 
-    by : map (with_arguments arguments) fields ≡ us → length us ≤ 8
+    by : map (with_arguments arguments) fields ≡ us → length us ≤ most_parameters
     by same = let long = ap length (sym same) ∙ length-map fields (with_arguments arguments) in omega (arith, long, few)
 few_with (Some own) fields us arguments few is = by (same_types own arguments) is
   where
-    by : (b : Bool) → (if b then Some fields else None) ≡ Some us → length us ≤ 8
+    by : (b : Bool) → (if b then Some fields else None) ≡ Some us → length us ≤ most_parameters
     by true same = let eq : fields ≡ us = cc in let long = ap length (sym eq) in omega (arith, long, few)
     by false same = absurd (cc)
 
 few_of : (constructors : List ConstructorTree) (found : Option ConstructorTree) (c by : ℕ) (arguments : TypeTrees) (us : List TypeTree)
-    → slice_get constructors c ≡ found → HaveFewFields constructors → fields_of found by arguments ≡ Some us → length us ≤ 8
+    → slice_get constructors c ≡ found → HaveFewFields constructors → fields_of found by arguments ≡ Some us → length us ≤ most_parameters
 few_of constructors None c by arguments us there few is = absurd (cc)
 few_of constructors (Some one) c by arguments us there few is = by_type (one.of_type == by) is
   where
-    by_type : (b : Bool) → (if b then fields_with one.arguments one.fields arguments else None) ≡ Some us → length us ≤ 8
+    by_type : (b : Bool) → (if b then fields_with one.arguments one.fields arguments else None) ≡ Some us → length us ≤ most_parameters
     by_type true same = few_with one.arguments one.fields us arguments (few c one there) same
     by_type false same = absurd (cc)
 
 few_fields : (constructors : List ConstructorTree) → HaveFewFields constructors → (t : TypeTree) (c : ℕ) (us : List TypeTree)
-    → field_types constructors t c ≡ Some us → length us ≤ 8
+    → field_types constructors t c ≡ Some us → length us ≤ most_parameters
 few_fields constructors few int32 c us is = absurd (cc)
 few_fields constructors few unit_type c us is = absurd (cc)
 few_fields constructors few (type_variable x) c us is = absurd (cc)
