@@ -11,6 +11,7 @@ use Rattle.kk_syntax.specs.Programs.{ConstructorTree}
 use Rattle.kk_syntax.specs.Types.{TypeTree, type_at}
 use Rattle.kk_core.specs.CellTypes.{has_cells}
 use Rattle.kk_core.specs.Codes.{FunctionCode, ProgramCode}
+use Rattle.kk_core.specs.Sizes.{most_instances}
 use Rattle.kk_counted.specs.CountedCodes.{CountedFunction}
 use Rattle.kk_counted.specs.Marks.{field_marks}
 use Rattle.kk_insert.specs.Insertion.{inserted, inserted_functions}
@@ -20,7 +21,7 @@ use Rattle.kk_dropspec.specs.Specialised.{special_function}
 use Rattle.kk_fuse.specs.Fused.{fused_function}
 
 module _ (types : List TypeTree) where
-  few_made : (items : List GroundConstructor) → All (λ (made : GroundConstructor). length made.fields.items ≤ 6) items
+  few_made : (items : List GroundConstructor) → All (λ (made : GroundConstructor). length made.fields.items ≤ most_fields) items
       → HaveFewFields (map (ground_constructor_tree types) items)
   few_made [] few c one there = absurd (cc)
   few_made (made ∷ items) few zero one there =
@@ -38,7 +39,7 @@ ground_has_few given = few_made (ground_types given.types.items) given.construct
 
 module _ (holds : TypeTree → Bool) where
   few_in : (constructors : List ConstructorTree) → HaveFewFields constructors → (c : ℕ)
-      → length (slice_index_or (map (λ (one : ConstructorTree). map holds one.fields) constructors) c []) ≤ 6
+      → length (slice_index_or (map (λ (one : ConstructorTree). map holds one.fields) constructors) c []) ≤ most_fields
   few_in [] few c = omega arith
   few_in (one ∷ constructors) few zero =
       let many = length-map one.fields holds in let here = few zero one refl in omega (arith, many, here)
@@ -56,8 +57,8 @@ as_many positions next [] = refl
 as_many positions next (function ∷ functions) = ap suc (as_many positions (suc next) functions)
 
 pub functions_few : (positions : PositionTable) (code : ProgramCode) (made : List CountedFunction)
-    → made ≡ map fused_function (map special_function (inserted positions code).functions) → length code.functions ≤ 1024
-    → length made ≤ 1024
+    → made ≡ map fused_function (map special_function (inserted positions code).functions) → length code.functions ≤ most_instances
+    → length made ≤ most_instances
 functions_few positions code made is few =
     let many = ap length is ∙ length-map (map special_function (inserted positions code).functions) fused_function
     ∙ length-map (inserted positions code).functions special_function ∙ as_many positions 0 code.functions in

@@ -3,6 +3,8 @@ use Rattle.std.proofs.Common.{◌≡◌, ◌<◌, ◌≤◌, ◌==◌, ℕ, zero
 use Rattle.std.specs.Prelude.{All, slice_get, slice_index_or, count_by, if◌then◌else◌}
 use Rattle.std.proofs.lemmas.List.Sums.{sum_by-cons}
 use Rattle.std.proofs.lemmas.Option.{slice_get-map}
+use Rattle.kk_base.specs.Limits.{greatest_of}
+use Rattle.kk_base.specs.declared.limit.LimitKind.TheVariants.{Constructors}
 use Rattle.kk_syntax.specs.declared.ground.Ground.{Ground}
 use Rattle.kk_syntax.specs.declared.ground.GroundConstructor.{GroundConstructor}
 use Rattle.kk_syntax.specs.declared.typed.Typed.{Typed}
@@ -23,7 +25,7 @@ use Rattle.kk_middle.proofs.Consistent.{tag_counts}
 
 -- ---- small tags
 
-small_in : (tags : GroundConstructor → ℕ) (made : List GroundConstructor) → All (λ (one : GroundConstructor). tags one < 255) made
+small_in : (tags : GroundConstructor → ℕ) (made : List GroundConstructor) → All (λ (one : GroundConstructor). tags one < greatest_of Constructors) made
     → (c : ℕ) → slice_index_or (map tags made) c 0 < 256
 small_in tags [] small c = omega arith
 small_in tags (one ∷ made) small zero = let here = small zero one (omega arith) in omega (arith, here)
