@@ -2,6 +2,8 @@
 use Rattle.std.proofs.Common.{◌≡◌, ◌<◌, ◌≤◌, ℕ, zero, suc, Bool, List, [], ◌∷◌, All, Some, length, map, slice_get, refl, sym, ap, subst, ◌∙◌, arith}
 use Rattle.std.proofs.lemmas.List.{length-map}
 use Rattle.kk_base.specs.Sizes.{AreSizes, greatest_cells, greatest_depth}
+use Rattle.kk_base.specs.Limits.{greatest_of}
+use Rattle.kk_base.specs.declared.limit.LimitKind.TheVariants.{Fields}
 use Rattle.kk_syntax.specs.declared.ground.Ground.{Ground}
 use Rattle.kk_syntax.specs.declared.typed.Typed.{Typed}
 use Rattle.kk_syntax.specs.PositionsOf.{PositionTable}
@@ -20,6 +22,7 @@ use Rattle.kk_counted.specs.TokenedCodes.{TokenedFunction, TokenedProgram}
 use Rattle.kk_counted.specs.declared.counted.Counted.{Counted}
 use Rattle.kk_counted.specs.declared.shape.Shape.{Shape}
 use Rattle.kk_counted.specs.declared.tokened.Tokened.{Tokened}
+use Rattle.kk_counted.specs.CountLimits.{greatest_spent}
 use Rattle.kk_insert.specs.Limits.{most_spent}
 use Rattle.kk_middle.specs.Lowerings.{CanBeLowered}
 use Rattle.kk_middle.specs.MarkedPrograms.{IsMarkedByShape}
@@ -38,8 +41,9 @@ AreFit =
     (positions : PositionTable) (marks : CellMarks) (holds : ℕ → ℕ → Bool) (setting : CountedSetting) (layout : Layout)
     (weight : CountedState → ℕ) (input : List ℕ) (most : ℕ)
     → IsSpent positions setting.program → FitsAlways weight setting input → HasShapeAlways weight setting input
-    → AreMarked marks holds setting.program → AllSpendAtMost setting.program most → most ≤ 65000
-    → ((c : ℕ) → length (field_marks marks c) ≤ 6) → 1 ≤ setting.depth → setting.depth ≤ greatest_depth → setting.cells ≤ greatest_cells
+    → AreMarked marks holds setting.program → AllSpendAtMost setting.program most
+    → most ≤ greatest_spent → ((c : ℕ) → length (field_marks marks c) ≤ greatest_of Fields) → 1 ≤ setting.depth
+    → setting.depth ≤ greatest_depth → setting.cells ≤ greatest_cells
     → HasKindsAlways (AreTagged layout) (count_of_fields layout) weight setting input → AllHaveInt32 setting.program.functions
     → All (λ byte. byte < 256) input → (n : ℕ) → IsFit layout (counted_after weight setting input n)
 

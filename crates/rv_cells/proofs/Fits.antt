@@ -1,6 +1,8 @@
 -- Code that is judged and marked is fit in each state of a run, where its values are of the types that the code takes.
 use Rattle.std.proofs.Common.{ℕ, ◌<◌, ◌≤◌, Bool, List, ◌++◌, length, All, arith, mul-le-mul_right, mul-le-mul_left}
 use Rattle.kk_base.specs.Sizes.{greatest_cells, greatest_depth}
+use Rattle.kk_base.specs.Limits.{greatest_of}
+use Rattle.kk_base.specs.declared.limit.LimitKind.TheVariants.{Fields}
 use Rattle.kk_syntax.specs.PositionsOf.{PositionTable}
 use Rattle.kk_source.specs.State.{Value}
 use Rattle.kk_counted.specs.CountBounds.{AllSpendAtMost}
@@ -17,6 +19,7 @@ use Rattle.kk_counted.proofs.NarrowCounts.{counts_few}
 use Rattle.kk_counted.proofs.Numbers.{stay_int32}
 use Rattle.kk_counted.proofs.SoundGoing.{never_stuck}
 use Rattle.kk_counted.proofs.SoundRuns.{keeps_sound}
+use Rattle.kk_counted.specs.CountLimits.{greatest_spent}
 use Rattle.rv_cells.specs.Layout.{Layout}
 use Rattle.rv_cells.specs.Fitting.{AreTagged, count_of_fields, FitsControl, IsFit}
 use Rattle.rv_cells.proofs.KindsFit.{control_fits}
@@ -33,8 +36,9 @@ pub always_fits : (positions : PositionTable) (marks : CellMarks) (holds : ℕ �
     (layout : Layout)
     (weight : CountedState → ℕ) (input : List ℕ) (most : ℕ)
     → IsSpent positions setting.program → FitsAlways weight setting input → HasShapeAlways weight setting input
-    → AreMarked marks holds setting.program → AllSpendAtMost setting.program most → most ≤ 65000
-    → ((c : ℕ) → length (field_marks marks c) ≤ 6) → 1 ≤ setting.depth → setting.depth ≤ greatest_depth → setting.cells ≤ greatest_cells
+    → AreMarked marks holds setting.program → AllSpendAtMost setting.program most
+    → most ≤ greatest_spent → ((c : ℕ) → length (field_marks marks c) ≤ greatest_of Fields) → 1 ≤ setting.depth
+    → setting.depth ≤ greatest_depth → setting.cells ≤ greatest_cells
     → ((n : ℕ) → FitsControl layout (counted_after weight setting input n).heap (counted_after weight setting input n).control)
     → (n : ℕ) → IsFit layout (counted_after weight setting input n)
 always_fits positions marks holds setting layout weight input most spent fits shaped marked spends small few deep shallow cells
@@ -49,7 +53,7 @@ always_fits positions marks holds setting layout weight input most spent fits sh
       counts = λ code environment joins here name.
           omega (
             arith,
-            counts_few positions marks holds setting weight input most 6 spent fits marked spends few deep n code environment joins
+            counts_few positions marks holds setting weight input most (greatest_of Fields) spent fits marked spends few deep n code environment joins
                 here
                 name,
             mul-le-mul_right most shallow,
@@ -64,8 +68,9 @@ pub typed_fits : (positions : PositionTable) (marks : CellMarks) (holds : ℕ �
     (layout : Layout)
     (weight : CountedState → ℕ) (input : List ℕ) (most : ℕ)
     → IsSpent positions setting.program → FitsAlways weight setting input → HasShapeAlways weight setting input
-    → AreMarked marks holds setting.program → AllSpendAtMost setting.program most → most ≤ 65000
-    → ((c : ℕ) → length (field_marks marks c) ≤ 6) → 1 ≤ setting.depth → setting.depth ≤ greatest_depth → setting.cells ≤ greatest_cells
+    → AreMarked marks holds setting.program → AllSpendAtMost setting.program most
+    → most ≤ greatest_spent → ((c : ℕ) → length (field_marks marks c) ≤ greatest_of Fields) → 1 ≤ setting.depth
+    → setting.depth ≤ greatest_depth → setting.cells ≤ greatest_cells
     → HasKindsAlways (AreTagged layout) (count_of_fields layout) weight setting input → AllHaveInt32 setting.program.functions
     → All (λ byte. byte < 256) input → (n : ℕ) → IsFit layout (counted_after weight setting input n)
 typed_fits positions marks holds setting layout weight input most spent fits shaped marked spends small few deep shallow cells

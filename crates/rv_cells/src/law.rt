@@ -1,6 +1,8 @@
 ghost use Rattle.std.specs.Prelude.{◌≡◌, ◌<◌, ◌≤◌, ℕ, suc, ◌+◌, ◌%◌, ◌^◌, ◌*◌, Bool, List, [], ◌∷◌, length};
 ghost use Rattle.std.specs.Prelude.{All, Option, Some, None, true, slice_get};
 ghost use Rattle.kk_base.specs.Sizes.{greatest_cells, greatest_depth};
+ghost use Rattle.kk_base.specs.Limits.{greatest_of};
+ghost use Rattle.kk_base.specs.declared.limit.LimitKind.TheVariants.{Fields};
 ghost use Rattle.cell_heap.specs.Pool.{Pool};
 ghost use Rattle.cell_heap.specs.Blocks.{Cells, own, with_block, with_word, request, unused_cells};
 ghost use Rattle.kk_source.specs.State.{Value, Cell};
@@ -32,6 +34,7 @@ ghost use Rattle.rv_cells.specs.Meaning.{setting_on};
 ghost use Rattle.rv_cells.specs.TokenedMeaning.{IsTokenedLowered, TokenedRunsTheSame};
 ghost use Rattle.rv_cells.specs.Steps.{Served, ServedByHeld, PutAside, TakenBack, Dupped, Dropped, IsPaid, Released};
 ghost use Rattle.kk_counted.specs.TokenedCodes.{TokenedFunction, TokenedProgram};
+ghost use Rattle.kk_counted.specs.CountLimits.{greatest_spent};
 ghost use Rattle.rv_cells.specs.Tables.{table_of, layout_in};
 ghost use Rattle.rv_isa.specs.Costs.{functions_length};
 ghost use Rattle.rv_world.specs.Operations.{all_bytes};
@@ -196,8 +199,9 @@ pub fn judged_programs_are_fit()
     ensures { (positions : PositionTable) (marks : CellMarks) (holds : ℕ → ℕ → Bool) (setting : CountedSetting) (layout : Layout)
         (weight : CountedState → ℕ) (input : List ℕ) (most : ℕ)
         → IsSpent positions setting.program → FitsAlways weight setting input → HasShapeAlways weight setting input
-        → AreMarked marks holds setting.program → AllSpendAtMost setting.program most → most ≤ 65000
-        → ((c : ℕ) → length (field_marks marks c) ≤ 6) → 1 ≤ setting.depth → setting.depth ≤ greatest_depth → setting.cells ≤ greatest_cells
+        → AreMarked marks holds setting.program → AllSpendAtMost setting.program most → most ≤ greatest_spent
+        → ((c : ℕ) → length (field_marks marks c) ≤ greatest_of Fields) → 1 ≤ setting.depth → setting.depth ≤ greatest_depth
+        → setting.cells ≤ greatest_cells
         → HasKindsAlways (AreTagged layout) (count_of_fields layout) weight setting input → AllHaveInt32 setting.program.functions
         → All (λ byte. byte < 256) input → (n : ℕ) → IsFit layout (counted_after weight setting input n) }
 {}
