@@ -1,6 +1,6 @@
 -- Where the parts of placed code stand: how many instructions each line is, and the addresses of functions, of labels and of
 -- the runtime's routines.
-use Rattle.std.specs.Prelude.{◌==◌, ◌≡◌, ◌≢◌, ◌⊎◌, ℕ, ◌+◌, ◌*◌, max, List, [], ◌∷◌, Option, Some, None, Bool, false, ◌&&◌, ◌||◌, cond, nat_lt}
+use Rattle.std.specs.Prelude.{◌==◌, ◌≡◌, ◌≢◌, ◌⊎◌, ℕ, ◌+◌, ◌*◌, ◌/◌, max, List, [], ◌∷◌, Option, Some, None, Bool, false, ◌&&◌, ◌||◌, cond, nat_lt}
 use Rattle.rv_isa.specs.declared.asm.Action.{Action}
 use Rattle.rv_isa.specs.declared.asm.Action.TheVariants.{Compute, Label, Jump, Branch, Call, TailCall, Return, Routine, Hold, Unhold}
 use Rattle.rv_isa.specs.declared.placed.Place.{Place}
@@ -16,6 +16,7 @@ use Rattle.rv_place.specs.Instructions.{words_of_operation, words_of_jump, words
 use Rattle.rv_place.specs.declared.reach.Forms.{Forms}
 use Rattle.rv_place.specs.declared.reach.Reach.{Reach}
 use Rattle.rv_place.specs.declared.reach.Reach.TheVariants.{Near, Far, Wide}
+use Rattle.rv_place.specs.declared.sizes.TheConstants.{BRANCH_WORDS, JUMP_WORDS}
 
 -- how many instructions give the stack pointer another frame: a wide one is given in two parts
 abbrev pub words_of_shift : Reach → ℕ
@@ -79,10 +80,10 @@ reach_of limit words = cond (nat_lt words limit) Near Far
 
 -- a near branch leads everywhere within fewer instructions than these, 4 KiB; and a near jump within fewer than those, 1 MiB
 abbrev pub branch_words : ℕ
-branch_words = 1024
+branch_words = BRANCH_WORDS
 
 abbrev pub jump_words : ℕ
-jump_words = 262144
+jump_words = JUMP_WORDS
 
 -- the forms of a function in a text whose jumps lead so far: where its lines are few instructions with near branches, they are near
 abbrev pub forms_of : Reach → List PlacedLine → Forms
@@ -140,9 +141,9 @@ slots_of_functions (function ∷ functions) = max (slots_of_lines function.code)
 abbrev pub frame_size : List PlacedLines → ℕ
 frame_size functions = 4 * slots_of_functions functions + 4
 
--- how many slots a program may have for its frame's size to be told: some more than a frame has words for
+-- how many slots a program may have for its frame's size to be told: as many as a load reaches words, some more than a frame has
 abbrev pub most_frame_slots : ℕ
-most_frame_slots = 1024
+most_frame_slots = 2 * reach_down / 4
 
 -- the most bytes of a frame
 abbrev pub greatest_frame : Reach → ℕ

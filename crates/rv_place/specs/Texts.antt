@@ -44,7 +44,7 @@ most_constant_bytes = 1024 * greatest_of ProgramNodes
 
 -- no part of a text stands above this address, and memory begins below it
 abbrev pub greatest_address : ℕ
-greatest_address = 2147483648
+greatest_address = 2 ^ 31
 
 -- how far behind the memory's begin the stack may begin at most
 abbrev pub greatest_bottom : ℕ

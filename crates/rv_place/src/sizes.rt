@@ -141,7 +141,7 @@ pub fn forms_of(jumps: Reach, items: &[Item]) -> Forms
 }
 
 /// A near branch leads everywhere within fewer instructions than these: a branch reaches 4 KiB.
-const BRANCH_WORDS: u32 = 1024;
+pub const BRANCH_WORDS: u32 = 1024;
 
 /// A near jump leads everywhere within fewer instructions than these: a jump reaches 1 MiB.
 pub const JUMP_WORDS: u32 = 262_144;
