@@ -1,6 +1,7 @@
 -- What a run has come to where it has ended.
 use Rattle.std.proofs.Common.{◌≡◌, ℕ, nat_eq, true, false, Option, Some, refl, arith, subst}
 use Rattle.std.proofs.lemmas.Bool.Decides.{nat_tests}
+use Rattle.kk_base.specs.declared.exits.TheConstants.{HEAP_FULL_EXIT, STACK_FULL_EXIT}
 use Rattle.kk_counted.specs.CountedStates.{CountedControl, running, stopped, stuck, counted_end_at}
 use Rattle.kk_source.specs.Ends.{exit_of}
 use Rattle.kk_source.specs.State.{End, ended, heap_full, stack_full}
@@ -24,11 +25,11 @@ apart n m differs same = let equal : nat_eq n m ≡ true = subst (λ (k : ℕ). 
 -- no two ends have the same exit number
 pub differ : (a b : End) → exit_of a ≡ exit_of b → a ≡ b
 differ ended ended same = refl
-differ ended heap_full same = absurd (apart 0 101 refl same)
-differ ended stack_full same = absurd (apart 0 102 refl same)
-differ heap_full ended same = absurd (apart 101 0 refl same)
+differ ended heap_full same = absurd (apart 0 HEAP_FULL_EXIT refl same)
+differ ended stack_full same = absurd (apart 0 STACK_FULL_EXIT refl same)
+differ heap_full ended same = absurd (apart HEAP_FULL_EXIT 0 refl same)
 differ heap_full heap_full same = refl
-differ heap_full stack_full same = absurd (apart 101 102 refl same)
-differ stack_full ended same = absurd (apart 102 0 refl same)
-differ stack_full heap_full same = absurd (apart 102 101 refl same)
+differ heap_full stack_full same = absurd (apart HEAP_FULL_EXIT STACK_FULL_EXIT refl same)
+differ stack_full ended same = absurd (apart STACK_FULL_EXIT 0 refl same)
+differ stack_full heap_full same = absurd (apart STACK_FULL_EXIT HEAP_FULL_EXIT refl same)
 differ stack_full stack_full same = refl
