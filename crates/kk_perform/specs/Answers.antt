@@ -36,7 +36,7 @@ abbrev pub BeginsFile : ℕ → List ℕ → List ℕ → StoreState → Type 0
 BeginsFile count file bytes store =
     (files : Files) → store.files ≡ Some files → (content : List ℕ) × (files file ≡ Some content) × (bytes ≡ take count content)
 
--- A file's text: no more than its first 65,537 bytes are read, which tell whether there are more than 65,536.
+-- A file's text: no more bytes are read than one more than a text may have, which tells whether there are more.
 abbrev pub HasText : List ℕ → List ℕ → StoreState → Type 0
 HasText file text store = BeginsFile (greatest_of Source + 1) file text store
 
@@ -49,7 +49,7 @@ HasRequestedText (sim image steps) text store = ⊥
 HasRequestedText (eval file cells depth steps) text store = HasText file text store
 HasRequestedText (bench seed size cells depth steps) text store = text ≡ generated seed size
 
--- A file's image: no more than its first 2,147,483,649 bytes are read, which tell whether there are more than 2,147,483,648.
+-- A file's image: no more bytes are read than one more than an image may have, which tells whether there are more.
 abbrev pub HasImage : List ℕ → List ℕ → StoreState → Type 0
 HasImage file image store = BeginsFile (greatest_file + 1) file image store
 
