@@ -17,7 +17,7 @@ use Rattle.kk_core.specs.Kinds.{AreAlike, AllAlike, TestsNode, TestsFrom, MakeOn
 use Rattle.kk_match.specs.Parts.{both_same, IsKind, AreOfOne, AreTypeNumbers, TellTypes}
 use Rattle.kk_match.specs.Graphs.{StateTree, lines_from}
 use Rattle.kk_match.specs.Built.{Names, AreOfKind, InRow}
-use Rattle.kk_match.specs.Decided.{most_tests, IsFormed}
+use Rattle.kk_match.specs.Decided.{most_tests, rows_in_turn, IsFormed}
 use Rattle.kk_match.specs.InTurn.{with_rows}
 use Rattle.kk_match.specs.Turned.{turn_edge, turn_node, turned}
 use Rattle.kk_match.proofs.Decided.{graph_some, graph_stands, in_turn, in_turn_stands}
@@ -106,6 +106,17 @@ sound_asks constructors types ps states nodes last same tell sound count stands 
 
 -- ---- formed decisions
 
+-- rows in turn ask what types tell
+pub turns_ask : (constructors : List ConstructorTree) (types : List ℕ) (ps : List Pattern) (nodes : List NodeTree) → AreTypeNumbers constructors types
+    → TellTypes constructors types → nodes ≡ rows_in_turn types ps → AsksTyped constructors ps nodes
+turns_ask constructors types [] nodes same tell is = subst (AsksTyped constructors []) (sym is) (λ t store v typed of. tt)
+turns_ask constructors types (p ∷ ps) nodes same tell is =
+    let lines = lines_from types 0 (p ∷ ps) in
+    let done = in_turn types p ps in
+    subst (AsksTyped constructors (p ∷ ps)) (sym is)
+    (sound_asks constructors types (p ∷ ps) (states_of_rows lines) (with_rows lines []) (length (with_rows lines []) - 1) same tell done.sound
+    (let some = done.some in omega (arith, some)) (in_turn_stands types p ps))
+
 -- the decisions of rows ask what types tell
 pub formed_asks : (constructors : List ConstructorTree) (types : List ℕ) (ps : List Pattern) (nodes : List NodeTree) (many : ℕ) (by_rows : Bool) → AreTypeNumbers constructors types
     → TellTypes constructors types → IsFormed types ps nodes many by_rows → AsksTyped constructors ps nodes
@@ -116,10 +127,4 @@ formed_asks constructors types ps nodes many false same tell formed =
     subst (AsksTyped constructors ps) (sym formed.3.2)
     (sound_asks constructors types ps graph.states others (length others - 1) same tell (are_sound types graph.states others graph.right) count
     (graph_stands types (most_tests ps) ps others graph))
-formed_asks constructors types [] nodes many true same tell formed = subst (AsksTyped constructors []) (sym formed.2) (λ t store v typed of. tt)
-formed_asks constructors types (p ∷ ps) nodes many true same tell formed =
-    let lines = lines_from types 0 (p ∷ ps) in
-    let done = in_turn types p ps in
-    subst (AsksTyped constructors (p ∷ ps)) (sym formed.2)
-    (sound_asks constructors types (p ∷ ps) (states_of_rows lines) (with_rows lines []) (length (with_rows lines []) - 1) same tell done.sound
-    (let some = done.some in omega (arith, some)) (in_turn_stands types p ps))
+formed_asks constructors types ps nodes many true same tell formed = turns_ask constructors types ps nodes same tell formed.2

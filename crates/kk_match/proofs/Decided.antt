@@ -1,5 +1,5 @@
 -- What turned nodes decide: those of a graph, and those of rows that are tried one after the other.
-use Rattle.std.proofs.Common.{◌≡◌, ℕ, suc, ◌+◌, ◌-◌, ◌<◌, ◌≤◌, Bool, false, Result, Ok, Err, List, [], ◌∷◌, ◌++◌, length, map, refl, sym, ap, ◌∙◌, subst, arith, append_assoc, true}
+use Rattle.std.proofs.Common.{◌≡◌, ℕ, suc, ◌+◌, ◌-◌, ◌<◌, ◌≤◌, Bool, false, Result, Ok, Err, List, [], ◌∷◌, ◌++◌, length, map, refl, sym, ap, ◌∙◌, subst, arith, append_assoc}
 use Rattle.std.specs.Prelude.{count_by, sum_by, IfOk}
 use Rattle.kk_syntax.specs.Patterns.{Pattern}
 use Rattle.kk_syntax.specs.Programs.{ConstructorTree}
@@ -16,7 +16,7 @@ use Rattle.kk_match.specs.InTurn.{with_rows}
 use Rattle.kk_match.specs.Turned.{turn_node, turned}
 use Rattle.kk_match.proofs.After.{AreBelow}
 use Rattle.kk_match.proofs.Edges.{has_few, reached_light, lines_small}
-use Rattle.kk_match.proofs.Exact.{starts_last, has_tests, tests_right, tests_turned, rows_test, reached_below}
+use Rattle.kk_match.proofs.Exact.{starts_last, has_tests, tests_right, tests_turned, reached_below}
 use Rattle.kk_match.proofs.Growth.{reached_at}
 use Rattle.kk_match.proofs.InTurn.{RowsDone, rows_done, states_of_rows, rows_below, AllLight, rows_light, rows_short}
 use Rattle.kk_match.proofs.Looks.{reached_short, lines_short, has_few_looks}
@@ -166,14 +166,6 @@ module _ (types : List ℕ) (nodes : List NodeTree) where
     turn_lean [] some is = absurd (omega (arith, some))
     turn_lean (p ∷ ps) some is =
         subst (λ ns. IsLean (turned last ns) (p ∷ ps)) (sym is) (in_turn_lean types p ps last (count ∙ ap length is))
-
-pub turn_formed : (types : List ℕ) (ps : List Pattern) (nodes : List NodeTree) (last : ℕ) → last ≡ length nodes - 1 → nodes ≡ with_rows (lines_from types 0 ps) [] → HasMoreTests types (lines_from types 0 ps) (most_tests ps)
-    → IsFormed types ps (turned last nodes) (count_by is_test (turned last nodes)) true
-turn_formed types ps nodes last at is more = (
-  more,
-  tests_turned last nodes ∙ (ap (count_by is_test) is ∙ rows_test (lines_from types 0 ps)),
-  ap (λ (n : ℕ). turned n nodes) at ∙ ap (λ (ns : List NodeTree). turned (length ns - 1) ns) is,
-)
 
 pub formed_as : (types : List ℕ) (ps : List Pattern) (nodes found : List NodeTree) (tests : ℕ) (by_rows form : Bool) → IsFormed types ps nodes (count_by is_test nodes) form → found ≡ nodes
     → tests ≡ count_by is_test found → by_rows ≡ form → IsFormed types ps found tests by_rows

@@ -1,6 +1,7 @@
 pub mod After
 pub mod Asking
 pub mod Branching
+pub mod Brief
 pub mod Counted
 pub mod Decided
 pub mod Edges

@@ -296,12 +296,12 @@ targets_few most rows (tests at edges otherwise ∷ nodes) small =
     own None = let same = length-map edges (λ (e : Edge). e.next) in omega (arith, same)
     own (Some j) = let same = length-map edges (λ (e : Edge). e.next) in omega (arith, same)
 
-length_both : (ones others : List NodeTree) → tests_length (ones ++ others) ≡ tests_length ones + tests_length others
+pub length_both : (ones others : List NodeTree) → tests_length (ones ++ others) ≡ tests_length ones + tests_length others
 length_both [] others = omega arith
 length_both (one ∷ ones) others = let rest = length_both ones others in omega (arith, rest)
 
 -- and so they are once they are turned
-turned_length : (last : ℕ) (nodes : List NodeTree) → tests_length (turned last nodes) ≡ tests_length nodes
+pub turned_length : (last : ℕ) (nodes : List NodeTree) → tests_length (turned last nodes) ≡ tests_length nodes
 turned_length last [] = refl
 turned_length last (node ∷ nodes) =
     let rest = turned_length last nodes in
@@ -380,7 +380,7 @@ rows_length (line ∷ lines) =
     let parts = parts_length (length before - 1) line.left (before ++ chooses line.row ∷ []) in
     omega (arith, rest, both, parts)
 
-node_each : (p : Pattern) → 1 ≤ nodes_of_pattern p
+pub node_each : (p : Pattern) → 1 ≤ nodes_of_pattern p
 node_each anything = omega arith
 node_each (variable x) = omega arith
 node_each (exactly n) = omega arith

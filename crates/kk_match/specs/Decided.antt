@@ -1,8 +1,9 @@
 -- Which tests decisions make.
-use Rattle.std.specs.Prelude.{◌≡◌, ◌≤◌, ◌+◌, ◌*◌, ◌-◌, ℕ, Bool, true, false, List, [], length, Option, Some, sum_by, slice_get}
+use Rattle.std.specs.Prelude.{◌≡◌, ◌<◌, ◌≤◌, ◌+◌, ◌*◌, ◌-◌, ℕ, Bool, true, false, List, [], length, Option, Some, sum_by, slice_get}
 use Rattle.kk_syntax.specs.Patterns.{Pattern}
 use Rattle.kk_syntax.specs.Shapes.{is_among, nodes_of_pattern}
 use Rattle.kk_core.specs.declared.decisions.Edge.{Edge}
+use Rattle.kk_core.specs.CaseLengths.{tests_length}
 use Rattle.kk_core.specs.Decisions.{NodeTree, chooses, tests, targets}
 use Rattle.kk_match.specs.Graphs.{weight, lines_from, HasTests, HasMoreTests}
 use Rattle.kk_match.specs.Growing.{IsGraphOf}
@@ -58,3 +59,22 @@ IsFormed types patterns nodes count false =
 IsFormed types patterns nodes count true =
     HasMoreTests types (lines_from types 0 patterns) (most_tests patterns) × (count ≡ weight (lines_from types 0 patterns))
     × (nodes ≡ rows_in_turn types patterns)
+
+-- ---- brief tests
+
+-- The most that brief tests are long, once they are in an image: 56 for each node of the patterns, and 2 for each two of these nodes.
+abbrev pub brief_length : List Pattern → ℕ
+brief_length patterns =
+    56 * sum_by nodes_of_pattern patterns + 2 * sum_by nodes_of_pattern patterns * sum_by nodes_of_pattern patterns
+
+-- the graph of the states has too many tests, or they are not brief
+pub data IsTooLong (types : List ℕ) (patterns : List Pattern) : Type 0 where
+  many_tests : HasMoreTests types (lines_from types 0 patterns) (most_tests patterns) → IsTooLong types patterns
+  long_tests : (graph : List NodeTree) → IsStateGraph types patterns graph → brief_length patterns < tests_length graph → IsTooLong types patterns
+
+-- The nodes are the graph of the states; or that is too long, and the rows are tried one after the other, with a test for each of
+-- their parts.
+abbrev pub IsBrieflyFormed : List ℕ → List Pattern → List NodeTree → ℕ → Bool → Type 0
+IsBrieflyFormed types patterns nodes count false = IsFormed types patterns nodes count false
+IsBrieflyFormed types patterns nodes count true =
+    IsTooLong types patterns × (count ≡ weight (lines_from types 0 patterns)) × (nodes ≡ rows_in_turn types patterns)

@@ -1,10 +1,10 @@
-ghost use Rattle.std.specs.Prelude.{◌≡◌, ◌<◌, ◌≤◌, ◌-◌, List, [], length, map, option_map, count_by, IfOk};
+ghost use Rattle.std.specs.Prelude.{◌≡◌, ◌<◌, ◌≤◌, ◌-◌, true, List, [], length, map, option_map, count_by, IfOk};
 ghost use Rattle.kk_core.specs.CaseLengths.{tests_length};
 ghost use Rattle.kk_core.specs.Cases.{IsLean};
 ghost use Rattle.kk_core.specs.Choosing.{Decides};
 ghost use Rattle.kk_core.specs.Decisions.{node_tree, AreOrderly};
 ghost use Rattle.kk_core.specs.Kinds.{AsksTyped};
-ghost use Rattle.kk_match.specs.Decided.{IsFormed, is_test, most_tests_length};
+ghost use Rattle.kk_match.specs.Decided.{IsFormed, IsBrieflyFormed, is_test, most_tests_length, brief_length, rows_in_turn};
 ghost use Rattle.kk_match.specs.Graphs.{lines_of};
 ghost use Rattle.kk_match.specs.Growing.{IsGraph};
 ghost use Rattle.kk_match.specs.Parts.{types_of, parts_of, AreTypeNumbers, TellTypes};
@@ -15,7 +15,8 @@ ghost use Rattle.kk_syntax.specs.Programs.{ConstructorTree};
 
 use crate::graph::{Given, Graph, number_of, tests_in};
 use crate::in_turn::in_turn;
-use crate::nodes::most_tests;
+use crate::length::tests_length;
+use crate::nodes::{brief_length, most_tests};
 use crate::question::{Question, questions};
 use crate::state::{Line, State};
 use crate::turned::turned;
@@ -58,12 +59,56 @@ pub fn decide(alloc: Global, rows: &Rows<'_>) -> Result<Decisions, NoMemory>
     let state = start(alloc, &questions)?;
     match graph(alloc, rows.constructors, most, state)? {
         Some(nodes) => finished(alloc, nodes, count, false),
-        None => {
-            let state = start(alloc, &questions)?;
-            let nodes = in_turn(alloc, state)?;
-            finished(alloc, nodes, count, true)
-        }
+        None => row_by_row(alloc, rows),
     }
+}
+
+/// Which tests decide a match, where these are to be brief: the graph of its states, if that has few tests that are brief, or
+/// else the tests of one row after the other. All tests together are no longer than 56 for each of the p nodes of the patterns
+/// and 2 * p * p; and all that `decide` says of the rows that are chosen holds.
+pub fn decide_briefly(alloc: Global, rows: &Rows<'_>) -> Result<Decisions, NoMemory>
+    requires { 0 < length rows.now.patterns.items }
+    ensures decides { (constructors : List ConstructorTree) → AreTypeNumbers constructors (types_in rows.now)
+        → IfOk result (λ found. Decides constructors (patterns_in rows.now) (nodes_in found)) }
+    ensures asks { (constructors : List ConstructorTree) → AreTypeNumbers constructors (types_in rows.now)
+        → TellTypes constructors (types_in rows.now)
+        → IfOk result (λ found. AsksTyped constructors (patterns_in rows.now) (nodes_in found)) }
+    ensures formed { IfOk result (λ found.
+        IsBrieflyFormed (types_in rows.now) (patterns_in rows.now) (nodes_in found) found.tests found.by_rows) }
+    ensures lean { IfOk result (λ found. IsLean (nodes_in found) (patterns_in rows.now)) }
+    ensures brief { IfOk result (λ found. tests_length (nodes_in found) ≤ brief_length (patterns_in rows.now)) }
+    ensures tests { IfOk result (λ found. found.tests ≡ count_by is_test (nodes_in found)) }
+    ensures rows { IfOk result (λ found. found.rows ≡ length rows.now.patterns.items) }
+{
+    let found = decide(alloc, rows)?;
+    let length = tests_length(found.nodes())?;
+    let most = brief_length(&rows.patterns)?;
+    if length <= most {
+        Ok(found)
+    } else {
+        row_by_row(alloc, rows)
+    }
+}
+
+// The tests of one row after the other.
+fn row_by_row(alloc: Global, rows: &Rows<'_>) -> Result<Decisions, NoMemory>
+    requires { 0 < length rows.now.patterns.items }
+    ensures nodes { IfOk result (λ found. nodes_in found ≡ rows_in_turn (types_in rows.now) (patterns_in rows.now)) }
+    ensures decides { (constructors : List ConstructorTree) → AreTypeNumbers constructors (types_in rows.now)
+        → IfOk result (λ found. Decides constructors (patterns_in rows.now) (nodes_in found)) }
+    ensures asks { (constructors : List ConstructorTree) → AreTypeNumbers constructors (types_in rows.now)
+        → TellTypes constructors (types_in rows.now)
+        → IfOk result (λ found. AsksTyped constructors (patterns_in rows.now) (nodes_in found)) }
+    ensures lean { IfOk result (λ found. IsLean (nodes_in found) (patterns_in rows.now)) }
+    ensures tests { IfOk result (λ found. found.tests ≡ count_by is_test (nodes_in found)) }
+    ensures rows { IfOk result (λ found. found.rows ≡ length rows.now.patterns.items) }
+    ensures by_rows { IfOk result (λ found. found.by_rows ≡ true) }
+{
+    let count = rows.patterns.len();
+    let questions = questions_of_rows(alloc, rows)?;
+    let state = start(alloc, &questions)?;
+    let nodes = in_turn(alloc, state)?;
+    finished(alloc, nodes, count, true)
 }
 
 // What each row asks.

@@ -4,10 +4,11 @@
 mod deciding;
 mod graph;
 mod in_turn;
+mod length;
 mod nodes;
 mod outcome;
 mod question;
 mod state;
 mod turned;
 
-pub use deciding::{Rows, decide};
+pub use deciding::{Rows, decide, decide_briefly};

@@ -1,7 +1,7 @@
 ghost use Rattle.std.specs.Prelude.{◌≡◌, ◌+◌, ◌*◌, map, sum_by, IfOk};
 ghost use Rattle.kk_syntax.specs.Patterns.{pattern_tree, patterns_of};
 ghost use Rattle.kk_syntax.specs.Shapes.{nodes_of_pattern, nodes_of_patterns};
-ghost use Rattle.kk_match.specs.Decided.{most_tests};
+ghost use Rattle.kk_match.specs.Decided.{most_tests, brief_length};
 
 use kk_base::NoMemory;
 use kk_syntax::Pat;
@@ -10,14 +10,30 @@ use kk_syntax::Pat;
 pub fn most_tests(patterns: &[&Pat]) -> Result<usize, NoMemory>
     ensures { IfOk result (λ most. most ≡ most_tests (map (λ p. pattern_tree p.now) patterns.now)) }
 {
+    let count = nodes_in_all(patterns)?;
+    product(8, count)
+}
+
+/// How long the tests of these patterns are at most where they are brief.
+pub fn brief_length(patterns: &[&Pat]) -> Result<usize, NoMemory>
+    ensures { IfOk result (λ most. most ≡ brief_length (map (λ p. pattern_tree p.now) patterns.now)) }
+{
+    let count = nodes_in_all(patterns)?;
+    let each = product(56, count)?;
+    let twice = product(2, count)?;
+    let pairs = product(twice, count)?;
+    sum(each, pairs)
+}
+
+// The nodes of all patterns.
+fn nodes_in_all(patterns: &[&Pat]) -> Result<usize, NoMemory>
+    ensures { IfOk result (λ count. count ≡ sum_by nodes_of_pattern (map (λ p. pattern_tree p.now) patterns.now)) }
+{
     let mut count = 0;
     for pattern in patterns {
         count = sum(count, nodes_of_pattern(pattern)?)?;
     }
-    match count.checked_mul(8) {
-        Some(most) => Ok(most),
-        None => Err(NoMemory),
-    }
+    Ok(count)
 }
 
 // The nodes of a pattern: 1, and those of its parts.
@@ -45,10 +61,21 @@ fn nodes_of_patterns(patterns: &[Pat]) -> Result<usize, NoMemory>
     Ok(count)
 }
 
-fn sum(one: usize, other: usize) -> Result<usize, NoMemory>
+/// The sum of two numbers, if there is room for it.
+pub fn sum(one: usize, other: usize) -> Result<usize, NoMemory>
     ensures { IfOk result (λ both. both ≡ one + other) }
 {
     match one.checked_add(other) {
+        Some(both) => Ok(both),
+        None => Err(NoMemory),
+    }
+}
+
+/// The product of two numbers, if there is room for it.
+pub fn product(one: usize, other: usize) -> Result<usize, NoMemory>
+    ensures { IfOk result (λ both. both ≡ one * other) }
+{
+    match one.checked_mul(other) {
         Some(both) => Ok(both),
         None => Err(NoMemory),
     }

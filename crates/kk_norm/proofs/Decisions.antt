@@ -9,9 +9,9 @@ use Rattle.kk_core.specs.Choosing.{Decides}
 use Rattle.kk_core.specs.declared.decisions.Decisions.{Decisions}
 use Rattle.kk_core.specs.Decisions.{node_tree, AreOrderly}
 use Rattle.kk_core.specs.Kinds.{AsksTyped}
-use Rattle.kk_match.specs.Decided.{is_test, most_tests_length, IsFormed}
+use Rattle.kk_match.specs.Decided.{is_test, brief_length, IsBrieflyFormed}
 use Rattle.kk_match.specs.Views.{nodes_in}
-use Rattle.kk_match.proofs.Edges.{formed_few}
+use Rattle.kk_match.proofs.Brief.{briefly_few}
 use Rattle.kk_match.specs.Parts.{AreTypeNumbers, TellTypes}
 use Rattle.kk_norm.specs.Deciding.{AreDecisions}
 
@@ -21,21 +21,21 @@ pub are_decisions : {E : Type 0} (constructors : List ConstructorTree) (types : 
     → given ≡ patterns → rows ≡ length given
     → IfOk result (λ found. Decides constructors given (nodes_in found))
     → IfOk result (λ found. AsksTyped constructors given (nodes_in found))
-    → IfOk result (λ found. IsFormed types given (nodes_in found) found.tests found.by_rows)
+    → IfOk result (λ found. IsBrieflyFormed types given (nodes_in found) found.tests found.by_rows)
     → IfOk result (λ found. IsLean (nodes_in found) given)
-    → IfOk result (λ found. tests_length (nodes_in found) ≤ most_tests_length given)
+    → IfOk result (λ found. tests_length (nodes_in found) ≤ brief_length given)
     → IfOk result (λ found. found.tests ≡ count_by is_test (nodes_in found))
     → IfOk result (λ found. found.rows ≡ rows)
     → IfOk result (λ found. AreDecisions constructors patterns (map node_tree found.nodes.items))
-are_decisions constructors types given patterns rows (Ok found) numbers tell same long decides asks formed lean short tests wide =
+are_decisions constructors types given patterns rows (Ok found) numbers tell same long decides asks formed lean brief tests wide =
     subst (λ (ps : List Pattern). AreDecisions constructors ps (map node_tree found.nodes.items)) same
     (record {
       decides = decides;
       asks = asks;
       orderly = subst (AreOrderly (map node_tree found.nodes.items)) (wide ∙ long) found.orderly;
       formed = (types, found.tests, found.by_rows, numbers, tell, formed);
-      few_tests = omega (arith, formed_few types given (nodes_in found) found.tests found.by_rows formed, tests);
-      short = short;
+      few_tests = omega (arith, briefly_few types given (nodes_in found) found.tests found.by_rows formed, tests);
+      brief = brief;
       lean = lean;
     })
-are_decisions constructors types given patterns rows (Err e) numbers tell same long decides asks formed lean short tests wide = decides
+are_decisions constructors types given patterns rows (Err e) numbers tell same long decides asks formed lean brief tests wide = decides

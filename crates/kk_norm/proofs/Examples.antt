@@ -15,7 +15,7 @@ use Rattle.kk_core.specs.Decisions.{NodeTree, chooses, tests, targets, row_chose
 use Rattle.kk_core.specs.Edges.{edges_from}
 use Rattle.kk_core.specs.Looks.{looks_from}
 use Rattle.kk_match.specs.Built.{no_state, one_more}
-use Rattle.kk_match.specs.Decided.{TestsAt, TestOnce, most_tests, IsFormed}
+use Rattle.kk_match.specs.Decided.{TestsAt, TestOnce, most_tests, IsBrieflyFormed}
 use Rattle.kk_match.specs.Graphs.{StateTree, test_of, lines_from, HasTests, IsReached, at_start, by_answer, by_another}
 use Rattle.kk_match.specs.Growing.{IsGraphOf}
 use Rattle.kk_core.specs.declared.decisions.Answer.TheVariants.{Constructor, Number}
@@ -124,7 +124,7 @@ nothing_else types state (by_another {state = earlier} {at = at} n before test) 
     let q : Part = record { at = at; asked = Number n } in
     absurd (no_test q (subst (λ (one : StateTree). test_of one ≡ Some q) (nothing_else types earlier before) test))
 
--- what `IsFormed` says of the decisions, by the start
+-- what `IsBrieflyFormed` says of the decisions, by the start
 abbrev FormedFrom : List ℕ → StateTree → Type 0
 FormedFrom types start =
     HasTests types start 0 × (0 ≤ most_tests (nested ∷ [])) × TestOnce (chooses 0 ∷ [])
@@ -157,7 +157,7 @@ from_alone types = (
   ),
 )
 
-formed : (types : List ℕ) → has_several types 7 ≡ false → IsFormed types (nested ∷ []) (chooses 0 ∷ []) 0 false
+formed : (types : List ℕ) → has_several types 7 ≡ false → IsBrieflyFormed types (nested ∷ []) (chooses 0 ∷ []) 0 false
 formed types single = subst (FormedFrom types) (sym (start_is types single)) (from_alone types)
 
 -- numbers that tell the types of constructors, by which the type of constructor 7 has no other
@@ -174,7 +174,7 @@ are_decisions constructors numbers = record {
   orderly = only_row;
   formed = (numbers.types, 0, false, numbers.are, numbers.tell, formed numbers.types numbers.single);
   few_tests = omega arith;
-  short = omega arith;
+  brief = omega arith;
   lean = record {
     edges = λ cells v steps k. omega (arith, no_edges cells v steps k);
     looks = λ cells v steps k. omega (arith, no_looks cells v steps k);

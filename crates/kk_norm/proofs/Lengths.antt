@@ -13,7 +13,6 @@ use Rattle.kk_core.specs.CaseLengths.{tests_length, cases_length, arms_cases_len
 use Rattle.kk_core.specs.Decisions.{NodeTree}
 use Rattle.kk_core.specs.Sizes.{most_nodes}
 use Rattle.kk_core.specs.Truths.{truth_case}
-use Rattle.kk_match.proofs.Short.{rows_few}
 use Rattle.kk_norm.specs.Deciding.{AreDecisions}
 use Rattle.kk_norm.specs.Names.{Names, name_of, named}
 use Rattle.kk_norm.specs.Normal.{AreWithin, all_nodes}
@@ -79,11 +78,9 @@ rows_nodes no_row = omega arith
 rows_nodes (row (row_parts pattern body) rest) =
     omega (arith, sum_by-cons nodes_of_pattern pattern (patterns_in rest), rows_nodes rest, tree_some body)
 
--- patterns of so many nodes and rows
-few_tests : (p r : ℕ) → r ≤ p → p + r ≤ 480 → 8 * p * (22 + 4 * p + 12 * r) + 2 * (8 * p * (r + 1) + 1) ≤ 38400 * (p + 1)
-few_tests p r rows most =
-    let each : 32 * p + 112 * r ≤ 38000 = omega (arith, rows, most) in
-    omega (arith, mul-le-mul_right p each)
+-- patterns of so many nodes
+few_tests : (p : ℕ) → p ≤ 480 → 56 * p + 2 * p * p ≤ 38400 * (p + 1)
+few_tests p most = let each = mul-le-mul_right p most in omega (arith, each)
 
 match_short : (constructors : List ConstructorTree) (rows : Rows) (decisions : List NodeTree)
     → AreDecisions constructors (patterns_in rows) decisions → nodes_of_rows rows ≤ 480
@@ -93,8 +90,8 @@ match_short constructors rows decisions are few =
     let nodes = rows_nodes rows in
     omega (
       arith,
-      are.short,
-      few_tests (sum_by nodes_of_pattern patterns) (length patterns) (rows_few patterns) (omega (arith, nodes, few)),
+      are.brief,
+      few_tests (sum_by nodes_of_pattern patterns) (omega (arith, nodes, few)),
     )
 
 -- ---- expressions

@@ -13,7 +13,7 @@ use crate::truth::case_by_truth;
 use crate::writer::Writer;
 use kk_base::NoMemory;
 use kk_core::{Arm, Block, Decisions, Last};
-use kk_match::{Rows, decide};
+use kk_match::{Rows, decide_briefly};
 use kk_syntax::{Expr, Ground, Pat, Row, Statement, copied_pattern};
 use std::alloc::Global;
 use std::mem;
@@ -229,7 +229,7 @@ fn decisions(alloc: Global, given: &Ground, rows: &[Row]) -> Result<Decisions, N
     for row in rows {
         patterns.push(&row.pattern)?;
     }
-    decide(
+    decide_briefly(
         alloc,
         &Rows {
             constructors: &given.constructors,

@@ -1,4 +1,4 @@
-use Rattle.std.proofs.Common.{◌≡◌, ◌<◌, ◌-◌, suc, [], length, map, option_map, false, sym, ap, ◌∙◌, subst, arith, true}
+use Rattle.std.proofs.Common.{◌≡◌, ◌-◌, suc, length, map, option_map, false, sym, ap, ◌∙◌, subst, arith}
 use Rattle.std.proofs.lemmas.List.{length-map}
 use Rattle.kk_syntax.specs.Patterns.{pattern_tree}
 use Rattle.kk_core.specs.Cases.{IsLean}
@@ -7,12 +7,12 @@ use Rattle.kk_core.specs.Decisions.{node_tree, AreOrderly}
 use Rattle.kk_match.specs.Decided.{most_tests}
 use Rattle.kk_match.specs.Graphs.{lines_of, lines_from, HasMoreTests}
 use Rattle.kk_match.specs.Growing.{IsGraph, IsGraphOf}
-use Rattle.kk_match.specs.InTurn.{with_rows}
 use Rattle.kk_match.specs.Parts.{types_of}
 use Rattle.kk_match.specs.Turned.{turned}
 use Rattle.kk_match.specs.Views.{part_of, state_tree}
 use Rattle.kk_match.proofs.Asking.{formed_asks}
-use Rattle.kk_match.proofs.Decided.{also, also_all, lines_same, graph_some, graph_orderly, graph_decides, graph_formed, turn_some, turn_orderly, turn_decides, turn_formed, formed_as, graph_lean, turn_lean}
+use Rattle.kk_match.proofs.Brief.{turns_formed}
+use Rattle.kk_match.proofs.Decided.{also, also_all, lines_same, graph_some, graph_orderly, graph_decides, graph_formed, formed_as, graph_lean}
 use Rattle.kk_match.proofs.Short.{formed_short}
 use Rattle.kk_match.proofs.deciding.decide.Goals as goal
 
@@ -89,62 +89,6 @@ returns-in-Some-clause-formed c =
     also_all c.finished.result c.finished.ensures.nodes c.finished.ensures.tests c.finished.ensures.by_rows
     (λ found is tests by. formed_as types ps (turned last nodes) (map node_tree found.nodes.items) found.tests found.by_rows false (graph_formed types c.in_ok-most.most ps nodes last graph count most) is tests by)
 
-pub finished-requires-in-None : goal.finished-requires-in-None
-finished-requires-in-None c =
-    let rows = c.args.rows.now in
-    let types = types_of rows.constructors.now in
-    let ps = map (λ p. pattern_tree p.now) rows.patterns.items in
-    let nodes = map node_tree c.in_ok-nodes-in-None.nodes.items in
-    let start = c.in_ok-state-in-None.ensures ∙ (ap (λ qs. lines_of 0 (map (λ q. map part_of q.items) qs)) c.deref-in-None.ensures.value ∙ (ap (lines_of 0) c.in_ok-questions.ensures ∙ lines_same types (λ p. pattern_tree p.now) 0 rows.patterns.items)) in
-    let is : nodes ≡ with_rows (lines_from types 0 ps) [] = c.in_ok-nodes-in-None.ensures ∙ ap (λ s. with_rows s []) start in
-    let wide : length ps ≡ length rows.patterns.items = length-map rows.patterns.items (λ p. pattern_tree p.now) in
-    let given = c.requires in
-    let there : 0 < length ps = omega (arith, wide, given) in
-    let long : length nodes ≡ length c.in_ok-nodes-in-None.nodes.items = length-map c.in_ok-nodes-in-None.nodes.items node_tree in
-    let some = turn_some types nodes ps there is in
-    let count : suc (length c.in_ok-nodes-in-None.nodes.items - 1) ≡ length nodes = omega (arith, long, some) in
-    let counted = c.len-count.ensures in
-    let stored = rows.patterns.ok.0 in
-    let rows_are : length ps ≡ c.len-count.result = omega (arith, wide, counted, stored) in
-    subst (AreOrderly (turned (length c.in_ok-nodes-in-None.nodes.items - 1) nodes)) rows_are
-    (turn_orderly types nodes (length c.in_ok-nodes-in-None.nodes.items - 1) count ps there is)
-
-pub returns-clause-decides : goal.returns-clause-decides
-returns-clause-decides c = λ constructors numbers.
-    let rows = c.args.rows.now in
-    let types = types_of rows.constructors.now in
-    let ps = map (λ p. pattern_tree p.now) rows.patterns.items in
-    let nodes = map node_tree c.in_ok-nodes-in-None.nodes.items in
-    let start = c.in_ok-state-in-None.ensures ∙ (ap (λ qs. lines_of 0 (map (λ q. map part_of q.items) qs)) c.deref-in-None.ensures.value ∙ (ap (lines_of 0) c.in_ok-questions.ensures ∙ lines_same types (λ p. pattern_tree p.now) 0 rows.patterns.items)) in
-    let is : nodes ≡ with_rows (lines_from types 0 ps) [] = c.in_ok-nodes-in-None.ensures ∙ ap (λ s. with_rows s []) start in
-    let wide : length ps ≡ length rows.patterns.items = length-map rows.patterns.items (λ p. pattern_tree p.now) in
-    let given = c.requires in
-    let there : 0 < length ps = omega (arith, wide, given) in
-    let long : length nodes ≡ length c.in_ok-nodes-in-None.nodes.items = length-map c.in_ok-nodes-in-None.nodes.items node_tree in
-    let some = turn_some types nodes ps there is in
-    let count : suc (length c.in_ok-nodes-in-None.nodes.items - 1) ≡ length nodes = omega (arith, long, some) in
-    also c.finished-in-None.result c.finished-in-None.ensures.nodes
-    (λ found same. subst (Decides constructors ps) (sym same)
-    (turn_decides types nodes (length c.in_ok-nodes-in-None.nodes.items - 1) count ps there is constructors numbers))
-
-pub returns-clause-lean : goal.returns-clause-lean
-returns-clause-lean c =
-    let rows = c.args.rows.now in
-    let types = types_of rows.constructors.now in
-    let ps = map (λ p. pattern_tree p.now) rows.patterns.items in
-    let nodes = map node_tree c.in_ok-nodes-in-None.nodes.items in
-    let start = c.in_ok-state-in-None.ensures ∙ (ap (λ qs. lines_of 0 (map (λ q. map part_of q.items) qs)) c.deref-in-None.ensures.value ∙ (ap (lines_of 0) c.in_ok-questions.ensures ∙ lines_same types (λ p. pattern_tree p.now) 0 rows.patterns.items)) in
-    let is : nodes ≡ with_rows (lines_from types 0 ps) [] = c.in_ok-nodes-in-None.ensures ∙ ap (λ s. with_rows s []) start in
-    let wide : length ps ≡ length rows.patterns.items = length-map rows.patterns.items (λ p. pattern_tree p.now) in
-    let given = c.requires in
-    let there : 0 < length ps = omega (arith, wide, given) in
-    let long : length nodes ≡ length c.in_ok-nodes-in-None.nodes.items = length-map c.in_ok-nodes-in-None.nodes.items node_tree in
-    let some = turn_some types nodes ps there is in
-    let count : suc (length c.in_ok-nodes-in-None.nodes.items - 1) ≡ length nodes = omega (arith, long, some) in
-    also c.finished-in-None.result c.finished-in-None.ensures.nodes
-    (λ found same. subst (λ ns. IsLean ns ps) (sym same)
-    (turn_lean types nodes (length c.in_ok-nodes-in-None.nodes.items - 1) count ps there is))
-
 pub returns-clause-formed : goal.returns-clause-formed
 returns-clause-formed c =
     let rows = c.args.rows.now in
@@ -156,22 +100,12 @@ returns-clause-formed c =
     subst (HasMoreTests types (lines_from types 0 ps)) most
     (subst (λ s. HasMoreTests types s c.in_ok-most.most) start
     (subst (λ o. IsGraph types c.in_ok-most.most (state_tree c.in_ok-state.state) (option_map (λ ns. ns.items) o)) c.in-None.is c.in_ok-nodes.ensures)) in
-    let nodes = map node_tree c.in_ok-nodes-in-None.nodes.items in
-    let last = length c.in_ok-nodes-in-None.nodes.items - 1 in
-    let again = c.in_ok-state-in-None.ensures ∙ (ap (λ qs. lines_of 0 (map (λ q. map part_of q.items) qs)) c.deref-in-None.ensures.value ∙ (ap (lines_of 0) c.in_ok-questions.ensures ∙ lines_same types (λ p. pattern_tree p.now) 0 rows.patterns.items)) in
-    let is : nodes ≡ with_rows (lines_from types 0 ps) [] = c.in_ok-nodes-in-None.ensures ∙ ap (λ s. with_rows s []) again in
-    also_all c.finished-in-None.result c.finished-in-None.ensures.nodes c.finished-in-None.ensures.tests c.finished-in-None.ensures.by_rows
-    (λ found same tests by. formed_as types ps (turned last nodes) (map node_tree found.nodes.items) found.tests found.by_rows true (turn_formed types ps nodes last (ap (λ n. n - 1) (sym (length-map c.in_ok-nodes-in-None.nodes.items node_tree))) is more) same tests by)
+    also_all c.row_by_row.result c.row_by_row.ensures.nodes c.row_by_row.ensures.tests c.row_by_row.ensures.by_rows
+    (λ found is tests by. turns_formed types ps (map node_tree found.nodes.items) found.tests found.by_rows more is tests by)
 
 pub returns-in-Some-clause-asks : goal.returns-in-Some-clause-asks
 returns-in-Some-clause-asks c = λ constructors numbers tell.
     also c.finished.result (returns-in-Some-clause-formed c)
-    (λ found formed. formed_asks constructors (types_of c.args.rows.now.constructors.now) (map (λ p. pattern_tree p.now) c.args.rows.now.patterns.items)
-    (map node_tree found.nodes.items) found.tests found.by_rows numbers tell formed)
-
-pub returns-clause-asks : goal.returns-clause-asks
-returns-clause-asks c = λ constructors numbers tell.
-    also c.finished-in-None.result (returns-clause-formed c)
     (λ found formed. formed_asks constructors (types_of c.args.rows.now.constructors.now) (map (λ p. pattern_tree p.now) c.args.rows.now.patterns.items)
     (map node_tree found.nodes.items) found.tests found.by_rows numbers tell formed)
 
@@ -183,6 +117,6 @@ returns-in-Some-clause-short c =
 
 pub returns-clause-short : goal.returns-clause-short
 returns-clause-short c =
-    also c.finished-in-None.result (returns-clause-formed c)
+    also c.row_by_row.result (returns-clause-formed c)
     (λ found formed. formed_short (types_of c.args.rows.now.constructors.now) (map (λ p. pattern_tree p.now) c.args.rows.now.patterns.items)
     (map node_tree found.nodes.items) found.tests found.by_rows formed)

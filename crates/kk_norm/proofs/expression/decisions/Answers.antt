@@ -21,8 +21,8 @@ returns c =
     subst (λ cs. TellTypes (ground_program c.args.given.now).constructors (types_of cs)) (sym c.deref.ensures.value)
     (numbers_tell c.args.given.now) in
     are_decisions (ground_program c.args.given.now).constructors (types_of c.deref.result.now) (map (λ p. pattern_tree p.now) c.loop-row.patterns.items)
-    (patterns_in (rows_of (map row_tree c.args.rows.now))) (length c.loop-row.patterns.items) c.decide.result numbers tell all
+    (patterns_in (rows_of (map row_tree c.args.rows.now))) (length c.loop-row.patterns.items) c.decide_briefly.result numbers tell all
     (sym (length-map c.loop-row.patterns.items (λ p. pattern_tree p.now)))
-    (c.decide.ensures.decides (ground_program c.args.given.now).constructors numbers)
-    (c.decide.ensures.asks (ground_program c.args.given.now).constructors numbers tell)
-    c.decide.ensures.formed c.decide.ensures.lean c.decide.ensures.short c.decide.ensures.tests c.decide.ensures.rows
+    (c.decide_briefly.ensures.decides (ground_program c.args.given.now).constructors numbers)
+    (c.decide_briefly.ensures.asks (ground_program c.args.given.now).constructors numbers tell)
+    c.decide_briefly.ensures.formed c.decide_briefly.ensures.lean c.decide_briefly.ensures.brief c.decide_briefly.ensures.tests c.decide_briefly.ensures.rows

@@ -2,7 +2,7 @@ use Rattle.std.proofs.Common.{◌≡◌, ◌+◌, map, drop}
 use Rattle.std.specs.Prelude.{sum_by}
 use Rattle.kk_syntax.specs.Patterns.{pattern_tree}
 use Rattle.kk_syntax.specs.Shapes.{nodes_of_pattern}
-use Rattle.kk_match.proofs.nodes.most_tests.Given as goal
+use Rattle.kk_match.proofs.nodes.nodes_in_all.Given as goal
 
 abbrev pub invariant-loop-pattern : goal.invariant-loop-pattern
 invariant-loop-pattern l =
