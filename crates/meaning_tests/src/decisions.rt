@@ -1,6 +1,6 @@
 //! How many tests decide a match, and whether its rows are tried one after the other.
 
-use kk_match::{Rows, decide};
+use kk_match::{Rows, decide, decide_briefly};
 use kk_syntax::{GroundConstructor, Pat};
 use std::alloc::{AllocError, Global};
 use std::test::Fail;
@@ -8,13 +8,48 @@ use std::test::Fail;
 /// The numbers of the types of `False`, `True` and `Made`, which is the only one of its type.
 const TYPES: [u32; 3] = [0, 0, 1];
 
-/// Rows on `Made`: for each field `T` or `F`, a digit, or `_`; the number of tests; and whether the rows are tried one after
-/// the other. In the last match 1156 states test, more than 8 times its 132 pattern nodes.
-const MATCHES: [(&[&str], u32, bool); 3] = [
-    (&["TT", "FT", "_F"], 3, false),
-    (&["0", "_", "1"], 1, false),
-    (
-        &[
+/// A match on `Made`, and what decides it.
+struct Match {
+    /// The rows: for each field `T` or `F`, a digit, or `_`.
+    rows: &'static [&'static str],
+    /// The number of tests, and whether the rows are tried one after the other.
+    decided: (u32, bool),
+    /// The same where the tests are to be brief.
+    briefly: (u32, bool),
+}
+
+/// In the third match 966 states test, no more than 8 times its 121 pattern nodes, but their tests are 40,286 instructions long:
+/// more than 56 * 121 + 2 * 121 * 121 = 36,058. In the last one 1156 states test, more than 8 times its 132 pattern nodes.
+const MATCHES: [Match; 4] = [
+    Match {
+        rows: &["TT", "FT", "_F"],
+        decided: (3, false),
+        briefly: (3, false),
+    },
+    Match {
+        rows: &["0", "_", "1"],
+        decided: (1, false),
+        briefly: (1, false),
+    },
+    Match {
+        rows: &[
+            "10_011__11",
+            "00_0_1_001",
+            "____01__11",
+            "__10__01_0",
+            "_____10100",
+            "1_____0101",
+            "_____00101",
+            "____1_01_0",
+            "_1______01",
+            "___1__0_01",
+            "__0_____01",
+        ],
+        decided: (966, false),
+        briefly: (52, true),
+    },
+    Match {
+        rows: &[
             "10_011__11",
             "00_0_1_001",
             "____01__11",
@@ -28,9 +63,9 @@ const MATCHES: [(&[&str], u32, bool); 3] = [
             "___1__0_01",
             "__0_____01",
         ],
-        57,
-        true,
-    ),
+        decided: (57, true),
+        briefly: (57, true),
+    },
 ];
 
 fn constructors(alloc: Global) -> Result<Vec<GroundConstructor>, AllocError> {
@@ -60,7 +95,7 @@ fn pattern(alloc: Global, row: &str) -> Result<Pat, AllocError> {
     Ok(Pat::Constructor(2, parts))
 }
 
-fn decided(alloc: Global, rows: &[&str]) -> Result<(u32, bool), Fail> {
+fn decided(alloc: Global, rows: &[&str], briefly: bool) -> Result<(u32, bool), Fail> {
     let constructors = constructors(alloc)?;
     let mut owned = Vec::new(alloc);
     for row in rows {
@@ -73,23 +108,24 @@ fn decided(alloc: Global, rows: &[&str]) -> Result<(u32, bool), Fail> {
     if patterns.is_empty() {
         return Ok((0, false));
     }
-    let decisions = decide(
-        alloc,
-        &Rows {
-            constructors: &constructors,
-            patterns,
-        },
-    )?;
+    let rows = Rows {
+        constructors: &constructors,
+        patterns,
+    };
+    let decisions = if briefly {
+        decide_briefly(alloc, &rows)?
+    } else {
+        decide(alloc, &rows)?
+    };
     Ok((decisions.tests(), decisions.by_rows()))
 }
 
 #[test]
 fn decisions(rt: HostRuntime) -> Result<(), Fail> {
     let alloc = rt.alloc();
-    for (rows, tests, by_rows) in &MATCHES {
-        let (count, in_turn) = decided(alloc, rows)?;
-        assert_eq!(rt; count, *tests);
-        assert_eq!(rt; in_turn, *by_rows);
+    for one in &MATCHES {
+        assert_eq!(rt; decided(alloc, one.rows, false)?, one.decided);
+        assert_eq!(rt; decided(alloc, one.rows, true)?, one.briefly);
     }
     Ok(())
 }
