@@ -47,7 +47,6 @@ use Rattle.rv_loops.specs.LinesReached.{rotated_line_of}
 use Rattle.rv_loops.specs.Relation.{Spot, IsAtSame, IsInTurn, StandsFor as LoopsStandsFor, Related as LoopsRelated}
 use Rattle.rv_loops.specs.Relation.{IsNotStuck as RotatedNotStuck}
 use Rattle.rv_loops.specs.Rotation.{AreRotated}
-use Rattle.rv_loops.specs.Sizes.{line_count}
 use Rattle.rv_loops.proofs.Arriving.{has_there, lines_apart as rotated_apart, comes as rotated_comes}
 use Rattle.rv_loops.proofs.Places.{callee_both as rotated_callee}
 use Rattle.rv_loops.proofs.Reaching.{follows as rotated_follows}
@@ -64,17 +63,16 @@ use Rattle.rv_place.proofs.BootLoaded.{text-fetched}
 use Rattle.rv_place.proofs.BootSizes.{bytes_most}
 use Rattle.rv_place.specs.declared.words.Words.{Words}
 use Rattle.kk_back.specs.Assembled.{IsPlaceable, IsAsmImage}
-use Rattle.kk_back.specs.declared.assembled.TheConstants.{MOST_LINES}
-use Rattle.kk_back.proofs.Looping.{slots_below, all_plain, as_many_rotated, short_rotated, opposes, computes_alone}
+use Rattle.kk_back.proofs.Looping.{slots_below, all_plain, as_many_rotated, opposes, computes_alone}
 use Rattle.kk_back.proofs.Placeable.{frame_most, as_many}
 use Rattle.kk_back.proofs.Plain.{placed_is_plain}
 
 -- ---- a runtime and a program that can be placed
 
--- A program with places whose loops are rotated, if it is small.
+-- a program with places whose loops are rotated
 pub record IsLooped (placed looped : Placed) : Type 0 where
   pub rotated : AreRotated 0 (placed_functions placed) (placed_functions looped)
-  pub small : (placed_functions looped ≡ placed_functions placed) ⊎ (line_count (placed_functions placed) ≤ MOST_LINES)
+  pub short : placed_functions_length (placed_functions looped) ≤ placed_functions_length (placed_functions placed)
   pub constants : looped.constants ≡ placed.constants
 
 -- the constants are those of the assembler code
@@ -103,8 +101,7 @@ placeable cells depth asm placed looped runtime made valid plain loops runtime_i
     let few : length functions ≤ most_functions = made.few in
     let fits : functions_length functions ≤ most_text_length = made.fits.instructions in
     let shorter : placed_functions_length placed_are ≤ functions_length functions = plain.short in
-    let short : placed_functions_length looped_are ≤ most_text_length
-    = short_rotated placed_are looped_are loops.rotated loops.small (omega (arith, fits, shorter)) in
+    let no_longer : placed_functions_length looped_are ≤ placed_functions_length placed_are = loops.short in
     let bytes : length (all_bytes (placed_constants looped)) ≡ length (all_bytes (asm_constants asm))
     = ap (λ (texts : List (List ℕ)). length (all_bytes texts)) (constants_kept asm placed looped valid loops) in
     let most : length (all_bytes (asm_constants asm)) ≤ most_constant_bytes = made.fits.bytes in
@@ -115,7 +112,7 @@ placeable cells depth asm placed looped runtime made valid plain loops runtime_i
       bottom = omega (arith, bottom_is, sizes.few_cells, below_most (frame_size looped_are));
       frames = frame;
       few_functions = omega (arith, same, rotated, few);
-      short = short;
+      short = omega (arith, fits, shorter, no_longer);
       few_bytes = omega (arith, bytes, most);
     }
 

@@ -10,7 +10,6 @@ use Rattle.rv_isa.specs.declared.asm.Condition.{Condition}
 use Rattle.rv_isa.specs.declared.asm.Operation.{Operation}
 use Rattle.rv_isa.specs.declared.asm.Operation.TheVariants.{Register, Immediate, Shift, Li, Mv, La, Lw, Sw, Dup, Free}
 use Rattle.rv_isa.specs.declared.placed.Listed.{Listed}
-use Rattle.rv_isa.specs.Costs.{placed_functions_length}
 use Rattle.rv_isa.specs.Frames.{found}
 use Rattle.rv_isa.specs.Opposites.{opposite}
 use Rattle.rv_isa.specs.PlacedCode.{PlacedLine, does, moves, PlacedLines}
@@ -19,16 +18,12 @@ use Rattle.rv_isa.specs.WellFormed.{most_values}
 use Rattle.cell_heap.specs.Pool.{Pool}
 use Rattle.rv_loops.specs.Rotation.{HasOpposites, ComputesAlone, is_straight_action, Loop, is_call_of, test, mark, goes_on, leaves}
 use Rattle.rv_loops.specs.Rotation.{rotated_line, rotated_lines, IsRotated, AreRotated}
-use Rattle.rv_loops.specs.Sizes.{line_count, most_growth}
-use Rattle.rv_loops.proofs.Growing.{functions_most}
 use Rattle.rv_loops.proofs.Places.{found_both, found_again}
 use Rattle.rv_place.specs.Running.{HasLabel, IsPlain, ArePlain, AllPlain}
-use Rattle.rv_place.specs.Texts.{most_text_length}
 use Rattle.rv_place.proofs.RunningExecuting.{opposite_compares}
 use Rattle.rv_regs.specs.Shape.{IsBelow, HasSlotsBelow, AllSlotsBelow}
 use Rattle.rv_world.specs.Operations.{Constants, computed}
 use Rattle.rv_world.specs.World.{World, computed_in, primitives}
-use Rattle.kk_back.specs.declared.assembled.TheConstants.{MOST_LINES}
 
 -- ---- what holds of all lines
 
@@ -148,12 +143,6 @@ as_many_rotated f [] [] all = refl
 as_many_rotated f [] (new ∷ news) all = absurd all
 as_many_rotated f (old ∷ olds) [] all = absurd all
 as_many_rotated f (old ∷ olds) (new ∷ news) all = ap suc (as_many_rotated (suc f) olds news all.1)
-
--- what a small program may grow to can be placed
-pub short_rotated : (q q' : List PlacedLines) → AreRotated 0 q q' → ((q' ≡ q) ⊎ (line_count q ≤ MOST_LINES))
-    → placed_functions_length q ≤ most_text_length → placed_functions_length q' ≤ most_text_length
-short_rotated q q' all (inl same) short = omega (arith, short, ap (λ (p : List PlacedLines). placed_functions_length p) same)
-short_rotated q q' all (inr small) short = omega (arith, small, functions_most 0 q q' all)
 
 -- ---- what the machines leave open
 

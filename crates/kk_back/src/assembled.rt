@@ -17,9 +17,6 @@ use rv_place::{
 use rv_regs::assign;
 use std::alloc::Global;
 
-/// The most lines of a program whose loops are rotated: so many can be placed, however much they grow.
-pub const MOST_LINES: usize = 14_380_470;
-
 /// The image of assembler code, with a heap of `cells` cells, of whose calls at most `depth` are open at a time. The loaded image
 /// does what the code does, and touches no free cell outside of the runtime's words. Each line of the code that is always
 /// an instruction and no test has an address of its own behind these, to which the program counter comes, and goes on there, where
@@ -30,7 +27,7 @@ pub fn assembled(alloc: Global, asm: &Asm, cells: u32, depth: u32) -> Result<Ima
     ensures { IfOk result (λ image. IsImageOfAsm (asm_functions asm.now) (asm_constants asm.now) cells depth image.entry image.parts) }
 {
     let placed = assign(alloc, asm)?;
-    let program = rotated(alloc, placed, MOST_LINES)?;
+    let program = rotated(alloc, placed)?;
     let runtime = text(alloc, cells, depth, frame_bytes(&program))?;
     let words = place(alloc, &runtime, &program)?;
     let bytes = words.bytes(alloc)?;

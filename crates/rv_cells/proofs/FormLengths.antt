@@ -331,7 +331,7 @@ call_length base x f arguments lines few is =
     let copied = copies_length base arguments in
     let handed = temporaries_length base arguments in omega (arith, whole, apart, copied, handed, few)
 
-pub tail_length : (base f : ℕ) (arguments : List ℕ) → length arguments ≤ 8 → code_length (tail_lines base f arguments) ≤ 50
+pub tail_length : (base f : ℕ) (arguments : List ℕ) → length arguments ≤ 8 → code_length (tail_lines base f arguments) ≤ 59
 tail_length base f arguments few =
     let apart = lines_append (copies base arguments) (acts (TailCall f) (temporaries base arguments) ∷ []) in
     let copied = copies_length base arguments in

@@ -67,10 +67,20 @@ line_moves line = argument_moves line.action (length line.args) + result_moves l
 
 -- ---- how long code is
 
+-- What may be written in place of a tail call where a function calls itself: three lines of two instructions each, a branch and a
+-- jump.
+abbrev pub tail_call_length : ℕ
+tail_call_length = 11
+
+-- the most instructions that are written for an action
+abbrev pub action_length : Action → ℕ
+action_length (TailCall f) = tail_call_length
+action_length action = action_instructions action
+
 -- The most instructions that a line is, with its moves, that a code is, and that all functions are. Those of a function store its
 -- parameters first.
 abbrev pub line_length : Line → ℕ
-line_length line = line_moves line * move_instructions + action_instructions line.action
+line_length line = line_moves line * move_instructions + action_length line.action
 
 abbrev pub code_length : List Line → ℕ
 code_length [] = 0
@@ -82,7 +92,7 @@ functions_length (function ∷ functions) = length function.params * move_instru
 
 -- the same of code with places
 abbrev pub placed_line_length : PlacedLine → ℕ
-placed_line_length (does alive action args into) = action_instructions action
+placed_line_length (does alive action args into) = action_length action
 placed_line_length (moves alive value way) = move_instructions
 
 abbrev pub placed_code_length : List PlacedLine → ℕ

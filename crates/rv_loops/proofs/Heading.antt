@@ -1,14 +1,14 @@
 -- Code that begins with a head, and the rotated code.
-use Rattle.std.proofs.Common.{◌≡◌, inl, ℕ, suc, ◌+◌, List, [], ◌∷◌, ◌++◌, None, length, map, drop, refl, sym, ap, ◌∙◌}
+use Rattle.std.proofs.Common.{◌≡◌, ℕ, ◌+◌, List, [], ◌∷◌, ◌++◌, None, length, map, drop, refl, sym, ap, ◌∙◌}
 use Rattle.std.proofs.Math.Seq.{drop-append-add}
 use Rattle.std.proofs.lemmas.List.{drop-map, length-map}
 use Rattle.rv_isa.specs.declared.placed.Item.{Item}
 use Rattle.rv_isa.specs.Frames.{found}
-use Rattle.rv_isa.specs.PlacedCode.{PlacedLine, PlacedLines, placed_line_of}
+use Rattle.rv_isa.specs.PlacedCode.{PlacedLine, placed_line_of}
 use Rattle.rv_isa.specs.PlacedMachine.{is_label_line}
 use Rattle.rv_loops.specs.declared.head.Head.{Head}
 use Rattle.rv_loops.specs.declared.head.TheConstants.{AGAIN}
-use Rattle.rv_loops.specs.Rotation.{test, code_of, rotated_code, IsRotated, AreRotated}
+use Rattle.rv_loops.specs.Rotation.{test, code_of, rotated_code, IsRotated}
 use Rattle.rv_loops.specs.Heads.{loop_of, Begins}
 
 -- what stands behind a head is what its code has behind so many lines
@@ -39,8 +39,3 @@ rotates head number count code new begins count_is fresh new_is =
       compares = begins.compares;
       fresh = fresh;
     }
-
--- code may stay as it is
-pub all_same : (f : ℕ) (q : List PlacedLines) → AreRotated f q q
-all_same f [] = tt
-all_same f (function ∷ q) = (inl refl, all_same (suc f) q)

@@ -1,5 +1,4 @@
 pub mod Rotation
 pub mod Relation
 pub mod Heads
-pub mod Sizes
 pub mod LinesReached

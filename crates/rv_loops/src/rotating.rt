@@ -1,10 +1,10 @@
 // The loops of a program, rotated.
 
-ghost use Rattle.std.specs.Prelude.{◌≡◌, ◌++◌, ◌⊎◌, ◌≤◌, [], IfOk, OnOk, IsTrue, drop, length, map, None};
+ghost use Rattle.std.specs.Prelude.{◌≡◌, ◌++◌, ◌⊎◌, ◌≤◌, [], IfOk, OnOk, drop, length, map, None};
+ghost use Rattle.rv_isa.specs.Costs.{placed_functions_length};
 ghost use Rattle.rv_isa.specs.PlacedCode.{does, placed_line_of, placed_lines_of, placed_functions};
 ghost use Rattle.rv_loops.specs.Rotation.{mark, leaves, goes_on, rotated_line, rotated_code, IsRotated, AreRotated};
 ghost use Rattle.rv_loops.specs.Heads.{loop_of};
-ghost use Rattle.rv_loops.specs.Sizes.{line_count};
 
 use crate::copying::{add_copies, copy_of};
 use crate::head::{AGAIN, Head, has_label, is_call_of};
@@ -120,33 +120,15 @@ fn rotated_functions(
     Ok(new)
 }
 
-/// Whether functions have at most so many lines.
-fn are_small(functions: &[PlacedFunction], most: usize) -> bool
-    ensures { IsTrue result → line_count (map placed_lines_of functions.now) ≤ most }
-{
-    let mut left = most;
-    for function in functions {
-        let lines = function.code.len();
-        if left < lines {
-            return false;
-        }
-        left -= lines;
-    }
-    true
-}
-
-/// The program with its loops rotated, if it has at most so many lines; else it stays as it is.
-pub fn rotated(alloc: Global, program: Placed, most: usize) -> Result<Placed, NoMemory>
+/// The program with its loops rotated. It is no longer than before, by lengths that count what may stand in place of a tail call.
+pub fn rotated(alloc: Global, program: Placed) -> Result<Placed, NoMemory>
     ensures functions { IfOk result (λ new. AreRotated 0 (placed_functions program) (placed_functions new)) }
-    ensures small { IfOk result (λ new. (placed_functions new ≡ placed_functions program)
-        ⊎ (line_count (placed_functions program) ≤ most)) }
+    ensures short { IfOk result (λ new. placed_functions_length (placed_functions new)
+        ≤ placed_functions_length (placed_functions program)) }
     ensures natives { IfOk result (λ new. new.natives ≡ program.natives) }
     ensures constants { IfOk result (λ new. new.constants ≡ program.constants) }
     ensures memory { IfOk result (λ new. new.memory ≡ program.memory) }
 {
-    if !are_small(&program.functions, most) {
-        return Ok(program);
-    }
     let Placed {
         natives,
         functions,

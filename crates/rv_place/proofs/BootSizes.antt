@@ -7,7 +7,7 @@ use Rattle.elf_image.specs.Program.{text_start, memory_start}
 use Rattle.rv_isa.specs.declared.asm.Action.{Action}
 use Rattle.rv_isa.specs.declared.asm.Action.TheVariants.{Compute, Label, Jump, Branch, Call, TailCall, Return, Routine, Hold, Unhold}
 use Rattle.rv_isa.specs.declared.placed.Placed.{Placed}
-use Rattle.rv_isa.specs.Costs.{action_instructions, placed_line_length, placed_code_length, placed_functions_length}
+use Rattle.rv_isa.specs.Costs.{action_length, placed_line_length, placed_code_length, placed_functions_length}
 use Rattle.rv_isa.specs.Sizes.{wide_frame}
 use Rattle.rv_isa.specs.PlacedCode.{PlacedLine, does, moves, PlacedLines, placed_functions, placed_constants}
 use Rattle.rv_world.specs.Operations.{all_bytes}
@@ -23,13 +23,13 @@ use Rattle.rv_place.specs.Bytes.{IsTextOf}
 
 -- ---- how many instructions code is
 
-action_most : (forms : Forms) (action : Action) → words_of_action forms action ≤ action_instructions action
+action_most : (forms : Forms) (action : Action) → words_of_action forms action ≤ action_length action
 action_most forms (Compute operation) = (operation_weighs operation).1
 action_most forms (Label l) = omega arith
 action_most forms (Jump l) = jump_most forms.jumps
 action_most forms (Branch condition l) = branch_most forms.jumps forms.branches
 action_most forms (Call f) = omega (arith, jump_most forms.jumps)
-action_most forms (TailCall f) = jump_most forms.jumps
+action_most forms (TailCall f) = omega (arith, jump_most forms.jumps)
 action_most forms Return = omega (arith, shift_most forms.jumps)
 action_most forms (Routine routine) = jump_most forms.jumps
 action_most forms Hold = omega arith
@@ -41,7 +41,7 @@ none_or false words most few = few
 
 line_most : (forms : Forms) (line : PlacedLine) → words_of_line forms line ≤ placed_line_length line
 line_most forms (does alive action args into) =
-    none_or (is_silent action args into) (words_of_action forms action) (action_instructions action) (action_most forms action)
+    none_or (is_silent action args into) (words_of_action forms action) (action_length action) (action_most forms action)
 line_most forms (moves alive value way) = omega arith
 
 lines_most : (forms : Forms) (lines : List PlacedLine) → words_of_lines forms lines ≤ placed_code_length lines

@@ -1,7 +1,7 @@
 // How many instructions code is, how many bytes constants, and how large frames are.
 
 ghost use Rattle.std.specs.Prelude.{◌≡◌, ◌+◌, ◌*◌, ◌≤◌, length, map, max};
-ghost use Rattle.rv_isa.specs.Costs.{operation_instructions, action_instructions, placed_line_length, placed_code_length, placed_functions_length};
+ghost use Rattle.rv_isa.specs.Costs.{operation_instructions, action_length, placed_line_length, placed_code_length, placed_functions_length};
 ghost use Rattle.rv_isa.specs.PlacedCode.{placed_line_of, placed_lines_of, placed_functions, from_of, to_of};
 ghost use Rattle.rv_world.specs.Operations.{all_bytes};
 ghost use Rattle.cell_runtime.specs.Lines.{words_of};
@@ -35,7 +35,7 @@ fn words_of_operation(operation: Operation) -> u32
 /// How many instructions an action is.
 fn words_of_action(forms: Forms, action: Action) -> u32
     ensures words { result ≡ words_of_action forms action }
-    ensures few { result ≤ action_instructions action }
+    ensures few { result ≤ action_length action }
 {
     let jump = forms.jumps.words_of_jump();
     match action {

@@ -5,7 +5,7 @@ ghost use Rattle.rv_isa.specs.declared.placed.Listed.{Listed};
 ghost use Rattle.rv_isa.specs.declared.placed.Operand.{Operand};
 ghost use Rattle.rv_isa.specs.AsmCode.{line_of, lines_of};
 ghost use Rattle.rv_isa.specs.PlacedCode.{placed_line_of, placed_lines_of, from_of, to_of};
-ghost use Rattle.rv_isa.specs.Costs.{operation_instructions, move_instructions, action_instructions, result_moves, line_length, code_length, placed_line_length, placed_code_length};
+ghost use Rattle.rv_isa.specs.Costs.{operation_instructions, move_instructions, action_length, result_moves, line_length, code_length, placed_line_length, placed_code_length};
 ghost use Rattle.rv_isa.specs.WellFormed.{most_values};
 ghost use Rattle.rv_regs.specs.Relation.{stores_behind, FunctionFewMoves};
 ghost use Rattle.rv_regs.specs.Shape.{IsBelow, IsResultBelow, HasSlotsBelow, AllSlotsBelow, IsModest};
@@ -141,7 +141,7 @@ fn length_of_operation(operation: Operation) -> u32
 }
 
 fn length_of_action(action: Action) -> u32
-    ensures { result ≡ action_instructions action }
+    ensures { result ≡ action_length action }
 {
     match action {
         Action::Compute(operation) => length_of_operation(operation),
@@ -149,7 +149,7 @@ fn length_of_action(action: Action) -> u32
         Action::Jump(_) => 2,
         Action::Branch(..) => 3,
         Action::Call(_) => 7,
-        Action::TailCall(_) => 2,
+        Action::TailCall(_) => 11,
         Action::Return => 4,
         Action::Routine(_) => 2,
         Action::Hold => 6,

@@ -28,7 +28,7 @@ text-requires-clause-frame c =
     = frames_small c.args.asm.now c.in_ok-placed.placed c.in_ok-program.program c.in_ok-placed.ensures.shape
     (record {
       rotated = c.in_ok-program.ensures.functions;
-      small = c.in_ok-program.ensures.small;
+      short = c.in_ok-program.ensures.short;
       constants = c.in_ok-program.ensures.constants;
     }) in
     let is : c.frame_bytes.result ≡ frame_size (placed_functions c.in_ok-program.program) = c.frame_bytes.ensures in
@@ -41,7 +41,7 @@ place-requires c = record {
       c.requires.placeable c.in_ok-placed.ensures.valid c.in_ok-placed.ensures.shape
       (record {
         rotated = c.in_ok-program.ensures.functions;
-        small = c.in_ok-program.ensures.small;
+        short = c.in_ok-program.ensures.short;
         constants = c.in_ok-program.ensures.constants;
       })
       (subst (λ (frame : ℕ). IsText c.args.cells c.args.depth frame c.in_ok-runtime.runtime) c.frame_bytes.ensures c.in_ok-runtime.ensures) c.requires.sizes;
@@ -54,7 +54,7 @@ program-requires-clause-text_fits c =
     c.in_ok-placed.ensures.shape
     (record {
       rotated = c.in_ok-program.ensures.functions;
-      small = c.in_ok-program.ensures.small;
+      short = c.in_ok-program.ensures.short;
       constants = c.in_ok-program.ensures.constants;
     }) c.frame_bytes.ensures c.in_ok-runtime.ensures c.in_ok-words.ensures c.in_ok-bytes.ensures)).text_fits
 
@@ -65,7 +65,7 @@ program-requires-clause-memory_fits c =
     c.in_ok-placed.ensures.shape
     (record {
       rotated = c.in_ok-program.ensures.functions;
-      small = c.in_ok-program.ensures.small;
+      short = c.in_ok-program.ensures.short;
       constants = c.in_ok-program.ensures.constants;
     }) c.frame_bytes.ensures c.in_ok-runtime.ensures c.in_ok-words.ensures c.in_ok-bytes.ensures)).memory_fits
 
@@ -77,7 +77,7 @@ returns c main there =
     c.in_ok-placed.ensures.valid c.in_ok-placed.ensures.shape
     (record {
       rotated = c.in_ok-program.ensures.functions;
-      small = c.in_ok-program.ensures.small;
+      short = c.in_ok-program.ensures.short;
       constants = c.in_ok-program.ensures.constants;
     }) c.frame_bytes.ensures c.in_ok-runtime.ensures c.in_ok-words.ensures c.in_ok-bytes.ensures
     c.placed_text_agrees.ensures c.placed_text_ends_with_its_cells.ensures c.placed_text_touches_no_free_cell.ensures
