@@ -29,7 +29,8 @@ routine_instructions m _ _ held shared = 0
 
 -- A far jump is two instructions, and a branch to a far label one over a jump. A call has its callee's entry: it compares the
 -- newest frame with the end of the cells, takes a frame and saves the return address. A return loads it and gives the frame back; a
--- large frame is taken and given back in two parts. A token is loaded from its slot, and put on the held chain or taken off. An action
+-- large frame is taken and given back in two parts. Where one of two functions takes no frame, a tail call from one to the other takes
+-- or gives back that of the other one. A token is loaded from its slot, and put on the held chain or taken off. An action
 -- is as many instructions where it is written.
 abbrev pub action_instructions : Action → ℕ
 action_instructions (Compute operation) = operation_instructions operation
@@ -37,7 +38,7 @@ action_instructions (Label l) = 0
 action_instructions (Jump l) = 2
 action_instructions (Branch condition l) = 3
 action_instructions (Call f) = 7
-action_instructions (TailCall f) = 2
+action_instructions (TailCall f) = 3
 action_instructions Return = 4
 action_instructions (Routine routine) = 2
 action_instructions Hold = 6

@@ -1,5 +1,5 @@
 -- Actions, lines and functions as instructions.
-use Rattle.std.proofs.Common.{◌≡◌, ℕ, ◌+◌, ◌*◌, ◌^◌, ◌<◌, ◌≤◌, max, List, [], ◌∷◌, Option, Some, refl, sym, ap, ◌∙◌, subst, arith}
+use Rattle.std.proofs.Common.{◌≡◌, ℕ, ◌+◌, ◌*◌, ◌^◌, ◌<◌, ◌≤◌, max, List, [], ◌∷◌, Option, Some, Bool, true, false, cond, refl, sym, ap, ◌∙◌, subst, arith}
 use Rattle.std.specs.List.{slice_get}
 use Rattle.std.specs.Ordering.{nat_cmp}
 use Rattle.std.specs.BTreeMap.{get}
@@ -25,8 +25,8 @@ use Rattle.rv_isa.specs.Standing.{Code}
 use Rattle.rv_isa.proofs.Same.{same_register}
 use Rattle.rv_place.specs.Registers.{s3}
 use Rattle.rv_place.specs.Instructions.{words_of_jump, JumpsTo, CallsTo, BranchesOn, HoldsToken, UnholdsToken, words_of_operation}
-use Rattle.rv_place.specs.Addresses.{branch_words, slot_offset, words_of_shift, slots_of_place, slots_of_operands, words_of_action, words_of_line, words_of_lines, forms_of, words_to_frame, entry_words, entries_from, words_of_function, words_of_functions}
-use Rattle.rv_place.specs.Lines.{Map, IsFromPointer, IsOffsetOf, OnToken, IsSymbolAt, frame_register, EntersAt, LinesAt, FunctionsAt, BranchesTo}
+use Rattle.rv_place.specs.Addresses.{branch_words, slot_offset, words_of_shift, slots_of_place, slots_of_operands, words_of_action, words_of_line, words_of_lines, forms_of, takes_frame, words_to_frame, entry_words, skipped_words, entries_from, words_of_function, words_of_functions}
+use Rattle.rv_place.specs.Lines.{Map, IsFromPointer, IsOffsetOf, OnToken, IsSymbolAt, frame_register, BeginsAt, LinesAt, FunctionsAt, BranchesTo}
 use Rattle.rv_place.specs.declared.reach.Forms.{Forms}
 use Rattle.rv_place.specs.declared.reach.Reach.{Reach}
 use Rattle.rv_place.specs.declared.reach.Reach.TheVariants.{Near, Far}
@@ -45,6 +45,13 @@ branches_to forms code at condition [] target branches = tt
 branches_to forms code at condition (a ∷ []) target branches = branches
 branches_to forms code at condition (a ∷ b ∷ []) target branches = branches
 branches_to forms code at condition (a ∷ b ∷ more ∷ rest) target branches = tt
+
+-- a tail call leaves out no more than the entry
+skipped_most : (jumps : Reach) (own callee : Bool) → skipped_words jumps own callee ≤ entry_words jumps
+skipped_most jumps true true = omega arith
+skipped_most jumps true false = omega arith
+skipped_most jumps false true = omega arith
+skipped_most jumps false false = omega arith
 
 -- the slot of a token is within a frame
 token_slot : (args : List Operand) (k : ℕ) → only_slot args ≡ Some k → k + 1 ≤ slots_of_operands args
@@ -125,25 +132,29 @@ module _ (chart : Chart) (labels : Labels) (from : ℕ) (args : List Operand) (i
         emitted)
 
     pub on_tail_call : {f word : ℕ} → action ≡ TailCall f
-        → ((entry : ℕ) → slice_get chart.entries.items f ≡ Some entry → entry + 4 * entry_words chart.jumps < 2 ^ 32 → word ≡ entry + 4 * entry_words chart.jumps)
+        → ((entry : ℕ) (takes : Bool) → slice_get chart.entries.items f ≡ Some entry → slice_get chart.takes.items f ≡ Some takes
+        → entry + 4 * skipped_words chart.jumps labels.forms.frame takes < 2 ^ 32 → word ≡ entry + 4 * skipped_words chart.jumps labels.forms.frame takes)
         → Grew (words_of_jump jumps) (λ code at. at ≡ from → JumpReaches jumps at word → JumpsTo jumps code at word) old new → Acted old new action
     on_tail_call {f} {word} is word_is emitted =
         subst (Acted old new) (sym is)
         (grew_so refl
-        (λ code at here is_at map charts start whole has inside entry there.
+        (λ code at here is_at map charts start whole has inside entry takes there taking.
         let place = charts.entries_in f entry there in
-        let below : entry + 4 * entry_words map.jumps < 2 ^ 32 = omega (arith, place.high, charts.below) in
-        let same : word ≡ entry + 4 * entry_words map.jumps =
-        subst (λ (j : Reach). entry + 4 * entry_words j < 2 ^ 32 → word ≡ entry + 4 * entry_words j) charts.jumps
-        (word_is entry (subst (λ entries. slice_get entries f ≡ Some entry) (sym charts.entries) there)) below in
-        jumps_to code at word (entry + 4 * entry_words map.jumps) is_at here same
-        (text_reaches charts inside (entry + 4 * entry_words map.jumps) (omega (arith, place.word)) (omega (arith, place.low)) place.high))
+        let frame = labels.forms.frame in
+        let few = skipped_most map.jumps frame takes in
+        let below : entry + 4 * skipped_words map.jumps frame takes < 2 ^ 32 = omega (arith, place.high, charts.below, few) in
+        let same : word ≡ entry + 4 * skipped_words map.jumps frame takes =
+        subst (λ (j : Reach). entry + 4 * skipped_words j frame takes < 2 ^ 32 → word ≡ entry + 4 * skipped_words j frame takes) charts.jumps
+        (word_is entry takes (subst (λ entries. slice_get entries f ≡ Some entry) (sym charts.entries) there)
+        (subst (λ ts. slice_get ts f ≡ Some takes) (sym charts.takes) taking)) below in
+        jumps_to code at word (entry + 4 * skipped_words map.jumps frame takes) is_at here same
+        (text_reaches charts inside (entry + 4 * skipped_words map.jumps frame takes) (omega (arith, place.word)) (omega (arith, place.low)) (omega (arith, place.high, few))))
         emitted)
 
-    pub on_return : action ≡ Return → labels.forms.jumps ≡ chart.jumps → Grew (2 + words_of_shift chart.jumps) (ReturnBy chart) old new → Acted old new action
+    pub on_return : action ≡ Return → labels.forms.jumps ≡ chart.jumps → Grew (cond labels.forms.frame (2 + words_of_shift chart.jumps) 1) (ReturnBy chart labels.forms.frame) old new → Acted old new action
     on_return is same emitted =
         subst (Acted old new) (sym is)
-        (grew_so (ap (λ (j : Reach). 2 + words_of_shift j) (sym same)) (λ code at here is_at map charts start whole has inside. here map charts) emitted)
+        (grew_so (ap (λ (j : Reach). cond labels.forms.frame (2 + words_of_shift j) 1) (sym same)) (λ code at here is_at map charts start whole has inside. here map charts) emitted)
 
     pub on_routine : {of : routine.Routine} {word : ℕ} → action ≡ Routine of
         → ((runtime : ℕ) (labels : List (Symbol × ℕ)) → AreSymbols runtime labels chart.symbols → IsAddressOf runtime labels (symbol.Routine of) word)
@@ -192,6 +203,20 @@ entry_branch {chart} {map} charts code at target from is inside {a} {b} a_is b_i
     (subst (λ (r : Register). BranchesOn chart.jumps Far code test Equal r s3 chart.symbols.stack_full) (same_register a (frame_register chart.jumps) a_is)
     (subst (λ (r : Register). BranchesOn chart.jumps Far code test Equal a r chart.symbols.stack_full) (same_register b s3 b_is) there)))
 
+-- the jump of an entry that takes no frame, to the same stop
+pub entry_jump : {chart : Chart} {map : Map} → Charts chart map → (code : Code) (at target from : ℕ) → at ≡ from → IsInText map at (entry_words map.jumps)
+    → IsSymbolAt map symbol.StackFull target
+    → (at + 4 ≡ from + 4 → JumpReaches chart.jumps (at + 4) chart.symbols.stack_full → JumpsTo chart.jumps code (at + 4) chart.symbols.stack_full)
+    → JumpsTo map.jumps code (at + 4) target
+entry_jump {chart} {map} charts code at target from is inside (before, behind, target_is) here =
+    let same : chart.symbols.stack_full ≡ target = charts.symbols.stack_full before behind ∙ sym target_is in
+    let high = charts.symbols_in symbol.StackFull before behind in
+    let reaches : JumpReaches chart.jumps (at + 4) target =
+    jump_reaches charts chart.jumps charts.jumps (at + 4) target (omega (arith, inside.word)) (omega (arith, target_is, charts.first_word)) (omega (arith, inside.low)) (omega (arith, inside.high))
+    (omega (arith, target_is)) (omega (arith, target_is, high)) in
+    subst (λ (j : Reach). JumpsTo j code (at + 4) target) charts.jumps
+    (subst (λ (w : ℕ). JumpsTo chart.jumps code (at + 4) w) same (here (ap (λ p. p + 4) is) (subst (JumpReaches chart.jumps (at + 4)) (sym same) reaches)))
+
 -- ---- lines and functions, one behind the other
 
 module _ (chart : Chart) {old new : List Instr} where
@@ -236,9 +261,9 @@ module _ (chart : Chart) {old between new : List Instr} where
 
   pub entry_then : (labels : Labels) (entry : ℕ) (function : PlacedLines) (lines : List PlacedLine) → lines ≡ function.code → labels.forms ≡ forms_of chart.jumps function.code
       → HasLabels labels (entry + 4 * entry_words chart.jumps) function.code
-      → Grew (entry_words chart.jumps) (EntryBy chart entry) old between → Grew (words_of_lines labels.forms lines) (LinesBy chart labels (entry + 4 * entry_words chart.jumps) lines) between new
+      → (frame : Bool) → frame ≡ takes_frame chart.jumps function.code → Grew (entry_words chart.jumps) (EntryBy chart entry frame) old between → Grew (words_of_lines labels.forms lines) (LinesBy chart labels (entry + 4 * entry_words chart.jumps) lines) between new
       → Grew (words_of_function chart.jumps function) (FunctionBy chart entry function) old new
-  entry_then labels entry function lines same forms_is has first behind =
+  entry_then labels entry function lines same forms_is has frame frame_is first behind =
       let size : words_of_lines labels.forms function.code ≡ words_of_lines (forms_of chart.jumps function.code) function.code = ap (λ (f : Forms). words_of_lines f function.code) forms_is in
       let start : ℕ = entry + 4 * entry_words chart.jumps in
       grew_so (ap (λ n. entry_words chart.jumps + n) size)
@@ -251,7 +276,8 @@ module _ (chart : Chart) {old between new : List Instr} where
       (subst (λ (a : ℕ). IsInFunction map labels.forms start function.code (a + 4 * entry_words chart.jumps) (words_of_lines labels.forms function.code)) (sym is)
       (whole_function entry function.code labels.forms chart.jumps charts.jumps forms_is sized)) in
       record {
-        entry = subst (EntersAt map code) is (both.0 is map charts (subst (λ (j : Reach). IsInText map at (entry_words j)) charts.jumps (subst (λ (a : ℕ). IsInText map a (entry_words chart.jumps)) (sym is) text)));
+        entry = subst (λ (j : Reach). BeginsAt (takes_frame j function.code) map code entry) charts.jumps (subst (λ b. BeginsAt b map code entry) frame_is
+            (subst (BeginsAt frame map code) is (both.0 is map charts (subst (λ (j : Reach). IsInText map at (entry_words j)) charts.jumps (subst (λ (a : ℕ). IsInText map a (entry_words chart.jumps)) (sym is) text)))));
         lines = lines_behind map code entry function.code labels.forms chart.jumps charts.jumps forms_is
             (subst (λ (a : ℕ). LinesAt map labels.forms code start function.code (a + 4 * entry_words chart.jumps) function.code) is there);
       })

@@ -30,7 +30,7 @@ use Rattle.rv_place.specs.LineAddresses.{line_address}
 use Rattle.rv_place.specs.Lines.{Map}
 use Rattle.rv_place.specs.Texts.{pool_in, constants_of, map_of}
 use Rattle.rv_place.specs.Images.{first_processor, parts_of, code_in, IsPlacedImage}
-use Rattle.rv_place.specs.Running.{most_lines, IsIn, FramesAt, links_of, Running, HasCells, StandsFor, NeverStuck, Related, Passing}
+use Rattle.rv_place.specs.Running.{most_lines, IsIn, StackAt, links_of, Running, HasCells, StandsFor, NeverStuck, Related, Passing}
 use Rattle.rv_place.proofs.LineRanges.{words_split, address_of, line_alone, line_behind, line_within}
 use Rattle.rv_place.proofs.BootAgreements.{silent_instructions}
 use Rattle.rv_place.proofs.BootGround.{stop_address}
@@ -74,7 +74,7 @@ module _ (map : Map) (pool : Pool) (functions : List PlacedLines) (depth stop : 
     running_address : (t : PlacedState World) (s : Processor) → Running map pool functions depth stop code parts t s
         → PlacedIsAt {H = World} {W = Ending} functions f j shared (go t) → s.pc ≡ line_address map functions f j
     running_address t s running (function, (function_is, ((frame, (older, (frames_are, behind))), shared_is))) =
-        let frames = subst (FramesAt map code (most_lines functions) stop _ s.memory s.pc running.base) frames_are running.frames in
+        let frames = subst (StackAt map code (most_lines functions) stop _ s.registers s.memory s.pc running.base) frames_are running.frames in
         frame_address functions f j function frames.0 function_is behind.function behind.whole behind.left
 
     -- where the machine is at a line, what stands for it goes on at the address of the line, and memory has the cells

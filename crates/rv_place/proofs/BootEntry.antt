@@ -1,5 +1,5 @@
 -- From the start of the loaded image to the begin of main's lines.
-use Rattle.std.proofs.Common.{◌≡◌, ◌≢◌, ◌≤◌, ◌<◌, inr, ℕ, zero, suc, ◌+◌, ◌*◌, ◌%◌, List, [], ◌∷◌, All, Some, true, refl, ap, sym, subst, ◌∙◌, arith}
+use Rattle.std.proofs.Common.{◌≡◌, ◌≢◌, ◌≤◌, ◌<◌, inr, ℕ, zero, suc, ◌+◌, ◌*◌, ◌%◌, List, [], ◌∷◌, All, Some, Bool, true, false, cond, refl, ap, sym, subst, ◌∙◌, arith}
 use Rattle.std.proofs.Math.Nat.{suc-mul, zero-mul}
 use Rattle.std.specs.List.{slice_get}
 use Rattle.kk_base.specs.Memory.{Part}
@@ -18,16 +18,19 @@ use Rattle.cell_heap.proofs.Frames.{SameInside, SameInside-store}
 use Rattle.cell_heap.proofs.Blocks.{outside-holds}
 use Rattle.rv_world.specs.World.{World, first_world}
 use Rattle.rv_world.specs.Operations.{all_bytes}
-use Rattle.rv_place.specs.Addresses.{words_of_shift, words_to_frame, entry_words, frame_bias}
-use Rattle.rv_place.specs.Lines.{Map, FunctionAt}
+use Rattle.rv_place.specs.Addresses.{takes_frame, words_of_shift, words_to_frame, entry_words, frame_bias}
+use Rattle.rv_place.specs.Lines.{Map, EntersAt, PassesAt, BeginsAt, FunctionAt}
+use Rattle.rv_place.specs.declared.reach.Reach.{Reach}
 use Rattle.rv_place.specs.Grounds.{stack_end, constant_bytes, Ground, Rests}
-use Rattle.rv_place.specs.Running.{AllPlain, most_lines, FramesAt, Running}
+use Rattle.rv_place.specs.Running.{AllPlain, most_lines, IsIn, FramesAt, way_back, StackAt, Running}
 use Rattle.rv_place.proofs.RunningInside.{Walks, walks_done}
 use Rattle.rv_place.proofs.RunningFree.{behind_misses}
-use Rattle.rv_place.proofs.RunningRows.{Shifts, entry_takes}
-use Rattle.rv_place.proofs.RunningFrames.{frames_pushed}
-use Rattle.rv_place.proofs.RunningLinks.{roots_done}
-use Rattle.rv_place.proofs.RunningLines.{plain_found, few_found, entered_in}
+use Rattle.rv_place.proofs.RunningExecuting.{Goes}
+use Rattle.rv_place.proofs.RunningRows.{Shifts, bare_sp, entry_takes, bare_passes}
+use Rattle.rv_place.proofs.RunningFrames.{frames_pushed, runs_as}
+use Rattle.rv_place.proofs.RunningLinks.{roots_done, cells_done}
+use Rattle.rv_place.proofs.RunningLines.{bare_near, plain_found, few_found, entered_in, shift_most}
+use Rattle.rv_place.proofs.Shifting.{to_frame_most}
 
 frames_word : (depth frame : ℕ) → frame % 4 ≡ 0 → depth * frame % 4 ≡ 0
 frames_word zero frame word = rw (zero-mul frame) refl
@@ -36,6 +39,15 @@ frames_word (suc depth) frame word = let rest = frames_word depth frame word in 
 pub first_frame : (depth frame : ℕ) → 1 ≤ depth → frame ≤ depth * frame
 first_frame zero frame some = absurd (omega arith)
 first_frame (suc depth) frame some = rw (suc-mul depth frame) (omega arith)
+
+-- how many instructions lead from an entry to the lines, where a frame is left
+abbrev pub begin_steps : Reach → Bool → ℕ
+begin_steps jumps true = words_to_frame jumps + 1 + words_of_shift jumps + 1
+begin_steps jumps false = 1
+
+pub few_steps : (jumps : Reach) (own : Bool) → begin_steps jumps own ≤ 5
+few_steps jumps true = omega (arith, shift_most jumps, to_frame_most jumps)
+few_steps jumps false = omega arith
 
 -- the first state of a function without parameters, with what is left of the input
 abbrev pub first_state : PlacedLines → Pool → List ℕ → PlacedState World
@@ -71,42 +83,96 @@ module _ {map : Map} {pool : Pool} {functions : List PlacedLines} {depth buffer 
   allowed : can_store parts base 4 ≡ true
   allowed = ground.stores base above (omega (arith, base_is, ground.some_frame)) base_word
 
-  takes : Shifts pool.cells code (words_to_frame map.jumps + 1 + words_of_shift map.jumps + 1) (5 ∷ 2 ∷ []) (with_number base 4 stop s.memory) (base + frame_bias map.jumps) (entry + 4 * entry_words map.jumps) s
-  takes =
-      let full = ground.stack_full in
-      let more : stack_end map depth ≢ map.bottom = λ e. omega (arith, e, base_is, above, ground.some_frame) in
-      entry_takes pool.cells ground.below before.rests.stands map entry before.pc_is main_at.entry full.0 full.1 (stack_end map depth) before.base_is ground.in_range
-      (before.cells.memory.end ∙ ground.cells_below) base stop (sym base_is) before.way_is more base_word (rw before.rests.parts_are allowed)
-      (behind_misses before.cells base (omega (arith, above, ground.cells_below)))
+  -- the stack has room for main's frame
+  more : stack_end map depth ≢ map.bottom
+  more = λ e. omega (arith, e, base_is, above, ground.some_frame)
 
-  constants_stay : bytes_at takes.after.memory map.constants.first (constant_bytes map) ≡ all_bytes map.constants.texts
-  constants_stay =
-      ap (λ memory. bytes_at memory map.constants.first (constant_bytes map)) takes.done.memory_is
-      ∙ bytes_at-with_number_apart base 4 stop s.memory map.constants.first (constant_bytes map) (ground.constants_kept base 4 allowed (omega arith))
-      ∙ before.rests.constants
+  entered : IsIn map code (most_lines functions) (entry + 4 * entry_words map.jumps) (placed_entered 0 main)
+  entered = entered_in (most_lines functions) 0 entry main before.rests.stands ground.below entry_is main_at (plain_found functions plain 0 main first) (few_found functions 0 main first)
 
-  frames_stand : FramesAt map code (most_lines functions) stop (stack_end map depth) (with_number base 4 stop s.memory) (entry + 4 * entry_words map.jumps) base (placed_entered 0 main ∷ [])
-  frames_stand =
-      frames_pushed map code (most_lines functions) stop (stack_end map depth) ground.some_frame s.memory base stop (entry + 4 * entry_words map.jumps) (placed_entered 0 main) [] ground.stop_below
-      (entered_in (most_lines functions) 0 entry main before.rests.stands ground.below entry_is main_at (plain_found functions plain 0 main first) (few_found functions 0 main first))
-      (λ k w e. cc) refl (refl, base_is)
+  -- where main takes a frame
+  module _ (own_is : takes_frame map.jumps main.code ≡ true) (enters : EntersAt map code entry) where
+    takes : Shifts pool.cells code (words_to_frame map.jumps + 1 + words_of_shift map.jumps + 1) (5 ∷ 2 ∷ []) (with_number base 4 stop s.memory) (base + frame_bias map.jumps) (entry + 4 * entry_words map.jumps) s
+    takes =
+        let full = ground.stack_full in
+        entry_takes pool.cells ground.below before.rests.stands map entry before.pc_is enters full.0 full.1 (stack_end map depth) before.base_is ground.in_range
+        (before.cells.memory.end ∙ ground.cells_below) base stop (sym base_is) before.way_is more base_word (rw before.rests.parts_are allowed)
+        (behind_misses before.cells base (omega (arith, above, ground.cells_below)))
 
-  pub entry-begins : Begins map pool functions depth stop code parts main input (words_to_frame map.jumps + 1 + words_of_shift map.jumps + 1) s
-  entry-begins = record {
-    after = takes.after;
-    walks = walks_done takes.done;
-    told = takes.done.trace_is;
-    running = record {
-      rests = record { stands = takes.done.stands; parts_are = takes.done.parts_are ∙ before.rests.parts_are; constants = constants_stay };
-      trace = takes.done.trace_is ∙ before.trace_is;
-      left = takes.done.left_is ∙ before.left_is;
-      bytes = subst (All (λ byte. byte < 256)) (sym (takes.done.left_is ∙ before.left_is)) input_bytes;
-      room = ground.some_depth;
-      base = base;
-      base_is = takes.base_is;
-      frames = rw (takes.done.memory_is, takes.done.pc_is) frames_stand;
-      registers = λ x word e. cc;
-      one = takes.done.kept one_register ((λ e. cc), ((λ e. cc), tt)) ∙ before.one;
-      cells = outside-holds before.cells (roots_done takes.done refl) (subst (λ m. SameInside pool s.memory m) (sym takes.done.memory_is) (SameInside-store pool s.memory base stop (inr (omega (arith, above, ground.cells_below))))) (record { same = λ slot some. absurd (some refl) });
-    };
-  }
+    constants_stay : bytes_at takes.after.memory map.constants.first (constant_bytes map) ≡ all_bytes map.constants.texts
+    constants_stay =
+        ap (λ memory. bytes_at memory map.constants.first (constant_bytes map)) takes.done.memory_is
+        ∙ bytes_at-with_number_apart base 4 stop s.memory map.constants.first (constant_bytes map) (ground.constants_kept base 4 allowed (omega arith))
+        ∙ before.rests.constants
+
+    frames_stand : FramesAt map code (most_lines functions) stop (stack_end map depth) (with_number base 4 stop s.memory) (entry + 4 * entry_words map.jumps) base (placed_entered 0 main ∷ [])
+    frames_stand =
+        frames_pushed map code (most_lines functions) stop (stack_end map depth) ground.some_frame s.memory base stop (entry + 4 * entry_words map.jumps) (placed_entered 0 main) [] ground.stop_below entered
+        (λ k w e. cc) refl own_is (refl, base_is)
+
+    taking_begins : Begins map pool functions depth stop code parts main input (words_to_frame map.jumps + 1 + words_of_shift map.jumps + 1) s
+    taking_begins = record {
+      after = takes.after;
+      walks = walks_done takes.done;
+      told = takes.done.trace_is;
+      running = record {
+        rests = record { stands = takes.done.stands; parts_are = takes.done.parts_are ∙ before.rests.parts_are; constants = constants_stay };
+        trace = takes.done.trace_is ∙ before.trace_is;
+        left = takes.done.left_is ∙ before.left_is;
+        bytes = subst (All (λ byte. byte < 256)) (sym (takes.done.left_is ∙ before.left_is)) input_bytes;
+        room = ground.some_depth;
+        base = base;
+        base_is = takes.base_is ∙ ap (λ t. cond t base (base + map.frame) + frame_bias map.jumps) (sym own_is);
+        frames = runs_as map code (most_lines functions) stop (stack_end map depth) takes.after.registers takes.after.memory takes.after.pc base (placed_entered 0 main ∷ [])
+            (rw (takes.done.memory_is, takes.done.pc_is) frames_stand);
+        registers = λ x word e. cc;
+        one = takes.done.kept one_register ((λ e. cc), ((λ e. cc), tt)) ∙ before.one;
+        cells = outside-holds before.cells (roots_done takes.done refl) (subst (λ m. SameInside pool s.memory m) (sym takes.done.memory_is) (SameInside-store pool s.memory base stop (inr (omega (arith, above, ground.cells_below))))) (record { same = λ slot some. absurd (some refl) });
+      };
+    }
+
+  -- where it takes none
+  module _ (own_is : takes_frame map.jumps main.code ≡ false) (passes : PassesAt map code entry) where
+    passed : Goes pool.cells code 1 [] s.memory (entry + 4 * entry_words map.jumps) s
+    passed =
+        bare_passes pool.cells ground.below before.rests.stands map entry before.pc_is passes (stack_end map depth)
+        (before.base_is ∙ bare_sp map.jumps (stack_end map depth) (bare_near map.jumps main.code own_is)) (before.cells.memory.end ∙ ground.cells_below) entered.below more
+
+    way_is : way_back (takes_frame map.jumps main.code) passed.after.registers s.memory base ≡ stop
+    way_is = ap (λ t. way_back t passed.after.registers s.memory base) own_is ∙ (passed.done.kept 1 tt ∙ before.way_is)
+
+    stack_stands : StackAt map code (most_lines functions) stop (stack_end map depth) passed.after.registers s.memory (entry + 4 * entry_words map.jumps) base (placed_entered 0 main ∷ [])
+    stack_stands = (entered, (λ k w e. cc), tt, (way_is, base_is))
+
+    bare_begins : Begins map pool functions depth stop code parts main input 1 s
+    bare_begins = record {
+      after = passed.after;
+      walks = walks_done passed.done;
+      told = passed.done.trace_is;
+      running = record {
+        rests = record {
+          stands = passed.done.stands;
+          parts_are = passed.done.parts_are ∙ before.rests.parts_are;
+          constants = ap (λ memory. bytes_at memory map.constants.first (constant_bytes map)) passed.done.memory_is ∙ before.rests.constants;
+        };
+        trace = passed.done.trace_is ∙ before.trace_is;
+        left = passed.done.left_is ∙ before.left_is;
+        bytes = subst (All (λ byte. byte < 256)) (sym (passed.done.left_is ∙ before.left_is)) input_bytes;
+        room = ground.some_depth;
+        base = base;
+        base_is = passed.done.kept 2 tt
+            ∙ (before.base_is ∙ (ap (λ b. b + frame_bias map.jumps) (sym base_is) ∙ ap (λ t. cond t base (base + map.frame) + frame_bias map.jumps) (sym own_is)));
+        frames = subst (λ m. StackAt map code (most_lines functions) stop (stack_end map depth) passed.after.registers m passed.after.pc base (placed_entered 0 main ∷ [])) (sym passed.done.memory_is)
+            (subst (λ a. StackAt map code (most_lines functions) stop (stack_end map depth) passed.after.registers s.memory a base (placed_entered 0 main ∷ [])) (sym passed.done.pc_is) stack_stands);
+        registers = λ x word e. cc;
+        one = passed.done.kept one_register tt ∙ before.one;
+        cells = cells_done before.cells (roots_done passed.done refl) passed.done.memory_is;
+      };
+    }
+
+  begins_by : (own : Bool) → takes_frame map.jumps main.code ≡ own → BeginsAt own map code entry → Begins map pool functions depth stop code parts main input (begin_steps map.jumps own) s
+  begins_by true = taking_begins
+  begins_by false = bare_begins
+
+  pub entry-begins : Begins map pool functions depth stop code parts main input (begin_steps map.jumps (takes_frame map.jumps main.code)) s
+  entry-begins = begins_by (takes_frame map.jumps main.code) refl main_at.entry

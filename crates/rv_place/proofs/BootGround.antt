@@ -133,6 +133,7 @@ module _ {cells depth : ℕ} {runtime program : Placed} {words : Words} (is_runt
       let below = below_most (frame_size (placed_functions program)) in
       record {
         functions_at = placed.functions;
+        takes = refl;
         below = λ at i here.
             let place = code_of-place text_start words.instructions.items at i here in
             let where_is = place.1 in

@@ -28,7 +28,7 @@ use Rattle.cell_heap.specs.Known.{HoldsCells}
 use Rattle.cell_runtime.proofs.Blocks.{start_holds}
 use Rattle.rv_world.specs.World.{World, first_world, primitives}
 use Rattle.rv_place.specs.declared.words.Words.{Words}
-use Rattle.rv_place.specs.Addresses.{jump_words, words_of_shift, words_to_frame, words_of_functions, frame_size, frame_bias, entries_from}
+use Rattle.rv_place.specs.Addresses.{jump_words, takes_frame, words_of_functions, frame_size, frame_bias, entries_from}
 use Rattle.rv_place.specs.declared.reach.Reach.{Reach}
 use Rattle.rv_place.specs.declared.reach.Reach.TheVariants.{Near}
 use Rattle.rv_place.proofs.Shifting.{bias_below, to_frame_most}
@@ -114,10 +114,10 @@ module _ {cells depth : ℕ} {runtime program : Placed} {words : Words} {text : 
 
     -- how many silent instructions lead to the begin of main's lines: those of the start, and of main's entry
     abbrev pub first_steps : ℕ
-    first_steps = 10 + (words_to_frame (jumps_of runtime program) + 1 + words_of_shift (jumps_of runtime program) + 1)
+    first_steps = 10 + begin_steps (jumps_of runtime program) (takes_frame (jumps_of runtime program) main.code)
 
     few_first : first_steps ≤ 15
-    few_first = omega (arith, shift_most (jumps_of runtime program), to_frame_most (jumps_of runtime program))
+    few_first = omega (arith, few_steps (jumps_of runtime program) (takes_frame (jumps_of runtime program) main.code))
 
     pub image-begins : Begins (map_of runtime program) (pool_in cells runtime program) (placed_functions program) depth stop_address (code_in words) (parts_of text runtime) main input first_steps (first_processor text runtime.memory.size input)
     image-begins =

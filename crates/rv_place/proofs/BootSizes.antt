@@ -23,6 +23,10 @@ use Rattle.rv_place.specs.Bytes.{IsTextOf}
 
 -- ---- how many instructions code is
 
+return_most : (frame : Bool) (jumps : Reach) → cond frame (2 + words_of_shift jumps) 1 ≤ 4
+return_most true jumps = omega (arith, shift_most jumps)
+return_most false jumps = omega arith
+
 action_most : (forms : Forms) (action : Action) → words_of_action forms action ≤ action_length action
 action_most forms (Compute operation) = (operation_weighs operation).1
 action_most forms (Label l) = omega arith
@@ -30,7 +34,7 @@ action_most forms (Jump l) = jump_most forms.jumps
 action_most forms (Branch condition l) = branch_most forms.jumps forms.branches
 action_most forms (Call f) = omega (arith, jump_most forms.jumps)
 action_most forms (TailCall f) = omega (arith, jump_most forms.jumps)
-action_most forms Return = omega (arith, shift_most forms.jumps)
+action_most forms Return = return_most forms.frame forms.jumps
 action_most forms (Routine routine) = jump_most forms.jumps
 action_most forms Hold = omega arith
 action_most forms Unhold = omega arith

@@ -31,6 +31,10 @@ words_split forms zero lines = omega arith
 words_split forms (suc j) [] = refl
 words_split forms (suc j) (line ∷ lines) = let rest = words_split forms j lines in omega arith
 
+return_some : (frame : Bool) (jumps : Reach) → 1 ≤ cond frame (2 + words_of_shift jumps) 1
+return_some true jumps = omega arith
+return_some false jumps = omega arith
+
 -- what is no label is an instruction at least
 action_some : (forms : Forms) (action : Action) → is_no_label action ≡ true → 1 ≤ words_of_action forms action
 action_some forms (Compute operation) some = (operation_weighs operation).0
@@ -39,7 +43,7 @@ action_some forms (Jump l) some = jump_some forms.jumps
 action_some forms (Branch condition l) some = branch_some forms.jumps forms.branches
 action_some forms (Call f) some = jump_some forms.jumps
 action_some forms (TailCall f) some = jump_some forms.jumps
-action_some forms Return some = omega arith
+action_some forms Return some = return_some forms.frame forms.jumps
 action_some forms (Routine routine) some = jump_some forms.jumps
 action_some forms Hold some = omega arith
 action_some forms Unhold some = omega arith

@@ -31,8 +31,8 @@ near_narrow false reach is = is
 pub short_function : (jumps : Reach) (lines : List PlacedLine) → (forms_of jumps lines).branches ≡ Near
     → words_of_lines (forms_of jumps lines) lines < branch_words
 short_function jumps lines is =
-    let near : Forms = record { jumps = jumps; branches = Near } in
-    let same : forms_of jumps lines ≡ near = ap (λ (b : Reach). record { jumps = jumps; branches = b }) is in
+    let near : Forms = record { jumps = jumps; branches = Near; frame = takes_frame jumps lines } in
+    let same : forms_of jumps lines ≡ near = ap (λ (b : Reach). record { jumps = jumps; branches = b; frame = takes_frame jumps lines }) is in
     let few : words_of_lines near lines < branch_words = near_within branch_words (words_of_lines near lines) is in
     omega (arith, few, ap (λ (forms : Forms). words_of_lines forms lines) same)
 

@@ -43,13 +43,14 @@ use Rattle.rv_place.specs.Instructions.{words_of_operation, RaisesCount, FreesTo
 use Rattle.rv_place.specs.Lines.{Map, register_into, ActsAt}
 use Rattle.rv_place.specs.declared.reach.Forms.{Forms}
 use Rattle.rv_place.specs.Grounds.{Ground, stack_end}
-use Rattle.rv_place.specs.Running.{most_lines, IsIn, FramesAt, links_of, Running}
+use Rattle.rv_place.specs.Addresses.{operation_links, takes_frame}
+use Rattle.rv_place.specs.Running.{most_lines, IsIn, StackAt, links_of, Running}
 use Rattle.rv_place.specs.declared.reach.Reach.TheVariants.{Near}
 use Rattle.rv_place.proofs.RunningRows.{branch_taken, branch_passed}
 use Rattle.rv_place.proofs.RunningExecuting.{MissesFree, Done, Gets, immediate_row, addi_row, misses_done, done_then, done_on, done_as}
 use Rattle.rv_place.proofs.RunningExecuting.{plain_gets, load_gets, store_goes}
 use Rattle.rv_place.proofs.RunningFree.{apart_misses}
-use Rattle.rv_place.proofs.RunningFrames.{handed_apart, frames_kept}
+use Rattle.rv_place.proofs.RunningFrames.{handed_apart, stack_kept}
 use Rattle.rv_place.proofs.RunningLinks.{is_fixed, roots_done}
 use Rattle.rv_place.proofs.RunningTargets.{GivesTarget}
 use Rattle.rv_place.proofs.RunningWords.{words_in, AllFit, AllHanded, InRegisters, in_registers, Computed}
@@ -109,17 +110,17 @@ module _ {map_of : Map} {pool : Pool} {functions : List PlacedLines} {depth buff
     -- instructions that have changed a word of a block, and no register that a value has
     changed_comes : {n : ℕ} {changed : List ℕ} (most at v : ℕ) (next : Cells) (u : Processor)
         → Done pool.cells code n changed (with_number at 4 v s.memory) (s.pc + 4 * words_of_operation operation) s u → IsOutside 2 changed
-        → NoneHanded changed
+        → NoneHanded changed → (takes_frame map_of.jumps f.whole ≡ false → value u.registers 1 ≡ value s.registers 1)
         → at + 4 ≤ end_of pool → can_store parts at 4 ≡ true → s.pc + 4 * words_of_operation operation < 2 ^ 32
         → HoldsCells pool next (links_of map_of running.base (f ∷ fs)) u
         → 1 ≤ n → n ≤ most → Comes map_of pool functions depth stop code parts most old
         (placed_goes behind fs known (with_cells world next)) s
-    changed_comes {n} {changed} most at v next u done outside none inside allowed fits holds some within =
+    changed_comes {n} {changed} most at v next u done outside none link inside allowed fits holds some within =
         let stand = running.frames in
         let sp = running.base in
         let low = sp_low ground f fs known world s running in
         let under = ground.cells_below in
-        let here : FramesAt map_of code (most_lines functions) stop (stack_end map_of depth) s.memory
+        let here : StackAt map_of code (most_lines functions) stop (stack_end map_of depth) s.registers s.memory
         (s.pc + 4 * words_of_operation operation) sp (behind ∷ fs)
         = (is_in (s.pc + 4 * words_of_operation operation) refl fits, stand.1, stand.2, stand.3) in
         comes_go map_of pool functions depth stop code parts most old
@@ -127,19 +128,19 @@ module _ {map_of : Map} {pool : Pool} {functions : List PlacedLines} {depth buff
         (runs_on map_of pool functions depth stop code parts
         (record { frames = f ∷ fs; registers = known; shared = world }) next s u (behind ∷ fs) known sp running done (outside_handed changed none one_register refl (λ e. cc))
         (constants_kept ground f fs known world s running at v allowed) running.room (done.kept 2 outside ∙ running.base_is)
-        (frames_kept map_of code (most_lines functions) stop (stack_end map_of depth) ground.some_frame s.memory
-        (with_number at 4 v s.memory) (s.pc + 4 * words_of_operation operation) sp (behind ∷ fs)
+        (stack_kept map_of code (most_lines functions) stop (stack_end map_of depth) ground.some_frame s.registers u.registers s.memory
+        (with_number at 4 v s.memory) (s.pc + 4 * words_of_operation operation) sp behind fs link
         (λ x above high. word-apart at v s.memory x (inr (omega arith))) here)
         (agrees_done s u known done none running.registers) holds) some within
 
     -- instructions that have changed nothing but registers that no value has
     same_comes : {n : ℕ} {changed : List ℕ} (most : ℕ) (u : Processor)
         → Done pool.cells code n changed s.memory (s.pc + 4 * words_of_operation operation) s u → IsOutside 2 changed → NoneHanded changed
-        → list_any is_fixed changed ≡ false
+        → list_any is_fixed changed ≡ false → (takes_frame map_of.jumps f.whole ≡ false → value u.registers 1 ≡ value s.registers 1)
         → s.pc + 4 * words_of_operation operation < 2 ^ 32 → 1 ≤ n → n ≤ most
         → Comes map_of pool functions depth stop code parts most old (placed_goes behind fs known world) s
-    same_comes {n} most u done outside none apart fits some within =
-        stays ground f fs known world s running most old u rest known done outside apart
+    same_comes {n} most u done outside none apart link fits some within =
+        stays ground f fs known world s running most old u rest known done outside apart link
         (is_in (s.pc + 4 * words_of_operation operation) refl fits)
         (agrees_done s u known done none running.registers) some within
 
@@ -185,7 +186,7 @@ module _ {map_of : Map} {pool : Pool} {functions : List PlacedLines} {depth buff
         {word = v} here
         (word_address at offset.word inside.0 inside.1 block.2) refl shows.aligned shows.stores
         (apart_misses running.cells address shows.no_free) in
-        changed_comes (OfOperation.Sw offset) is_in 1 address v next goes.after goes.done tt tt (omega (arith, inside.0, block.2))
+        changed_comes (OfOperation.Sw offset) is_in 1 address v next goes.after goes.done tt tt (λ bare. goes.done.kept 1 tt) (omega (arith, inside.0, block.2))
         (subst (λ p. can_store p address 4 ≡ true) running.rests.parts_are shows.stores)
         (ground.below s.pc (Instr.Sw a b offset) here)
         (store-holds running.cells (roots_done goes.done refl) at offset.word v next is fits goes.done.memory_is) (omega arith)
@@ -195,7 +196,7 @@ module _ {map_of : Map} {pool : Pool} {functions : List PlacedLines} {depth buff
 
   module _ (is_in : (next : ℕ) → s.pc + 4 * 5 ≡ next → next < 2 ^ 32
       → IsIn map_of code (most_lines functions) next behind) (a : Register) (handed : is_handed_out a.number ≡ true)
-      (raises : RaisesCount code s.pc a) where
+      (raises : RaisesCount code s.pc a) (takes : takes_frame map_of.jumps f.whole ≡ true) where
     abbrev reference : ℕ
     reference = value s.registers a.number
 
@@ -219,7 +220,7 @@ module _ {map_of : Map} {pool : Pool} {functions : List PlacedLines} {depth buff
         let taken = branch_taken pool.cells ground.below bit_gets.done.stands (s.pc + 4) bit_gets.done.pc_is NotEqual ra zero_register
         (s.pc + 4 * 5) Near Near (raises.1, over_target, raises.6.1.0) (omega arith) (rw bit refl) in
         same_comes OfOperation.Dup is_in 5 taken.after (done_on bit_gets.done taken.done) ((λ e. cc), ((λ e. cc), ((λ e. cc), tt)))
-        (refl, (refl, (refl, tt))) refl dup_last (omega arith) (omega arith)
+        (refl, (refl, (refl, tt))) refl (λ bare. absurd (false≢true (sym bare ∙ takes))) dup_last (omega arith) (omega arith)
 
     -- the count of a cell is loaded, raised and stored
     even_comes : reference % 2 ≡ 0 → (count : ℕ) (next : Cells) → load reference 0 world.cells ≡ Some count
@@ -265,6 +266,7 @@ module _ {map_of : Map} {pool : Pool} {functions : List PlacedLines} {depth buff
         let done = done_as {changed' = 1 ∷ 1 ∷ 1 ∷ []} {next' = s.pc + 4 * 5} (done_then four fifth.done)
         (ap (λ m. with_number reference 4 v m) four.memory_is) (omega arith) (λ x out. out) in
         changed_comes OfOperation.Dup is_in 5 reference v next fifth.after done sp_outside (refl, (refl, (refl, tt)))
+        (λ bare. absurd (false≢true (sym bare ∙ takes)))
         (omega (arith, inside.0)) (subst (λ p. can_store p reference 4 ≡ true) running.rests.parts_are may_store) dup_last
         (store-holds running.cells (roots_done done refl) reference 0 v next stores_it (omega arith) (done.memory_is
         ∙ ap (λ x. with_number x 4 v s.memory) (sym here))) (omega arith) (omega arith)
@@ -303,7 +305,7 @@ module _ {map_of : Map} {pool : Pool} {functions : List PlacedLines} {depth buff
         let word = running.frames.0.at_word in
         let taken = branch_taken pool.cells ground.below running.rests.stands s.pc refl Equal a zero_register (s.pc + 4 * 3) Near Near
         (frees_it.0, past_target, frees_it.4.0) (omega arith) (rw none refl) in
-        same_comes OfOperation.Free is_in 3 taken.after taken.done ((λ e. cc), ((λ e. cc), tt)) (refl, (refl, tt)) refl free_last
+        same_comes OfOperation.Free is_in 3 taken.after taken.done ((λ e. cc), ((λ e. cc), tt)) (refl, (refl, tt)) refl (λ bare. taken.link refl) free_last
         (omega arith) (omega arith)
 
     freed_comes : token ≢ 0 → (words : ℕ → Option ℕ) → world.cells.blocks token ≡ own words
@@ -338,7 +340,7 @@ module _ {map_of : Map} {pool : Pool} {functions : List PlacedLines} {depth buff
         ∙ base second.after (two.kept a.number tt) in
         changed_comes OfOperation.Free is_in 3 token v
         (with_block token unused (record world.cells { frees = token ∷ world.cells.frees })) third.after done ((λ e. cc), tt)
-        (refl, tt) (omega (arith, inside.0))
+        (refl, tt) (λ bare. done.kept 1 ((λ e. cc), tt)) (omega (arith, inside.0))
         (subst (λ p. can_store p token 4 ≡ true) running.rests.parts_are may_store) free_last
         (release-holds running.cells token words is done.parts_are done.memory_is first_is (done.kept 9 ((λ e. cc), tt))
         (done.kept 18 ((λ e. cc), tt)) (done.kept 19 ((λ e. cc), tt))) (omega arith) (omega arith)
@@ -409,18 +411,18 @@ module _ {map_of : Map} {pool : Pool} {functions : List PlacedLines} {depth buff
         subst (λ t. Comes map_of pool functions depth stop code parts 1 old t s) next.2
         (store_comes offset is_in a b next.0 here next.1 fit.1.0)
 
-    dup_all : ((next : ℕ) → s.pc + 4 * 5 ≡ next → next < 2 ^ 32 → IsIn map_of code (most_lines functions) next behind)
+    dup_all : takes_frame map_of.jumps f.whole ≡ true → ((next : ℕ) → s.pc + 4 * 5 ≡ next → next < 2 ^ 32 → IsIn map_of code (most_lines functions) next behind)
         → (rs : List Register) → AllHanded rs
         → into ≡ None → Computes map_of.constants code s.pc OfOperation.Dup rs zero_register
         → or_stuck (computed_in map_of.constants OfOperation.Dup (words_in s.registers rs) world)
         (λ r. placed_gives into r.0 behind fs known r.1) ≡ turn
         → Comes map_of pool functions depth stop code parts 5 old turn s
-    dup_all is_in [] handed none here is = absurd (good (sym is))
-    dup_all is_in (a ∷ b ∷ rs) handed none here is = absurd (good (sym is))
-    dup_all is_in (a ∷ []) handed none here is =
+    dup_all takes is_in [] handed none here is = absurd (good (sym is))
+    dup_all takes is_in (a ∷ b ∷ rs) handed none here is = absurd (good (sym is))
+    dup_all takes is_in (a ∷ []) handed none here is =
         let next = settled into (dup (value s.registers a.number) world.cells) turn none is good in
         subst (λ t. Comes map_of pool functions depth stop code parts 5 old t s) next.2
-        (dup_by is_in a handed.0 here (nat_eq (value s.registers a.number % 2) 1) refl next.0 next.1)
+        (dup_by is_in a handed.0 here takes (nat_eq (value s.registers a.number % 2) 1) refl next.0 next.1)
 
     free_all : ((next : ℕ) → s.pc + 4 * 3 ≡ next → next < 2 ^ 32 → IsIn map_of code (most_lines functions) next behind)
         → (rs : List Register) → AllHanded rs
@@ -436,7 +438,7 @@ module _ {map_of : Map} {pool : Pool} {functions : List PlacedLines} {depth buff
         (free_by is_in a handed.0 here (value s.registers a.number == 0) refl next.0 next.1)
 
     module _ (forms : Forms) (start : ℕ) (args : List Operand) (words : List ℕ) (handed : GivesTarget into) where
-      on_cells : {operation : Operation} → IsOnCells operation
+      on_cells : {operation : Operation} → IsOnCells operation → (operation_links operation ≡ true → takes_frame map_of.jumps f.whole ≡ true)
           → ((next : ℕ) → s.pc + 4 * words_of_operation operation ≡ next → next < 2 ^ 32
           → IsIn map_of code (most_lines functions) next behind)
           → ActsAt map_of forms code start f.whole s.pc (Compute operation) args into → gives_into (Compute operation) into ≡ true
@@ -444,19 +446,19 @@ module _ {map_of : Map} {pool : Pool} {functions : List PlacedLines} {depth buff
           → or_stuck (computed_in map_of.constants operation (words_in s.registers values.rs) world)
           (λ r. placed_gives into r.0 behind fs known r.1) ≡ turn
           → Comes map_of pool functions depth stop code parts (operation_instructions operation) old turn s
-      on_cells (loads offset) is_in here gives values is = load_by offset is_in values.rs gives handed
+      on_cells (loads offset) takes is_in here gives values is = load_by offset is_in values.rs gives handed
           (λ rd into_is. here values.rs rd values.rs_are into_is) is
-      on_cells (stores offset) is_in here gives values is =
+      on_cells (stores offset) takes is_in here gives values is =
           let none = not_given (OfOperation.Sw offset) (λ place. refl) into gives in
           store_by offset is_in values.rs values.fit none (here values.rs zero_register values.rs_are (ap register_into none)) is
-      on_cells dups is_in here gives values is =
+      on_cells dups takes is_in here gives values is =
           let none = not_given OfOperation.Dup (λ place. refl) into gives in
-          dup_all is_in values.rs values.handed none (here values.rs zero_register values.rs_are (ap register_into none)) is
-      on_cells frees is_in here gives values is =
+          dup_all (takes refl) is_in values.rs values.handed none (here values.rs zero_register values.rs_are (ap register_into none)) is
+      on_cells frees takes is_in here gives values is =
           let none = not_given OfOperation.Free (λ place. refl) into gives in
           free_all is_in values.rs values.handed none (here values.rs zero_register values.rs_are (ap register_into none)) is
 
-  pub follow_compute : (operation : Operation)
+  pub follow_compute : (operation : Operation) → (operation_links operation ≡ true → takes_frame map_of.jumps f.whole ≡ true)
       → ((next : ℕ) → s.pc + 4 * words_of_operation operation ≡ next → next < 2 ^ 32
       → IsIn map_of code (most_lines functions) next behind)
       → (forms : Forms) (start : ℕ) (args : List Operand) (into : Option Operand) (words : List ℕ) (turn : PlacedTurn World Ending)
@@ -466,7 +468,7 @@ module _ {map_of : Map} {pool : Pool} {functions : List PlacedLines} {depth buff
       → placed_acts (primitives map_of.constants pool) depth functions behind fs known world
       (Compute operation) args into words ≡ turn → turn ≢ stuck
       → Comes map_of pool functions depth stop code parts (operation_instructions operation) old turn s
-  follow_compute operation is_in forms start args into words turn here conform handed words_are is good =
+  follow_compute operation takes is_in forms start args into words turn here conform handed words_are is good =
       elim (word_or_cells map_of.constants world operation) [
         | inl alone ↦ follow_words ground f fs known world s running rest old operation is_in forms start args into words turn here
             alone conform handed words_are is good
@@ -474,7 +476,7 @@ module _ {map_of : Map} {pool : Pool} {functions : List PlacedLines} {depth buff
             let fit = and_parts (take_from (Compute operation) 0 args) (gives_into (Compute operation) into) conform in
             let values = in_registers known f.cells s.registers running.registers (Compute operation) 0 args words
             (λ k place is_one. is_one) fit.0 words_are in
-            on_cells into turn good forms start args words handed of is_in here fit.1 values
+            on_cells into turn good forms start args words handed of takes is_in here fit.1 values
             (subst (λ ws. or_stuck (computed_in map_of.constants operation ws world)
             (λ r. placed_gives into r.0 behind fs known r.1) ≡ turn) values.words_are is)
       ]

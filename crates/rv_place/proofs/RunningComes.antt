@@ -1,5 +1,5 @@
 -- What the processor comes to by a line of the machine of the placed form, and how the relation is kept.
-use Rattle.std.proofs.Common.{◌≡◌, ◌≢◌, ◌≤◌, ◌<◌, ◌==◌, ◌&&◌, Bool, not, ℕ, zero, suc, ◌+◌, ◌*◌, ◌%◌, ◌^◌, List, [], ◌∷◌, length, Option, Some, None, true, false, All, refl, sym, ap, ◌∙◌, subst, arith, lit<}
+use Rattle.std.proofs.Common.{◌≡◌, ◌≢◌, ◌≤◌, ◌<◌, ◌==◌, ◌&&◌, Bool, not, ℕ, zero, suc, ◌+◌, ◌*◌, ◌%◌, ◌^◌, List, [], ◌∷◌, length, Option, Some, None, true, false, cond, All, refl, sym, ap, ◌∙◌, subst, arith, lit<}
 use Rattle.std.proofs.Math.Nat.{suc-mul, mul-le-mul_right}
 use Rattle.std.proofs.lemmas.Bool.{and_from, ne_eqb, false≢true}
 use Rattle.kk_base.specs.Memory.{Part}
@@ -20,13 +20,13 @@ use Rattle.cell_runtime.specs.Registers.{IsOutside}
 use Rattle.std.specs.List.{list_any}
 use Rattle.cell_heap.specs.Pool.{Pool}
 use Rattle.rv_world.specs.World.{World, with_cells, primitives}
-use Rattle.rv_place.specs.Addresses.{frame_bias}
+use Rattle.rv_place.specs.Addresses.{takes_frame, frame_bias}
 use Rattle.rv_place.specs.Lines.{Map}
 use Rattle.rv_place.specs.Grounds.{Ground, stack_end, constant_bytes}
-use Rattle.rv_place.specs.Running.{most_lines, IsIn, FramesAt, links_of, Agrees, Running, lines_left, StandsFor, Passing}
+use Rattle.rv_place.specs.Running.{most_lines, IsIn, StackAt, newest_taken, links_of, Agrees, Running, lines_left, StandsFor, Passing}
 use Rattle.rv_place.proofs.RunningExecuting.{Done, Gets}
 use Rattle.rv_place.proofs.RunningInside.{Walks, walks_done}
-use Rattle.rv_place.proofs.RunningFrames.{value_kept, agrees_put, agrees_kept, frames_sum}
+use Rattle.rv_place.proofs.RunningFrames.{value_kept, agrees_put, agrees_kept, stack_sum, stack_kept}
 use Rattle.rv_place.proofs.RunningLinks.{is_fixed, outside_fixed, none_own, roots_done, cells_done}
 use Rattle.rv_place.proofs.RunningTargets.{is_target, target_handed, target_apart}
 
@@ -111,10 +111,10 @@ module _ (map : Map) (pool : Pool) (functions : List PlacedLines) (depth stop : 
     pub moves : 1 + left_in turn ≤ steps * suc (most_lines functions) + old
     pub passes : (k : ℕ) → k < steps → Passing map pool (run k s)
 
-  left_few : (t : PlacedState World) (at base : ℕ) (memory : ℕ → ℕ) → FramesAt map code (most_lines functions) stop (stack_end map depth) memory at base t.frames → lines_left t.frames ≤ most_lines functions
-  left_few t at base memory stand = by t.frames stand
+  left_few : (t : PlacedState World) (at base : ℕ) (registers memory : ℕ → ℕ) → StackAt map code (most_lines functions) stop (stack_end map depth) registers memory at base t.frames → lines_left t.frames ≤ most_lines functions
+  left_few t at base registers memory stand = by t.frames stand
     where
-      by : (frames : List (Frame PlacedLine)) → FramesAt map code (most_lines functions) stop (stack_end map depth) memory at base frames → lines_left frames ≤ most_lines functions
+      by : (frames : List (Frame PlacedLine)) → StackAt map code (most_lines functions) stop (stack_end map depth) registers memory at base frames → lines_left frames ≤ most_lines functions
       by [] stand = omega arith
       by (frame ∷ frames) stand = stand.0.few
 
@@ -130,7 +130,7 @@ module _ (map : Map) (pool : Pool) (functions : List PlacedLines) (depth stop : 
     stands_for = λ credit idle saved left. (u, refl, saved, left, running);
     told = sym running.trace;
     within = omega arith;
-    moves = some_moves n (lines_left t.frames) (most_lines functions) old some (left_few t u.pc running.base u.memory running.frames);
+    moves = some_moves n (lines_left t.frames) (most_lines functions) old some (left_few t u.pc running.base u.registers u.memory running.frames);
     passes = walks.passes;
   }
 
@@ -165,10 +165,10 @@ module _ (map : Map) (pool : Pool) (functions : List PlacedLines) (depth stop : 
   pub runs_on : {n : ℕ} {changed : List ℕ} {memory : ℕ → ℕ} {next : ℕ} (t : PlacedState World) (cells : Cells) (s u : Processor) (frames : List (Frame PlacedLine)) (known : ℕ → Option ℕ) (base : ℕ)
       → Running map pool functions depth stop code parts t s → Done pool.cells code n changed memory next s u → IsOutside one_register changed
       → bytes_at memory map.constants.first (constant_bytes map) ≡ bytes_at s.memory map.constants.first (constant_bytes map)
-      → length frames ≤ depth → value u.registers 2 ≡ base + frame_bias map.jumps → FramesAt map code (most_lines functions) stop (stack_end map depth) memory next base frames → Agrees known u.registers
+      → length frames ≤ depth → value u.registers 2 ≡ newest_taken map base frames + frame_bias map.jumps → StackAt map code (most_lines functions) stop (stack_end map depth) u.registers memory next base frames → Agrees known u.registers
       → HoldsCells pool cells (links_of map base frames) u → Running map pool functions depth stop code parts (record { frames = frames; registers = known; shared = with_cells t.shared cells }) u
   runs_on {memory = memory} {next = next} t cells s u frames known base running done outside same room base_is stand agrees holds =
-      let at_pc : FramesAt map code (most_lines functions) stop (stack_end map depth) memory u.pc base frames = subst (λ a. FramesAt map code (most_lines functions) stop (stack_end map depth) memory a base frames) (sym done.pc_is) stand in
+      let at_pc : StackAt map code (most_lines functions) stop (stack_end map depth) u.registers memory u.pc base frames = subst (λ a. StackAt map code (most_lines functions) stop (stack_end map depth) u.registers memory a base frames) (sym done.pc_is) stand in
       record {
         rests = record {
           stands = done.stands;
@@ -181,7 +181,7 @@ module _ (map : Map) (pool : Pool) (functions : List PlacedLines) (depth stop : 
         room = room;
         base = base;
         base_is = base_is;
-        frames = subst (λ m. FramesAt map code (most_lines functions) stop (stack_end map depth) m u.pc base frames) (sym done.memory_is) at_pc;
+        frames = subst (λ m. StackAt map code (most_lines functions) stop (stack_end map depth) u.registers m u.pc base frames) (sym done.memory_is) at_pc;
         registers = agrees;
         one = done.kept one_register outside ∙ running.one;
         cells = holds;
@@ -193,7 +193,15 @@ module _ {map : Map} {pool : Pool} {functions : List PlacedLines} {depth buffer 
     (f : Frame PlacedLine) (fs : List (Frame PlacedLine)) (known : ℕ → Option ℕ) (world : World) (s : Processor)
     (running : Running map pool functions depth stop code parts (record { frames = f ∷ fs; registers = known; shared = world }) s) where
   base_sum : running.base + suc (length fs) * map.frame ≡ map.bottom + depth * map.frame
-  base_sum = frames_sum map code (most_lines functions) stop (stack_end map depth) s.memory s.pc running.base (f ∷ fs) running.frames
+  base_sum = stack_sum map code (most_lines functions) stop (stack_end map depth) s.registers s.memory s.pc running.base (f ∷ fs) running.frames
+
+  -- the stack pointer is at the frame, where the function takes one
+  pub framed_base : takes_frame map.jumps f.whole ≡ true → value s.registers 2 ≡ running.base + frame_bias map.jumps
+  framed_base takes = running.base_is ∙ ap (λ t. cond t running.base (running.base + map.frame) + frame_bias map.jumps) takes
+
+  -- else at the one before it
+  pub bare_base : takes_frame map.jumps f.whole ≡ false → value s.registers 2 ≡ running.base + map.frame + frame_bias map.jumps
+  bare_base bare = running.base_is ∙ ap (λ t. cond t running.base (running.base + map.frame) + frame_bias map.jumps) bare
 
   pub sp_low : map.bottom ≤ running.base
   sp_low = base_low running.base (suc (length fs)) map.frame map.bottom depth base_sum running.room
@@ -215,12 +223,15 @@ module _ {map : Map} {pool : Pool} {functions : List PlacedLines} {depth buffer 
   pub constants_kept : (at v : ℕ) → can_store parts at 4 ≡ true → bytes_at (with_number at 4 v s.memory) map.constants.first (constant_bytes map) ≡ bytes_at s.memory map.constants.first (constant_bytes map)
   constants_kept at v allowed = bytes_at-with_number_apart at 4 v s.memory map.constants.first (constant_bytes map) (ground.constants_kept at 4 allowed (lit< tt))
 
-  -- instructions that change no memory lead on in the same frame
+  -- Instructions that change no memory lead on in the same frame. Where its function takes no frame, they leave ra as it is.
   pub stays : (most old : ℕ) {n : ℕ} {changed : List ℕ} {next : ℕ} (u : Processor) (behind : List PlacedLine) (known' : ℕ → Option ℕ) → Done pool.cells code n changed s.memory next s u → IsOutside 2 changed → list_any is_fixed changed ≡ false
+      → (takes_frame map.jumps f.whole ≡ false → value u.registers 1 ≡ value s.registers 1)
       → IsIn map code (most_lines functions) next (record f { code = behind }) → Agrees known' u.registers → 1 ≤ n → n ≤ most
       → Comes map pool functions depth stop code parts most old (placed_goes (record f { code = behind }) fs known' world) s
-  stays most old {n = n} {changed = changed} u behind known' done outside none is_in agrees some within =
+  stays most old {n = n} {changed = changed} {next = next} u behind known' done outside none link is_in agrees some within =
       let stand = running.frames in
       comes_go map pool functions depth stop code parts most old (record { frames = record f { code = behind } ∷ fs; registers = known'; shared = world }) s u n (walks_done done)
       (runs_on map pool functions depth stop code parts (record { frames = f ∷ fs; registers = known; shared = world }) world.cells s u (record f { code = behind } ∷ fs) known' running.base running done (outside_fixed one_register refl changed none) refl running.room
-      (done.kept 2 outside ∙ running.base_is) (is_in, stand.1, stand.2, stand.3) agrees (cells_done running.cells (roots_done done (none_own changed none)) done.memory_is)) some within
+      (done.kept 2 outside ∙ running.base_is)
+      (stack_kept map code (most_lines functions) stop (stack_end map depth) ground.some_frame s.registers u.registers s.memory s.memory next running.base (record f { code = behind }) fs link (λ x low high. refl)
+      (is_in, stand.1, stand.2, stand.3)) agrees (cells_done running.cells (roots_done done (none_own changed none)) done.memory_is)) some within

@@ -9,9 +9,9 @@ use Rattle.rv_isa.specs.Bytes.{number_at, with_number}
 use Rattle.rv_isa.specs.Processor.{value}
 use Rattle.rv_isa.specs.Standing.{Code}
 use Rattle.rv_isa.proofs.Memory.{word-same, word-apart}
-use Rattle.rv_place.specs.Addresses.{slot_offset}
+use Rattle.rv_place.specs.Addresses.{takes_frame, slot_offset}
 use Rattle.rv_place.specs.Lines.{Map}
-use Rattle.rv_place.specs.Running.{IsIn, Slots, FramesAt, Agrees}
+use Rattle.rv_place.specs.Running.{IsIn, Slots, FramesAt, way_back, StackAt, newest_taken, Agrees}
 
 -- what is known behind a write is what was written, or was known before
 put_by : (test : Bool) (word other : Option ℕ) (w : ℕ) → cond test word other ≡ Some w → ((test ≡ true) × (word ≡ Some w)) ⊎ ((test ≡ false) × (other ≡ Some w))
@@ -84,6 +84,65 @@ module _ (map : Map) (code : Code) (most stop roof : ℕ) where
         subst (λ w. FramesAt map code most stop roof after w (base + map.frame) frames) (sym way) rest,
       )
 
+-- ---- the running frame
+
+-- where the frame goes on that waits for it
+way_kept : (takes : Bool) (registers after memory memory' : ℕ → ℕ) (base : ℕ) → (takes ≡ false → value after 1 ≡ value registers 1)
+    → number_at memory' base 4 ≡ number_at memory base 4 → way_back takes registers memory base ≡ way_back takes after memory' base
+way_kept true registers after memory memory' base link same = sym same
+way_kept false registers after memory memory' base link same = sym (link refl)
+
+module _ (map : Map) (code : Code) (most stop roof : ℕ) where
+  pub stack_sum : (registers memory : ℕ → ℕ) (at base : ℕ) (frames : List (Frame PlacedLine)) → StackAt map code most stop roof registers memory at base frames
+      → base + length frames * map.frame ≡ roof
+  stack_sum registers memory at base [] stand = let is = stand.1 in omega arith
+  stack_sum registers memory at base (frame ∷ frames) stand =
+      more_frames base (length frames) map.frame roof
+      (frames_sum map code most stop roof memory (way_back (takes_frame map.jumps frame.whole) registers memory base) (base + map.frame) frames stand.3)
+
+  -- where the words of the stack are the same, and ra too, if the function takes no frame
+  pub stack_kept : 4 ≤ map.frame → (registers after memory memory' : ℕ → ℕ) (at base : ℕ) (frame : Frame PlacedLine) (frames : List (Frame PlacedLine))
+      → (takes_frame map.jumps frame.whole ≡ false → value after 1 ≡ value registers 1)
+      → ((x : ℕ) → base ≤ x → x + 4 ≤ roof → number_at memory' x 4 ≡ number_at memory x 4)
+      → StackAt map code most stop roof registers memory at base (frame ∷ frames) → StackAt map code most stop roof after memory' at base (frame ∷ frames)
+  stack_kept some registers after memory memory' at base frame frames link same stand =
+      let takes = takes_frame map.jumps frame.whole in
+      let way : ℕ = way_back takes registers memory base in
+      let sum = frames_sum map code most stop roof memory way (base + map.frame) frames stand.3 in
+      let rest : FramesAt map code most stop roof memory' way (base + map.frame) frames =
+      frames_kept map code most stop roof some memory memory' way (base + map.frame) frames (λ x low high. same x (omega arith) high) stand.3 in (
+        stand.0,
+        slots_kept map code most stop roof memory memory' base frame.cells (λ x low high. same x low (omega arith)) stand.1,
+        stand.2,
+        subst (λ w. FramesAt map code most stop roof memory' w (base + map.frame) frames)
+            (way_kept takes registers after memory memory' base link (same base (omega arith) (omega arith))) rest,
+      )
+
+  -- one whose function takes a frame stands as one that waits does
+  pub waits_as : (registers memory : ℕ → ℕ) (at base : ℕ) (frame : Frame PlacedLine) (frames : List (Frame PlacedLine)) → takes_frame map.jumps frame.whole ≡ true
+      → StackAt map code most stop roof registers memory at base (frame ∷ frames) → FramesAt map code most stop roof memory at base (frame ∷ frames)
+  waits_as registers memory at base frame frames takes stand = (
+    stand.0,
+    stand.1,
+    (stand.2, takes),
+    subst (λ t. FramesAt map code most stop roof memory (way_back t registers memory base) (base + map.frame) frames) takes stand.3,
+  )
+
+  pub runs_as : (registers memory : ℕ → ℕ) (at base : ℕ) (frames : List (Frame PlacedLine))
+      → FramesAt map code most stop roof memory at base frames → StackAt map code most stop roof registers memory at base frames
+  runs_as registers memory at base [] stand = stand
+  runs_as registers memory at base (frame ∷ frames) stand = (
+    stand.0,
+    stand.1,
+    stand.2.0,
+    subst (λ t. FramesAt map code most stop roof memory (way_back t registers memory base) (base + map.frame) frames) (sym stand.2.1) stand.3,
+  )
+
+  pub newest_waits : (memory : ℕ → ℕ) (at base : ℕ) (frames : List (Frame PlacedLine)) → FramesAt map code most stop roof memory at base frames
+      → newest_taken map base frames ≡ base
+  newest_waits memory at base [] stand = refl
+  newest_waits memory at base (frame ∷ frames) stand = ap (λ t. cond t base (base + map.frame)) stand.2.1
+
 -- ---- a store to a slot
 
 module _ (map : Map) (memory : ℕ → ℕ) (base slot v : ℕ) (inside : slot_offset slot + 4 ≤ map.frame) where
@@ -116,28 +175,28 @@ module _ (map : Map) (memory : ℕ → ℕ) (base slot v : ℕ) (inside : slot_o
 module _ (map : Map) (code : Code) (most stop roof : ℕ) where
   -- the frames behind a store to a slot of the newest one
   pub frames_put : 4 ≤ map.frame → (memory : ℕ → ℕ) (base slot v at next : ℕ) (word : Option ℕ) (frame frame' : Frame PlacedLine) (frames : List (Frame PlacedLine))
-      → slot_offset slot + 4 ≤ map.frame → ((w : ℕ) → word ≡ Some w → (v ≡ w) × (w < 2 ^ 32)) → frame'.cells ≡ put slot word frame.cells → frame'.into ≡ frame.into → IsIn map code most next frame'
+      → slot_offset slot + 4 ≤ map.frame → ((w : ℕ) → word ≡ Some w → (v ≡ w) × (w < 2 ^ 32)) → frame'.cells ≡ put slot word frame.cells → frame'.into ≡ frame.into → frame'.whole ≡ frame.whole → IsIn map code most next frame'
       → FramesAt map code most stop roof memory at base (frame ∷ frames) → FramesAt map code most stop roof (with_number (base + slot_offset slot) 4 v memory) next base (frame' ∷ frames)
-  frames_put some memory base slot v at next word frame frame' frames inside new cells_are into_is here stand =
+  frames_put some memory base slot v at next word frame frame' frames inside new cells_are into_is whole_is here stand =
       let after = with_number (base + slot_offset slot) 4 v memory in
       let rest : FramesAt map code most stop roof after (number_at memory base 4) (base + map.frame) frames =
       frames_kept map code most stop roof some memory after (number_at memory base 4) (base + map.frame) frames (λ x low high. store_behind map memory base slot v inside x low) stand.3 in (
         here,
         subst (Slots map after base) (sym cells_are) (slots_put map memory base slot v inside word frame.cells new stand.1),
-        rw into_is stand.2,
+        (rw into_is stand.2.0, rw whole_is stand.2.1),
         subst (λ w. FramesAt map code most stop roof after w (base + map.frame) frames) (sym (store_way map memory base slot v inside)) rest,
       )
 
   -- a new frame under the others, whose first word is where the newest of them goes on
   pub frames_pushed : 4 ≤ map.frame → (memory : ℕ → ℕ) (base way : ℕ) (next : ℕ) (frame : Frame PlacedLine) (frames : List (Frame PlacedLine)) → way < 2 ^ 32 → IsIn map code most next frame
-      → ((k w : ℕ) → frame.cells k ≡ Some w → ⊥) → frame.into ≡ None
+      → ((k w : ℕ) → frame.cells k ≡ Some w → ⊥) → frame.into ≡ None → takes_frame map.jumps frame.whole ≡ true
       → FramesAt map code most stop roof memory way (base + map.frame) frames → FramesAt map code most stop roof (with_number base 4 way memory) next base (frame ∷ frames)
-  frames_pushed some memory base way next frame frames fits here unknown waits_none stand =
+  frames_pushed some memory base way next frame frames fits here unknown waits_none takes stand =
       let after = with_number base 4 way memory in
       let rest : FramesAt map code most stop roof after way (base + map.frame) frames =
       frames_kept map code most stop roof some memory after way (base + map.frame) frames (λ x low high. word-apart base way memory x (inr (omega arith))) stand in (
         here,
         (λ k w is. absurd (unknown k w is)),
-        rw waits_none tt,
+        (rw waits_none tt, takes),
         subst (λ w. FramesAt map code most stop roof after w (base + map.frame) frames) (sym (word-same base way memory fits)) rest,
       )

@@ -1,5 +1,7 @@
 -- Lines as they stand in the code: where labels and functions are found, and what is kept of the code that is left.
-use Rattle.std.proofs.Common.{◌≡◌, ◌≤◌, ◌<◌, ℕ, zero, suc, ◌+◌, ◌*◌, ◌%◌, ◌^◌, max, List, [], ◌∷◌, length, Option, Some, None, Bool, true, false, cond, slice_get, IsSome, refl, sym, ap, subst, arith}
+use Rattle.std.proofs.Common.{◌≡◌, ◌≤◌, ◌<◌, ◌||◌, ℕ, zero, suc, ◌+◌, ◌*◌, ◌%◌, ◌^◌, max, List, [], ◌∷◌, length, Option, Some, None, Bool, true, false, cond, slice_get, IsSome, refl, sym, ap, subst, arith}
+use Rattle.std.specs.List.{list_any}
+use Rattle.std.proofs.lemmas.Bool.{or_left, or_right}
 use Rattle.rv_isa.specs.declared.asm.Condition.{Condition}
 use Rattle.rv_isa.specs.declared.instr.Instr.{Instr}
 use Rattle.rv_isa.specs.declared.register.Register.{Register}
@@ -8,14 +10,34 @@ use Rattle.rv_isa.specs.Frames.{Frame, found}
 use Rattle.rv_isa.specs.PlacedMachine.{is_label_line, placed_entered}
 use Rattle.rv_isa.specs.Processor.{Processor}
 use Rattle.rv_isa.specs.Standing.{Code, Stands}
-use Rattle.rv_place.specs.Addresses.{words_of_shift, words_to_frame, words_of_line, words_of_lines, label_address, forms_of, entry_words}
+use Rattle.rv_place.specs.Addresses.{words_of_shift, words_to_frame, words_of_line, words_of_lines, label_address, forms_of, entry_words, needs_frame, takes_frame}
 use Rattle.rv_place.specs.Instructions.{words_of_jump, JumpsBy, words_of_branch, BranchesOn}
 use Rattle.rv_place.specs.Registers.{zero_register}
 use Rattle.rv_place.specs.declared.reach.Forms.{Forms}
 use Rattle.rv_place.specs.declared.reach.Reach.{Reach}
 use Rattle.rv_place.specs.declared.reach.Reach.TheVariants.{Near, Far, Wide}
-use Rattle.rv_place.specs.Lines.{Map, LineAt, LinesAt, FunctionAt, FunctionsAt}
+use Rattle.rv_place.specs.Lines.{Map, ShiftsStack, BeginsAt, LineAt, LinesAt, FunctionAt, FunctionsAt}
 use Rattle.rv_place.specs.Running.{IsPlain, ArePlain, AllPlain, most_lines, IsIn}
+
+-- ---- functions that take a frame
+
+-- one that takes none is in a text whose jumps are near
+pub bare_near : (jumps : Reach) (lines : List PlacedLine) → takes_frame jumps lines ≡ false → jumps ≡ Near
+bare_near Near lines none = refl
+bare_near Far lines none = cc
+bare_near Wide lines none = cc
+
+-- lines that begin with one that needs a frame
+pub first_takes : (jumps : Reach) (line : PlacedLine) (rest : List PlacedLine) → needs_frame line ≡ true → takes_frame jumps (line ∷ rest) ≡ true
+first_takes Near line rest needs = or_left (needs_frame line) (list_any needs_frame rest) needs
+first_takes Far line rest needs = refl
+first_takes Wide line rest needs = refl
+
+-- or go on with some
+rest_takes : (jumps : Reach) (line : PlacedLine) (rest : List PlacedLine) → takes_frame jumps rest ≡ true → takes_frame jumps (line ∷ rest) ≡ true
+rest_takes Near line rest takes = or_right (needs_frame line) (list_any needs_frame rest) takes
+rest_takes Far line rest takes = refl
+rest_takes Wide line rest takes = refl
 
 -- ---- labels
 
@@ -27,12 +49,13 @@ pub record Labelled (map : Map) (forms : Forms) (code : Code) (start : ℕ) (who
   pub stand : LinesAt map forms code start whole target lines
   pub plain : ArePlain whole lines
   pub few : length lines ≤ most
+  pub takes : takes_frame map.jumps lines ≡ true → takes_frame map.jumps whole ≡ true
   pub place : target + 4 * words_of_lines forms lines ≡ end
 
 module _ (map : Map) (forms : Forms) (code : Code) (start : ℕ) (whole : List PlacedLine) (most end l : ℕ) where
-  label_step : (b : Bool) (at : ℕ) (lines later behind : List PlacedLine) (address : Option ℕ) (rest : Option (List PlacedLine)) → at % 4 ≡ 0 → LinesAt map forms code start whole at lines → ArePlain whole lines → length lines ≤ most
+  label_step : (b : Bool) (at : ℕ) (lines later behind : List PlacedLine) (address : Option ℕ) (rest : Option (List PlacedLine)) → at % 4 ≡ 0 → LinesAt map forms code start whole at lines → ArePlain whole lines → length lines ≤ most → (takes_frame map.jumps lines ≡ true → takes_frame map.jumps whole ≡ true)
       → at + 4 * words_of_lines forms lines ≡ end → (rest ≡ Some behind → Labelled map forms code start whole most end address behind) → cond b (Some lines) rest ≡ Some behind → Labelled map forms code start whole most end (cond b (Some at) address) behind
-  label_step true at lines later behind address rest word stand plain few place further is =
+  label_step true at lines later behind address rest word stand plain few takes place further is =
       let same : lines ≡ behind = cc in
       record {
         target = at;
@@ -41,16 +64,17 @@ module _ (map : Map) (forms : Forms) (code : Code) (start : ℕ) (whole : List P
         stand = subst (λ c. LinesAt map forms code start whole at c) same stand;
         plain = subst (ArePlain whole) same plain;
         few = subst (λ (c : List PlacedLine). length c ≤ most) same few;
+        takes = subst (λ (c : List PlacedLine). takes_frame map.jumps c ≡ true → takes_frame map.jumps whole ≡ true) same takes;
         place = subst (λ c. at + 4 * words_of_lines forms c ≡ end) same place;
       }
-  label_step false at lines later behind address rest word stand plain few place further is = further is
+  label_step false at lines later behind address rest word stand plain few takes place further is = further is
 
-  pub label_found : (at : ℕ) (lines behind : List PlacedLine) → at % 4 ≡ 0 → LinesAt map forms code start whole at lines → ArePlain whole lines → length lines ≤ most
+  pub label_found : (at : ℕ) (lines behind : List PlacedLine) → at % 4 ≡ 0 → LinesAt map forms code start whole at lines → ArePlain whole lines → length lines ≤ most → (takes_frame map.jumps lines ≡ true → takes_frame map.jumps whole ≡ true)
       → at + 4 * words_of_lines forms lines ≡ end → found (is_label_line l) lines ≡ Some behind → Labelled map forms code start whole most end (label_address forms l at lines) behind
-  label_found at [] behind word stand plain few place is = cc
-  label_found at (line ∷ lines) behind word stand plain few place is =
-      label_step (is_label_line l line) at (line ∷ lines) lines behind (label_address forms l (at + 4 * words_of_line forms line) lines) (found (is_label_line l) lines) word stand plain few place
-      (λ later. label_found (at + 4 * words_of_line forms line) lines behind (omega arith) stand.1 plain.1 (omega arith) (omega arith) later) is
+  label_found at [] behind word stand plain few takes place is = cc
+  label_found at (line ∷ lines) behind word stand plain few takes place is =
+      label_step (is_label_line l line) at (line ∷ lines) lines behind (label_address forms l (at + 4 * words_of_line forms line) lines) (found (is_label_line l) lines) word stand plain few takes place
+      (λ later. label_found (at + 4 * words_of_line forms line) lines behind (omega arith) stand.1 plain.1 (omega arith) (λ needs. takes (rest_takes map.jumps line lines needs)) (omega arith) later) is
 
 -- a label that is there
 pub label_there : {A : Type 0} (o : Option A) → IsSome o → (a : A) × (o ≡ Some a)
@@ -124,13 +148,28 @@ few_found (function ∷ functions) zero callee is =
 few_found (function ∷ functions) (suc g) callee is =
     let rest = few_found functions g callee is in let less = max_right (length function.code) (most_lines functions) in omega arith
 
+-- the address behind the entry is one of a word
+begins_word : {map : Map} {code : Code} {s : Processor} {entry : ℕ} (takes : Bool) → (takes ≡ false → map.jumps ≡ Near) → Stands code s
+    → ((at : ℕ) (i : Instr) → code at ≡ Some i → at + 4 < 2 ^ 32) → BeginsAt takes map code entry
+    → ((entry + 4 * entry_words map.jumps) % 4 ≡ 0) × (entry + 4 * entry_words map.jumps < 2 ^ 32)
+begins_word {map} {code} {s} {entry} true near stands below enters =
+    let saving : ℕ = entry + 4 * words_to_frame map.jumps + 4 + 4 * words_of_jump map.jumps + 4 * words_of_shift map.jumps in
+    let word = stands.aligned saving _ enters.saves in
+    let last = below saving _ enters.saves in
+    (omega arith, omega arith)
+begins_word {map} {code} {s} {entry} false near stands below passes =
+    let gives = subst (λ (j : Reach). ShiftsStack j map.frame code (entry + 4 + 4 * words_of_jump j + 4)) (near refl) passes.gives in
+    let word = stands.aligned (entry + 4 + 4 + 4) _ gives.2 in
+    let last = below (entry + 4 + 4 + 4) _ gives.2 in
+    subst (λ (j : Reach). ((entry + 4 * entry_words j) % 4 ≡ 0) × (entry + 4 * entry_words j < 2 ^ 32)) (sym (near refl)) (omega arith, omega arith)
+
 -- a function behind its entry
 pub entered_in : {map : Map} {code : Code} {s : Processor} (most g entry : ℕ) (callee : PlacedLines) → Stands code s → ((at : ℕ) (i : Instr) → code at ≡ Some i → at + 4 < 2 ^ 32)
     → slice_get map.entries g ≡ Some entry → FunctionAt map code entry callee → ArePlain callee.code callee.code → length callee.code ≤ most → IsIn map code most (entry + 4 * entry_words map.jumps) (placed_entered g callee)
 entered_in {map} most g entry callee stands below entry_is function plain few =
-    let saving : ℕ = entry + 4 * words_to_frame map.jumps + 4 + 4 * words_of_jump map.jumps + 4 * words_of_shift map.jumps in
-    let word = stands.aligned saving _ function.entry.saves in
-    let last = below saving _ function.entry.saves in
+    let first = begins_word (takes_frame map.jumps callee.code) (bare_near map.jumps callee.code) stands below function.entry in
+    let word = first.0 in
+    let last = first.1 in
     record {
       forms = forms_of map.jumps callee.code;
       start = entry + 4 * entry_words map.jumps;
@@ -143,6 +182,7 @@ entered_in {map} most g entry callee stands below entry_is function plain few =
       plain = plain;
       few_whole = few;
       few = few;
+      takes = λ needs. needs;
       entry = entry;
       entry_is = entry_is;
       start_is = refl;
@@ -155,8 +195,9 @@ entered_in {map} most g entry callee stands below entry_is function plain few =
 module _ {map : Map} {code : Code} {most at : ℕ} {f : Frame PlacedLine} (is_in : IsIn map code most at f) where
   -- other lines of the same function
   moves_to : (next : ℕ) (lines : List PlacedLine) (g : Frame PlacedLine) → g.function ≡ f.function → g.whole ≡ f.whole → g.code ≡ lines → LinesAt map is_in.forms code is_in.start f.whole next lines → next % 4 ≡ 0 → next < 2 ^ 32 → ArePlain f.whole lines → length lines ≤ most
+      → (takes_frame map.jumps lines ≡ true → takes_frame map.jumps f.whole ≡ true)
       → next + 4 * words_of_lines is_in.forms lines ≡ is_in.start + 4 * words_of_lines is_in.forms f.whole → IsIn map code most next g
-  moves_to next lines g function_is whole_is code_is stand word below plain few place = record {
+  moves_to next lines g function_is whole_is code_is stand word below plain few takes place = record {
     forms = is_in.forms;
     start = is_in.start;
     start_word = is_in.start_word;
@@ -168,6 +209,8 @@ module _ {map : Map} {code : Code} {most at : ℕ} {f : Frame PlacedLine} (is_in
     plain = subst (ArePlain g.whole) (sym code_is) (subst (λ w. ArePlain w lines) (sym whole_is) plain);
     few_whole = subst (λ (c : List PlacedLine). length c ≤ most) (sym whole_is) is_in.few_whole;
     few = subst (λ (c : List PlacedLine). length c ≤ most) (sym code_is) few;
+    takes = subst (λ (c : List PlacedLine). takes_frame map.jumps c ≡ true → takes_frame map.jumps g.whole ≡ true) (sym code_is)
+        (subst (λ (w : List PlacedLine). takes_frame map.jumps lines ≡ true → takes_frame map.jumps w ≡ true) (sym whole_is) takes);
     entry = is_in.entry;
     entry_is = subst (λ n. slice_get map.entries n ≡ Some is_in.entry) (sym function_is) is_in.entry_is;
     start_is = is_in.start_is;
@@ -180,7 +223,7 @@ module _ {map : Map} {code : Code} {most at : ℕ} {f : Frame PlacedLine} (is_in
   pub goes_to_label : (l : ℕ) (lines : List PlacedLine) (g : Frame PlacedLine) → g.function ≡ f.function → g.whole ≡ f.whole → g.code ≡ lines
       → (labelled : Labelled map is_in.forms code is_in.start f.whole most (is_in.start + 4 * words_of_lines is_in.forms f.whole) (label_address is_in.forms l is_in.start f.whole) lines) → labelled.target < 2 ^ 32 → IsIn map code most labelled.target g
   goes_to_label l lines g function_is whole_is code_is labelled below =
-      moves_to labelled.target lines g function_is whole_is code_is labelled.stand labelled.word below labelled.plain labelled.few labelled.place
+      moves_to labelled.target lines g function_is whole_is code_is labelled.stand labelled.word below labelled.plain labelled.few labelled.takes labelled.place
 
   module _ (line : PlacedLine) (rest : List PlacedLine) (code_is : f.code ≡ line ∷ rest) where
     lines_at : LinesAt map is_in.forms code is_in.start f.whole at (line ∷ rest)
@@ -188,6 +231,13 @@ module _ {map : Map} {code : Code} {most at : ℕ} {f : Frame PlacedLine} (is_in
 
     lines_plain : ArePlain f.whole (line ∷ rest)
     lines_plain = subst (ArePlain f.whole) code_is is_in.plain
+
+    lines_take : takes_frame map.jumps (line ∷ rest) ≡ true → takes_frame map.jumps f.whole ≡ true
+    lines_take = subst (λ (c : List PlacedLine). takes_frame map.jumps c ≡ true → takes_frame map.jumps f.whole ≡ true) code_is is_in.takes
+
+    -- a line that needs a frame has one
+    pub line_takes : needs_frame line ≡ true → takes_frame map.jumps f.whole ≡ true
+    line_takes needs = lines_take (first_takes map.jumps line rest needs)
 
     pub line_at : LineAt map is_in.forms code is_in.start f.whole at line
     line_at = lines_at.0
@@ -204,4 +254,4 @@ module _ {map : Map} {code : Code} {most at : ℕ} {f : Frame PlacedLine} (is_in
         let word = is_in.at_word in
         let size : words_of_lines is_in.forms f.code ≡ words_of_line is_in.forms line + words_of_lines is_in.forms rest = ap (words_of_lines is_in.forms) code_is in
         let here = is_in.place in
-        moves_to next rest g function_is whole_is rest_is (subst (λ a. LinesAt map is_in.forms code is_in.start f.whole a rest) next_is lines_at.1) (omega arith) below lines_plain.1 rest_few (omega arith)
+        moves_to next rest g function_is whole_is rest_is (subst (λ a. LinesAt map is_in.forms code is_in.start f.whole a rest) next_is lines_at.1) (omega arith) below lines_plain.1 rest_few (λ needs. lines_take (rest_takes map.jumps line rest needs)) (omega arith)

@@ -164,6 +164,7 @@ is_in_again i cells held = record {
   plain = i.plain;
   few_whole = i.few_whole;
   few = i.few;
+  takes = i.takes;
   entry = i.entry;
   entry_is = i.entry_is;
   start_is = i.start_is;

@@ -34,7 +34,7 @@ use Rattle.cell_heap.specs.Pool.{Pool}
 use Rattle.cell_heap.proofs.Blocks.{mapped}
 use Rattle.rv_world.specs.World.{World, computed_in, primitives}
 use Rattle.rv_place.specs.Registers.{zero_register, sp}
-use Rattle.rv_place.specs.Addresses.{is_same_register, stands_there, goes_home, is_silent, frame_bias, slot_offset}
+use Rattle.rv_place.specs.Addresses.{is_same_register, stands_there, goes_home, is_silent, has_slot, takes_frame, frame_bias, slot_offset}
 use Rattle.rv_place.specs.Instructions.{form_of, words_of_form, words_of_operation}
 use Rattle.rv_place.specs.declared.constant.WordForm.{WordForm}
 use Rattle.rv_place.specs.declared.constant.WordForm.TheVariants.{Short, Upper, Both}
@@ -45,12 +45,12 @@ use Rattle.rv_place.specs.Running.{most_lines, IsIn, links_of, Running}
 use Rattle.rv_place.proofs.RunningExecuting.{MissesFree, Gets, addi_row, plain_gets, load_gets, store_goes}
 use Rattle.rv_place.proofs.RunningFree.{behind_misses}
 use Rattle.rv_place.proofs.RunningRows.{from_pointer}
-use Rattle.rv_place.proofs.RunningFrames.{value_kept, agrees_put, agrees_kept, frames_put}
+use Rattle.rv_place.proofs.RunningFrames.{value_kept, agrees_put, agrees_kept, frames_put, waits_as, runs_as}
 use Rattle.rv_place.proofs.RunningLinks.{is_fixed, roots_done, links_put, slots_apart}
 use Rattle.rv_place.proofs.RunningTargets.{is_target, IsTarget, GivesTarget, target_apart, target_fixed}
 use Rattle.rv_place.proofs.RunningWords.{some_cons, words_in, in_registers, Computed, computes}
 use Rattle.rv_place.proofs.RunningInside.{walks_done}
-use Rattle.rv_place.proofs.RunningComes.{or_stuck_some, Comes, comes_go, comes_idle, runs_on, agrees_got, sp_low, sp_word, sp_high, constants_kept, stays}
+use Rattle.rv_place.proofs.RunningComes.{or_stuck_some, Comes, comes_go, comes_idle, runs_on, agrees_got, framed_base, sp_low, sp_word, sp_high, constants_kept, stays}
 
 -- a place that is the register of a number, if there is one
 home_place : (home : Option ℕ) (place : Place) → is_in_any home place ≡ true → (x : ℕ) × (home ≡ Some x) × (is_in x place ≡ true)
@@ -229,10 +229,10 @@ module _ {map_of : Map} {pool : Pool} {functions : List PlacedLines} {depth buff
   -- ---- slots
 
   -- the slot that is loaded from, or stored to
-  pub slot_address : (k : ℕ) (offset : ℕ) → sum_word (frame_bias map_of.jumps) offset ≡ slot_offset k → slot_offset k + 4 ≤ map_of.frame → sum_word (value s.registers 2) offset ≡ running.base + slot_offset k
-  slot_address k offset is inside =
+  pub slot_address : takes_frame map_of.jumps f.whole ≡ true → (k : ℕ) (offset : ℕ) → sum_word (frame_bias map_of.jumps) offset ≡ slot_offset k → slot_offset k + 4 ≤ map_of.frame → sum_word (value s.registers 2) offset ≡ running.base + slot_offset k
+  slot_address takes k offset is inside =
       let high = sp_high ground f fs known world s running in let range = ground.in_range in
-      rw running.base_is (from_pointer running.base (frame_bias map_of.jumps) (slot_offset k) offset is (omega arith))
+      rw (framed_base ground f fs known world s running takes) (from_pointer running.base (frame_bias map_of.jumps) (slot_offset k) offset is (omega arith))
 
   pub slot_loads : (k : ℕ) → slot_offset k + 4 ≤ map_of.frame → can_load s.parts (running.base + slot_offset k) 4 ≡ true
   slot_loads k inside =
@@ -281,23 +281,24 @@ module _ {map_of : Map} {pool : Pool} {functions : List PlacedLines} {depth buff
     got_stays : (rd : Register) (w : Option ℕ) (word : ℕ) → Gets pool.cells code 1 (rd.number ∷ []) rd.number word (s.pc + 4) s → s.pc + 4 < 2 ^ 32 → is_target rd.number ≡ true → ((v : ℕ) → w ≡ Some v → (word ≡ v) × (v < 2 ^ 32))
         → Comes map_of pool functions depth stop code parts 1 old (placed_goes behind fs (put rd.number w known) world) s
     got_stays rd w word gets fits target new =
-        stays ground f fs known world s running 1 old gets.after rest (put rd.number w known) gets.done ((λ e. target_apart rd.number 2 refl target (sym e)), tt) (or_from (is_fixed rd.number) false (target_fixed rd.number target) refl) (is_in f.cells (s.pc + 4) refl fits)
+        stays ground f fs known world s running 1 old gets.after rest (put rd.number w known) gets.done ((λ e. target_apart rd.number 2 refl target (sym e)), tt) (or_from (is_fixed rd.number) false (target_fixed rd.number target) refl)
+        (λ bare. gets.done.kept 1 ((λ e. target_apart rd.number 1 refl target (sym e)), tt)) (is_in f.cells (s.pc + 4) refl fits)
         (agrees_got s known w gets target new running.registers) (omega arith) (omega arith)
 
-    pub follow_move : (way : Way) → MovesBy map_of code s.pc way → IsTarget (to_of way) → is_held f.held (to_of way) ≡ false
+    pub follow_move : (way : Way) → (has_slot way ≡ true → takes_frame map_of.jumps f.whole ≡ true) → MovesBy map_of code s.pc way → IsTarget (to_of way) → is_held f.held (to_of way) ≡ false
         → Comes map_of pool functions depth stop code parts 1 old (placed_writes (to_of way) (read_at known f.cells (from_of way)) behind fs known world) s
-    follow_move (Copy from to) (imm, none, here) handed unheld =
+    follow_move (Copy from to) takes (imm, none, here) handed unheld =
         got_stays to (known from.number) (sum_word (value s.registers from.number) imm.word) (plain_gets pool.cells ground.below running.rests.stands refl (addi_row to from imm) here) (ground.below s.pc (Instr.Addi to from imm) here) handed
         (copied from.number imm.word none)
-    follow_move (Load from to) (offset, offset_is, here) handed unheld =
-        let address = slot_address from offset.word offset_is.0 offset_is.1 in
+    follow_move (Load from to) takes (offset, offset_is, here) handed unheld =
+        let address = slot_address (takes refl) from offset.word offset_is.0 offset_is.1 in
         let word = slot_word running.base from (sp_word ground f fs known world s running) in
         let gets = load_gets pool.cells ground.below running.rests.stands refl {rd = to} {base = sp} {offset = offset} {address = running.base + slot_offset from} {word = number_at s.memory (running.base + slot_offset from) 4}
         here address word (slot_loads from offset_is.1) refl (slot_misses from) in
         got_stays to (f.cells from) (number_at s.memory (running.base + slot_offset from) 4) gets (ground.below s.pc (Instr.Lw to sp offset) here) handed
         (λ v is. let holds = running.frames.1 from v is in (holds.1, holds.2))
-    follow_move (Store from to) (offset, offset_is, here) handed unheld =
-        let address = slot_address to offset.word offset_is.0 offset_is.1 in
+    follow_move (Store from to) takes (offset, offset_is, here) handed unheld =
+        let address = slot_address (takes refl) to offset.word offset_is.0 offset_is.1 in
         let word = slot_word running.base to (sp_word ground f fs known world s running) in
         let allowed = slot_stores to offset_is.1 in
         let base = running.base in
@@ -307,9 +308,11 @@ module _ {map_of : Map} {pool : Pool} {functions : List PlacedLines} {depth buff
         comes_go map_of pool functions depth stop code parts 1 old after s goes.after 1 (walks_done goes.done)
         (runs_on map_of pool functions depth stop code parts (record { frames = f ∷ fs; registers = known; shared = world }) world.cells s goes.after after.frames known base running goes.done tt
         (constants_kept ground f fs known world s running (base + slot_offset to) (value s.registers from.number) allowed) running.room (goes.done.kept 2 tt ∙ running.base_is)
+        (runs_as map_of code (most_lines functions) stop (stack_end map_of depth) goes.after.registers (with_number (base + slot_offset to) 4 (value s.registers from.number) s.memory) (s.pc + 4) base after.frames
         (frames_put map_of code (most_lines functions) stop (stack_end map_of depth) ground.some_frame s.memory base to (value s.registers from.number) s.pc (s.pc + 4) (known from.number) f (record behind { cells = put to (known from.number) f.cells }) fs
-        offset_is.1 (λ w is. let holds = running.registers from.number w is in (holds.1, holds.2)) refl refl
-        (is_in (put to (known from.number) f.cells) (s.pc + 4) refl (ground.below s.pc (Instr.Sw sp from offset) here)) running.frames)
+        offset_is.1 (λ w is. let holds = running.registers from.number w is in (holds.1, holds.2)) refl refl refl
+        (is_in (put to (known from.number) f.cells) (s.pc + 4) refl (ground.below s.pc (Instr.Sw sp from offset) here))
+        (waits_as map_of code (most_lines functions) stop (stack_end map_of depth) s.registers s.memory s.pc base f fs (takes refl) running.frames)))
         (agrees_kept known s.registers goes.after.registers running.registers (λ x handed. goes.done.kept x tt))
         (slot_stored to (known from.number) (value s.registers from.number) offset_is.1 unheld goes.after (roots_done goes.done refl) goes.done.memory_is)) (omega arith) (omega arith)
 
@@ -322,7 +325,7 @@ module _ {map_of : Map} {pool : Pool} {functions : List PlacedLines} {depth buff
     gives_word None word gives handed computed =
         let result = computed zero_register refl in
         let size = operation_weighs operation in
-        stays ground f fs known world s running (operation_instructions operation) old result.gets.after rest known result.gets.done ((λ e. cc), tt) refl (is_in (s.pc + 4 * words_of_operation operation) refl result.next_fits)
+        stays ground f fs known world s running (operation_instructions operation) old result.gets.after rest known result.gets.done ((λ e. cc), tt) refl (λ bare. result.gets.done.kept 1 ((λ e. cc), tt)) (is_in (s.pc + 4 * words_of_operation operation) refl result.next_fits)
         (agrees_kept known s.registers result.gets.after.registers running.registers (λ x handed. value_kept x s.registers result.gets.after.registers (λ apart. result.gets.done.kept x (apart, tt)))) size.0 size.1
     gives_word (Some into) word gives handed computed = at_place into.place refl
       where
@@ -333,6 +336,7 @@ module _ {map_of : Map} {pool : Pool} {functions : List PlacedLines} {depth buff
             let some : is_target r.number ≡ true = subst (λ place. IsTarget place) is handed in
             let size = operation_weighs operation in
             rw is (stays ground f fs known world s running (operation_instructions operation) old result.gets.after rest (put r.number (Some word) known) result.gets.done ((λ e. target_apart r.number 2 refl some (sym e)), tt) (or_from (is_fixed r.number) false (target_fixed r.number some) refl)
+            (λ bare. result.gets.done.kept 1 ((λ e. target_apart r.number 1 refl some (sym e)), tt))
             (is_in (s.pc + 4 * words_of_operation operation) refl result.next_fits)
             (agrees_got s known (Some word) result.gets some (λ v same. let e : word ≡ v = cc in (e, subst (λ w. w < 2 ^ 32) e result.fits)) running.registers) size.0 size.1)
 

@@ -54,19 +54,19 @@ use Rattle.cell_heap.specs.Pool.{Pool}
 use Rattle.rv_world.specs.World.{World, with_cells, primitives, told_more, takes_cell, gives_up, drop_count, print_bytes, read_next, served, lasts}
 use Rattle.rv_place.specs.Registers.{ra}
 use Rattle.rv_place.specs.Instructions.{words_of_jump, CallsTo}
+use Rattle.rv_place.specs.Addresses.{takes_frame, frame_bias}
 use Rattle.rv_place.specs.declared.reach.Forms.{Forms}
 use Rattle.rv_place.specs.Lines.{Map, IsSymbolAt, ActsAt}
 use Rattle.rv_place.specs.Grounds.{Ground, stack_end, constant_bytes}
 use Rattle.rv_place.specs.Running.{most_lines, IsIn, FramesAt, links_of, Agrees, Running}
-use Rattle.rv_place.proofs.RunningExecuting.{Gets}
 use Rattle.rv_place.proofs.RunningInside.{Walks, walks_done, walks_then, stands_part, returns_walk, passes_to_exit}
 use Rattle.rv_place.proofs.RunningLines.{jump_some, jump_most}
-use Rattle.rv_place.proofs.RunningRows.{jump_to, jump_last}
-use Rattle.rv_place.proofs.RunningFrames.{handed_apart, agrees_put, frames_kept}
+use Rattle.rv_place.proofs.RunningRows.{Jumped, jump_to, jump_last}
+use Rattle.rv_place.proofs.RunningFrames.{handed_apart, agrees_put, frames_kept, waits_as, runs_as, newest_waits}
 use Rattle.rv_place.proofs.RunningLinks.{is_own, outside_own, handed_own, roots_done, cells_done, cells_ended, slots_below, frames_taken, top_none}
 use Rattle.rv_place.proofs.RunningJumps.{exit_runs}
 use Rattle.rv_place.proofs.RunningWords.{passed_known}
-use Rattle.rv_place.proofs.RunningComes.{Comes, comes_go, comes_ended, sp_low}
+use Rattle.rv_place.proofs.RunningComes.{Comes, comes_go, comes_ended, framed_base, sp_low}
 
 -- ---- registers that a routine keeps
 
@@ -152,7 +152,8 @@ slice_there constants at count bytes is = slice_by constants at count bytes (nat
 
 module _ {map_of : Map} {pool : Pool} {functions : List PlacedLines} {depth buffer stop : ℕ} {code : Code} {parts : List Part} (ground : Ground map_of pool functions depth buffer stop code parts)
     (f : Frame PlacedLine) (fs : List (Frame PlacedLine)) (known : ℕ → Option ℕ) (world : World) (s : Processor)
-    (running : Running map_of pool functions depth stop code parts (record { frames = f ∷ fs; registers = known; shared = world }) s) (rest : List PlacedLine) (old : ℕ) (forms : Forms) where
+    (running : Running map_of pool functions depth stop code parts (record { frames = f ∷ fs; registers = known; shared = world }) s) (rest : List PlacedLine) (old : ℕ) (forms : Forms)
+    (framed : takes_frame map_of.jumps f.whole ≡ true) where
   abbrev behind : Frame PlacedLine
   behind = record f { code = rest }
 
@@ -164,7 +165,7 @@ module _ {map_of : Map} {pool : Pool} {functions : List PlacedLines} {depth buff
 
   -- the state in which a routine begins
   pub record Begins (target : ℕ) : Type 0 where
-    pub called : Gets pool.cells code (words_of_jump forms.jumps) (1 ∷ 1 ∷ []) 1 (s.pc + 4 * words_of_jump forms.jumps) target s
+    pub called : Jumped pool.cells code forms.jumps 1 (s.pc + 4 * words_of_jump forms.jumps) target s
     pub is_at : IsAt ground.own target called.after
     pub way_back : HasWayBack called.after
     pub way_fits : s.pc + 4 * words_of_jump forms.jumps < 2 ^ 32
@@ -221,6 +222,10 @@ module _ {map_of : Map} {pool : Pool} {functions : List PlacedLines} {depth buff
 
   -- ---- the run goes on behind the call
 
+  -- the frames as those that wait
+  waits_here : FramesAt map_of code (most_lines functions) stop (stack_end map_of depth) s.memory s.pc running.base (f ∷ fs)
+  waits_here = waits_as map_of code (most_lines functions) stop (stack_end map_of depth) s.registers s.memory s.pc running.base f fs framed running.frames
+
   -- the buffer lies below the cells
   cells_stay : (t : Processor) → SameRoots s t → KeepsOutside buffer buffer_bytes s t → HoldsCells pool world.cells (links_of map_of running.base (f ∷ fs)) t
   cells_stay t roots memory =
@@ -238,7 +243,7 @@ module _ {map_of : Map} {pool : Pool} {functions : List PlacedLines} {depth buff
       → IsIn map_of code (most_lines functions) (s.pc + 4 * words_of_jump forms.jumps) behind → KeepsOutside buffer buffer_bytes s t → t.trace ≡ world'.trace → t.left ≡ world'.left → All (λ byte. byte < 256) t.left → Agrees known' t.registers
       → Comes map_of pool functions depth stop code parts most old (placed_goes behind fs known' world') s
   comes_back most {routine} {count} world' t known' back keeps roots same_cells within is_behind memory trace left bytes agrees =
-      let stand = running.frames in
+      let stand = waits_here in
       let sp = running.base in
       let low = sp_low ground f fs known world s running in
       let under = ground.buffer_below in
@@ -262,7 +267,7 @@ module _ {map_of : Map} {pool : Pool} {functions : List PlacedLines} {depth buff
         room = running.room;
         base = sp;
         base_is = base_is;
-        frames = at_pc;
+        frames = runs_as map_of code (most_lines functions) stop (stack_end map_of depth) t.registers t.memory t.pc sp (behind ∷ fs) at_pc;
         registers = agrees;
         one = back.kept one_register (λ e. cc) refl (unspoilt_one routine) ∙ running.one;
         cells = subst (λ c. HoldsCells pool c (links_of map_of sp (behind ∷ fs)) t) (sym same_cells) (cells_stay t roots memory);
@@ -492,7 +497,8 @@ module _ {map_of : Map} {pool : Pool} {functions : List PlacedLines} {depth buff
         → t.trace ≡ s.trace → t.left ≡ s.left → Agrees known' t.registers → HoldsCells pool next (links_of map_of running.base frames) t
         → Comes map_of pool functions depth stop code parts most old (go (record { frames = frames; registers = known'; shared = with_cells world next })) s
     cells_come most {routine} {count} next t frames known' back keeps within stand size constants trace left agrees holds =
-        let base_is = back.kept 2 (λ e. cc) refl keeps ∙ running.base_is in
+        let base_is = back.kept 2 (λ e. cc) refl keeps ∙ framed_base ground f fs known world s running framed in
+        let newest = newest_waits map_of code (most_lines functions) stop (stack_end map_of depth) t.memory (s.pc + 4 * words_of_jump forms.jumps) running.base frames stand in
         let room = running.room in
         let at_pc = subst (λ a. FramesAt map_of code (most_lines functions) stop (stack_end map_of depth) t.memory a running.base frames) (sym back.pc_is) stand in
         comes_go map_of pool functions depth stop code parts most old (record { frames = frames; registers = known'; shared = with_cells world next }) s t (words_of_jump forms.jumps + count) back.walks (record {
@@ -506,8 +512,8 @@ module _ {map_of : Map} {pool : Pool} {functions : List PlacedLines} {depth buff
           bytes = subst (λ bytes. All (λ byte. byte < 256) bytes) (sym left) running.bytes;
           room = omega (arith, size, room);
           base = running.base;
-          base_is = base_is;
-          frames = at_pc;
+          base_is = base_is ∙ ap (λ b. b + frame_bias map_of.jumps) (sym newest);
+          frames = runs_as map_of code (most_lines functions) stop (stack_end map_of depth) t.registers t.memory t.pc running.base frames at_pc;
           registers = agrees;
           one = back.kept one_register (λ e. cc) refl (unspoilt_one routine) ∙ running.one;
           cells = holds;
@@ -521,7 +527,7 @@ module _ {map_of : Map} {pool : Pool} {functions : List PlacedLines} {depth buff
     cells_begin start = cells_done running.cells (roots_done start.called.done refl) start.called.done.memory_is
 
     waits_behind : s.pc + 4 * words_of_jump forms.jumps < 2 ^ 32 → FramesAt map_of code (most_lines functions) stop (stack_end map_of depth) s.memory (s.pc + 4 * words_of_jump forms.jumps) running.base (behind ∷ fs)
-    waits_behind fits = let stand = running.frames in (is_behind (s.pc + 4 * words_of_jump forms.jumps) refl fits, stand.1, stand.2, stand.3)
+    waits_behind fits = let stand = waits_here in (is_behind (s.pc + 4 * words_of_jump forms.jumps) refl fits, stand.1, stand.2, stand.3)
 
     -- ---- take
 

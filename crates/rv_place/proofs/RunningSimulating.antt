@@ -21,11 +21,12 @@ use Rattle.rv_isa.specs.Standing.{Code}
 use Rattle.cell_heap.specs.Pool.{Pool}
 use Rattle.rv_world.specs.World.{World, primitives}
 use Rattle.rv_place.specs.Addresses.{is_silent, words_of_action, words_of_line}
-use Rattle.rv_place.specs.Lines.{Map}
+use Rattle.rv_place.specs.Lines.{Map, ReturnsBy}
+use Rattle.rv_place.specs.declared.reach.Forms.{Forms}
 use Rattle.rv_place.specs.Grounds.{Ground}
 use Rattle.rv_place.specs.Running.{AllPlain, most_lines, Running, lines_left, NeverStuck, Related, Passing}
 use Rattle.rv_place.proofs.RunningReaches.{reaches}
-use Rattle.rv_place.proofs.RunningLines.{line_at, line_plain, goes_behind}
+use Rattle.rv_place.proofs.RunningLines.{line_at, line_plain, line_takes, goes_behind}
 use Rattle.rv_place.proofs.RunningComes.{or_stuck_some, Comes}
 use Rattle.rv_place.proofs.RunningTargets.{move_target, gives_target}
 use Rattle.rv_place.proofs.RunningMoves.{follow_label, follow_silent, follow_move}
@@ -72,7 +73,7 @@ module _ {map_of : Map} {pool : Pool} {functions : List PlacedLines} {depth buff
           let line = does alive (Compute operation) args into in
           let writes = line_plain running.frames.0 line rest code_is in
           comes_within (operation_instructions operation + 0) (omega arith)
-          (follow_compute ground f fs known world s running rest (suc (length rest)) operation (λ next next_is below. goes_behind running.frames.0 line rest code_is next (record f { code = rest }) refl refl refl
+          (follow_compute ground f fs known world s running rest (suc (length rest)) operation (line_takes running.frames.0 line rest code_is) (λ next next_is below. goes_behind running.frames.0 line rest code_is next (record f { code = rest }) refl refl refl
           (loud_words (Compute operation) loud ∙ next_is) below)
           running.frames.0.forms running.frames.0.start args into words turn (line_at running.frames.0 line rest code_is loud) conform (gives_target (Compute operation) args into writes.0 loud) words_are is good)
       follow_action (Label l) code_is conform loud is =
@@ -90,23 +91,25 @@ module _ {map_of : Map} {pool : Pool} {functions : List PlacedLines} {depth buff
           args into words turn (line_at running.frames.0 line rest code_is loud) writes.1 conform words_are is good
       follow_action (Call g) code_is conform loud is =
           let line = does alive (Call g) args into in
-          follow_call ground plain f fs known world s running rest (suc (length rest)) running.frames.0.forms g args into words running.frames.0.start turn
+          follow_call ground plain f fs known world s running rest (suc (length rest)) running.frames.0.forms (line_takes running.frames.0 line rest code_is refl) g args into words running.frames.0.start turn
           (λ next next_is below. goes_behind running.frames.0 line rest code_is next (record f { code = rest; into = awaited into }) refl refl refl (loud_words (Call g) loud ∙ next_is) below) (line_at running.frames.0 line rest code_is loud) conform words_are is good
       follow_action (TailCall g) code_is conform loud is =
-          follow_tail_call ground plain f fs known world s running rest (suc (length rest)) running.frames.0.forms g args into words running.frames.0.start turn (line_at running.frames.0 (does alive (TailCall g) args into) rest code_is loud) conform words_are is good
+          follow_tail_call ground plain f fs known world s running rest (suc (length rest)) running.frames.0.forms g args into words running.frames.0.start turn
+          (ap (λ (forms : Forms). forms.jumps) running.frames.0.forms_are) (ap (λ (forms : Forms). forms.frame) running.frames.0.forms_are) (line_at running.frames.0 (does alive (TailCall g) args into) rest code_is loud) conform words_are is good
       follow_action Return code_is conform loud is =
-          follow_return ground f known world s (suc (length rest)) (line_at running.frames.0 (does alive Return args into) rest code_is loud) fs rest args into words turn running conform words_are is good
+          follow_return ground f known world s (suc (length rest))
+          (subst (λ frame. ReturnsBy frame map_of code s.pc) (ap (λ (forms : Forms). forms.frame) running.frames.0.forms_are) (line_at running.frames.0 (does alive Return args into) rest code_is loud)) fs rest args into words turn running conform words_are is good
       follow_action (Routine routine) code_is conform loud is =
           let line = does alive (Routine routine) args into in
-          follow_routine ground f fs known world s running rest (suc (length rest)) running.frames.0.forms (λ next next_is below. goes_behind running.frames.0 line rest code_is next (record f { code = rest }) refl refl refl (loud_words (Routine routine) loud ∙ next_is) below) into turn good
+          follow_routine ground f fs known world s running rest (suc (length rest)) running.frames.0.forms (line_takes running.frames.0 line rest code_is refl) (λ next next_is below. goes_behind running.frames.0 line rest code_is next (record f { code = rest }) refl refl refl (loud_words (Routine routine) loud ∙ next_is) below) into turn good
           routine running.frames.0.start args words (line_at running.frames.0 line rest code_is loud) conform words_are is
       follow_action Hold code_is conform loud is =
           let line = does alive Hold args into in
-          follow_hold ground f fs known world s running rest (suc (length rest)) args into words turn good words_are
+          follow_hold ground f fs known world s running rest (suc (length rest)) (line_takes running.frames.0 line rest code_is refl) args into words turn good words_are
           (λ next next_is below. goes_behind running.frames.0 line rest code_is next (record f { code = rest }) refl refl refl (loud_words Hold loud ∙ next_is) below) (line_at running.frames.0 line rest code_is loud) is
       follow_action Unhold code_is conform loud is =
           let line = does alive Unhold args into in
-          follow_unhold ground f fs known world s running rest (suc (length rest)) args into words turn good words_are
+          follow_unhold ground f fs known world s running rest (suc (length rest)) (line_takes running.frames.0 line rest code_is refl) args into words turn good words_are
           (λ next next_is below. goes_behind running.frames.0 line rest code_is next (record f { code = rest }) refl refl refl (loud_words Unhold loud ∙ next_is) below) (line_at running.frames.0 line rest code_is loud) is
 
       -- or what it does without an instruction
@@ -136,7 +139,7 @@ module _ {map_of : Map} {pool : Pool} {functions : List PlacedLines} {depth buff
         let next = cond_false (is_held f.held (to_of way)) (placed_writes (to_of way) (read_at known f.cells (from_of way)) (record f { code = rest }) fs known world) turn is good in
         subst (λ t. Comes map_of pool functions depth stop code parts 1 (suc (length rest)) t s) next.1
         (follow_move ground f fs known world s running rest (suc (length rest)) (λ cells next next_is below. goes_behind running.frames.0 line rest code_is next (record f { code = rest; cells = cells }) refl refl refl next_is below)
-        way (line_at running.frames.0 line rest code_is) (move_target (to_of way) (line_plain running.frames.0 line rest code_is)) next.0)
+        way (line_takes running.frames.0 line rest code_is) (line_at running.frames.0 line rest code_is) (move_target (to_of way) (line_plain running.frames.0 line rest code_is)) next.0)
 
   -- ---- one step
 

@@ -3,7 +3,7 @@ use Rattle.std.proofs.Common.{◌≡◌, ◌≢◌, ◌==◌, ◌≤◌, ◌<◌
 use Rattle.std.proofs.Common.{map, Option, Some, None, Bool, true, false, cond, option_map, refl, sym, ap, ◌∙◌, subst}
 use Rattle.std.proofs.Common.{arith, lit<, nat_eq}
 use Rattle.std.proofs.lemmas.Bool.Decides.{nat_tests}
-use Rattle.std.proofs.lemmas.Bool.{eqb-true, eqb-false}
+use Rattle.std.proofs.lemmas.Bool.{eqb-true, eqb-false, false≢true}
 use Rattle.kk_base.specs.Memory.{Part}
 use Rattle.rv_isa.specs.declared.immediate.Immediate.{Immediate}
 use Rattle.rv_isa.specs.declared.immediate.BranchOffset.{BranchOffset}
@@ -39,18 +39,18 @@ use Rattle.cell_runtime.proofs.HoldingTokens.{linked, linked-outside, memory_hel
 use Rattle.cell_runtime.proofs.Blocks.{token_view, held_holds, unheld_holds}
 use Rattle.rv_world.specs.World.{World, with_cells, on_cells, primitives}
 use Rattle.rv_place.specs.Registers.{zero_register, ra, sp, s1}
-use Rattle.rv_place.specs.Addresses.{slot_offset}
+use Rattle.rv_place.specs.Addresses.{takes_frame, slot_offset}
 use Rattle.rv_place.specs.Instructions.{HoldsToken, UnholdsToken}
 use Rattle.rv_place.specs.declared.reach.Reach.TheVariants.{Near}
 use Rattle.rv_place.specs.Lines.{Map, IsOffsetOf, OnToken}
 use Rattle.rv_place.specs.Grounds.{Ground, stack_end, constant_bytes}
-use Rattle.rv_place.specs.Running.{most_lines, IsIn, FramesAt, word_of, links_in, links_of, Running}
+use Rattle.rv_place.specs.Running.{most_lines, IsIn, StackAt, word_of, links_in, links_of, Running}
 use Rattle.rv_place.proofs.RunningExecuting.{Done, Gets, Goes, addi_row, misses_done, done_then, done_on, done_as}
 use Rattle.rv_place.proofs.RunningExecuting.{plain_gets, load_gets, store_goes}
 use Rattle.rv_place.proofs.RunningFree.{token_misses}
 use Rattle.rv_place.proofs.RunningInside.{walks_done}
 use Rattle.rv_place.proofs.RunningRows.{branch_taken, branch_passed}
-use Rattle.rv_place.proofs.RunningFrames.{frames_kept}
+use Rattle.rv_place.proofs.RunningFrames.{stack_kept}
 use Rattle.rv_place.proofs.RunningLinks.{slots_in, roots_done, slots_apart, is_in_again}
 use Rattle.rv_place.proofs.RunningComes.{or_stuck_some, Comes, comes_go, runs_on, agrees_done, stays, sp_low, sp_word, sp_high}
 use Rattle.rv_place.proofs.RunningComes.{constants_kept}
@@ -167,12 +167,17 @@ module _ {map_of : Map} {pool : Pool} {functions : List PlacedLines} {depth buff
     (ground : Ground map_of pool functions depth buffer stop code parts)
     (f : Frame PlacedLine) (fs : List (Frame PlacedLine)) (known : ℕ → Option ℕ) (world : World) (s : Processor)
     (running : Running map_of pool functions depth stop code parts
-    (record { frames = f ∷ fs; registers = known; shared = world }) s) (rest : List PlacedLine) (old : ℕ) where
+    (record { frames = f ∷ fs; registers = known; shared = world }) s) (rest : List PlacedLine) (old : ℕ)
+    (framed : takes_frame map_of.jumps f.whole ≡ true) where
   abbrev behind : Frame PlacedLine
   behind = record f { code = rest }
 
   abbrev base : ℕ
   base = running.base
+
+  -- its function takes a frame, so that ra may change
+  spare_link : (u : Processor) → takes_frame map_of.jumps f.whole ≡ false → value u.registers 1 ≡ value s.registers 1
+  spare_link u bare = absurd (false≢true (sym bare ∙ framed))
 
   abbrev links_here : List Link
   links_here = links_of map_of base (f ∷ fs)
@@ -185,7 +190,7 @@ module _ {map_of : Map} {pool : Pool} {functions : List PlacedLines} {depth buff
 
   module _ (k : ℕ) (offset : Immediate) (offset_is : IsOffsetOf map_of k offset) (here : code s.pc ≡ Some (Lw ra sp offset)) where
     slot_at : sum_word (value s.registers 2) offset.word ≡ base + slot_offset k
-    slot_at = slot_address ground f fs known world s running rest k offset.word offset_is.0 offset_is.1
+    slot_at = slot_address ground f fs known world s running rest framed k offset.word offset_is.0 offset_is.1
 
     -- it comes to ra
     looks : Gets pool.cells code 1 (1 ∷ []) 1 (number_at s.memory (base + slot_offset k) 4) (s.pc + 4) s
@@ -212,7 +217,7 @@ module _ {map_of : Map} {pool : Pool} {functions : List PlacedLines} {depth buff
           (s.pc + 4 * words) Near Near (over, over_rest, there) (omega arith) (rw (looked 0 none) refl) in
           let done = done_on looks.done taken.done in
           stays ground f fs known world s running words old taken.after rest known done
-          ((λ e. cc), ((λ e. cc), ((λ e. cc), tt))) refl
+          ((λ e. cc), ((λ e. cc), ((λ e. cc), tt))) refl (spare_link taken.after)
           (is_behind (s.pc + 4 * words) refl last)
           (agrees_done s taken.after known done (refl, (refl, (refl, tt))) running.registers) (omega arith) (omega arith)
 
@@ -395,7 +400,7 @@ module _ {map_of : Map} {pool : Pool} {functions : List PlacedLines} {depth buff
           let link : Link = record { cell = word; slot = slot_here } in
           let links_are : links_of map_of base (record behind { held = k ∷ f.held } ∷ fs) ≡ link ∷ links_here =
           ap (λ o. record { cell = word_of o; slot = slot_here } ∷ links_here) word_is in
-          let here : FramesAt map_of code (most_lines functions) stop (stack_end map_of depth) s.memory (s.pc + 4 * 6) base
+          let here : StackAt map_of code (most_lines functions) stop (stack_end map_of depth) s.registers s.memory (s.pc + 4 * 6) base
           (record behind { held = k ∷ f.held } ∷ fs)
           = (is_in_again (is_behind (s.pc + 4 * 6) refl hold_last) f.cells (k ∷ f.held), stand.1, stand.2, stand.3) in
           comes_go map_of pool functions depth stop code parts 6 old
@@ -407,8 +412,8 @@ module _ {map_of : Map} {pool : Pool} {functions : List PlacedLines} {depth buff
           (runs_on map_of pool functions depth stop code parts (record { frames = f ∷ fs; registers = known; shared = world })
           (with_block word (kept words) world.cells) s t (record behind { held = k ∷ f.held } ∷ fs) known base running done out_one
           (links_clear inside.0 from usable) running.room (done.kept 2 out_2 ∙ running.base_is)
-          (frames_kept map_of code (most_lines functions) stop (stack_end map_of depth) ground.some_frame s.memory
-          (linked word newest slot_here s.memory) (s.pc + 4 * 6) base (record behind { held = k ∷ f.held } ∷ fs)
+          (stack_kept map_of code (most_lines functions) stop (stack_end map_of depth) ground.some_frame s.registers t.registers s.memory
+          (linked word newest slot_here s.memory) (s.pc + 4 * 6) base (record behind { held = k ∷ f.held }) fs (spare_link t)
           (λ x above high. word-apart (word + 4) slot_here (with_number word 4 newest s.memory) x (inr (omega (arith, inside.0)))
           ∙ word-apart word newest s.memory x (inr (omega (arith, inside.0)))) here)
           (agrees_done s t known done (refl, (refl, tt)) running.registers)
@@ -490,7 +495,9 @@ module _ {map_of : Map} {pool : Pool} {functions : List PlacedLines} {depth buff
         (runs_on map_of pool functions depth stop code parts (record { frames = f ∷ fs; registers = known; shared = world })
         (with_block word (own (past_links words)) world.cells) s third.after (record behind { held = held } ∷ fs) known base running
         done out_one refl running.room (done.kept 2 out_2 ∙ running.base_is)
-        (is_in_again (is_behind (s.pc + 4 * 3) refl unhold_last) f.cells held, stand.1, stand.2, stand.3)
+        (stack_kept map_of code (most_lines functions) stop (stack_end map_of depth) ground.some_frame s.registers third.after.registers
+        s.memory s.memory (s.pc + 4 * 3) base (record behind { held = held }) fs (spare_link third.after) (λ x low high. refl)
+        (is_in_again (is_behind (s.pc + 4 * 3) refl unhold_last) f.cells held, stand.1, stand.2, stand.3))
         (agrees_done s third.after known done (refl, (refl, tt)) running.registers)
         (unheld_holds holds words is memory done.memory_is)) (omega arith) (omega arith)
 

@@ -26,7 +26,7 @@ use Rattle.rv_place.specs.Lines.{registers_of, BranchesTo}
 use Rattle.rv_place.specs.Running.{Agrees}
 use Rattle.rv_place.proofs.RunningExecuting.{Gets, Goes, addi_row, lui_row, register_row, immediate_row, shift_row, plain_fits, plain_gets}
 use Rattle.rv_place.proofs.RunningFrames.{known_put}
-use Rattle.rv_place.proofs.RunningRows.{word_gets, branch_taken, branch_passed}
+use Rattle.rv_place.proofs.RunningRows.{Branched, word_gets, branch_taken, branch_passed}
 
 -- the words that registers hold
 abbrev pub words_in : (ℕ → ℕ) → List Register → List ℕ
@@ -191,7 +191,7 @@ module _ (cells : ℕ) {code : Code} (below : (at : ℕ) (i : Instr) → code at
 
 module _ (cells : ℕ) {code : Code} (below : (at : ℕ) (i : Instr) → code at ≡ Some i → at + 4 < 2 ^ 32) {s : Processor} (stands : Stands code s) (at : ℕ) (pc_is : s.pc ≡ at) (forms : Forms) (condition : Condition) (target : ℕ) where
   pub branches_taken : (rs : List Register) → target % 4 ≡ 0 → holds condition (words_in s.registers rs) ≡ Some true → BranchesTo forms code at condition rs target
-      → Goes cells code (words_of_branch forms.jumps forms.branches) (1 ∷ 0 ∷ []) s.memory target s
+      → Branched cells code forms.jumps (words_of_branch forms.jumps forms.branches) target s
   branches_taken [] word is here = cc
   branches_taken (a ∷ []) word is here = branch_taken cells below stands at pc_is condition a zero_register target forms.jumps forms.branches here word cc
   branches_taken (a ∷ b ∷ []) word is here = branch_taken cells below stands at pc_is condition a b target forms.jumps forms.branches here word cc

@@ -1,8 +1,13 @@
 -- Where the parts of placed code stand: how many instructions each line is, and the addresses of functions, of labels and of
 -- the runtime's routines.
-use Rattle.std.specs.Prelude.{◌==◌, ◌≡◌, ◌≢◌, ◌⊎◌, ℕ, ◌+◌, ◌*◌, ◌/◌, max, List, [], ◌∷◌, Option, Some, None, Bool, false, ◌&&◌, ◌||◌, cond, nat_lt}
+use Rattle.std.specs.Prelude.{◌==◌, ◌≡◌, ◌≢◌, ◌⊎◌, ℕ, ◌+◌, ◌*◌, ◌/◌, max, List, [], ◌∷◌, Option, Some, None, Bool, true, false, ◌&&◌, ◌||◌, cond, nat_lt, map}
+use Rattle.std.specs.List.{list_any}
 use Rattle.rv_isa.specs.declared.asm.Action.{Action}
 use Rattle.rv_isa.specs.declared.asm.Action.TheVariants.{Compute, Label, Jump, Branch, Call, TailCall, Return, Routine, Hold, Unhold}
+use Rattle.rv_isa.specs.declared.asm.Operation.{Operation}
+use Rattle.rv_isa.specs.declared.asm.Operation.TheVariants.{Dup}
+use Rattle.rv_isa.specs.declared.placed.Way.{Way}
+use Rattle.rv_isa.specs.declared.placed.Way.TheVariants.{Copy, Load, Store}
 use Rattle.rv_isa.specs.declared.placed.Place.{Place}
 use Rattle.rv_isa.specs.declared.placed.Place.TheVariants.{Register as register, Slot as slot}
 use Rattle.rv_isa.specs.declared.placed.Operand.{Operand}
@@ -18,11 +23,53 @@ use Rattle.rv_place.specs.declared.reach.Reach.{Reach}
 use Rattle.rv_place.specs.declared.reach.Reach.TheVariants.{Near, Far, Wide}
 use Rattle.rv_place.specs.declared.sizes.TheConstants.{BRANCH_WORDS, JUMP_WORDS}
 
+-- ---- functions that take a frame
+
+-- whether an operation writes ra: where a count is raised, ra has it for a while
+abbrev pub operation_links : Operation → Bool
+operation_links Dup = true
+operation_links _ = false
+
+-- whether an action writes ra: a call has the way back in it, and a token that is held or taken back stands in it for a while
+abbrev pub action_links : Action → Bool
+action_links (Compute operation) = operation_links operation
+action_links (Call f) = true
+action_links (Routine routine) = true
+action_links Hold = true
+action_links Unhold = true
+action_links _ = false
+
+-- whether a move has a slot
+abbrev pub has_slot : Way → Bool
+has_slot (Copy from to) = false
+has_slot (Load from to) = true
+has_slot (Store from to) = true
+
+-- whether a line needs a frame: one that has a slot, or that writes ra
+abbrev pub needs_frame : PlacedLine → Bool
+needs_frame (does alive action args into) = action_links action
+needs_frame (moves alive value way) = has_slot way
+
+-- A function takes a frame where one of its lines needs it. Where jumps are not near, which may write ra, each function takes one.
+abbrev pub takes_frame : Reach → List PlacedLine → Bool
+takes_frame Near lines = list_any needs_frame lines
+takes_frame Far lines = true
+takes_frame Wide lines = true
+
+abbrev pub frames_taken : Reach → List PlacedLines → List Bool
+frames_taken jumps functions = map (λ (function : PlacedLines). takes_frame jumps function.code) functions
+
+-- ---- lines
+
 -- how many instructions give the stack pointer another frame: a wide one is given in two parts
 abbrev pub words_of_shift : Reach → ℕ
 words_of_shift Near = 1
 words_of_shift Far = 1
 words_of_shift Wide = 2
+
+-- how many instructions a return is: where the function has no frame, one
+abbrev pub words_of_return : Forms → ℕ
+words_of_return forms = cond forms.frame (2 + words_of_shift forms.jumps) 1
 
 -- how many instructions an action is, by the forms of jumps and branches
 abbrev pub words_of_action : Forms → Action → ℕ
@@ -32,7 +79,7 @@ words_of_action forms (Jump l) = words_of_jump forms.jumps
 words_of_action forms (Branch condition l) = words_of_branch forms.jumps forms.branches
 words_of_action forms (Call f) = words_of_jump forms.jumps
 words_of_action forms (TailCall f) = words_of_jump forms.jumps
-words_of_action forms Return = 2 + words_of_shift forms.jumps
+words_of_action forms Return = words_of_return forms
 words_of_action forms (Routine routine) = words_of_jump forms.jumps
 words_of_action forms Hold = 6
 words_of_action forms Unhold = 3
@@ -87,7 +134,11 @@ jump_words = JUMP_WORDS
 
 -- the forms of a function in a text whose jumps lead so far: where its lines are few instructions with near branches, they are near
 abbrev pub forms_of : Reach → List PlacedLine → Forms
-forms_of jumps lines = record { jumps = jumps; branches = reach_of branch_words (words_of_lines (record { jumps = jumps; branches = Near }) lines) }
+forms_of jumps lines = record {
+  jumps = jumps;
+  branches = reach_of branch_words (words_of_lines (record { jumps = jumps; branches = Near; frame = takes_frame jumps lines }) lines);
+  frame = takes_frame jumps lines;
+}
 
 -- ---- functions
 
@@ -97,9 +148,22 @@ words_to_frame Near = 0
 words_to_frame Far = 0
 words_to_frame Wide = 1
 
--- a function begins with its entry, which compares the newest frame with the lowest one, takes a frame and saves the way back
+-- A function begins with its entry. It compares the newest frame with the lowest one; behind that test a function that takes a frame does so, and
+-- saves the way back. A function that takes none has there, for tail calls, what gives a frame back, and as many instructions.
 abbrev pub entry_words : Reach → ℕ
 entry_words jumps = words_to_frame jumps + 2 + words_of_jump jumps + words_of_shift jumps
+
+-- how many of them are the test
+abbrev pub test_words : Reach → ℕ
+test_words jumps = words_to_frame jumps + 1 + words_of_jump jumps
+
+-- How many of its callee's first instructions a tail call leaves out, by whether its own function takes a frame, and whether the callee does: the
+-- entry; where only one of them takes a frame, the test alone.
+abbrev pub skipped_words : Reach → Bool → Bool → ℕ
+skipped_words jumps true true = entry_words jumps
+skipped_words jumps true false = test_words jumps
+skipped_words jumps false true = test_words jumps
+skipped_words jumps false false = entry_words jumps
 
 abbrev pub words_of_function : Reach → PlacedLines → ℕ
 words_of_function jumps function = entry_words jumps + words_of_lines (forms_of jumps function.code) function.code

@@ -1,9 +1,9 @@
 -- Emitted instructions: what they are wherever they stand, and what a chart says of where things stand.
-use Rattle.std.specs.Prelude.{◌≡◌, ℕ, ◌+◌, ◌-◌, ◌*◌, ◌%◌, ◌^◌, ◌<◌, ◌≤◌, List, [], ◌∷◌, ◌++◌, length, Option, Some, None, slice_get}
+use Rattle.std.specs.Prelude.{◌≡◌, ℕ, ◌+◌, ◌-◌, ◌*◌, ◌%◌, ◌^◌, ◌<◌, ◌≤◌, Bool, List, [], ◌∷◌, ◌++◌, length, Option, Some, None, slice_get}
 use Rattle.std.specs.Ordering.{nat_cmp}
 use Rattle.std.specs.BTreeMap.{get}
 use Rattle.rv_isa.specs.declared.instr.Instr.{Instr}
-use Rattle.rv_isa.specs.declared.instr.Instr.TheVariants.{Sw}
+use Rattle.rv_isa.specs.declared.instr.Instr.TheVariants.{Lw, Sw}
 use Rattle.rv_isa.specs.declared.immediate.Immediate.{Immediate}
 use Rattle.rv_isa.specs.declared.register.Register.{Register}
 use Rattle.rv_isa.specs.declared.asm.Operation.{Operation}
@@ -22,7 +22,7 @@ use Rattle.cell_runtime.specs.Lines.{Spells}
 use Rattle.cell_runtime.specs.Lines as OfRuntime
 use Rattle.rv_world.specs.Operations.{address_in}
 use Rattle.rv_place.specs.Addresses.{words_of_action, words_of_shift, words_of_line, words_of_lines, words_of_function, words_of_functions, branch_words, jump_words, entry_words, entries_from, slot_offset, IsBehind, label_address}
-use Rattle.rv_place.specs.Lines.{Map, IsFromPointer, ShiftsStack, ActsAt, LineAt, LinesAt, FunctionAt, FunctionsAt, EntersAt, MovesBy, ReturnsFrom, registers_of, register_into}
+use Rattle.rv_place.specs.Lines.{Map, IsFromPointer, ShiftsStack, ActsAt, LineAt, LinesAt, FunctionAt, FunctionsAt, BeginsAt, MovesBy, ReturnsBy, registers_of, register_into}
 use Rattle.rv_place.specs.Registers.{zero_register, ra, sp}
 use Rattle.rv_isa.specs.PlacedMachine.{only_slot}
 use Rattle.rv_place.specs.Instructions.{Computes}
@@ -114,6 +114,7 @@ pub record Charts (chart : Chart) (map : Map) : Type 0 where
   pub jumps : chart.jumps ≡ map.jumps
   pub frame : chart.frame ≡ map.frame
   pub entries : chart.entries.items ≡ map.entries
+  pub takes : chart.takes.items ≡ map.takes
   pub entries_in : (f entry : ℕ) → slice_get map.entries f ≡ Some entry → IsInText map entry (entry_words map.jumps)
   pub symbols_in : (name : Symbol) (before : ℕ) → IsBehind name before map.labels → map.runtime + 4 * before ≤ map.constants.first
   pub first_word : map.runtime % 4 ≡ 0
@@ -166,8 +167,8 @@ LinesBy chart labels from lines code at =
     at ≡ from → (map : Map) → Charts chart map → (start : ℕ) (whole : List PlacedLine) → HasLabels labels start whole
     → IsInFunction map labels.forms start whole at (words_of_lines labels.forms lines) → LinesAt map labels.forms code start whole at lines
 
-abbrev pub ReturnBy : Chart → Code → ℕ → Type 0
-ReturnBy chart code at = (map : Map) → Charts chart map → ReturnsFrom map code at
+abbrev pub ReturnBy : Chart → Bool → Code → ℕ → Type 0
+ReturnBy chart frame code at = (map : Map) → Charts chart map → ReturnsBy frame map code at
 
 abbrev pub MoveBy : Chart → Way → Code → ℕ → Type 0
 MoveBy chart way code at = (map : Map) → Charts chart map → MovesBy map code at way
@@ -178,8 +179,15 @@ TakesFrame jumps size code at =
     ShiftsStack jumps (2 ^ 32 - size) code at
     × ((back : Immediate) × IsFromPointer jumps 0 back × (code (at + 4 * words_of_shift jumps) ≡ Some (Sw sp ra back)))
 
-abbrev pub EntryBy : Chart → ℕ → Code → ℕ → Type 0
-EntryBy chart from code at = at ≡ from → (map : Map) → Charts chart map → IsInText map at (entry_words map.jumps) → EntersAt map code at
+-- the way back is taken from a frame of so many bytes, and the frame given back
+abbrev pub LeavesFrame : Reach → ℕ → Code → ℕ → Type 0
+LeavesFrame jumps size code at =
+    ((back : Immediate) × IsFromPointer jumps 0 back × (code at ≡ Some (Lw ra sp back)))
+    × ShiftsStack jumps size code (at + 4)
+
+-- an entry, by whether the function takes a frame
+abbrev pub EntryBy : Chart → ℕ → Bool → Code → ℕ → Type 0
+EntryBy chart from frame code at = at ≡ from → (map : Map) → Charts chart map → IsInText map at (entry_words map.jumps) → BeginsAt frame map code at
 
 -- a function, and functions, that were emitted for an address
 abbrev pub FunctionBy : Chart → ℕ → PlacedLines → Code → ℕ → Type 0

@@ -17,7 +17,7 @@ use Rattle.cell_runtime.specs.Takes.{IsTake}
 use Rattle.cell_runtime.specs.Drops.{IsDrop}
 use Rattle.cell_heap.specs.Pool.{Pool, end_of}
 use Rattle.rv_world.specs.Operations.{all_bytes}
-use Rattle.rv_place.specs.Addresses.{frame_bias}
+use Rattle.rv_place.specs.Addresses.{frames_taken, frame_bias}
 use Rattle.rv_place.specs.Lines.{Map, IsSymbolAt, FunctionsAt}
 
 -- what stands at a symbol of the runtime is of a kind
@@ -32,12 +32,13 @@ constant_bytes map = length (all_bytes map.constants.texts)
 abbrev pub stack_end : Map → ℕ → ℕ
 stack_end map depth = map.bottom + depth * map.frame
 
--- The functions and the routines stand in the code, whose addresses are below 2^32. The frames of the stack are words that may be
+-- The functions and the routines stand in the code, whose addresses are below 2^32, and it is known which functions take a frame. The frames of the stack are words that may be
 -- loaded and stored. The cells end where the lowest frame begins, and the buffer of the prints lies below the cells. The constants may be
 -- loaded, and no store reaches them. Behind the end of main the run comes to a stop. The routines and the stops stand in the runtime's
 -- own code, which is a part of the code, and within its words.
 pub record Ground (map : Map) (pool : Pool) (functions : List PlacedLines) (depth buffer stop : ℕ) (code : Code) (parts : List Part) : Type 0 where
   pub functions_at : FunctionsAt map code map.entries functions
+  pub takes : map.takes ≡ frames_taken map.jumps functions
   pub below : (at : ℕ) (i : Instr) → code at ≡ Some i → at + 4 < 2 ^ 32
   pub some_frame : 4 ≤ map.frame
   pub frame_words : map.frame % 4 ≡ 0

@@ -1,9 +1,10 @@
 -- Placed code as it stands in memory: the instructions of each line, from an address on.
-use Rattle.std.specs.Prelude.{◌≡◌, ℕ, ◌+◌, ◌-◌, ◌*◌, ◌^◌, ◌≤◌, false, List, [], ◌∷◌, Option, Some, None, slice_get}
+use Rattle.std.specs.Prelude.{◌≡◌, ℕ, ◌+◌, ◌-◌, ◌*◌, ◌^◌, ◌≤◌, Bool, true, false, List, [], ◌∷◌, Option, Some, None, slice_get}
 use Rattle.rv_isa.specs.declared.register.Register.{Register}
 use Rattle.rv_place.specs.Registers.{zero_register, ra, sp, t0, s3}
 use Rattle.rv_isa.specs.declared.immediate.Immediate.{Immediate}
-use Rattle.rv_isa.specs.declared.instr.Instr.TheVariants.{Addi, Jalr, Lw, Sw}
+use Rattle.rv_isa.specs.declared.immediate.BranchOffset.{BranchOffset}
+use Rattle.rv_isa.specs.declared.instr.Instr.TheVariants.{Addi, Bne, Jalr, Lw, Sw}
 use Rattle.rv_isa.specs.declared.asm.Condition.{Condition}
 use Rattle.rv_isa.specs.declared.asm.Condition.TheVariants.{Equal}
 use Rattle.rv_isa.specs.declared.asm.Action.{Action}
@@ -22,7 +23,7 @@ use Rattle.rv_isa.specs.Sizes.{reach_down}
 use Rattle.rv_isa.specs.Standing.{Code, Has}
 use Rattle.rv_world.specs.Operations.{Constants}
 use Rattle.rv_place.specs.Instructions.{Zero, words_of_jump, JumpsTo, CallsTo, BranchesOn, HoldsToken, UnholdsToken, Computes}
-use Rattle.rv_place.specs.Addresses.{is_silent, words_of_line, words_of_shift, words_to_frame, label_address, forms_of, entry_words, frame_bias, slot_offset, IsBehind}
+use Rattle.rv_place.specs.Addresses.{is_silent, words_of_line, words_of_shift, words_to_frame, label_address, forms_of, entry_words, skipped_words, takes_frame, frame_bias, slot_offset, IsBehind}
 use Rattle.rv_place.specs.declared.reach.Forms.{Forms}
 use Rattle.rv_place.specs.declared.reach.Reach.{Reach}
 use Rattle.rv_place.specs.declared.reach.Reach.TheVariants.{Near, Far, Wide}
@@ -30,13 +31,15 @@ use Rattle.rv_place.specs.declared.reach.Reach.TheVariants.{Near, Far, Wide}
 -- Where what code names stands.
 -- jumps: how far jumps lead, and whether frames are wide; frame: the bytes of a frame
 -- bottom: the address of the lowest frame that the stack has room for
--- entries: the addresses of the functions; runtime: that of the runtime, and its labels with the instructions before them
+-- entries: the addresses of the functions; takes: whether each takes a frame
+-- runtime: the address of the runtime, and its labels with the instructions before them
 -- constants: the constant bytes
 pub record Map : Type 0 where
   pub jumps : Reach
   pub frame : ℕ
   pub bottom : ℕ
   pub entries : List ℕ
+  pub takes : List Bool
   pub runtime : ℕ
   pub labels : List (Symbol × ℕ)
   pub constants : Constants
@@ -103,6 +106,15 @@ pub record ReturnsFrom (map : Map) (code : Code) (at : ℕ) : Type 0 where
   pub zero_is : Zero zero
   pub goes : code (at + 4 + 4 * words_of_shift map.jumps) ≡ Some (Jalr zero_register ra zero)
 
+-- one of a function that takes no frame goes there alone
+abbrev pub GoesBack : Code → ℕ → Type 0
+GoesBack code at = (zero : Immediate) × Zero zero × (code at ≡ Some (Jalr zero_register ra zero))
+
+-- a return, by whether the function takes a frame
+abbrev pub ReturnsBy : Bool → Map → Code → ℕ → Type 0
+ReturnsBy true map code at = ReturnsFrom map code at
+ReturnsBy false map code at = GoesBack code at
+
 -- what stands for an action on the token of a slot, by the slot's offset
 abbrev pub OnToken : (Code → ℕ → Immediate → Type 0) → Map → Code → ℕ → List Operand → Type 0
 OnToken Stands map code at args =
@@ -120,8 +132,10 @@ ActsAt map forms code start whole at (Branch condition l) args into =
     (registers : List Register) (target : ℕ) → registers_of args ≡ Some registers → label_address forms l start whole ≡ Some target
     → BranchesTo forms code at condition registers target
 ActsAt map forms code start whole at (Call f) args into = (entry : ℕ) → slice_get map.entries f ≡ Some entry → CallsTo forms.jumps code at entry
-ActsAt map forms code start whole at (TailCall f) args into = (entry : ℕ) → slice_get map.entries f ≡ Some entry → JumpsTo forms.jumps code at (entry + 4 * entry_words map.jumps)
-ActsAt map forms code start whole at Return args into = ReturnsFrom map code at
+ActsAt map forms code start whole at (TailCall f) args into =
+    (entry : ℕ) (takes : Bool) → slice_get map.entries f ≡ Some entry → slice_get map.takes f ≡ Some takes
+    → JumpsTo forms.jumps code at (entry + 4 * skipped_words map.jumps forms.frame takes)
+ActsAt map forms code start whole at Return args into = ReturnsBy forms.frame map code at
 ActsAt map forms code start whole at (Routine routine) args into = (target : ℕ) → IsSymbolAt map (symbol.Routine routine) target → CallsTo forms.jumps code at target
 ActsAt map forms code start whole at Hold args into = OnToken HoldsToken map code at args
 ActsAt map forms code start whole at Unhold args into = OnToken UnholdsToken map code at args
@@ -152,8 +166,8 @@ FindsFrame Near code at = Unit {0}
 FindsFrame Far code at = Unit {0}
 FindsFrame Wide code at = (down : Immediate) × (down.word ≡ 2 ^ 32 - reach_down) × (code at ≡ Some (Addi t0 sp down))
 
--- The entry: where the newest frame is the lowest, which begins at the end of the cells, no frame is left, and the runtime's stop for
--- a full stack comes; else a frame is taken, and the way back saved in its first word.
+-- The entry of a function that takes a frame: where the newest frame is the lowest, which begins at the end of the cells, no frame is left, and the
+-- runtime's stop for a full stack comes; else a frame is taken, and the way back saved in its first word.
 pub record EntersAt (map : Map) (code : Code) (at : ℕ) : Type 0 where
   pub finds : FindsFrame map.jumps code at
   pub full : (target : ℕ) → IsSymbolAt map symbol.StackFull target
@@ -163,8 +177,25 @@ pub record EntersAt (map : Map) (code : Code) (at : ℕ) : Type 0 where
   pub back_is : IsFromPointer map.jumps 0 back
   pub saves : code (at + 4 * words_to_frame map.jumps + 4 + 4 * words_of_jump map.jumps + 4 * words_of_shift map.jumps) ≡ Some (Sw sp ra back)
 
+-- The entry of a function that takes no frame: where no frame is left the stop comes; else the entry ends. A function that takes a frame jumps behind
+-- this test for a tail call: the way back is taken from the frame, and the frame given back.
+pub record PassesAt (map : Map) (code : Code) (at : ℕ) : Type 0 where
+  pub over : BranchOffset
+  pub over_is : over.word ≡ 4 * entry_words map.jumps
+  pub tests : code at ≡ Some (Bne sp s3 over)
+  pub full : (target : ℕ) → IsSymbolAt map symbol.StackFull target → JumpsTo map.jumps code (at + 4) target
+  pub back : Immediate
+  pub back_is : IsFromPointer map.jumps 0 back
+  pub loads : code (at + 4 + 4 * words_of_jump map.jumps) ≡ Some (Lw ra sp back)
+  pub gives : ShiftsStack map.jumps map.frame code (at + 4 + 4 * words_of_jump map.jumps + 4)
+
+-- an entry, by whether the function takes a frame
+abbrev pub BeginsAt : Bool → Map → Code → ℕ → Type 0
+BeginsAt true map code at = EntersAt map code at
+BeginsAt false map code at = PassesAt map code at
+
 pub record FunctionAt (map : Map) (code : Code) (at : ℕ) (function : PlacedLines) : Type 0 where
-  pub entry : EntersAt map code at
+  pub entry : BeginsAt (takes_frame map.jumps function.code) map code at
   pub lines : LinesAt map (forms_of map.jumps function.code) code (at + 4 * entry_words map.jumps) function.code (at + 4 * entry_words map.jumps) function.code
 
 -- functions at their entries

@@ -1,5 +1,5 @@
 -- When a processor stands for a state of the machine of the placed form: where it is in the code, its registers and the frames of its stack.
-use Rattle.std.specs.Prelude.{◌≡◌, ◌≢◌, ℕ, ◌+◌, ◌*◌, ◌%◌, ◌^◌, ◌≤◌, ◌<◌, max, List, [], ◌∷◌, length, Option, Some, None, true, false, All, IsSome, slice_get}
+use Rattle.std.specs.Prelude.{◌≡◌, ◌≢◌, ℕ, ◌+◌, ◌*◌, ◌%◌, ◌^◌, ◌≤◌, ◌<◌, max, List, [], ◌∷◌, length, Option, Some, None, Bool, true, false, cond, All, IsSome, slice_get}
 use Rattle.kk_base.specs.Memory.{Part}
 use Rattle.kk_base.specs.Machines.{state}
 use Rattle.rv_isa.specs.declared.asm.Action.{Action}
@@ -23,8 +23,9 @@ use Rattle.cell_heap.specs.Blocks.{Cells}
 use Rattle.cell_heap.specs.Known.{HoldsCells}
 use Rattle.cell_runtime.specs.declared.start.TheConstants.{TEXT_WORDS}
 use Rattle.rv_world.specs.World.{World, primitives}
-use Rattle.rv_place.specs.Addresses.{words_of_lines, forms_of, entry_words, frame_bias, slot_offset}
+use Rattle.rv_place.specs.Addresses.{words_of_lines, forms_of, entry_words, takes_frame, frame_bias, slot_offset}
 use Rattle.rv_place.specs.Lines.{Map, LinesAt}
+use Rattle.rv_place.specs.Registers.{ra}
 use Rattle.rv_place.specs.Grounds.{stack_end, Rests}
 use Rattle.rv_place.specs.declared.reach.Forms.{Forms}
 
@@ -64,7 +65,8 @@ most_lines (function ∷ functions) = max (length function.code) (most_lines fun
 
 -- ---- states
 
--- the code that is left of a frame stands at an address, and the whole of its function behind the entry of the function
+-- The code that is left of a frame stands at an address, and the whole of its function behind the entry of the function. Where that code needs a frame,
+-- the function takes one.
 pub record IsIn (map : Map) (code : Code) (most at : ℕ) (frame : Frame PlacedLine) : Type 0 where
   pub forms : Forms
   pub start : ℕ
@@ -77,6 +79,7 @@ pub record IsIn (map : Map) (code : Code) (most at : ℕ) (frame : Frame PlacedL
   pub plain : ArePlain frame.whole frame.code
   pub few_whole : length frame.whole ≤ most
   pub few : length frame.code ≤ most
+  pub takes : takes_frame map.jumps frame.code ≡ true → takes_frame map.jumps frame.whole ≡ true
   pub entry : ℕ
   pub entry_is : slice_get map.entries frame.function ≡ Some entry
   pub start_is : start ≡ entry + 4 * entry_words map.jumps
@@ -88,18 +91,40 @@ abbrev pub Slots : Map → (ℕ → ℕ) → ℕ → (ℕ → Option ℕ) → Ty
 Slots map memory base cells =
     (k word : ℕ) → cells k ≡ Some word → (slot_offset k + 4 ≤ map.frame) × (number_at memory (base + slot_offset k) 4 ≡ word) × (word < 2 ^ 32)
 
--- a frame that waits for the result of a call waits for it in a0
+-- a frame that waits for the result of a call waits for it in a0; its function takes a frame
 abbrev pub AwaitsFirst : Option ℕ → Type 0
 AwaitsFirst None = Unit {0}
 AwaitsFirst (Some x) = x ≡ 10
 
--- The frames from the newest one on, which goes on at an address, and whose first word is at another. The first word of each is the address where
--- the frame goes on that waits for it; behind the oldest frame that is the stop, and the stack ends.
+abbrev pub IsWaiting : Map → Frame PlacedLine → Type 0
+IsWaiting map frame = AwaitsFirst frame.into × (takes_frame map.jumps frame.whole ≡ true)
+
+-- Frames that wait, from the newest one on, which goes on at an address, and whose first word is at another. Each is of a function that takes a frame. The
+-- first word of each is the address where the frame goes on that waits for it; behind the oldest frame that is the stop, and the stack ends.
 abbrev pub FramesAt : Map → Code → ℕ → ℕ → ℕ → (ℕ → ℕ) → ℕ → ℕ → List (Frame PlacedLine) → Type 0
 FramesAt map code most stop roof memory at base [] = (at ≡ stop) × (base ≡ roof)
 FramesAt map code most stop roof memory at base (frame ∷ frames) =
-    IsIn map code most at frame × Slots map memory base frame.cells × AwaitsFirst frame.into
+    IsIn map code most at frame × Slots map memory base frame.cells × IsWaiting map frame
     × FramesAt map code most stop roof memory (number_at memory base 4) (base + map.frame) frames
+
+-- where the frame goes on that waits for the running one: the address is the first word of the running one's memory, or, where its function takes no
+-- frame, in ra
+abbrev pub way_back : Bool → (ℕ → ℕ) → (ℕ → ℕ) → ℕ → ℕ
+way_back true registers memory base = number_at memory base 4
+way_back false registers memory base = value registers ra.number
+
+-- The running frame and those that wait behind it. Where the function of the running one takes no frame, its memory is none that is taken, below the
+-- newest frame that is.
+abbrev pub StackAt : Map → Code → ℕ → ℕ → ℕ → (ℕ → ℕ) → (ℕ → ℕ) → ℕ → ℕ → List (Frame PlacedLine) → Type 0
+StackAt map code most stop roof registers memory at base [] = (at ≡ stop) × (base ≡ roof)
+StackAt map code most stop roof registers memory at base (frame ∷ frames) =
+    IsIn map code most at frame × Slots map memory base frame.cells × AwaitsFirst frame.into
+    × FramesAt map code most stop roof memory (way_back (takes_frame map.jumps frame.whole) registers memory base) (base + map.frame) frames
+
+-- the first word of the newest frame that is taken
+abbrev pub newest_taken : Map → ℕ → List (Frame PlacedLine) → ℕ
+newest_taken map base [] = base
+newest_taken map base (frame ∷ frames) = cond (takes_frame map.jumps frame.whole) base (base + map.frame)
 
 -- the held tokens of frames from the newest one on, whose base is an address: each by its cell and its slot
 abbrev pub word_of : Option ℕ → ℕ
@@ -127,8 +152,8 @@ pub record Running (map : Map) (pool : Pool) (functions : List PlacedLines) (dep
   pub bytes : All (λ byte. byte < 256) s.left
   pub room : length t.frames ≤ depth
   pub base : ℕ
-  pub base_is : value s.registers 2 ≡ base + frame_bias map.jumps
-  pub frames : FramesAt map code (most_lines functions) stop (stack_end map depth) s.memory s.pc base t.frames
+  pub base_is : value s.registers 2 ≡ newest_taken map base t.frames + frame_bias map.jumps
+  pub frames : StackAt map code (most_lines functions) stop (stack_end map depth) s.registers s.memory s.pc base t.frames
   pub registers : Agrees t.registers s.registers
   pub one : value s.registers one_register ≡ 1
   pub cells : HoldsCells pool t.shared.cells (links_of map base t.frames) s

@@ -13,7 +13,7 @@ use Rattle.cell_runtime.specs.Lines.{Spells, AreWithin, words_of, labels_of}
 use Rattle.cell_heap.specs.Pool.{Pool}
 use Rattle.cell_runtime.specs.Texts.{pool_of, greatest_reach}
 use Rattle.rv_world.specs.Operations.{Constants, all_bytes}
-use Rattle.rv_place.specs.Addresses.{reach_of, jump_words, words_of_functions, entries_from, frame_size, frame_bias}
+use Rattle.rv_place.specs.Addresses.{reach_of, jump_words, words_of_functions, entries_from, frames_taken, frame_size, frame_bias}
 use Rattle.rv_place.specs.Lines.{Map, FunctionsAt}
 use Rattle.rv_place.specs.declared.reach.Reach.{Reach}
 use Rattle.rv_place.specs.declared.reach.Reach.TheVariants.{Near, Wide}
@@ -96,6 +96,7 @@ map_of runtime program = record {
   frame = frame_size (placed_functions program);
   bottom = memory_of runtime program + runtime.memory.stack_bottom - frame_bias (jumps_of runtime program);
   entries = entries_from (jumps_of runtime program) (text_start + 4 * words_of runtime.natives.items) (placed_functions program);
+  takes = frames_taken (jumps_of runtime program) (placed_functions program);
   runtime = text_start;
   labels = labels_of 0 runtime.natives.items;
   constants = constants_of runtime program;

@@ -1,17 +1,17 @@
 // Instructions and rows of instructions, added at the end of code.
 
-ghost use Rattle.std.specs.Prelude.{◌≡◌, ◌+◌, ◌-◌, ◌*◌, ◌%◌, ◌^◌, ◌≤◌, Some, OnOk, max};
+ghost use Rattle.std.specs.Prelude.{◌≡◌, ◌+◌, ◌-◌, ◌*◌, ◌%◌, ◌^◌, ◌≤◌, true, false, IsFalse, Some, OnOk, cond, max};
 ghost use Rattle.rv_isa.specs.Arithmetic.{sum_word};
 ghost use Rattle.rv_isa.specs.PlacedCode.{from_of, to_of};
 ghost use Rattle.rv_isa.specs.Sizes.{narrow_frame};
 ghost use Rattle.rv_isa.specs.declared.instr.Instr.TheVariants.{Addi};
 ghost use Rattle.rv_place.specs.declared.reach.Reach.TheVariants.{Near, Far, Wide};
-ghost use Rattle.rv_place.specs.Addresses.{slot_offset, slots_of_place, branch_words, jump_words, entry_words, frame_bias, greatest_frame, words_of_shift, words_to_frame};
+ghost use Rattle.rv_place.specs.Addresses.{slot_offset, slots_of_place, branch_words, jump_words, entry_words, test_words, frame_bias, greatest_frame, words_of_shift, words_to_frame};
 ghost use Rattle.rv_place.specs.Registers.{zero_register, ra, sp};
 ghost use Rattle.rv_place.specs.Instructions.{LoadsWord, SetsWord, words_of_constant, words_of_jump, words_of_branch, JumpsBy, JumpsTo, CallsTo, BranchesOn, branch_instruction};
 ghost use Rattle.rv_place.specs.Texts.{greatest_address};
-ghost use Rattle.rv_place.specs.Lines.{IsFromPointer, ShiftsStack, FindsFrame, frame_register};
-ghost use Rattle.rv_place.specs.Emitted.{Grew, AreNear, JumpReaches, BranchReaches, TakesFrame, ReturnBy, EntryBy, MoveBy};
+ghost use Rattle.rv_place.specs.Lines.{IsFromPointer, ShiftsStack, GoesBack, FindsFrame, frame_register};
+ghost use Rattle.rv_place.specs.Emitted.{Grew, AreNear, JumpReaches, BranchReaches, TakesFrame, LeavesFrame, ReturnBy, EntryBy, MoveBy};
 
 use crate::chart::Chart;
 use crate::constant::WordForm;
@@ -336,10 +336,10 @@ fn emit_lowering(code: &mut Vec<Instr>, jumps: Reach, frame: u32) -> Result<(), 
     }
 }
 
-/// A return: takes the way back from the frame, gives the frame back and goes there.
-pub fn emit_return(code: &mut Vec<Instr>, chart: &Chart) -> Result<(), NoMemory>
+/// Takes the way back from the frame, and gives the frame back.
+fn emit_leaving(code: &mut Vec<Instr>, chart: &Chart) -> Result<(), NoMemory>
     requires { chart.now.frame ≤ greatest_frame chart.now.jumps }
-    ensures { OnOk result (Grew (2 + words_of_shift chart.now.jumps) (ReturnBy chart.now) code.old.items code.new.items) }
+    ensures { OnOk result (Grew (1 + words_of_shift chart.now.jumps) (LeavesFrame chart.now.jumps chart.now.frame) code.old.items code.new.items) }
 {
     emit(
         code,
@@ -350,6 +350,13 @@ pub fn emit_return(code: &mut Vec<Instr>, chart: &Chart) -> Result<(), NoMemory>
         },
     )?;
     emit_raising(code, chart.jumps, chart.frame)?;
+    Ok(())
+}
+
+/// Goes the way back.
+fn emit_going(code: &mut Vec<Instr>) -> Result<(), NoMemory>
+    ensures { OnOk result (Grew 1 GoesBack code.old.items code.new.items) }
+{
     emit(
         code,
         Instr::Jalr {
@@ -357,8 +364,29 @@ pub fn emit_return(code: &mut Vec<Instr>, chart: &Chart) -> Result<(), NoMemory>
             rs1: Register::RA,
             imm: Immediate::ZERO,
         },
-    )?;
+    )
+}
+
+/// A return of a function that takes a frame: takes the way back from it, gives it back and goes there.
+fn emit_framed_return(code: &mut Vec<Instr>, chart: &Chart) -> Result<(), NoMemory>
+    requires { chart.now.frame ≤ greatest_frame chart.now.jumps }
+    ensures { OnOk result (Grew (2 + words_of_shift chart.now.jumps) (ReturnBy chart.now true) code.old.items code.new.items) }
+{
+    emit_leaving(code, chart)?;
+    emit_going(code)?;
     Ok(())
+}
+
+/// A return, by whether the function takes a frame.
+pub fn emit_return(code: &mut Vec<Instr>, chart: &Chart, frame: bool) -> Result<(), NoMemory>
+    requires { chart.now.frame ≤ greatest_frame chart.now.jumps }
+    ensures { OnOk result (Grew (cond frame (2 + words_of_shift chart.now.jumps) 1) (ReturnBy chart.now frame) code.old.items code.new.items) }
+{
+    if frame {
+        emit_framed_return(code, chart)
+    } else {
+        emit_going(code)
+    }
 }
 
 /// Takes a frame, and saves the way back in its first word.
@@ -409,13 +437,13 @@ fn emit_finding(code: &mut Vec<Instr>, jumps: Reach) -> Result<(), NoMemory>
     }
 }
 
-/// The entry of a function, at the address `at`: where the newest frame is the lowest, at the end of the cells, the stop for a
-/// full stack; else a frame is taken.
-pub fn emit_entry(code: &mut Vec<Instr>, at: u32, chart: &Chart) -> Result<(), NoMemory>
+/// The entry of a function that takes a frame, at the address `at`: where the newest frame is the lowest, at the end of the
+/// cells, the stop for a full stack; else a frame is taken.
+fn emit_framed_entry(code: &mut Vec<Instr>, at: u32, chart: &Chart) -> Result<(), NoMemory>
     requires at { at + 4 ≤ greatest_address }
     requires some { 4 ≤ chart.now.frame }
     requires few { chart.now.frame ≤ greatest_frame chart.now.jumps }
-    ensures { OnOk result (Grew (entry_words chart.now.jumps) (EntryBy chart.now at) code.old.items code.new.items) }
+    ensures { OnOk result (Grew (entry_words chart.now.jumps) (EntryBy chart.now at true) code.old.items code.new.items) }
 {
     emit_finding(code, chart.jumps)?;
     emit_far_branch(
@@ -429,6 +457,55 @@ pub fn emit_entry(code: &mut Vec<Instr>, at: u32, chart: &Chart) -> Result<(), N
     )?;
     emit_taking(code, chart.jumps, chart.frame)?;
     Ok(())
+}
+
+/// Over an entry: the distance of a branch that is its first instruction.
+fn behind_entry(jumps: Reach) -> BranchOffset
+    ensures { result.word ≡ 4 * entry_words jumps }
+{
+    BranchOffset::new(4 * jumps.entry_words())
+}
+
+/// The entry of a function that takes no frame, where jumps are near, at the address `at`: where the newest frame is the lowest,
+/// the stop for a full stack; else a branch leads over what a function with a frame jumps to for a tail call, which gives it back.
+fn emit_bare_entry(code: &mut Vec<Instr>, at: u32, chart: &Chart) -> Result<(), NoMemory>
+    requires at { at + 4 ≤ greatest_address }
+    requires near { chart.now.jumps ≡ Near }
+    requires few { chart.now.frame ≤ greatest_frame chart.now.jumps }
+    ensures { OnOk result (Grew (entry_words chart.now.jumps) (EntryBy chart.now at false) code.old.items code.new.items) }
+{
+    let offset = behind_entry(chart.jumps);
+    emit(
+        code,
+        Instr::Bne {
+            rs1: Register::SP,
+            rs2: Register::S3,
+            offset,
+        },
+    )?;
+    emit_jump(code, at + 4, chart.jumps, chart.symbols.stack_full)?;
+    emit_leaving(code, chart)?;
+    Ok(())
+}
+
+/// The entry of a function, at the address `at`, by whether it takes a frame. It does where jumps are not near.
+pub fn emit_entry(
+    code: &mut Vec<Instr>,
+    at: u32,
+    chart: &Chart,
+    frame: bool,
+) -> Result<(), NoMemory>
+    requires at { at + 4 ≤ greatest_address }
+    requires some { 4 ≤ chart.now.frame }
+    requires few { chart.now.frame ≤ greatest_frame chart.now.jumps }
+    requires near { IsFalse frame → chart.now.jumps ≡ Near }
+    ensures { OnOk result (Grew (entry_words chart.now.jumps) (EntryBy chart.now at frame) code.old.items code.new.items) }
+{
+    if frame {
+        emit_framed_entry(code, at, chart)
+    } else {
+        emit_bare_entry(code, at, chart)
+    }
 }
 
 /// A move.

@@ -54,8 +54,10 @@ fn emit_action(
             )
         }
         Action::Call(function) => emit_call(code, at, jumps, chart.entry(function)),
-        Action::TailCall(function) => emit_jump(code, at, jumps, chart.body(function)),
-        Action::Return => emit_return(code, chart),
+        Action::TailCall(function) => {
+            emit_jump(code, at, jumps, chart.tail(function, labels.forms.frame))
+        }
+        Action::Return => emit_return(code, chart, labels.forms.frame),
         Action::Routine(routine) => { emit_call(code, at, jumps, chart.symbols.routine(routine)) }
         Action::Hold => emit_hold(code, jumps, args),
         Action::Unhold => emit_unhold(code, jumps, args),
@@ -130,9 +132,9 @@ fn emit_function(
     requires slots { 4 * slots_of_lines (map placed_line_of function.now.code.items) + 4 ≤ chart.now.frame }
     ensures { OnOk result (Grew (words_of_function chart.now.jumps (placed_lines_of function.now)) (FunctionBy chart.now entry (placed_lines_of function.now)) code.old.items code.new.items) }
 {
-    emit_entry(code, entry, chart)?;
-    let start = entry + 4 * chart.jumps.entry_words();
     let forms = forms_of(chart.jumps, &function.code);
+    emit_entry(code, entry, chart, forms.frame)?;
+    let start = entry + 4 * chart.jumps.entry_words();
     let labels = Labels::of(alloc, forms, start, &function.code)?;
     emit_items(code, start, chart, &labels, &function.code)?;
     Ok(())

@@ -2,7 +2,7 @@
 
 ghost use Rattle.std.specs.Prelude.{◌≡◌, ◌≤◌};
 ghost use Rattle.rv_place.specs.Instructions.{words_of_jump, words_of_branch};
-ghost use Rattle.rv_place.specs.Addresses.{entry_words, frame_bias, reach_of, words_of_shift, words_to_frame};
+ghost use Rattle.rv_place.specs.Addresses.{entry_words, test_words, frame_bias, reach_of, words_of_return, words_of_shift, words_to_frame};
 
 use rv_isa::sizes::REACH_DOWN;
 
@@ -17,11 +17,12 @@ pub enum Reach {
     Wide,
 }
 
-/// How far the jumps of a function and its branches lead.
+/// How far the jumps of a function and its branches lead, and whether it takes a frame.
 #[derive(Clone, Copy, PartialEq, Eq, Debug)]
 pub struct Forms {
     pub jumps: Reach,
     pub branches: Reach,
+    pub frame: bool,
 }
 
 impl Reach {
@@ -88,9 +89,29 @@ impl Reach {
     {
         self.words_to_frame() + 2 + self.words_of_jump() + self.words_of_shift()
     }
+
+    /// How many instructions of an entry are the test whether a frame is left.
+    pub fn test_words(self) -> u32
+        ensures words { result ≡ test_words self }
+        ensures few { result ≤ 4 }
+    {
+        self.words_to_frame() + 1 + self.words_of_jump()
+    }
 }
 
 impl Forms {
+    /// How many instructions a return is: where there is no frame to be given back, one.
+    pub fn words_of_return(self) -> u32
+        ensures words { result ≡ words_of_return self }
+        ensures few { result ≤ 4 }
+    {
+        if self.frame {
+            2 + self.jumps.words_of_shift()
+        } else {
+            1
+        }
+    }
+
     /// How many instructions a branch is: a far one leads over a jump.
     pub fn words_of_branch(self) -> u32
         ensures words { result ≡ words_of_branch self.jumps self.branches }

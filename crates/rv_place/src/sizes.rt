@@ -1,13 +1,15 @@
 // How many instructions code is, how many bytes constants, and how large frames are.
 
-ghost use Rattle.std.specs.Prelude.{◌≡◌, ◌+◌, ◌*◌, ◌≤◌, length, map, max};
+ghost use Rattle.std.specs.Prelude.{◌≡◌, ◌+◌, ◌*◌, ◌≤◌, IsFalse, length, map, max};
+ghost use Rattle.rv_place.specs.declared.reach.Reach.TheVariants.{Near};
+ghost use Rattle.std.specs.List.{list_any};
 ghost use Rattle.rv_isa.specs.Costs.{operation_instructions, action_length, placed_line_length, placed_code_length, placed_functions_length};
 ghost use Rattle.rv_isa.specs.PlacedCode.{placed_line_of, placed_lines_of, placed_functions, from_of, to_of};
 ghost use Rattle.rv_world.specs.Operations.{all_bytes};
 ghost use Rattle.cell_runtime.specs.Lines.{words_of};
 ghost use Rattle.rv_place.specs.Instructions.{words_of_operation};
 ghost use Rattle.rv_isa.specs.LinePlaces.{is_copy};
-ghost use Rattle.rv_place.specs.Addresses.{is_same_register, stands_there, goes_home, is_silent, words_of_action, words_of_line, words_of_lines, words_of_function, words_of_functions, forms_of, slots_of_place, slots_of_operands, slots_of_line, slots_of_lines, slots_of_functions, frame_size, most_frame_slots};
+ghost use Rattle.rv_place.specs.Addresses.{operation_links, action_links, has_slot, needs_frame, takes_frame, is_same_register, stands_there, goes_home, is_silent, words_of_action, words_of_line, words_of_lines, words_of_function, words_of_functions, forms_of, slots_of_place, slots_of_operands, slots_of_line, slots_of_lines, slots_of_functions, frame_size, most_frame_slots};
 ghost use Rattle.rv_place.specs.Texts.{most_text_length, most_functions, most_runtime_words, most_constant_bytes};
 
 use crate::constant::WordForm;
@@ -43,7 +45,7 @@ fn words_of_action(forms: Forms, action: Action) -> u32
         Action::Label(_) => 0,
         Action::Jump(_) | Action::Call(_) | Action::TailCall(_) | Action::Routine(_) => jump,
         Action::Branch(_, _) => forms.words_of_branch(),
-        Action::Return => 2 + forms.jumps.words_of_shift(),
+        Action::Return => forms.words_of_return(),
         Action::Hold => 6,
         Action::Unhold => 3,
     }
@@ -127,16 +129,91 @@ fn words_of_items(forms: Forms, items: &[Item]) -> u32
     words
 }
 
+// ---- functions that take a frame
+
+/// Whether an operation writes `ra`.
+fn operation_links(operation: Operation) -> bool
+    ensures { result ≡ operation_links operation }
+{
+    match operation {
+        Operation::Dup => true,
+        _ => false,
+    }
+}
+
+/// Whether an action writes `ra`.
+fn action_links(action: Action) -> bool
+    ensures { result ≡ action_links action }
+{
+    match action {
+        Action::Compute(operation) => operation_links(operation),
+        Action::Call(_) | Action::Routine(_) | Action::Hold | Action::Unhold => true,
+        Action::Label(_)
+        | Action::Jump(_)
+        | Action::Branch(_, _)
+        | Action::TailCall(_)
+        | Action::Return => false,
+    }
+}
+
+/// Whether a move has a slot.
+fn has_slot(way: Way) -> bool
+    ensures { result ≡ has_slot way }
+{
+    match way {
+        Way::Copy { .. } => false,
+        Way::Load { .. } | Way::Store { .. } => true,
+    }
+}
+
+/// Whether an item needs a frame: where it has a slot, or writes `ra`.
+fn needs_frame(item: &Item) -> bool
+    ensures { result ≡ needs_frame (placed_line_of item.now) }
+{
+    match item {
+        Item::Does { action, .. } => action_links(*action),
+        Item::Moves { way, .. } => has_slot(*way),
+    }
+}
+
+fn any_needs_frame(items: &[Item]) -> bool
+    ensures { result ≡ list_any needs_frame (map placed_line_of items.now) }
+{
+    let mut needs = false;
+    for item in items {
+        needs = needs || needs_frame(item);
+    }
+    needs
+}
+
+/// Whether a function takes a frame, in a text whose jumps lead so far.
+pub fn takes_frame(jumps: Reach, items: &[Item]) -> bool
+    ensures same { result ≡ takes_frame jumps (map placed_line_of items.now) }
+    ensures near { IsFalse result → jumps ≡ Near }
+{
+    match jumps {
+        Reach::Near => any_needs_frame(items),
+        Reach::Far | Reach::Wide => true,
+    }
+}
+
+// ---- functions
+
 /// The forms of a function in a text whose jumps lead so far: where its code is short with near branches, they are near.
 pub fn forms_of(jumps: Reach, items: &[Item]) -> Forms
     requires { placed_code_length (map placed_line_of items.now) ≤ most_text_length }
-    ensures { result ≡ forms_of jumps (map placed_line_of items.now) }
+    ensures same { result ≡ forms_of jumps (map placed_line_of items.now) }
+    ensures near { IsFalse result.frame → jumps ≡ Near }
 {
-    let branches = Reach::Near;
-    let words = words_of_items(Forms { jumps, branches }, items);
-    Forms {
+    let near = Forms {
         jumps,
+        branches: Reach::Near,
+        frame: takes_frame(jumps, items),
+    };
+    let words = words_of_items(near, items);
+    Forms {
         branches: Reach::within(words, BRANCH_WORDS),
+        ..near
     }
 }
 

@@ -6,7 +6,7 @@ ghost use Rattle.rv_isa.specs.Costs.{placed_functions_length};
 ghost use Rattle.rv_isa.specs.PlacedCode.{placed_lines_of, placed_functions};
 ghost use Rattle.rv_world.specs.Operations.{all_bytes};
 ghost use Rattle.cell_runtime.specs.Lines.{Spells, words_of};
-ghost use Rattle.rv_place.specs.Addresses.{entries_from};
+ghost use Rattle.rv_place.specs.Addresses.{entries_from, frames_taken};
 ghost use Rattle.cell_runtime.specs.Lines.{AreWithin};
 ghost use Rattle.cell_runtime.specs.Texts.{greatest_reach};
 ghost use Rattle.rv_place.specs.Texts.{ArePlaceable, ArePlacedWords, most_text_length, most_functions, most_runtime_words, most_text_words, most_constant_bytes, greatest_address, jumps_of, text_words, memory_of, map_of};
@@ -17,8 +17,8 @@ use crate::emit::{emit, emit_load};
 use crate::lines::emit_functions;
 use crate::reach::Reach;
 use crate::sizes::{
-    JUMP_WORDS, bytes_of_constants, frame_bytes, words_of_function, words_of_functions,
-    words_of_natives,
+    JUMP_WORDS, bytes_of_constants, frame_bytes, takes_frame, words_of_function,
+    words_of_functions, words_of_natives,
 };
 use crate::symbols::Symbols;
 use crate::words::Words;
@@ -91,6 +91,21 @@ fn entries(
     Ok(entries)
 }
 
+/// Whether each function takes a frame.
+fn frames_taken(
+    alloc: Global,
+    jumps: Reach,
+    functions: &[PlacedFunction],
+) -> Result<Vec<bool>, NoMemory>
+    ensures { IfOk result (λ takes. takes.items ≡ frames_taken jumps (map placed_lines_of functions.now)) }
+{
+    let mut takes = Vec::new(alloc);
+    for function in functions {
+        takes.push(takes_frame(jumps, &function.code))?;
+    }
+    Ok(takes)
+}
+
 /// The addresses of constants that stand one behind the other.
 fn constant_addresses(alloc: Global, first: u32, constants: &[Text]) -> Result<Vec<u32>, NoMemory>
     requires first { first ≤ greatest_address }
@@ -124,12 +139,14 @@ fn chart_of(alloc: Global, runtime: &Placed, program: &Placed) -> Result<Chart, 
 {
     let jumps = jumps_of(runtime, program);
     let entries = entries(alloc, jumps, first_entry(runtime), &program.functions)?;
+    let takes = frames_taken(alloc, jumps, &program.functions)?;
     let first = TEXT_START + 4 * text_words(runtime, program);
     let constants = constant_addresses(alloc, first, &program.constants)?;
     Ok(Chart {
         jumps,
         frame: frame_bytes(program),
         entries,
+        takes,
         symbols: Symbols::of(&runtime.natives),
         constants,
     })

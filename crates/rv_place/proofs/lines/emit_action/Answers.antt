@@ -29,7 +29,7 @@ returns-in-Call c =
 pub returns-in-TailCall : goal.returns-in-TailCall
 returns-in-TailCall c =
     on_so c.emit_jump-in-TailCall.result
-    (on_tail_call c.args.chart.now c.args.labels.now c.args.at c.args.args.now c.args.into c.in-TailCall.is c.body.ensures)
+    (on_tail_call c.args.chart.now c.args.labels.now c.args.at c.args.args.now c.args.into c.in-TailCall.is c.tail.ensures)
     c.emit_jump-in-TailCall.ensures
 
 pub returns-in-Return : goal.returns-in-Return

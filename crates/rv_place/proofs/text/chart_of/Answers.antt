@@ -4,7 +4,7 @@ use Rattle.rv_isa.specs.declared.placed.Native.{Native}
 use Rattle.rv_isa.specs.declared.placed.PlacedFunction.{PlacedFunction}
 use Rattle.rv_isa.specs.PlacedCode.{placed_lines_of, placed_functions, placed_constants}
 use Rattle.cell_runtime.specs.Lines.{words_of, labels_of}
-use Rattle.rv_place.specs.Addresses.{entries_from}
+use Rattle.rv_place.specs.Addresses.{entries_from, frames_taken}
 use Rattle.rv_place.specs.Texts.{jumps_of, text_words}
 use Rattle.rv_place.specs.Emitted.{AreSymbols, addresses_from}
 use Rattle.rv_place.proofs.Texting.{entries_among, short_text, addresses_get}
@@ -19,8 +19,8 @@ returns c =
     let first = text_start + 4 * words_of runtime.natives.items in
     let constants : c.in_ok-constants.constants.items ≡ addresses_from (text_start + 4 * text_words runtime program) (placed_constants program) =
     c.in_ok-constants.ensures
-    ∙ ap (λ (words : ℕ). addresses_from (text_start + 4 * words) c.deref-2.result.now) c.text_words.ensures.words
-    ∙ ap (addresses_from (text_start + 4 * text_words runtime program)) c.deref-2.ensures.value in
+    ∙ ap (λ (words : ℕ). addresses_from (text_start + 4 * words) c.deref-3.result.now) c.text_words.ensures.words
+    ∙ ap (addresses_from (text_start + 4 * text_words runtime program)) c.deref-3.ensures.value in
     record {
       jumps = c.jumps_of-jumps.ensures;
       frame = c.frame_bytes.ensures;
@@ -29,6 +29,10 @@ returns c =
           ∙ ap (λ (jumps : Reach). entries_from jumps c.first_entry.result (map placed_lines_of c.deref.result.now)) c.jumps_of-jumps.ensures
           ∙ ap (λ (at : ℕ). entries_from (jumps_of runtime program) at (map placed_lines_of c.deref.result.now)) c.first_entry.ensures
           ∙ ap (λ (functions : List PlacedFunction). entries_from (jumps_of runtime program) first (map placed_lines_of functions)) c.deref.ensures.value;
+      takes =
+          c.in_ok-takes.ensures
+          ∙ ap (λ (jumps : Reach). frames_taken jumps (map placed_lines_of c.deref-2.result.now)) c.jumps_of-jumps.ensures
+          ∙ ap (λ (functions : List PlacedFunction). frames_taken (jumps_of runtime program) (map placed_lines_of functions)) c.deref-2.ensures.value;
       entries_in = λ f entry there.
           let among = entries_among (jumps_of runtime program) first (placed_functions program) f entry there (omega arith) in
           record { word = among.word; low = omega (arith, among.low); high = omega (arith, among.high) };
@@ -36,7 +40,7 @@ returns c =
       first_word = refl;
       short = λ near. short_text runtime program near;
       below = let words = c.text_words.ensures.words in let few = c.text_words.ensures.few in omega arith;
-      symbols = subst (λ (natives : List Native). AreSymbols text_start (labels_of 0 natives) c.of.result) c.deref-3.ensures.value c.of.ensures;
+      symbols = subst (λ (natives : List Native). AreSymbols text_start (labels_of 0 natives) c.of.result) c.deref-4.ensures.value c.of.ensures;
       constants = λ index address there.
           subst (λ (addresses : List ℕ). slice_get addresses index ≡ Some address) (sym constants)
           (addresses_get (text_start + 4 * text_words runtime program) (placed_constants program) index address there);

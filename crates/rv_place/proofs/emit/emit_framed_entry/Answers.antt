@@ -7,7 +7,7 @@ use Rattle.rv_place.specs.Instructions.{words_of_jump}
 use Rattle.rv_place.specs.Lines.{IsFromPointer, ShiftsStack, FindsFrame}
 use Rattle.rv_place.proofs.Emitting.{grew_so, grew_then}
 use Rattle.rv_place.proofs.Acting.{entry_branch}
-use Rattle.rv_place.proofs.emit.emit_entry.Goals as goal
+use Rattle.rv_place.proofs.emit.emit_framed_entry.Goals as goal
 
 pub returns : goal.returns
 returns c =
