@@ -43,7 +43,7 @@ use Rattle.rv_place.proofs.BootAgreements.{agree_after_instructions}
 use Rattle.rv_place.proofs.BootSizes.{text_size}
 use Rattle.rv_place.proofs.BootGround.{stop_address, HasRoom, own_code, own-part, own-inside, has-room, runtime-stands, has-ground}
 use Rattle.rv_place.proofs.BootFirst.{usable, first-stands, first-rests}
-use Rattle.rv_place.proofs.BootEntry.{first_frame, Begins, IsBefore, entry-begins}
+use Rattle.rv_place.proofs.BootEntry.{first_frame, Begins, IsBefore, entry-begins, begin_steps, few_steps}
 
 -- the first function stands first
 first_entry : (jumps : Reach) (at : ℕ) (functions : List PlacedLines) (entry : ℕ) → slice_get (entries_from jumps at functions) 0 ≡ Some entry → entry ≡ at

@@ -13,7 +13,7 @@ use Rattle.rv_isa.specs.PlacedCode.{PlacedLine, does, moves, PlacedLines}
 use Rattle.rv_isa.specs.Conventions.{is_in_any, home}
 use Rattle.rv_isa.specs.LinePlaces.{is_no_label, is_copy, is_instruction, PlacedHasLine}
 use Rattle.rv_isa.specs.Standing.{Code}
-use Rattle.rv_place.specs.Addresses.{stands_there, goes_home, is_silent, words_of_action, words_of_line, words_of_lines, forms_of, entry_words, words_of_function}
+use Rattle.rv_place.specs.Addresses.{stands_there, goes_home, is_silent, words_of_action, words_of_line, words_of_lines, forms_of, entry_words, words_of_function, words_of_shift}
 use Rattle.rv_place.specs.Addresses.{entries_from, words_of_functions}
 use Rattle.rv_place.specs.LineAddresses.{address_in, line_address}
 use Rattle.rv_place.specs.Lines.{Map, FunctionsAt}

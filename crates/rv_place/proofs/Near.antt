@@ -9,7 +9,7 @@ use Rattle.rv_place.specs.declared.reach.Forms.{Forms}
 use Rattle.rv_place.specs.declared.reach.Reach.{Reach}
 use Rattle.rv_place.specs.declared.reach.Reach.TheVariants.{Near, Far, Wide}
 use Rattle.rv_place.specs.Instructions.{words_of_jump, words_of_branch}
-use Rattle.rv_place.specs.Addresses.{words_of_line, words_of_lines, label_address, reach_of, branch_words, forms_of}
+use Rattle.rv_place.specs.Addresses.{words_of_line, words_of_lines, label_address, reach_of, branch_words, forms_of, takes_frame}
 use Rattle.rv_place.specs.Lines.{Map}
 use Rattle.rv_place.specs.Emitted.{Charts, JumpReaches, BranchReaches, IsInText, IsInFunction}
 

@@ -101,7 +101,7 @@ module _ {map_of : Map} {pool : Pool} {functions : List PlacedLines} {depth buff
   stands_in = running.frames.0
 
   labelled : (l : ℕ) (lines : List PlacedLine) → found (is_label_line l) f.whole ≡ Some lines → Labelled map_of stands_in.forms code stands_in.start f.whole (most_lines functions) (stands_in.start + 4 * words_of_lines stands_in.forms f.whole) (label_address stands_in.forms l stands_in.start f.whole) lines
-  labelled l lines found_is = label_found map_of stands_in.forms code stands_in.start f.whole (most_lines functions) (stands_in.start + 4 * words_of_lines stands_in.forms f.whole) l stands_in.start f.whole lines stands_in.start_word stands_in.whole stands_in.whole_plain stands_in.few_whole refl found_is
+  labelled l lines found_is = label_found map_of stands_in.forms code stands_in.start f.whole (most_lines functions) (stands_in.start + 4 * words_of_lines stands_in.forms f.whole) l stands_in.start f.whole lines stands_in.start_word stands_in.whole stands_in.whole_plain stands_in.few_whole (λ needs. needs) refl found_is
 
   -- a function that takes no frame has near jumps
   near_here : takes_frame map_of.jumps f.whole ≡ false → stands_in.forms.jumps ≡ Near
@@ -171,9 +171,9 @@ module _ {map_of : Map} {pool : Pool} {functions : List PlacedLines} {depth buff
 -- ---- calls
 
 -- an entry is at a word
-entry_word : {map : Map} {code : Code} {at target : ℕ} {s : Processor} (takes : Bool) → Stands code s → BeginsAt takes map code at → IsSymbolAt map symbol.StackFull target → at % 4 ≡ 0
-entry_word {at = at} false stands passes there = stands.aligned at _ passes.tests
-entry_word {map} {code} {at} {target} true stands entry there = by map.jumps entry.finds (entry.full target there)
+entry_word : (map : Map) {code : Code} (at : ℕ) {target : ℕ} {s : Processor} (takes : Bool) → Stands code s → BeginsAt takes map code at → IsSymbolAt map symbol.StackFull target → at % 4 ≡ 0
+entry_word map at false stands passes there = stands.aligned at _ passes.tests
+entry_word map {code} at {target} true stands entry there = by map.jumps entry.finds (entry.full target there)
   where
     by : (jumps : Reach) → FindsFrame jumps code at → BranchesOn map.jumps Far code (at + 4 * words_to_frame jumps) Equal (frame_register jumps) s3 target → at % 4 ≡ 0
     by Near finds (over, over_is, here, jump) = let word = stands.aligned (at + 4 * 0) _ here in omega arith
@@ -365,7 +365,7 @@ module _ {map_of : Map} {pool : Pool} {functions : List PlacedLines} {depth buff
   full_comes : takes_frame map_of.jumps f.whole ≡ true → (g : ℕ) (callee : PlacedLines) (entry : ℕ) → FunctionAt map_of code entry callee → CallsTo forms.jumps code s.pc entry → depth ≤ length (f ∷ fs)
       → Comes map_of pool functions depth stop code parts 7 old (ended (primitives map_of.constants pool).stack_full world) s
   full_comes framed g callee entry function calls full =
-      let word = entry_word (takes_frame map_of.jumps callee.code) running.rests.stands function.entry ground.stack_full.1 in
+      let word = entry_word map_of entry (takes_frame map_of.jumps callee.code) running.rests.stands function.entry ground.stack_full.1 in
       let full_at = ground.stack_full in
       let called = jump_to pool.cells ground.below running.rests.stands forms.jumps s.pc refl ra entry calls word in
       let last = sp_last ground f fs known world s running full in
@@ -411,7 +411,7 @@ module _ {map_of : Map} {pool : Pool} {functions : List PlacedLines} {depth buff
       → Comes map_of pool functions depth stop code parts 7 old (placed_goes (placed_entered g callee) (record left_behind { into = awaited into } ∷ fs) (passed 0 words) world) s
   taking_comes framed g callee entry taking enters args into words callee_is entry_is function calls is_behind gives agrees room =
       let stand = waits_as map_of code (most_lines functions) stop (stack_end map_of depth) s.registers s.memory s.pc running.base f fs framed running.frames in
-      let word = entry_word true running.rests.stands enters ground.stack_full.1 in
+      let word = entry_word map_of entry true running.rests.stands enters ground.stack_full.1 in
       let full_at = ground.stack_full in
       let called = jump_to pool.cells ground.below running.rests.stands forms.jumps s.pc refl ra entry calls word in
       let last = jump_last pool.cells ground.below forms.jumps s.pc ra entry calls in
@@ -452,7 +452,7 @@ module _ {map_of : Map} {pool : Pool} {functions : List PlacedLines} {depth buff
       → Comes map_of pool functions depth stop code parts 7 old (placed_goes (placed_entered g callee) (record left_behind { into = awaited into } ∷ fs) (passed 0 words) world) s
   bare_comes framed g callee entry bare passes args into words callee_is entry_is function calls is_behind gives agrees room =
       let stand = waits_as map_of code (most_lines functions) stop (stack_end map_of depth) s.registers s.memory s.pc running.base f fs framed running.frames in
-      let word = entry_word false running.rests.stands passes ground.stack_full.1 in
+      let word = entry_word map_of entry false running.rests.stands passes ground.stack_full.1 in
       let called = jump_to pool.cells ground.below running.rests.stands forms.jumps s.pc refl ra entry calls word in
       let last = jump_last pool.cells ground.below forms.jumps s.pc ra entry calls in
       let base = running.base - map_of.frame in

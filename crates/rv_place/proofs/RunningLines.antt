@@ -149,15 +149,15 @@ few_found (function ∷ functions) (suc g) callee is =
     let rest = few_found functions g callee is in let less = max_right (length function.code) (most_lines functions) in omega arith
 
 -- the address behind the entry is one of a word
-begins_word : {map : Map} {code : Code} {s : Processor} {entry : ℕ} (takes : Bool) → (takes ≡ false → map.jumps ≡ Near) → Stands code s
+begins_word : (map : Map) {code : Code} {s : Processor} (entry : ℕ) (takes : Bool) → (takes ≡ false → map.jumps ≡ Near) → Stands code s
     → ((at : ℕ) (i : Instr) → code at ≡ Some i → at + 4 < 2 ^ 32) → BeginsAt takes map code entry
     → ((entry + 4 * entry_words map.jumps) % 4 ≡ 0) × (entry + 4 * entry_words map.jumps < 2 ^ 32)
-begins_word {map} {code} {s} {entry} true near stands below enters =
+begins_word map entry true near stands below enters =
     let saving : ℕ = entry + 4 * words_to_frame map.jumps + 4 + 4 * words_of_jump map.jumps + 4 * words_of_shift map.jumps in
     let word = stands.aligned saving _ enters.saves in
     let last = below saving _ enters.saves in
     (omega arith, omega arith)
-begins_word {map} {code} {s} {entry} false near stands below passes =
+begins_word map {code} entry false near stands below passes =
     let gives = subst (λ (j : Reach). ShiftsStack j map.frame code (entry + 4 + 4 * words_of_jump j + 4)) (near refl) passes.gives in
     let word = stands.aligned (entry + 4 + 4 + 4) _ gives.2 in
     let last = below (entry + 4 + 4 + 4) _ gives.2 in
@@ -167,7 +167,7 @@ begins_word {map} {code} {s} {entry} false near stands below passes =
 pub entered_in : {map : Map} {code : Code} {s : Processor} (most g entry : ℕ) (callee : PlacedLines) → Stands code s → ((at : ℕ) (i : Instr) → code at ≡ Some i → at + 4 < 2 ^ 32)
     → slice_get map.entries g ≡ Some entry → FunctionAt map code entry callee → ArePlain callee.code callee.code → length callee.code ≤ most → IsIn map code most (entry + 4 * entry_words map.jumps) (placed_entered g callee)
 entered_in {map} most g entry callee stands below entry_is function plain few =
-    let first = begins_word (takes_frame map.jumps callee.code) (bare_near map.jumps callee.code) stands below function.entry in
+    let first = begins_word map entry (takes_frame map.jumps callee.code) (bare_near map.jumps callee.code) stands below function.entry in
     let word = first.0 in
     let last = first.1 in
     record {

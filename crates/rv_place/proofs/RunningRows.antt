@@ -286,9 +286,11 @@ module _ (cells : ℕ) {code : Code} (below : (at : ℕ) (i : Instr) → code at
         let moved = frame_takes tested.done.stands map (at + 4 * words_to_frame map.jumps + 4 + 4 * words_of_jump map.jumps) tested.done.pc_is
         entry.takes entry.back entry.back_is entry.saves lower way old_base (omega (arith, fits, lower_is)) (tested.done.kept 1 ((λ e. cc), tt) ∙ way_is) aligned
         (rw tested.done.parts_are allowed) (misses_done lower tested.done ((λ e. cc), tt) ((λ e. cc), tt) ((λ e. cc), tt) misses) in
+        let steps : words_to_frame map.jumps + 1 + (words_of_shift map.jumps + 1) ≡ words_to_frame map.jumps + 1 + words_of_shift map.jumps + 1 = omega arith in
         record {
           after = moved.after;
-          done = done_as {changed' = 5 ∷ 2 ∷ []} (done_then tested.done moved.done) (ap (λ m. with_number lower 4 way m) tested.done.memory_is) (omega arith) (λ x out. out);
+          done = subst (λ n. Done cells code n (5 ∷ 2 ∷ []) (with_number lower 4 way s.memory) (at + 4 * entry_words map.jumps) s moved.after) steps
+              (done_as {changed' = 5 ∷ 2 ∷ []} (done_then tested.done moved.done) (ap (λ m. with_number lower 4 way m) tested.done.memory_is) (omega arith) (λ x out. out));
           base_is = moved.base_is;
         }
 
@@ -298,7 +300,9 @@ module _ (cells : ℕ) {code : Code} (below : (at : ℕ) (i : Instr) → code at
       (base : ℕ) (base_is : value s.registers 2 ≡ base) (end_is : value s.registers 19 ≡ map.bottom) where
     tests : (test : Bool) → nat_eq base map.bottom ≡ test
         → effect_at s (branch_instruction NotEqual sp s3 passes.over) ≡ branches s.pc (not test) passes.over
-    tests test is = goes_by stands at pc_is NotEqual sp s3 0 map.jumps NotEqual passes.over (not test) (rw (base_is, end_is) (ap not is))
+    tests test is =
+        let compared : compares NotEqual (value s.registers 2) (value s.registers 19) ≡ not test = rw (base_is, end_is) (ap not is) in
+        goes_by stands at pc_is NotEqual sp s3 0 map.jumps NotEqual passes.over (not test) compared
 
     -- at the lowest frame the stack is full
     pub bare_full : (full : ℕ) → IsSymbolAt map symbol.StackFull full → full % 4 ≡ 0 → base ≡ map.bottom
@@ -329,7 +333,8 @@ module _ (cells : ℕ) {code : Code} (below : (at : ℕ) (i : Instr) → code at
   begins_full {s} stands map at pc_is false near passes full full_at base base_is fits end_is aligned last =
       let goes = bare_full stands map at pc_is passes base (base_is ∙ bare_sp map.jumps base (near refl)) end_is full full_at aligned last in
       let none : words_to_frame map.jumps ≡ 0 = ap words_to_frame (near refl) in
-      subst (λ n. Goes cells code (n + words_of_branch map.jumps Far) (5 ∷ 1 ∷ 0 ∷ []) s.memory full s) (sym none)
+      let size : 1 + words_of_jump map.jumps ≡ words_to_frame map.jumps + words_of_branch map.jumps Far = omega arith in
+      subst (λ n. Goes cells code n (5 ∷ 1 ∷ 0 ∷ []) s.memory full s) size
       (record { after = goes.after; done = done_as {changed' = 5 ∷ 1 ∷ 0 ∷ []} goes.done refl refl (λ x out. out.1) })
 
   -- ---- returns

@@ -1,6 +1,6 @@
 // Where what the code names stands.
 
-ghost use Rattle.std.specs.Prelude.{◌≡◌, ℕ, ◌+◌, ◌*◌, ◌^◌, ◌<◌, Bool, Some, slice_get};
+ghost use Rattle.std.specs.Prelude.{◌≡◌, ℕ, ◌+◌, ◌*◌, ◌^◌, ◌<◌, ◌≤◌, Bool, Some, slice_get};
 ghost use Rattle.rv_place.specs.Addresses.{entry_words, skipped_words};
 
 use crate::reach::Reach;
