@@ -219,10 +219,10 @@ module _ (target : Target) (f : Frame Line) (fs : List (Frame Line)) (world : Wo
 
     -- the callee runs in place of a frame that holds no token
     pub tail_call_runs : f.held ≡ []
-        → Runs target (2 * length args + 2) 1 (turn_of (acts (TailCall g) args ∷ rest) f fs world)
+        → Runs target (2 * length args + 3) 1 (turn_of (acts (TailCall g) args ∷ rest) f fs world)
         (turn_of callee.code entered fs world)
     tail_call_runs none =
-        line_runs target (2 * length args + 2) (acts (TailCall g) args) rest f fs world words
+        line_runs target (2 * length args + 3) (acts (TailCall g) args) rest f fs world words
         (turn_of callee.code entered fs world) reads
         (ap (λ h. unless_held h (or_stuck (slice_get target.functions g) (λ (c : Lines). or_stuck (bound c.params words)
         (λ values. asm_goes (asm_entered g c values) fs world)))) none

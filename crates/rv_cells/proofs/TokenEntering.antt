@@ -475,7 +475,7 @@ module _ (program : Lowering) where
       nothing in
       let is : left ≡ copies base arguments ++ (line ∷ p.after)
       = p.left_is ∙ ap (λ own. own ++ p.after) p.lines.0 ∙ append_assoc (copies base arguments) (line ∷ []) p.after in
-      let last_cost = 2 * length (temporaries base arguments) + 2 in
+      let last_cost = 2 * length (temporaries base arguments) + 3 in
       let runs : Runs (target program) (row_cost arguments (m + 2) + last_cost) (length arguments + 1) t0 t2
       = subst (λ ls. Runs (target program) (row_cost arguments (m + 2) + last_cost) (length arguments + 1)
       (turn_of ls s.frame fs s.world) t2)

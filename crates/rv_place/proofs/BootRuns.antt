@@ -31,14 +31,14 @@ use Rattle.rv_place.specs.declared.words.Words.{Words}
 use Rattle.rv_place.specs.Addresses.{jump_words, takes_frame, words_of_functions, frame_size, frame_bias, entries_from}
 use Rattle.rv_place.specs.declared.reach.Reach.{Reach}
 use Rattle.rv_place.specs.declared.reach.Reach.TheVariants.{Near}
-use Rattle.rv_place.proofs.Shifting.{bias_below, to_frame_most}
+use Rattle.rv_place.proofs.Shifting.{bias_below}
 use Rattle.rv_place.specs.Lines.{FunctionAt}
 use Rattle.rv_place.specs.Texts.{text_bytes, memory_of, pool_in, constants_of, map_of, jumps_of}
 use Rattle.rv_place.specs.Images.{first_processor, parts_of, code_in, main_entry, outside_lines, IsPlacedImage, EndsWithCells}
 use Rattle.rv_place.specs.Grounds.{stack_end, constant_bytes, Ground, Rests}
 use Rattle.rv_place.specs.Running.{NeverStuck, Related, Passing}
 use Rattle.rv_place.proofs.RunningInside.{walks_then, stands_part, start_walks}
-use Rattle.rv_place.proofs.RunningLines.{shift_most, function_found}
+use Rattle.rv_place.proofs.RunningLines.{function_found}
 use Rattle.rv_place.proofs.BootAgreements.{agree_after_instructions}
 use Rattle.rv_place.proofs.BootSizes.{text_size}
 use Rattle.rv_place.proofs.BootGround.{stop_address, HasRoom, own_code, own-part, own-inside, has-room, runtime-stands, has-ground}

@@ -40,7 +40,7 @@ use Rattle.rv_place.specs.declared.reach.Reach.{Reach}
 use Rattle.rv_place.specs.declared.reach.Reach.TheVariants.{Near, Far, Wide}
 use Rattle.rv_place.specs.Lines.{Map, GoesBack, ReturnsFrom, ReturnsBy, BranchesTo, frame_register, FindsFrame, EntersAt, PassesAt, BeginsAt, FunctionAt, ActsAt, IsSymbolAt}
 use Rattle.rv_place.specs.Grounds.{Ground, stack_end}
-use Rattle.rv_place.specs.Running.{AllPlain, most_lines, IsIn, AwaitsFirst, FramesAt, way_back, StackAt, newest_taken, links_in, links_of, Agrees, Running}
+use Rattle.rv_place.specs.Running.{AllPlain, most_lines, IsIn, AwaitsFirst, FramesAt, way_back, links_in, links_of, Agrees, Running}
 use Rattle.rv_place.proofs.RunningExecuting.{MissesFree, Done, Goes, misses_done, done_then, done_as, done_on}
 use Rattle.rv_place.proofs.RunningRows.{Shifts, jump_to, jump_last, branch_last, bare_sp, frame_takes, frame_leaves, begins_full, entry_takes, bare_passes, return_goes, goes_back}
 use Rattle.rv_place.proofs.RunningFree.{behind_misses}
@@ -258,10 +258,13 @@ module _ {map_of : Map} {pool : Pool} {functions : List PlacedLines} {depth buff
         comes_go map_of pool functions depth stop code parts 3 old (record { frames = placed_entered g callee ∷ fs; registers = passed 0 words; shared = world }) s u n (walks_done done)
         (runs_on map_of pool functions depth stop code parts (record { frames = f ∷ fs; registers = known; shared = world }) world.cells s u (placed_entered g callee ∷ fs) (passed 0 words) running.base running done
         (outside_handed changed none one_register refl (λ e. cc)) refl running.room
-        (base_is ∙ ap (λ t. cond t running.base (running.base + map_of.frame) + frame_bias map_of.jumps) (sym own_is))
-        (inside, (λ k w unknown. cc), tt,
-        subst (λ w. FramesAt map_of code (most_lines functions) stop (stack_end map_of depth) s.memory w (running.base + map_of.frame) fs)
-        (sym way_is ∙ ap (λ t. way_back t u.registers s.memory running.base) (sym own_is)) running.frames.3)
+        (base_is ∙ ap (λ t. cond t running.base (running.base + map_of.frame) + frame_bias map_of.jumps) (sym own_is)) (
+          inside,
+          (λ k w unknown. cc),
+          tt,
+          subst (λ w. FramesAt map_of code (most_lines functions) stop (stack_end map_of depth) s.memory w (running.base + map_of.frame) fs)
+              (sym way_is ∙ ap (λ t. way_back t u.registers s.memory running.base) (sym own_is)) running.frames.3,
+        )
         (agrees_done s u (passed 0 words) done none agrees) (cells_done unheld_cells (roots_done done kept) done.memory_is)) some few
 
     -- the callee takes a frame, and the function takes none: behind the test of the entry it does
@@ -473,10 +476,13 @@ module _ {map_of : Map} {pool : Pool} {functions : List PlacedLines} {depth buff
       (is_behind way refl last, stand.1, (awaits_first g into gives, framed), stand.3) in
       comes_go map_of pool functions depth stop code parts 7 old after s goes.after (words_of_jump forms.jumps + 1) (walks_done done)
       (runs_on map_of pool functions depth stop code parts (record { frames = f ∷ fs; registers = known; shared = world }) world.cells s goes.after after.frames (passed 0 words) base running done ((λ e. cc), ((λ e. cc), tt)) refl room
-      (goes.done.kept 2 tt ∙ (old_base ∙ (ap (λ b. b + frame_bias map_of.jumps) base_is ∙ ap (λ t. cond t base (base + map_of.frame) + frame_bias map_of.jumps) (sym bare))))
-      (inside, (λ k w none. cc), tt,
-      subst (λ w. FramesAt map_of code (most_lines functions) stop (stack_end map_of depth) s.memory w (base + map_of.frame) (record left_behind { into = awaited into } ∷ fs))
-      (sym link ∙ ap (λ t. way_back t goes.after.registers s.memory base) (sym bare)) waiting)
+      (goes.done.kept 2 tt ∙ (old_base ∙ (ap (λ b. b + frame_bias map_of.jumps) base_is ∙ ap (λ t. cond t base (base + map_of.frame) + frame_bias map_of.jumps) (sym bare)))) (
+        inside,
+        (λ k w none. cc),
+        tt,
+        subst (λ w. FramesAt map_of code (most_lines functions) stop (stack_end map_of depth) s.memory w (base + map_of.frame) (record left_behind { into = awaited into } ∷ fs))
+            (sym link ∙ ap (λ t. way_back t goes.after.registers s.memory base) (sym bare)) waiting,
+      )
       (agrees_done s goes.after (passed 0 words) done (refl, (refl, tt)) agrees)
       (subst (λ b. HoldsCells pool world.cells (links_of map_of b (f ∷ fs)) goes.after) base_is (cells_done running.cells (roots_done done refl) done.memory_is)))
       (omega arith) (omega (arith, jump_most forms.jumps))

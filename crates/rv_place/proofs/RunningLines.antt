@@ -1,5 +1,5 @@
 -- Lines as they stand in the code: where labels and functions are found, and what is kept of the code that is left.
-use Rattle.std.proofs.Common.{◌≡◌, ◌≤◌, ◌<◌, ◌||◌, ℕ, zero, suc, ◌+◌, ◌*◌, ◌%◌, ◌^◌, max, List, [], ◌∷◌, length, Option, Some, None, Bool, true, false, cond, slice_get, IsSome, refl, sym, ap, subst, arith}
+use Rattle.std.proofs.Common.{◌≡◌, ◌≤◌, ◌<◌, ℕ, zero, suc, ◌+◌, ◌*◌, ◌%◌, ◌^◌, max, List, [], ◌∷◌, length, Option, Some, None, Bool, true, false, cond, slice_get, IsSome, refl, sym, ap, subst, arith}
 use Rattle.std.specs.List.{list_any}
 use Rattle.std.proofs.lemmas.Bool.{or_left, or_right}
 use Rattle.rv_isa.specs.declared.asm.Condition.{Condition}

@@ -20,7 +20,7 @@ use Rattle.rv_isa.specs.Conventions.{one_register}
 use Rattle.rv_isa.specs.Frames.{Frame, all_of, only_of, holding, unholding, off_top, is_among}
 use Rattle.rv_isa.specs.PlacedMachine.{PlacedTurn, read_at, only_slot, slot_of, placed_goes, placed_acts}
 use Rattle.rv_isa.specs.Bytes.{number_at, bytes_at, with_number}
-use Rattle.rv_isa.specs.Processor.{Processor, Ending, value, can_load, can_store}
+use Rattle.rv_isa.specs.Processor.{Processor, Ending, value, can_store}
 use Rattle.rv_isa.specs.Standing.{Code}
 use Rattle.rv_isa.proofs.Memory.{word-apart, bytes_at-with_number_apart}
 use Rattle.cell_heap.specs.Cells.{token, changed, occurs}
