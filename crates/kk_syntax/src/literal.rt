@@ -1,10 +1,11 @@
 ghost use Rattle.std.specs.Prelude.{◌≡◌, ℕ, ◌≤◌, List, length, IfOk};
+ghost use Rattle.kk_base.specs.declared.strings.TheConstants.{GREATEST_STRING};
 
-use kk_base::{NoMemory, Text};
+use kk_base::{GREATEST_STRING, NoMemory, Text};
 use std::alloc::Global;
 use std::marker::Model;
 
-/// A string literal: its bytes after escapes, of which there are at most 255.
+/// A string literal: its bytes after escapes, of which there are at most `GREATEST_STRING`.
 #[derive(Debug, Drop)]
 pub struct StringLiteral {
     text: Text,
@@ -15,16 +16,16 @@ impl Model for StringLiteral {
 
     ghost view = { λ l. l.text };
 
-    ghost invariant = { λ l. length l.text ≤ 255 };
+    ghost invariant = { λ l. length l.text ≤ GREATEST_STRING };
 }
 
 impl StringLiteral {
     /// The greatest number of bytes.
-    pub const MOST_BYTES: usize = 255;
+    pub const MOST_BYTES: usize = GREATEST_STRING;
 
     /// The literal of these bytes. Takes no memory.
     pub fn new(text: Text) -> Self
-        requires { length text ≤ 255 }
+        requires { length text ≤ GREATEST_STRING }
         ensures { result ≡ text }
     {
         StringLiteral { text }
@@ -41,7 +42,7 @@ impl StringLiteral {
 
     pub fn as_slice(&self) -> &[u8]
         ensures bytes { result.now ≡ self.now }
-        ensures short { length result.now ≤ 255 }
+        ensures short { length result.now ≤ GREATEST_STRING }
     {
         self.text.as_slice()
     }
