@@ -8,7 +8,9 @@
 -- x8 has the first free cell of the chain, or 0; x9 the newest held token, or 0; x18 and x19 bound the cells that were never used, of which no
 -- word is said.
 use Rattle.std.specs.Prelude.{◌≡◌, ◌≢◌, ℕ, ◌+◌, ◌*◌, ◌%◌, ◌^◌, ◌<◌, ◌≤◌, ◌⊎◌, List, [], ◌∷◌, map, length, true}
+use Rattle.kk_base.specs.Limits.{greatest_of}
 use Rattle.kk_base.specs.Memory.{Part}
+use Rattle.kk_base.specs.declared.limit.LimitKind.TheVariants.{Fields}
 use Rattle.rv_isa.specs.Bytes.{number_at}
 use Rattle.rv_isa.specs.Processor.{Processor, value, can_load, can_store}
 use Rattle.cell_heap.specs.Cells.{Body, Cell, no_cell, free, token, waiting, counted, Heap, occurs}
@@ -28,14 +30,14 @@ pub record HasBody (memory : ℕ → ℕ) (at : ℕ) (body : Body) : Type 0 wher
   pub header : word memory (at + 4) ≡ body.tag + 256 * body.mask
   pub tag : body.tag < 256
   pub mask : body.mask < 2 ^ length body.fields
-  pub few : length body.fields ≤ 6
+  pub few : length body.fields ≤ greatest_of Fields
   pub fields : HasWords memory (at + 8) body.fields
 
 -- what memory shows of a cell at its address: free cells and held tokens have more to show by their chains
 abbrev pub Shows : Pool → (ℕ → ℕ) → ℕ → Cell → Type 0
 Shows pool memory at no_cell = IsCell pool at → ⊥
 Shows pool memory at free = IsCell pool at
-Shows pool memory at (token fields) = IsCell pool at × (length fields ≤ 6) × HasWords memory (at + 8) fields
+Shows pool memory at (token fields) = IsCell pool at × (length fields ≤ greatest_of Fields) × HasWords memory (at + 8) fields
 Shows pool memory at (waiting body) = IsCell pool at × HasBody memory at body
 Shows pool memory at (counted count body) =
     IsCell pool at × (word memory at ≡ count) × (count < 2 ^ 32) × HasBody memory at body
