@@ -3,6 +3,8 @@
 use Rattle.std.proofs.Common.{◌≡◌, ◌≢◌, ◌≤◌, ◌<◌, ℕ, suc, ◌+◌, ◌*◌, ◌^◌, inl, inr, List, [], ◌∷◌, ◌++◌, map, length, refl, sym, ap, ◌∙◌, subst, arith, length-append}
 use mathlib.Core.Path.{fun_ext}
 use Rattle.kk_base.specs.Memory.{Part}
+use Rattle.kk_base.specs.Limits.{greatest_of}
+use Rattle.kk_base.specs.declared.limit.LimitKind.TheVariants.{Fields}
 use Rattle.rv_isa.specs.Bytes.{with_number}
 use Rattle.rv_isa.specs.Processor.{Processor, value}
 use Rattle.rv_isa.proofs.Memory.{word-same, word-apart}
@@ -35,7 +37,7 @@ token-own fields = record { not_free = λ e. cc; settled = λ b e. cc }
 IsUsable-same : {pool : Pool} {old new : List Part} → new ≡ old → IsUsable pool old → IsUsable pool new
 IsUsable-same {pool} e usable = subst (IsUsable pool) (sym e) usable
 
-one_more : (fields : List ℕ) (x : ℕ) → length fields < 6 → length (fields ++ x ∷ []) ≤ 6
+one_more : (fields : List ℕ) (x : ℕ) → length fields < greatest_of Fields → length (fields ++ x ∷ []) ≤ greatest_of Fields
 one_more fields x few = let sum = length-append fields (x ∷ []) in omega arith
 
 HasWords-push : (memory : ℕ → ℕ) (at : ℕ) (xs : List ℕ) (x : ℕ) → HasWords memory at xs → word memory (at + 4 * length xs) ≡ x → HasWords memory at (xs ++ x ∷ [])

@@ -2,6 +2,8 @@
 use Rattle.std.proofs.Common.{◌≡◌, ◌≢◌, ◌≤◌, ◌<◌, ℕ, suc, ◌+◌, ◌*◌, ◌%◌, ◌^◌, inl, inr, List, [], ◌∷◌, length, refl, sym, ap, ◌∙◌, subst, arith}
 use Rattle.std.proofs.lemmas.Bool.{cases_eq, cases_lt}
 use Rattle.kk_base.specs.Memory.{Part}
+use Rattle.kk_base.specs.Limits.{greatest_of}
+use Rattle.kk_base.specs.declared.limit.LimitKind.TheVariants.{Fields}
 use Rattle.rv_isa.specs.Bytes.{with_number, Apart}
 use Rattle.rv_isa.proofs.Memory.{word-same, word-apart}
 use Rattle.cell_heap.specs.Cells.{Body, Cell, free, waiting, counted, Heap, changed, occurs}
@@ -160,7 +162,7 @@ AreFields pool memory at [] = Unit {0}
 AreFields pool memory at (x ∷ xs) =
     (word memory at ≡ x) × (at % 4 ≡ 0) × (8 ≤ at % 32) × (pool.first ≤ at) × (at + 4 ≤ end_of pool) × AreFields pool memory (at + 4) xs
 
-fields-from : (pool : Pool) (memory : ℕ → ℕ) (cell : ℕ) → pool.first % 32 ≡ 0 → IsCell pool cell → (k : ℕ) (xs : List ℕ) → k + length xs ≤ 6 → HasWords memory (cell + 8 + 4 * k) xs → AreFields pool memory (cell + 8 + 4 * k) xs
+fields-from : (pool : Pool) (memory : ℕ → ℕ) (cell : ℕ) → pool.first % 32 ≡ 0 → IsCell pool cell → (k : ℕ) (xs : List ℕ) → k + length xs ≤ greatest_of Fields → HasWords memory (cell + 8 + 4 * k) xs → AreFields pool memory (cell + 8 + 4 * k) xs
 fields-from pool memory cell first_aligned is_cell k [] few words = tt
 fields-from pool memory cell first_aligned is_cell k (x ∷ xs) few words =
     let low = is_cell.behind in

@@ -1,5 +1,7 @@
 -- What the hold of a token makes of what memory shows.
 use Rattle.std.proofs.Common.{◌≡◌, ◌≢◌, ◌≤◌, ◌<◌, ℕ, ◌+◌, ◌^◌, ◌⊎◌, inl, inr, List, [], ◌∷◌, map, length, refl, sym, ap, ◌∙◌, subst, arith}
+use Rattle.kk_base.specs.Limits.{greatest_of}
+use Rattle.kk_base.specs.declared.limit.LimitKind.TheVariants.{Fields}
 use Rattle.rv_isa.specs.Bytes.{with_number, Apart}
 use Rattle.rv_isa.specs.Processor.{Processor, value}
 use Rattle.rv_isa.proofs.Memory.{word-same, word-apart}
@@ -77,7 +79,7 @@ module _ (pool : Pool) (view : View) (s t : Processor) (memory : Memory pool vie
   but : SameBut s.memory t.memory cell
   but = rw stored (linked-but cell (value s.registers 9) slot s.memory next_fits (omega (arith, is_slot.below)))
 
-  shows : IsCell pool cell × (length fields ≤ 6) × HasWords t.memory (cell + 8) fields
+  shows : IsCell pool cell × (length fields ≤ greatest_of Fields) × HasWords t.memory (cell + 8) fields
   shows =
       let old = shows-at memory.shown cell (token fields) is_token in
       let few = old.1 in (

@@ -2,6 +2,8 @@
 use Rattle.std.proofs.Common.{◌≡◌, ◌<◌, ◌≤◌, ℕ, suc, ◌+◌, ◌*◌, Bool, true, false, List, [], ◌∷◌, ◌++◌, length, Option, Some, None, refl, sym, ◌∙◌, ap, subst, arith, append_assoc}
 use mathlib.Core.Path.{fun_ext}
 use Rattle.std.proofs.lemmas.List.{length-map}
+use Rattle.kk_base.specs.Limits.{greatest_of}
+use Rattle.kk_base.specs.declared.limit.LimitKind.TheVariants.{Fields}
 use Rattle.kk_syntax.specs.Shapes.{is_among}
 use Rattle.kk_source.specs.State.{Value, place, Cell}
 use Rattle.kk_source.specs.Live.{value_of}
@@ -197,7 +199,7 @@ fits_place false name is = cc
 
 -- its fields are few
 pub few_arguments : (known : Known) (s : Spot) (x c : ℕ) (arguments : List ℕ) → IsMaking known s x c arguments
-    → length arguments ≤ 6
+    → length arguments ≤ greatest_of Fields
 few_arguments known s x c arguments making =
     let many = fits_length (known.layout.fields c) (values_of s.environment arguments) making.fits in
     let long : length (values_of s.environment arguments) ≡ length arguments = length-map arguments (value_of s.environment) in
@@ -255,7 +257,7 @@ module _ (known : Known) (rest : List Line) (fs : List (Frame Line)) (s : Spot) 
   abbrev pub behind_take : List Line
   behind_take = sets header known.base ∷ constructs.0 ∷ ((constructs.1 ++ tail) ++ rest)
 
-  pub few : length arguments ≤ 6
+  pub few : length arguments ≤ greatest_of Fields
   few = few_arguments known s x c arguments making
 
   -- the frame behind the header, and at the end

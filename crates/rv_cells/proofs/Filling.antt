@@ -3,6 +3,8 @@ use Rattle.std.proofs.Common.{◌≡◌, ◌≢◌, ◌<◌, ◌≤◌, ℕ, ◌
 use Rattle.std.proofs.lemmas.List.{length-map}
 use Rattle.kk_source.specs.Live.{value_of}
 use Rattle.std.proofs.lemmas.Bool.Decides.{nat_tests}
+use Rattle.kk_base.specs.Limits.{greatest_of}
+use Rattle.kk_base.specs.declared.limit.LimitKind.TheVariants.{Fields}
 use Rattle.kk_syntax.specs.Shapes.{is_among}
 use Rattle.kk_counted.specs.Keeping.{values_of}
 use Rattle.rv_isa.specs.declared.asm.Action.TheVariants.{Label, Branch, Routine as Calls}
@@ -181,7 +183,7 @@ module _ (known : Known) (rest : List Line) (fs : List (Frame Line)) (s : Spot) 
   abbrev header : ℕ
   header = header_of known.layout c
 
-  few : length arguments ≤ 6
+  few : length arguments ≤ greatest_of Fields
   few = few_arguments known s x c arguments making
 
   -- from the label on, to which lines have come

@@ -2,6 +2,8 @@
 use Rattle.std.proofs.Common.{◌≡◌, ℕ, suc, ◌+◌, ◌*◌, ◌≤◌, Bool, true, false, not, List, [], ◌∷◌, ◌++◌, length}
 use Rattle.std.proofs.Common.{Option, Some, None, refl, ap, arith}
 use Rattle.std.specs.Prelude.{filter, if◌then◌else◌}
+use Rattle.kk_base.specs.Limits.{greatest_of}
+use Rattle.kk_base.specs.declared.limit.LimitKind.TheVariants.{Parameters, Fields}
 use Rattle.kk_syntax.specs.declared.operator.BinaryOperator.{BinaryOperator}
 use Rattle.kk_syntax.specs.declared.operator.BinaryOperator.TheVariants as OfBinary
 use Rattle.kk_syntax.specs.declared.operator.UnaryOperator.{UnaryOperator}
@@ -107,7 +109,7 @@ module _ (holds : ℕ → Bool) where
 
   -- both ways of an opening by the count of a cell, but the lines at their ends
   pub count_length : (base shared behind x : ℕ) (fields used : List ℕ) (ends begins lines : List Line)
-      → CountLines base holds shared behind x fields used ends begins lines → length fields ≤ 6
+      → CountLines base holds shared behind x fields used ends begins lines → length fields ≤ greatest_of Fields
       → code_length lines ≤ 175 + code_length ends + code_length begins
   count_length base shared behind x fields used ends begins lines is few =
       let kept : List ℕ = filter (is_among used) fields in
@@ -154,7 +156,7 @@ module _ (holds : ℕ → Bool) where
       )
 
   pub token_unique_length : (base shared behind filled x : ℕ) (fields used : List ℕ) (token : ℕ) (into : Option ℕ)
-      (lines : List Line) → TokenUniqueLines base holds shared behind filled x fields used token into lines → length fields ≤ 6
+      (lines : List Line) → TokenUniqueLines base holds shared behind filled x fields used token into lines → length fields ≤ greatest_of Fields
       → code_length lines ≤ 190
   token_unique_length base shared behind filled x fields used token None lines is few =
       let own = count_length base shared behind x fields used (token_ends None x token behind filled) (sets 0 token ∷ []) lines is
@@ -167,7 +169,7 @@ module _ (holds : ℕ → Bool) where
       omega (arith, own)
 
 pub construct_length : (base x header : ℕ) (arguments : List ℕ) (lines : List Line) → ConstructLines base x header arguments lines
-    → length arguments ≤ 6 → code_length lines ≤ 60
+    → length arguments ≤ greatest_of Fields → code_length lines ≤ 60
 construct_length base x header arguments lines is few =
     let whole = ap code_length is.6 in
     let apart = lines_append is.1 (sets 1 base ∷ is.2 ∷ []) in
@@ -225,7 +227,7 @@ set_length false base x i word one two empty is =
     let none = ap code_length empty in omega (arith, whole, store, none)
 
 pub fill_length : (base x token : ℕ) (others : List ℕ) (filled header : ℕ) (arguments kept : List ℕ) (head count : Bool)
-    (lines : List Line) → FillLines base x token others filled header arguments kept head count lines → length arguments ≤ 6
+    (lines : List Line) → FillLines base x token others filled header arguments kept head count lines → length arguments ≤ greatest_of Fields
     → code_length lines ≤ 80 + other_length * length others
 fill_length base x token others filled header arguments kept head count lines is few =
     let taken : Line = record { action = Calls Take; args = []; into = Some x } in
@@ -322,7 +324,7 @@ temporaries_length : (base : ℕ) (xs : List ℕ) → length (temporaries base x
 temporaries_length base [] = omega arith
 temporaries_length base (x ∷ xs) = let more = temporaries_length (base + 1) xs in omega (arith, more)
 
-call_length : (base x f : ℕ) (arguments : List ℕ) (lines : List Line) → length arguments ≤ 8
+call_length : (base x f : ℕ) (arguments : List ℕ) (lines : List Line) → length arguments ≤ greatest_of Parameters
     → AppliedLines base x (Call f) arguments lines → code_length lines ≤ 56
 call_length base x f arguments lines few is =
     let call : Line = record { action = CallOf f; args = temporaries base arguments; into = Some x } in
@@ -331,7 +333,7 @@ call_length base x f arguments lines few is =
     let copied = copies_length base arguments in
     let handed = temporaries_length base arguments in omega (arith, whole, apart, copied, handed, few)
 
-pub tail_length : (base f : ℕ) (arguments : List ℕ) → length arguments ≤ 8 → code_length (tail_lines base f arguments) ≤ 59
+pub tail_length : (base f : ℕ) (arguments : List ℕ) → length arguments ≤ greatest_of Parameters → code_length (tail_lines base f arguments) ≤ 59
 tail_length base f arguments few =
     let apart = lines_append (copies base arguments) (acts (TailCall f) (temporaries base arguments) ∷ []) in
     let copied = copies_length base arguments in
@@ -350,7 +352,7 @@ marks_many holds [] (mark ∷ more) are = absurd are
 marks_many holds (x ∷ xs) [] are = absurd are
 marks_many holds (x ∷ xs) (mark ∷ more) are = let rest = marks_many holds xs more are.1 in omega (arith, rest)
 
-module _ (setting : Setting) (table : CellMarks) (narrow : (c : ℕ) → length (field_marks table c) ≤ 6) where
+module _ (setting : Setting) (table : CellMarks) (narrow : (c : ℕ) → length (field_marks table c) ≤ greatest_of Fields) where
   pub form_short : (x : ℕ) (form : Form) (arguments : List ℕ) (mark : Bool) (lines : List Line) → HasArity form arguments
       → IsFormMarked table setting.holds form arguments mark → ComputeLines setting x form arguments lines
       → code_length lines ≤ 200

@@ -2,6 +2,8 @@
 use Rattle.std.proofs.Common.{◌≡◌, ℕ, suc, ◌+◌, ◌*◌, ◌≤◌, inl, inr, Bool, false, List, [], ◌∷◌, ◌++◌, length, Some, refl, sym, ap, Option, None}
 use Rattle.std.proofs.Common.{subst, arith}
 use Rattle.std.specs.Prelude.{slice_get}
+use Rattle.kk_base.specs.Limits.{greatest_of}
+use Rattle.kk_base.specs.declared.limit.LimitKind.TheVariants.{Fields}
 use Rattle.kk_core.specs.Decisions.{NodeTree}
 use Rattle.kk_core.specs.CaseLengths.{tests_length}
 use Rattle.kk_counted.specs.BareForms.{bare, bare_arms, bare_function, bare_program}
@@ -44,9 +46,9 @@ values_many : (variables : ℕ) (slots : List ℕ) → length (values_of_slots v
 values_many variables [] = omega arith
 values_many variables (y ∷ slots) = let more = values_many variables slots in omega (arith, more)
 
-module _ (setting : Setting) (variables : ℕ) (table : CellMarks) (narrow : (c : ℕ) → length (field_marks table c) ≤ 6)
+module _ (setting : Setting) (variables : ℕ) (table : CellMarks) (narrow : (c : ℕ) → length (field_marks table c) ≤ greatest_of Fields)
     (result : Bool) where
-  few_fields : (c : ℕ) (fields : List ℕ) → HaveMarks setting.holds fields (field_marks table c) → length fields ≤ 6
+  few_fields : (c : ℕ) (fields : List ℕ) → HaveMarks setting.holds fields (field_marks table c) → length fields ≤ greatest_of Fields
   few_fields c fields are =
       let many = marks_many setting.holds fields (field_marks table c) are in
       let few = narrow c in omega (arith, many, few)
@@ -229,7 +231,7 @@ module _ (setting : Setting) (variables : ℕ) (table : CellMarks) (narrow : (c 
 
 -- ---- functions
 
-function_short : (layout : Layout) (texts : Texts) (table : CellMarks) → ((c : ℕ) → length (field_marks table c) ≤ 6)
+function_short : (layout : Layout) (texts : Texts) (table : CellMarks) → ((c : ℕ) → length (field_marks table c) ≤ greatest_of Fields)
     → (f : ℕ) (function : TokenedFunction) (lines : Lines) → IsLowerable table f (bare_function function)
     → SpendsTokens [] [] [] function.body → IsFunctionOf layout texts table f function lines
     → length lines.params + code_length lines.code ≤ form_length + tokened_length function.body

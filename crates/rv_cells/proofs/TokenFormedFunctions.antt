@@ -6,6 +6,8 @@ use Rattle.std.proofs.Common.{append-nil}
 use Rattle.std.specs.Prelude.{map, slice_get}
 use Rattle.std.proofs.lemmas.Bool.{false≢true}
 use Rattle.std.proofs.lemmas.Option.{slice_get-map}
+use Rattle.kk_base.specs.Limits.{greatest_of}
+use Rattle.kk_base.specs.declared.limit.LimitKind.TheVariants.{Parameters}
 use Rattle.kk_syntax.specs.Shapes.{is_among as is_bound}
 use Rattle.kk_counted.specs.BareForms.{bare, bare_function, bare_program}
 use Rattle.kk_counted.specs.Lowerable.{IsLowerable, AreLowerable}
@@ -95,7 +97,7 @@ module _ (layout : Layout) (texts : Texts) (table : CellMarks) (f : ℕ) (functi
     lines = good.formed.lines;
     tokens = good.formed.tokens;
     params = subst AreDistinct (sym is.lowered.params) (from_to_distinct 0 function.parameters);
-    few_params = subst (λ (params : List ℕ). length params ≤ 8) (sym is.lowered.params)
+    few_params = subst (λ (params : List ℕ). length params ≤ greatest_of Parameters) (sym is.lowered.params)
         (let size = from_to_length 0 function.parameters in let few = may.few_parameters in omega (arith, size, few));
     params_small = subst (All (λ v. v < most_values)) (sym is.lowered.params) small;
     start = λ v alive. subst (λ (params : List ℕ). is_among v params ≡ true) (sym is.lowered.params)

@@ -4,6 +4,8 @@ use Rattle.std.proofs.Common.{Some, refl, sym, ap, subst, ◌∙◌, arith, appe
 use Rattle.std.specs.List.{AllByRecursion}
 use Rattle.std.proofs.lemmas.Bool.{false≢true, ne_eqb}
 use Rattle.std.proofs.lemmas.List.Elements.{All-nil, All-cons}
+use Rattle.kk_base.specs.Limits.{greatest_of}
+use Rattle.kk_base.specs.declared.limit.LimitKind.TheVariants.{Parameters}
 use Rattle.kk_syntax.specs.Shapes.{is_among as is_bound}
 use Rattle.kk_counted.specs.Spending.{AreApart}
 use Rattle.rv_isa.specs.declared.asm.Action.{Action}
@@ -163,7 +165,7 @@ module _ (variables base : ℕ) (bound : List ℕ) (has : HasRoom base bound) (h
         call_left x xs less held all.1,
       )
 
-  holding_call : (x f : ℕ) (xs : List ℕ) (rest : List Line) → x < variables → x < base → length xs ≤ 8
+  holding_call : (x f : ℕ) (xs : List ℕ) (rest : List Line) → x < variables → x < base → length xs ≤ greatest_of Parameters
       → Holding held (Readable base base (x ∷ bound)) rest
       → Holding held (Readable base (base + length xs) bound)
       (record { action = Call f; args = temporaries base xs; into = Some x } ∷ rest)
@@ -237,7 +239,7 @@ module _ (base : ℕ) (held bound outer : List ℕ) (has : HasRoom base bound) (
 
   -- a call of variables, which are below the values that are held
   pub fits_held_call : (variables x f : ℕ) (xs : List ℕ) → AllByRecursion (λ (v : ℕ). (variables ≤ v) × (v < base)) held
-      → x < variables → x < base → length xs ≤ 8 → AllBound bound xs → Each (λ z. z < variables) xs
+      → x < variables → x < base → length xs ≤ greatest_of Parameters → AllBound bound xs → Each (λ z. z < variables) xs
       → FitsHeld base held (x ∷ bound) outer goal low high more
       → FitsHeld base held bound outer goal low high
       ((copies base xs ++ record { action = Call f; args = temporaries base xs; into = Some x } ∷ []) ++ more)

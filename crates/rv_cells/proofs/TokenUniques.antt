@@ -3,6 +3,8 @@ use Rattle.std.proofs.Common.{◌≡◌, ◌≢◌, ℕ, zero, suc, ◌+◌, ◌
 use Rattle.std.specs.Prelude.{◌&&◌, if◌then◌else◌}
 use Rattle.std.proofs.lemmas.List.{length-map}
 use Rattle.std.proofs.lemmas.Bool.{or_right, or_left}
+use Rattle.kk_base.specs.Limits.{greatest_of}
+use Rattle.kk_base.specs.declared.limit.LimitKind.TheVariants.{Fields}
 use Rattle.kk_syntax.specs.Shapes.{is_among}
 use Rattle.kk_source.specs.State.{Value, integer, unit, constant, place, Environment}
 use Rattle.kk_source.specs.Live.{value_of}
@@ -648,7 +650,7 @@ module _ (program : Lowering) (code : Tokened) (x c : ℕ) (fields used : List �
       by (shared ++ behind) entered opened.0 opened.1 opened.2 (count_at s.heap a.named.at) a.into opened.3 refl refl a.next_is
       opened.4
     where
-      few_fields : (holds : ℕ → Bool) (k : ℕ) (xs : List ℕ) → HaveMarks holds xs (field_marks program.marks k) → length xs ≤ 6
+      few_fields : (holds : ℕ → Bool) (k : ℕ) (xs : List ℕ) → HaveMarks holds xs (field_marks program.marks k) → length xs ≤ greatest_of Fields
       few_fields holds k xs have =
           let same : length xs ≡ length (program.layout.fields k)
           = sym (length-map xs holds) ∙ ap length (marks_are holds xs (field_marks program.marks k) have

@@ -1,6 +1,8 @@
 -- Some words of a cell in hand are stored: those that a token's cell has already, and the others.
 use Rattle.std.proofs.Common.{◌≡◌, ◌≢◌, ◌<◌, ◌≤◌, ℕ, ◌+◌, Bool, true, false, not, List, [], ◌∷◌, ◌++◌, length, Option, Some, refl}
 use Rattle.std.proofs.Common.{sym, ◌∙◌, ap, subst, arith, append_assoc}
+use Rattle.kk_base.specs.Limits.{greatest_of}
+use Rattle.kk_base.specs.declared.limit.LimitKind.TheVariants.{Fields}
 use Rattle.kk_counted.specs.Heaps.{Heap}
 use Rattle.kk_counted.specs.Spending.{AllAmong}
 use Rattle.rv_isa.specs.AsmCode.{Line}
@@ -162,7 +164,7 @@ module _ (target : Target) (layout : Layout) (address : ℕ → ℕ) (owners : �
 
 -- words of a construction, where variable x names the cell
 module _ (known : Known) (s : Spot) (here : Here known s) (head count : Bool) (takes : ℕ → Bool) (x header : ℕ)
-    (arguments ws : List ℕ) (lines : List Line) (less : x < known.base) (few : length arguments ≤ 6)
+    (arguments ws : List ℕ) (lines : List Line) (less : x < known.base) (few : length arguments ≤ greatest_of Fields)
     (bound : AllAmong arguments s.bound) (are : SomeWords head count takes known.base x header arguments lines) where
   abbrev pub words_cost : ℕ
   words_cost = set_cost head + (row_cost (picked takes 0 arguments) (most_moves + 3) + set_cost count)

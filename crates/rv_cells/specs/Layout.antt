@@ -1,5 +1,7 @@
 -- How values look in cells: the word of a value, and the header of a cell.
 use Rattle.std.specs.Prelude.{ℕ, ◌+◌, ◌*◌, ◌<◌, ◌≤◌, Bool, true, false, List, [], ◌∷◌, map, length, slice_index_or}
+use Rattle.kk_base.specs.Limits.{greatest_of}
+use Rattle.kk_base.specs.declared.limit.LimitKind.TheVariants.{Fields}
 use Rattle.rv_isa.specs.Arithmetic.{word_of, bit_of}
 use Rattle.kk_source.specs.State.{Value, integer, unit, constant, place}
 use Rattle.kk_core.specs.declared.shape.ConstructorShape.{ConstructorShape}
@@ -18,7 +20,7 @@ layout_of constructors = record {
 -- a tag has a byte of the header, and six fields a cell
 pub record IsNarrow (layout : Layout) : Type 0 where
   pub tags : (c : ℕ) → layout.tag c < 256
-  pub few : (c : ℕ) → length (layout.fields c) ≤ 6
+  pub few : (c : ℕ) → length (layout.fields c) ≤ greatest_of Fields
 
 -- the fields that can hold cells, as bits: bit 0 for the first one
 abbrev pub mask_of : List Bool → ℕ

@@ -1,5 +1,7 @@
 -- When assembler code over values is well formed: what anyone may rely on who gives the values their places.
 use Rattle.std.specs.Prelude.{◌≡◌, ◌==◌, ◌||◌, ◌&&◌, ◌+◌, ◌≤◌, ◌<◌, ◌++◌, ℕ, List, [], ◌∷◌, Option, Some, None, Bool, true, false, not, cond, length, All, IsSome}
+use Rattle.kk_base.specs.Limits.{greatest_of}
+use Rattle.kk_base.specs.declared.limit.LimitKind.TheVariants.{Parameters}
 use Rattle.rv_isa.specs.declared.asm.Action.{Action}
 use Rattle.rv_isa.specs.declared.asm.Action.TheVariants.{Compute, Label, Jump, Branch, Call, TailCall, Return, Routine, Hold, Unhold}
 use Rattle.rv_isa.specs.declared.asm.Operation.TheVariants.{Sw, Dup, Free}
@@ -58,8 +60,8 @@ most_args (Compute operation) = 2
 most_args (Label l) = 0
 most_args (Jump l) = 0
 most_args (Branch condition l) = 2
-most_args (Call f) = 8
-most_args (TailCall f) = 8
+most_args (Call f) = greatest_of Parameters
+most_args (TailCall f) = greatest_of Parameters
 most_args Return = 1
 most_args (Routine routine) = length (taken_by routine)
 most_args Hold = 1
@@ -146,7 +148,7 @@ pub record IsWellFormed (function : Lines) : Type 0 where
   pub lines : AreLinesFormed function.code
   pub tokens : AreTokensHeld [] function.code
   pub params : AreDistinct function.params
-  pub few_params : length function.params ≤ 8
+  pub few_params : length function.params ≤ greatest_of Parameters
   pub params_small : All (λ v. v < most_values) function.params
   pub start : (v : ℕ) → is_alive v function.code ≡ true → is_among v function.params ≡ true
 

@@ -3,6 +3,8 @@ use Rattle.std.proofs.Common.{◌≡◌, ℕ, ◌+◌, ◌<◌, ◌≤◌, ◌�
 use Rattle.std.proofs.Common.{refl, sym, ap, subst, ◌∙◌, arith, append_assoc}
 use Rattle.std.proofs.lemmas.Bool.{or_cases, false≢true}
 use Rattle.std.proofs.lemmas.List.Elements.{All-nil, All-cons}
+use Rattle.kk_base.specs.Limits.{greatest_of}
+use Rattle.kk_base.specs.declared.limit.LimitKind.TheVariants.{Parameters}
 use Rattle.kk_syntax.specs.Shapes.{is_among as is_bound}
 use Rattle.rv_isa.specs.declared.asm.Action.{Action}
 use Rattle.rv_isa.specs.declared.asm.Action.TheVariants.{Label, Jump, Branch, TailCall, Return}
@@ -145,7 +147,7 @@ module _ (base : ℕ) (bound : List ℕ) (has : HasRoom base bound) where
         (ahead.goal_ahead.3 v alive)) ahead.formed);
   }
 
-  pub fits_tail_call : (outer : List ℕ) (f : ℕ) (arguments : List ℕ) (goal : Goal) (low : ℕ) → length arguments ≤ 8
+  pub fits_tail_call : (outer : List ℕ) (f : ℕ) (arguments : List ℕ) (goal : Goal) (low : ℕ) → length arguments ≤ greatest_of Parameters
       → AllBound bound arguments
       → Fits base bound outer goal low low (copies base arguments ++ acts (TailCall f) (temporaries base arguments) ∷ [])
   fits_tail_call outer f arguments goal low few each = record {

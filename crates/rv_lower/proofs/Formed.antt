@@ -2,6 +2,8 @@
 use Rattle.std.proofs.Common.{◌≡◌, ◌≢◌, ℕ, suc, ◌+◌, ◌<◌, ◌≤◌, ◌==◌, ◌||◌, ◌&&◌, ◌⊎◌, inl, inr, Bool, true, false, not, List, [], ◌∷◌, ◌++◌, length, Option, Some, None, All, refl, sym, ap, subst, ◌∙◌, arith}
 use Rattle.std.proofs.lemmas.Bool.{or_cases, or_left, or_right, cases_eq, eq-eqb, eqb-true, false_from_ne_true, false≢true, ne_eqb}
 use Rattle.std.proofs.lemmas.List.Elements.{All-nil, All-cons}
+use Rattle.kk_base.specs.Limits.{greatest_of}
+use Rattle.kk_base.specs.declared.limit.LimitKind.TheVariants.{Parameters}
 use Rattle.kk_syntax.specs.Shapes.{is_among as is_bound}
 use Rattle.rv_isa.specs.declared.asm.Action.{Action}
 use Rattle.rv_isa.specs.declared.asm.Action.TheVariants.{Compute}
@@ -210,7 +212,7 @@ temporaries_length at (x ∷ xs) = ap suc (temporaries_length (at + 1) xs)
 
 -- a line that temporaries are handed over to: only variables are alive behind it
 pub hands_formed : (base : ℕ) (bound : List ℕ) (xs : List ℕ) (action : Action) (into : Option ℕ) (rest : List Line)
-    → HasRoom base bound → AreLabelsAhead action rest → length xs ≤ most_args action → length xs ≤ 8
+    → HasRoom base bound → AreLabelsAhead action rest → length xs ≤ most_args action → length xs ≤ greatest_of Parameters
     → (has_value into ≡ true → may_give action ≡ true) → ((v : ℕ) → into ≡ Some v → v < most_values)
     → ((v : ℕ) → is_written into v ≡ false → is_alive_behind v action rest ≡ true → is_bound bound v ≡ true)
     → IsLineFormed (record { action = action; args = temporaries base xs; into = into }) rest
@@ -239,7 +241,7 @@ hands_alive base bound xs action into rest behind =
     (λ v other is. inl (behind v other is))
 
 pub good_hands : (base : ℕ) (bound : List ℕ) (xs : List ℕ) (action : Action) (into : Option ℕ) (rest : List Line) → HasRoom base bound
-    → AreLabelsAhead action rest → HoldsNone action → length xs ≤ most_args action → length xs ≤ 8 → (has_value into ≡ true → may_give action ≡ true)
+    → AreLabelsAhead action rest → HoldsNone action → length xs ≤ most_args action → length xs ≤ greatest_of Parameters → (has_value into ≡ true → may_give action ≡ true)
     → ((v : ℕ) → into ≡ Some v → v < most_values)
     → ((v : ℕ) → is_written into v ≡ false → is_alive_behind v action rest ≡ true → is_bound bound v ≡ true)
     → AreFormed rest

@@ -1,6 +1,8 @@
 -- The lines of a form: no label stands in them, they are few, and before well-formed code they are well formed.
 use Rattle.std.proofs.Common.{◌≡◌, ℕ, suc, ◌+◌, ◌<◌, ◌≤◌, ◌==◌, ◌⊎◌, inl, inr, true, false, List, [], ◌∷◌, ◌++◌, length, Option, Some, None, refl, sym, ap, subst, ◌∙◌, arith, append_assoc, length-append}
 use Rattle.std.proofs.lemmas.Bool.{false≢true, or_cases}
+use Rattle.kk_base.specs.Limits.{greatest_of}
+use Rattle.kk_base.specs.declared.limit.LimitKind.TheVariants.{Parameters}
 use Rattle.kk_syntax.specs.declared.operator.UnaryOperator.TheVariants.{Negate, Not}
 use Rattle.kk_syntax.specs.declared.operator.BinaryOperator.{BinaryOperator}
 use Rattle.kk_syntax.specs.declared.operator.BinaryOperator.TheVariants.{Add, Subtract, Multiply, Divide, Remainder, Equal, NotEqual, Less, LessEqual, Greater, GreaterEqual}
@@ -51,7 +53,7 @@ HasArguments (Unary operator) arguments = length arguments ≡ 1
 HasArguments (Binary operator) arguments = length arguments ≡ 2
 HasArguments (Print form) arguments = length arguments ≡ 1
 HasArguments (Construct c) arguments = length arguments ≡ 0
-HasArguments (Call f) arguments = length arguments ≤ 8
+HasArguments (Call f) arguments = length arguments ≤ greatest_of Parameters
 HasArguments form arguments = Unit {0}
 
 module _ (base : ℕ) (bound : List ℕ) (has : HasRoom base bound) where
@@ -79,7 +81,7 @@ module _ (base : ℕ) (bound : List ℕ) (has : HasRoom base bound) where
 
   -- temporaries are handed over
   hands : (xs : List ℕ) (action : Action) (into : Option ℕ) → ((l : ℕ) → is_label l action ≡ false) → ((rest : List Line) → AreLabelsAhead action rest) → HoldsNone action
-      → length xs ≤ most_args action → length xs ≤ 8 → (has_value into ≡ true → may_give action ≡ true) → (C : ℕ → Type 0)
+      → length xs ≤ most_args action → length xs ≤ greatest_of Parameters → (has_value into ≡ true → may_give action ≡ true) → (C : ℕ → Type 0)
       → ((v : ℕ) → into ≡ Some v → v < most_values)
       → ((rest : List Line) (v : ℕ) → Good C rest → is_written into v ≡ false → is_alive_behind v action rest ≡ true → is_bound bound v ≡ true)
       → Leads (With (base + length xs)) C 1 (record { action = action; args = temporaries base xs; into = into } ∷ [])
@@ -89,7 +91,7 @@ module _ (base : ℕ) (bound : List ℕ) (has : HasRoom base bound) where
     good = λ rest good. good_hands base bound xs action into rest has (labels rest) none few eight gives small (λ v other is. behind rest v good other is) good.formed;
   }
 
-  pub copied : (xs : List ℕ) → length xs ≤ 8 → AllBound bound xs → Leads (With base) (With (base + length xs)) (length xs) (copies base xs)
+  pub copied : (xs : List ℕ) → length xs ≤ greatest_of Parameters → AllBound bound xs → Leads (With base) (With (base + length xs)) (length xs) (copies base xs)
   copied xs few each = record {
     no_label = λ l. no_copy l base xs;
     few = let size = same base xs in omega (arith, size);
@@ -238,7 +240,7 @@ module _ (base : ℕ) (bound : List ℕ) (has : HasRoom base bound) (x : ℕ) (l
 
   -- temporaries are handed over, and the variable takes what is given
   gives_variable : (xs : List ℕ) (action : Action) → ((l : ℕ) → is_label l action ≡ false) → ((rest : List Line) → AreLabelsAhead action rest) → HoldsNone action
-      → length xs ≤ most_args action → length xs ≤ 8 → may_give action ≡ true → ((rest : List Line) (v : ℕ) → is_alive_behind v action rest ≡ true → is_alive v rest ≡ true)
+      → length xs ≤ most_args action → length xs ≤ greatest_of Parameters → may_give action ≡ true → ((rest : List Line) (v : ℕ) → is_alive_behind v action rest ≡ true → is_alive v rest ≡ true)
       → Leads (Before (base + length xs)) (Behind base) 1 (record { action = action; args = temporaries base xs; into = Some x } ∷ [])
   gives_variable xs action no_label labels none few eight gives goes_on =
       hands base bound has xs action (Some x) no_label labels none few eight (λ _. gives) (Behind base)
@@ -250,7 +252,7 @@ module _ (base : ℕ) (bound : List ℕ) (has : HasRoom base bound) (x : ℕ) (l
       left v other (inr is) = is
 
   -- the lines of a call
-  pub call_lines : (f : ℕ) (arguments : List ℕ) → length arguments ≤ 8 → AllBound bound arguments
+  pub call_lines : (f : ℕ) (arguments : List ℕ) → length arguments ≤ greatest_of Parameters → AllBound bound arguments
       → Serves (copies base arguments ++ record { action = OfAction.Call f; args = temporaries base arguments; into = Some x } ∷ [])
   call_lines f arguments few each =
       serves (length arguments + 1) _ (omega (arith, few)) (leads_then (Before base) (Before (base + length arguments)) (Behind base) (length arguments) 1 (copies base arguments) _ (copied base bound has arguments few each)

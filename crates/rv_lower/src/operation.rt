@@ -1,6 +1,7 @@
 // The lines of forms on variables.
 
 ghost use Rattle.std.specs.Prelude.{◌≡◌, ◌≤◌, [], ◌∷◌, map, length, OnOk, IfOk};
+ghost use Rattle.kk_base.specs.declared.strings.TheConstants.{GREATEST_STRING};
 ghost use Rattle.kk_syntax.specs.declared.program.Form.TheVariants.{Unary, Binary, Print, Construct, Call};
 ghost use Rattle.kk_syntax.specs.declared.operator.BinaryOperator.TheVariants.{Divide, Equal, NotEqual};
 ghost use Rattle.kk_syntax.specs.Programs.{text_at};
@@ -68,7 +69,7 @@ fn choice(form: PrintForm) -> u32
 /// The string literal of this number. Behind the last, where no program looks, it is empty.
 fn literal(literals: &[StringLiteral], number: u32) -> &[u8]
     ensures bytes { result.now ≡ text_at literals.now number }
-    ensures short { length result.now ≤ 255 }
+    ensures short { length result.now ≤ GREATEST_STRING }
 {
     match literals.get(number as usize) {
         Some(literal) => literal.as_slice(),
@@ -78,9 +79,9 @@ fn literal(literals: &[StringLiteral], number: u32) -> &[u8]
 
 /// The bytes of a print.
 fn piece(alloc: Global, form: PrintForm, text: &[u8]) -> Result<Text, NoMemory>
-    requires { length text.now ≤ 255 }
+    requires { length text.now ≤ GREATEST_STRING }
     ensures bytes { IfOk result (λ piece. piece ≡ piece_of form text.now) }
-    ensures short { IfOk result (λ piece. length piece ≤ 256) }
+    ensures short { IfOk result (λ piece. length piece ≤ GREATEST_STRING + 1) }
 {
     let mut bytes = Vec::from_slice(alloc, text)?;
     match form {
@@ -332,7 +333,7 @@ impl Lowering {
 
     /// A print of constant bytes.
     fn print_text(&mut self, form: PrintForm, text: &[u8]) -> Result<(), NoMemory>
-        requires { length text.now ≤ 255 }
+        requires { length text.now ≤ GREATEST_STRING }
         ensures { OnOk result (WrotePrint (piece_of form text.now) self.old self.new) }
     {
         let bytes = piece(self.alloc, form, text)?;

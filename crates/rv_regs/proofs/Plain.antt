@@ -3,6 +3,8 @@ use Rattle.std.proofs.Common.{◌≡◌, ◌==◌, ◌⊎◌, ◌≤◌, ◌+◌
 use Rattle.std.specs.Bool.{IsTrue}
 use Rattle.std.specs.List.{position_from}
 use Rattle.std.proofs.lemmas.Bool.{eqb-true, eqb-false, cond-true, cond-false, or_cases, false≢true, cases_Bool}
+use Rattle.kk_base.specs.Limits.{greatest_of}
+use Rattle.kk_base.specs.declared.limit.LimitKind.TheVariants.{Parameters}
 use Rattle.rv_isa.specs.declared.register.Register.{Register}
 use Rattle.rv_isa.specs.declared.asm.Action.{Action}
 use Rattle.rv_isa.specs.declared.asm.Action.TheVariants.{Label}
@@ -181,7 +183,7 @@ abbrev IsPassedAt : Place → Option ℕ → Type 0
 IsPassedAt place o = IsSomeAnd o (λ k. IsTrue (is_in (argument k) place) × ((false ≡ false) × (no_copy ≡ None)))
 
 -- a parameter stands where callers put it
-passed_in : (params : List ℕ) (v n : ℕ) (place : Place) → AreDistinct params → n + length params ≤ 8 → is_among v params ≡ true → place ≡ place_in (load_from (argument n) params) v
+passed_in : (params : List ℕ) (v n : ℕ) (place : Place) → AreDistinct params → n + length params ≤ greatest_of Parameters → is_among v params ≡ true → place ≡ place_in (load_from (argument n) params) v
     → IsPassedAt place (position_from (λ (param : ℕ). param == v) n params)
 passed_in [] v n place distinct few there is = absurd (false≢true there)
 passed_in (x ∷ xs) v n place distinct few there is = go (passed_in xs v (n + 1) place distinct.1 (omega (arith, few))) (cases_Bool (x == v))
@@ -210,12 +212,12 @@ passed_in (x ∷ xs) v n place distinct few there is = go (passed_in xs v (n + 1
         (here ∙ place_other l (load_from (suc (argument n)) xs) v (eqb-false x v other) ∙ ap (λ m. place_in (load_from m xs) v) next))
 
 -- the parameters in the registers where callers put them
-param_loads : (params alive : List ℕ) → length params ≤ 8 → AreLoads (alive_params params alive)
+param_loads : (params alive : List ℕ) → length params ≤ greatest_of Parameters → AreLoads (alive_params params alive)
 param_loads params alive few =
     loads_kept (λ (l : Loaded). is_among l.value alive) (load_from (argument 0) params)
     (loads_are (argument 0) params (omega arith) (omega (arith, few)) (λ k low high. handed_argument k low (omega (arith, high, few))))
 
-starts_passed : (params : List ℕ) (point : PointLists) → AreDistinct params → length params ≤ 8 → ((v : ℕ) → is_among v point.alive ≡ true → is_among v params ≡ true) → point.held ≡ []
+starts_passed : (params : List ℕ) (point : PointLists) → AreDistinct params → length params ≤ greatest_of Parameters → ((v : ℕ) → is_among v point.alive ≡ true → is_among v params ≡ true) → point.held ≡ []
     → All (IsPassed params) (stored_later (alive_params params point.alive) point)
 unfolding IsPassed
 starts_passed params point distinct few all none =

@@ -3,6 +3,8 @@ use Rattle.std.proofs.Common.{◌≡◌, ◌<◌, ◌≤◌, ◌+◌, ◌*◌, �
 use Rattle.std.specs.List.{filter}
 use Rattle.std.proofs.lemmas.Bool.{cond_both}
 use Rattle.std.proofs.lemmas.List.{length-map}
+use Rattle.kk_base.specs.Limits.{greatest_of}
+use Rattle.kk_base.specs.declared.limit.LimitKind.TheVariants.{Parameters}
 use Rattle.rv_isa.specs.declared.asm.Action.{Action}
 use Rattle.rv_isa.specs.declared.asm.Action.TheVariants.{Compute, Call, TailCall, Hold, Unhold}
 use Rattle.rv_isa.specs.declared.placed.Place.TheVariants.{Register as register}
@@ -44,7 +46,7 @@ few_kept test (l ∷ ls) =
     let later = few_kept test ls in
     cond_both (test l) (l ∷ filter test ls) (filter test ls) (λ (ms : List Loaded). length ms ≤ suc (length ls)) (λ t. omega (arith, later)) (λ t. omega (arith, later))
 
-pub few_args : (action : Action) (args : List ℕ) → length args ≤ most_args action → length args ≤ 8
+pub few_args : (action : Action) (args : List ℕ) → length args ≤ most_args action → length args ≤ greatest_of Parameters
 few_args (Compute operation) args few = omega (arith, few)
 few_args action args few = omega (arith, few, most_registers action)
 

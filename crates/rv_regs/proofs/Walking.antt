@@ -4,6 +4,8 @@ use Rattle.std.specs.List.{filter}
 use Rattle.std.proofs.Math.Seq.{drop-cons}
 use Rattle.std.proofs.lemmas.List.{map-append, reverse-append, take_all}
 use Rattle.std.proofs.lemmas.List.Elements.{All-nil, All-cons}
+use Rattle.kk_base.specs.Limits.{greatest_of}
+use Rattle.kk_base.specs.declared.limit.LimitKind.TheVariants.{Parameters}
 use Rattle.rv_isa.specs.declared.asm.Action.{Action}
 use Rattle.rv_isa.specs.declared.asm.Action.TheVariants.{Compute, Label, Jump, Branch, Call, TailCall, Return, Routine, Hold, Unhold}
 use Rattle.rv_isa.specs.declared.asm.Statement.{Statement}
@@ -117,7 +119,7 @@ finished params walk code come loaded loaded' kept kept' alive items ordered loa
     ∙ ap (stores (lists_before code) (alive_params params (lists_before code).alive)) come.items
 
 -- no statement of formed code has more arguments than there are registers for
-pub all_few_args : (code : List Statement) → AreLinesFormed (map line_of code) → All (λ (s : Statement). length s.args.items ≤ 8) code
-all_few_args [] formed = All-nil (λ (s : Statement). length s.args.items ≤ 8)
+pub all_few_args : (code : List Statement) → AreLinesFormed (map line_of code) → All (λ (s : Statement). length s.args.items ≤ greatest_of Parameters) code
+all_few_args [] formed = All-nil (λ (s : Statement). length s.args.items ≤ greatest_of Parameters)
 all_few_args (s ∷ code) formed =
-    All-cons (λ (t : Statement). length t.args.items ≤ 8) s code (few_args s.action s.args.items formed.0.few) (all_few_args code formed.1)
+    All-cons (λ (t : Statement). length t.args.items ≤ greatest_of Parameters) s code (few_args s.action s.args.items formed.0.few) (all_few_args code formed.1)

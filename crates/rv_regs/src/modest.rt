@@ -1,6 +1,8 @@
 // Whether a function with places has few moves, few slots, and is short.
 
 ghost use Rattle.std.specs.Prelude.{◌≤◌, ◌<◌, ◌+◌, ◌*◌, ◌≡◌, IsTrue, All, length, map};
+ghost use Rattle.kk_base.specs.Limits.{greatest_of};
+ghost use Rattle.kk_base.specs.declared.limit.LimitKind.TheVariants.{Parameters};
 ghost use Rattle.rv_isa.specs.declared.placed.Listed.{Listed};
 ghost use Rattle.rv_isa.specs.declared.placed.Operand.{Operand};
 ghost use Rattle.rv_isa.specs.AsmCode.{line_of, lines_of};
@@ -84,7 +86,7 @@ fn result_count(into: Option<Operand>) -> usize
 
 // The stores that may stand behind a line with so many arguments.
 fn stores_of(action: Action, args: &[Operand], into: Option<Operand>) -> usize
-    requires { length args.now ≤ 8 }
+    requires { length args.now ≤ greatest_of Parameters }
     ensures { result ≡ stores_behind action args.now into }
 {
     match action {

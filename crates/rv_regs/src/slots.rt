@@ -2,6 +2,8 @@
 
 ghost use Rattle.std.specs.Prelude.{◌≡◌, ◌+◌, ◌<◌, ◌≤◌, ◌++◌, IfOk, length, map};
 ghost use Rattle.std.specs.List.{filter};
+ghost use Rattle.kk_base.specs.Limits.{greatest_of};
+ghost use Rattle.kk_base.specs.declared.limit.LimitKind.TheVariants.{Parameters};
 ghost use Rattle.rv_isa.specs.Conventions.{argument};
 ghost use Rattle.rv_isa.specs.Frames.{is_among};
 ghost use Rattle.rv_regs.specs.declared.slots.Loaded.{Loaded};
@@ -67,7 +69,7 @@ pub fn loaded_from(alloc: Global, first: u8, values: &[u32]) -> Result<Vec<Loade
 
 /// The arguments of an action in the registers that it takes them in. A token that is held or taken back stays in its slot.
 pub fn loaded_for(alloc: Global, action: Action, args: &[u32]) -> Result<Vec<Loaded>, NoMemory>
-    requires { length args.now ≤ 8 }
+    requires { length args.now ≤ greatest_of Parameters }
     ensures { IfOk result (λ loaded. loaded.items ≡ loaded_for action args.now) }
 {
     match action {

@@ -1,6 +1,8 @@
 // The code of a function in the plainest places, written from its end back.
 
 ghost use Rattle.std.specs.Prelude.{◌≡◌, ◌≤◌, ◌∷◌, List, IfOk, OnOk, All, length, map, option_map};
+ghost use Rattle.kk_base.specs.Limits.{greatest_of};
+ghost use Rattle.kk_base.specs.declared.limit.LimitKind.TheVariants.{Parameters};
 ghost use Rattle.rv_isa.specs.declared.asm.Statement.{Statement};
 ghost use Rattle.rv_isa.specs.AsmCode.{Line, line_of};
 ghost use Rattle.rv_isa.specs.PlacedCode.{placed_line_of};
@@ -98,7 +100,7 @@ fn put_row(
     before: &Point,
     behind: &Point,
 ) -> Result<(), NoMemory>
-    requires { length statement.now.args.items ≤ 8 }
+    requires { length statement.now.args.items ≤ greatest_of Parameters }
     ensures { OnOk result (backwards items.new.items ≡ placed_row statement.now.action statement.now.args.items statement.now.into (lists_of before.now) (lists_of behind.now) (backwards items.old.items)) }
 {
     let action = statement.action;
@@ -120,7 +122,7 @@ fn put_row(
 
 /// The walk goes over one statement more.
 fn step(alloc: Global, walk: Walk, statement: &Statement) -> Result<Walk, NoMemory>
-    requires { length statement.now.args.items ≤ 8 }
+    requires { length statement.now.args.items ≤ greatest_of Parameters }
     ensures { IfOk result (λ next. (rest : List Line) → HasComeTo walk rest → HasComeTo next (line_of statement.now ∷ rest)) }
 {
     let Walk {
@@ -143,7 +145,7 @@ fn step(alloc: Global, walk: Walk, statement: &Statement) -> Result<Walk, NoMemo
 
 /// The lines in their order, behind the stores of the parameters.
 fn finish(alloc: Global, walk: Walk, params: &[u32]) -> Result<Vec<Item>, NoMemory>
-    requires { length params.now ≤ 8 }
+    requires { length params.now ≤ greatest_of Parameters }
     ensures { IfOk result (λ items. (code : List Line) → HasComeTo walk code → map placed_line_of items.items ≡ placed_start_of params.now (lists_before code) (placed_code code)) }
 {
     let Walk {
@@ -164,8 +166,8 @@ pub fn placed_lines(
     params: &[u32],
     code: &[Statement],
 ) -> Result<Vec<Item>, NoMemory>
-    requires few_params { length params.now ≤ 8 }
-    requires few_args { All (λ (s : Statement). length s.args.items ≤ 8) code.now }
+    requires few_params { length params.now ≤ greatest_of Parameters }
+    requires few_args { All (λ (s : Statement). length s.args.items ≤ greatest_of Parameters) code.now }
     ensures { IfOk result (λ items. map placed_line_of items.items ≡ placed_start_of params.now (lists_before (map line_of code.now)) (placed_code (map line_of code.now))) }
 {
     let mut walk = Walk {
