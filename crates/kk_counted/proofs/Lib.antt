@@ -54,6 +54,9 @@ pub mod Seeing
 pub mod Programs
 pub mod TokenedViews
 pub mod TokenDrafting
+pub mod TokenBranching
+pub mod TokenDrafted
+pub mod TokenJoining
 pub mod Knowing
 pub mod KnownSteps
 pub mod KnownRuns

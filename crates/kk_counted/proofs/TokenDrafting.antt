@@ -1,6 +1,6 @@
 -- What calls of an emitter of code with tokens change of what it has written leaves it such code.
 use Rattle.std.proofs.Common.{◌≡◌, ℕ, suc, ◌<◌, ◌==◌, ◌||◌, Bool, true, false, not, List, [], ◌∷◌, ◌++◌, map, reverse, length, append_assoc, arith, refl, sym, ap, ◌∙◌, subst}
-use Rattle.std.specs.Prelude.{filter, if◌then◌else◌}
+use Rattle.std.specs.Prelude.{filter, if◌then◌else◌, Option, Some, None, option_map}
 use Rattle.std.proofs.lemmas.Grind.{reverse_onto}
 use Rattle.std.proofs.lemmas.Bool.Decides.{nat_tests}
 use Rattle.std.proofs.lemmas.List.{map-append}
@@ -24,10 +24,10 @@ use Rattle.kk_counted.specs.TokenedForms.{TokenedMove, put_tokened, plug_tokened
 use Rattle.kk_counted.specs.TokenSpending.{SpendsTokens}
 use Rattle.kk_counted.specs.BareForms.{bare}
 use Rattle.kk_counted.specs.KeptFields.{KnownFields, fields_in, forget_variable, forget_variables, KeepsKnown, LeavesKnown}
-use Rattle.kk_counted.specs.Drafts.{Draft, given, duplicated, dropped, unpacked, looked, fields_given, computed, opens_by, end_code, finished, IsPlain}
+use Rattle.kk_counted.specs.Drafts.{Split, Draft, given, duplicated, dropped, unpacked, looked, fields_given, computed, opens_by, end_code, finished, IsPlain, Writes}
 use Rattle.kk_counted.specs.Emitting.{IsJudged, AreLow}
-use Rattle.kk_counted.specs.TokenDrafts.{TokenDraft, token_draft, next_slot, adds, gains, spends, under_holds, opens_with, reads_with, fills_with, bare_move, bare_moves}
-use Rattle.kk_counted.specs.TokenEmitting.{LeadsTokens, AreFalling, known_by, known_behind, AllLeave, IsTokened, KeepsTokens, IsTokenedFunctionOf, fields_at}
+use Rattle.kk_counted.specs.TokenDrafts.{TokenSplit, TokenDraft, token_draft, tokened_end, tokens_finished, next_slot, adds, gains, spends, under_holds, opens_with, reads_with, fills_with, bare_move, bare_moves}
+use Rattle.kk_counted.specs.TokenEmitting.{LeadsTokens, AreFalling, known_by, known_behind, AllLeave, first_spare, first_known, known_now, AreTokenSplits, IsTokened, KeepsTokens, IsTokenedFunctionOf, fields_at}
 
 -- ---- steps without tokens
 
@@ -57,13 +57,13 @@ pub plug_more : (xs ys : List TokenedMove) (rest : Tokened) → plug_tokened (xs
 plug_more [] ys rest = refl
 plug_more (x ∷ xs) ys rest = ap (put_tokened x) (plug_more xs ys rest)
 
-leads_then : (a b c : List ℕ) (xs ys : List TokenedMove) → LeadsTokens a b xs → LeadsTokens b c ys → LeadsTokens a c (xs ++ ys)
+pub leads_then : (a b c : List ℕ) (xs ys : List TokenedMove) → LeadsTokens a b xs → LeadsTokens b c ys → LeadsTokens a c (xs ++ ys)
 leads_then a b c xs ys one two left rest spent =
     subst (SpendsTokens left a []) (sym (plug_more xs ys rest)) (one left (plug_tokened ys rest) (two left rest spent))
 
 -- ---- slots
 
-append_nil : {A : Type 0} (xs : List A) → xs ++ [] ≡ xs
+pub append_nil : {A : Type 0} (xs : List A) → xs ++ [] ≡ xs
 append_nil [] = refl
 append_nil (x ∷ xs) = ap (λ ys. x ∷ ys) (append_nil xs)
 
@@ -124,7 +124,7 @@ among_filter test (y ∷ ys) x is = by_test (test y) is (among_filter test ys x)
     by_test true there later = both (y == x) there later
     by_test false there later = behind (y == x) (later there)
 
-above_all : (n : ℕ) (xs : List ℕ) → AreLow n xs → is_among xs n ≡ false
+pub above_all : (n : ℕ) (xs : List ℕ) → AreLow n xs → is_among xs n ≡ false
 above_all n xs low = by_test (is_among xs n) refl
   where
     by_test : (t : Bool) → is_among xs n ≡ t → t ≡ false
@@ -147,7 +147,7 @@ falling_filter test (y ∷ ys) falling = by_test (test y) (falling_filter test y
     by_test true later = (λ x is. falling.0 x (among_filter test ys x is), later)
     by_test false later = later
 
-falling_apart : (spare : List ℕ) → AreFalling spare → AreApart spare
+pub falling_apart : (spare : List ℕ) → AreFalling spare → AreApart spare
 falling_apart [] falling = tt
 falling_apart (y ∷ ys) falling = (above_all y ys falling.0, falling_apart ys falling.1)
 
@@ -156,9 +156,9 @@ pub put_spent : (old : TokenWork) (steps : Vec TokenedStep) (spare : Vec ℕ) (s
     → spare.items ≡ filter (λ y. not (y == slot)) old.spare.items
     → token_draft (record old { steps = steps; spare = spare }) ≡ spends (token_draft old) (tokened_move step) slot
 put_spent old steps spare step slot grown left =
-    ap (λ (xs : List TokenedStep). record { moves = map tokened_move xs; spare = reverse spare.items }) grown
-    ∙ (ap (λ moves. record { moves = moves; spare = reverse spare.items }) (map-append tokened_move old.steps.items (step ∷ []))
-    ∙ ap (λ slots. record { moves = map tokened_move old.steps.items ++ tokened_move step ∷ []; spare = slots }) (ap reverse left ∙ without_back slot old.spare.items))
+    ap (λ (xs : List TokenedStep). record (token_draft old) { moves = map tokened_move xs; spare = reverse spare.items }) grown
+    ∙ (ap (λ moves. record (token_draft old) { moves = moves; spare = reverse spare.items }) (map-append tokened_move old.steps.items (step ∷ []))
+    ∙ ap (λ slots. record (token_draft old) { moves = map tokened_move old.steps.items ++ tokened_move step ∷ []; spare = slots }) (ap reverse left ∙ without_back slot old.spare.items))
 
 -- ---- what is written, by what was held before room was made
 
@@ -308,7 +308,7 @@ leaves_plug (TokenedMove.moves to of ∷ moves) known rest all last = leaves_plu
 leaves_plug (TokenedMove.holds y ∷ moves) known rest all last = leaves_plug moves _ rest all.1 last
 leaves_plug (TokenedMove.unholds y ∷ moves) known rest all last = leaves_plug moves _ rest all.1 last
 
-leaves_more : (xs ys : List TokenedMove) (known : List KnownFields) → AllLeave known xs → AllLeave (known_behind xs known) ys → AllLeave known (xs ++ ys)
+pub leaves_more : (xs ys : List TokenedMove) (known : List KnownFields) → AllLeave known xs → AllLeave (known_behind xs known) ys → AllLeave known (xs ++ ys)
 leaves_more [] ys known all more = more
 leaves_more (x ∷ xs) ys known all more = (all.0, leaves_more xs ys (known_by x known) all.1 more)
 
@@ -349,31 +349,50 @@ keeps_none next (field ∷ fields) (argument ∷ arguments) = (λ is. absurd (cc
 
 -- ---- a call
 
+pub not_closed : (ending : Option Tokened) (code : Tokened) → option_map bare ending ≡ None → ending ≡ Some code → ⊥
+not_closed None code none is = cc
+not_closed (Some other) code none is = cc
+
 -- steps are written of counted code, and with tokens
-pub keeps_more : (d e : Draft) (t u : TokenDraft) (moves : List TokenedMove) (spare : List ℕ) → KeepsTokens d t
-    → (e.failed ≡ false → d.failed ≡ false) → e.steps ≡ d.steps ++ bare_moves moves → e.splits ≡ d.splits → e.ending ≡ d.ending
+pub keeps_more : (d e : Draft) (t u : TokenDraft) (moves : List TokenedMove) (spare : List ℕ) → KeepsTokens d t → Writes d
+    → (e.failed ≡ false → d.failed ≡ false) → e.steps ≡ d.steps ++ bare_moves moves → e.inside ≡ d.inside → e.splits ≡ d.splits → e.ending ≡ d.ending
     → (d.failed ≡ false → AreFalling t.spare → LeadsTokens t.spare spare moves × AreFalling spare)
-    → (d.failed ≡ false → AllLeave (known_behind t.moves []) moves)
-    → u ≡ record { moves = t.moves ++ moves; spare = spare } → KeepsTokens e u
-keeps_more d e t u moves spare keeps going steps splits ending leads leave is failed =
+    → (d.failed ≡ false → AllLeave (known_now t) moves)
+    → u ≡ record t { moves = t.moves ++ moves; spare = spare } → KeepsTokens e u
+keeps_more d e t u moves spare keeps writes going steps within splits ending leads leave is failed =
     let old : IsTokened d t = keeps (going failed) in
     let parts : LeadsTokens t.spare spare moves × AreFalling spare = leads (going failed) old.falling in
+    let here : (d.inside ≡ true) × (d.ending ≡ None) = writes (going failed) in
     subst (IsTokened e) (sym is)
     (record {
-      bare = bare_more t.moves moves ∙ (ap (λ xs. xs ++ bare_moves moves) old.bare ∙ sym steps);
-      leads = leads_then [] t.spare spare t.moves moves old.leads parts.0;
-      leaves = leaves_more t.moves moves [] old.leaves (leave (going failed));
+      plain = bare_more t.moves moves ∙ (ap (λ xs. xs ++ bare_moves moves) old.plain ∙ sym steps);
+      leads = λ in_block open_end. leads_then (first_spare t.splits) t.spare spare t.moves moves (old.leads here.0 here.1) parts.0;
+      leaves = leaves_more t.moves moves (first_known t.splits) old.leaves (leave (going failed));
       falling = parts.1;
-      splits = splits ∙ old.splits;
-      ending = ending ∙ old.ending;
+      splits = subst (λ (all : List Split). AreTokenSplits all t.splits) (sym splits) old.splits;
+      ending = old.ending ∙ sym ending;
+      closed = λ code ends. absurd (not_closed t.ending code (old.ending ∙ here.1) ends);
+      quiet = λ out. absurd (inside_out (within ∙ here.0) out);
     })
+  where
+    inside_out : {b : Bool} → b ≡ true → b ≡ false → ⊥
+    inside_out one two = cc
 
 -- nothing is written with tokens
-pub keeps_same : (d e : Draft) (t u : TokenDraft) → KeepsTokens d t → (e.failed ≡ false → d.failed ≡ false) → e.steps ≡ d.steps → e.splits ≡ d.splits → e.ending ≡ d.ending → u ≡ t → KeepsTokens e u
-keeps_same d e t u keeps going steps splits ending is failed =
+pub keeps_same : (d e : Draft) (t u : TokenDraft) → KeepsTokens d t → (e.failed ≡ false → d.failed ≡ false) → e.steps ≡ d.steps → e.inside ≡ d.inside → e.splits ≡ d.splits → e.ending ≡ d.ending → u ≡ t → KeepsTokens e u
+keeps_same d e t u keeps going steps within splits ending is failed =
     let old : IsTokened d t = keeps (going failed) in
     subst (IsTokened e) (sym is)
-    (record { bare = old.bare ∙ sym steps; leads = old.leads; leaves = old.leaves; falling = old.falling; splits = splits ∙ old.splits; ending = ending ∙ old.ending })
+    (record {
+      plain = old.plain ∙ sym steps;
+      leads = λ in_block open_end. old.leads (sym within ∙ in_block) (sym ending ∙ open_end);
+      leaves = old.leaves;
+      falling = old.falling;
+      splits = subst (λ (all : List Split). AreTokenSplits all t.splits) (sym splits) old.splits;
+      ending = old.ending ∙ sym ending;
+      closed = old.closed;
+      quiet = λ out. old.quiet (sym within ∙ out);
+    })
 
 -- an emitter that has failed keeps nothing
 pub keeps_failed : (e : Draft) (u : TokenDraft) → e.failed ≡ true → KeepsTokens e u
@@ -384,28 +403,28 @@ keeps_failed e u failed going = absurd (clash failed going)
 
 -- ---- each call
 
-module _ (d e : Draft) (t u : TokenDraft) (keeps : KeepsTokens d t) where
+module _ (d e : Draft) (t u : TokenDraft) (keeps : KeepsTokens d t) (writes : Writes d) where
   -- a change that writes steps of counted code, and these with tokens
   wrote_keeps : (changed : Draft) (moves : List TokenedMove) (spare : List ℕ) → e ≡ changed → changed.failed ≡ d.failed
-      → changed.steps ≡ d.steps ++ bare_moves moves → changed.splits ≡ d.splits → changed.ending ≡ d.ending
+      → changed.steps ≡ d.steps ++ bare_moves moves → changed.inside ≡ d.inside → changed.splits ≡ d.splits → changed.ending ≡ d.ending
       → (d.failed ≡ false → AreFalling t.spare → LeadsTokens t.spare spare moves × AreFalling spare)
-      → (d.failed ≡ false → AllLeave (known_behind t.moves []) moves)
-      → u ≡ record { moves = t.moves ++ moves; spare = spare } → KeepsTokens e u
-  wrote_keeps changed moves spare becomes failed steps splits ending leads leave is =
-      keeps_more d e t u moves spare keeps (λ going. sym (ap (λ (x : Draft). x.failed) becomes ∙ failed) ∙ going)
-      (ap (λ (x : Draft). x.steps) becomes ∙ steps) (ap (λ (x : Draft). x.splits) becomes ∙ splits) (ap (λ (x : Draft). x.ending) becomes ∙ ending) leads leave is
+      → (d.failed ≡ false → AllLeave (known_now t) moves)
+      → u ≡ record t { moves = t.moves ++ moves; spare = spare } → KeepsTokens e u
+  wrote_keeps changed moves spare becomes failed steps within splits ending leads leave is =
+      keeps_more d e t u moves spare keeps writes (λ going. sym (ap (λ (x : Draft). x.failed) becomes ∙ failed) ∙ going)
+      (ap (λ (x : Draft). x.steps) becomes ∙ steps) (ap (λ (x : Draft). x.inside) becomes ∙ within) (ap (λ (x : Draft). x.splits) becomes ∙ splits) (ap (λ (x : Draft). x.ending) becomes ∙ ending) leads leave is
 
   pub given_keeps : (x : ℕ) → e ≡ given d x → u ≡ t → KeepsTokens e u
   given_keeps x becomes is =
-      keeps_same d e t u keeps (λ going. sym (ap (λ (y : Draft). y.failed) becomes) ∙ going) (ap (λ (y : Draft). y.steps) becomes) (ap (λ (y : Draft). y.splits) becomes) (ap (λ (y : Draft). y.ending) becomes) is
+      keeps_same d e t u keeps (λ going. sym (ap (λ (y : Draft). y.failed) becomes) ∙ going) (ap (λ (y : Draft). y.steps) becomes) (ap (λ (y : Draft). y.inside) becomes) (ap (λ (y : Draft). y.splits) becomes) (ap (λ (y : Draft). y.ending) becomes) is
 
   pub dup_keeps : (x : ℕ) → e ≡ duplicated d x → u ≡ adds t (TokenedMove.dups x ∷ []) → KeepsTokens e u
   dup_keeps x becomes is =
-      wrote_keeps (duplicated d x) (TokenedMove.dups x ∷ []) t.spare becomes refl refl refl refl (λ going falling. (leads_still t.spare x, falling)) (λ going. (tt, tt)) is
+      wrote_keeps (duplicated d x) (TokenedMove.dups x ∷ []) t.spare becomes refl refl refl refl refl (λ going falling. (leads_still t.spare x, falling)) (λ going. (tt, tt)) is
 
   pub drop_keeps : (x : ℕ) → e ≡ dropped d x → u ≡ adds t (TokenedMove.drops x ∷ []) → KeepsTokens e u
   drop_keeps x becomes is =
-      wrote_keeps (dropped d x) (TokenedMove.drops x ∷ []) t.spare becomes refl refl refl refl (λ going falling. (leads_drop t.spare x, falling)) (λ going. (tt, tt)) is
+      wrote_keeps (dropped d x) (TokenedMove.drops x ∷ []) t.spare becomes refl refl refl refl refl (λ going falling. (leads_drop t.spare x, falling)) (λ going. (tt, tt)) is
 
   pub open_keeps : (by_count : Bool) (x c used : ℕ) → e ≡ unpacked d by_count x c used
       → u ≡ gains t (opens_with by_count x c (fields_at d c) (fields_given d c used) (next_slot t.spare)) → KeepsTokens e u
@@ -413,9 +432,9 @@ module _ (d e : Draft) (t u : TokenDraft) (keeps : KeepsTokens d t) where
       let fields : List ℕ = fields_at d c in
       let chosen : List ℕ = fields_given d c used in
       wrote_keeps (unpacked d by_count x c used) (opens_with by_count x c fields chosen (next_slot t.spare) ∷ []) (next_slot t.spare ∷ t.spare) becomes refl
-      (ap (λ moves. d.steps ++ moves) (sym (bare_open by_count x c fields chosen (next_slot t.spare)))) refl refl
+      (ap (λ moves. d.steps ++ moves) (sym (bare_open by_count x c fields chosen (next_slot t.spare)))) refl refl refl
       (λ going falling. (leads_open t.spare by_count x c fields chosen falling, falling_next t.spare falling))
-      (λ going. leaves_open (known_behind t.moves []) by_count x c fields chosen (next_slot t.spare)) is
+      (λ going. leaves_open (known_now t) by_count x c fields chosen (next_slot t.spare)) is
     where
       bare_open : (by_count : Bool) (x c : ℕ) (fields used : List ℕ) (slot : ℕ) → bare_moves (opens_with by_count x c fields used slot ∷ []) ≡ opens_by by_count x c fields used ∷ []
       bare_open true x c fields used slot = refl
@@ -426,19 +445,19 @@ module _ (d e : Draft) (t u : TokenDraft) (keeps : KeepsTokens d t) where
       let fields : List ℕ = fields_at d c in
       let chosen : List ℕ = fields_given d c used in
       wrote_keeps (looked d x c used) (reads_with x c fields chosen) t.spare becomes refl
-      (ap (λ moves. d.steps ++ moves) (sym (bare_reads x c fields chosen))) refl refl
-      (λ going falling. (leads_reads t.spare x c fields chosen, falling)) (λ going. leaves_reads (known_behind t.moves []) x c fields chosen) is
+      (ap (λ moves. d.steps ++ moves) (sym (bare_reads x c fields chosen))) refl refl refl
+      (λ going falling. (leads_reads t.spare x c fields chosen, falling)) (λ going. leaves_reads (known_now t) x c fields chosen) is
 
   pub construct_keeps : (c : ℕ) (arguments : List ℕ) → e ≡ computed d (Construct c) arguments arguments
       → u ≡ adds t (TokenedMove.computes d.next (Construct c) arguments t.spare ∷ []) → KeepsTokens e u
   construct_keeps c arguments becomes is =
-      wrote_keeps (computed d (Construct c) arguments arguments) (TokenedMove.computes d.next (Construct c) arguments t.spare ∷ []) t.spare becomes refl refl refl refl
+      wrote_keeps (computed d (Construct c) arguments arguments) (TokenedMove.computes d.next (Construct c) arguments t.spare ∷ []) t.spare becomes refl refl refl refl refl
       (λ going falling. (leads_construct t.spare d.next c arguments falling, falling)) (λ going. (tt, tt)) is
 
   pub plain_keeps : (form : Form) (arguments : List ℕ) → IsPlain d form arguments → e ≡ computed d form arguments arguments
       → u ≡ adds t (TokenedMove.computes d.next form arguments t.spare ∷ []) → KeepsTokens e u
   plain_keeps form arguments plain becomes is =
-      wrote_keeps (computed d form arguments arguments) (TokenedMove.computes d.next form arguments t.spare ∷ []) t.spare becomes refl refl refl refl
+      wrote_keeps (computed d form arguments arguments) (TokenedMove.computes d.next form arguments t.spare ∷ []) t.spare becomes refl refl refl refl refl
       (λ going falling. (leads_plain d t.spare d.next form arguments plain falling, falling)) (λ going. (tt, tt)) is
 
   pub call_keeps : (f : ℕ) (arguments used : List ℕ) → e ≡ computed d (Call f) arguments used
@@ -446,59 +465,90 @@ module _ (d e : Draft) (t u : TokenDraft) (keeps : KeepsTokens d t) where
   call_keeps f arguments used becomes is =
       let call : TokenedMove = TokenedMove.computes d.next (Call f) arguments t.spare in
       wrote_keeps (computed d (Call f) arguments used) (under_holds t.spare call) t.spare becomes refl
-      (ap (λ moves. d.steps ++ moves) (sym (bare_call t.spare call))) refl refl
+      (ap (λ moves. d.steps ++ moves) (sym (bare_call t.spare call))) refl refl refl
       (λ going falling. (leads_call t.spare d.next f arguments t.spare falling, falling))
-      (λ going. leaves_call (known_behind t.moves []) t.spare d.next (Call f) arguments t.spare) is
+      (λ going. leaves_call (known_now t) t.spare d.next (Call f) arguments t.spare) is
 
   pub fill_keeps : (slot c : ℕ) (arguments kept : List ℕ) → 0 < length arguments → (d.failed ≡ false → is_among t.spare slot ≡ true)
-      → (d.failed ≡ false → KeepsKnown 0 kept (fields_in (known_behind t.moves []) slot) arguments) → e ≡ computed d (Construct c) arguments arguments
+      → (d.failed ≡ false → KeepsKnown 0 kept (fields_in (known_now t) slot) arguments) → e ≡ computed d (Construct c) arguments arguments
       → u ≡ spends t (fills_with d.next slot c arguments kept (without (slot ∷ []) t.spare)) slot → KeepsTokens e u
   fill_keeps slot c arguments kept some there known becomes is =
       let others : List ℕ = without (slot ∷ []) t.spare in
       wrote_keeps (computed d (Construct c) arguments arguments) (fills_with d.next slot c arguments kept others ∷ []) others becomes refl
-      (ap (λ moves. d.steps ++ moves) (sym (bare_fills d.next slot c arguments kept others))) refl refl
+      (ap (λ moves. d.steps ++ moves) (sym (bare_fills d.next slot c arguments kept others))) refl refl refl
       (λ going falling. (leads_fills t.spare d.next slot c arguments kept some falling (there going), falling_filter (λ z. not (is_among (slot ∷ []) z)) t.spare falling))
-      (λ going. leaves_fills (known_behind t.moves []) d.next slot c arguments kept others (known going)) is
+      (λ going. leaves_fills (known_now t) d.next slot c arguments kept others (known going)) is
 
   pub free_keeps : (slot : ℕ) → (d.failed ≡ false → is_among t.spare slot ≡ true) → e ≡ d → u ≡ spends t (TokenedMove.frees slot) slot → KeepsTokens e u
   free_keeps slot there becomes is =
-      wrote_keeps d (TokenedMove.frees slot ∷ []) (without (slot ∷ []) t.spare) becomes refl (sym (append_nil d.steps)) refl refl
+      wrote_keeps d (TokenedMove.frees slot ∷ []) (without (slot ∷ []) t.spare) becomes refl (sym (append_nil d.steps)) refl refl refl
       (λ going falling. (leads_free t.spare slot (there going), falling_filter (λ z. not (is_among (slot ∷ []) z)) t.spare falling)) (λ going. (tt, tt)) is
 
 -- ---- the end of a function
 
-pub ends_spent : (d : Draft) (t : TokenDraft) (last : Tokened) → IsTokened d t → SpendsTokens [] t.spare [] last → LeavesKnown (known_behind t.moves []) last
-    → SpendsTokens [] [] [] (plug_tokened t.moves last) × (LeavesKnown [] (plug_tokened t.moves last) × (bare (plug_tokened t.moves last) ≡ plug d.steps (bare last)))
-ends_spent d t last is spent leaves =
-    (is.leads [] last spent, (leaves_plug t.moves [] last is.leaves leaves, bare_plug t.moves last ∙ ap (λ moves. plug moves (bare last)) is.bare))
-
 -- a function of counted code whose draft is the same without tokens
-pub tokened_function_is : (positions : PositionTable) (f : ℕ) (d : Draft) (t : TokenDraft) (fun : CountedFun) (made : TokenedFun) (last : Tokened) → IsTokened d t
-    → IsFunctionOf positions f fun → block_code fun.body ≡ plug d.steps (bare last) → made.parameters ≡ fun.parameters → tokened_code made.body ≡ plug_tokened t.moves last
-    → SpendsTokens [] t.spare [] last → LeavesKnown (known_behind t.moves []) last → IsTokenedFunctionOf positions f made
-tokened_function_is positions f d t fun made last is of body many code spent leaves =
-    let ends = ends_spent d t last is spent leaves in
-    let same : block_code fun.body ≡ bare (tokened_code made.body) = body ∙ (sym ends.1.1 ∙ sym (ap bare code)) in
+pub tokened_function_is : (positions : PositionTable) (f : ℕ) (fun : CountedFun) (made : TokenedFun) (body : Tokened)
+    → IsFunctionOf positions f fun → block_code fun.body ≡ bare body → made.parameters ≡ fun.parameters → tokened_code made.body ≡ body
+    → SpendsTokens [] [] [] body → LeavesKnown [] body → IsTokenedFunctionOf positions f made
+tokened_function_is positions f fun made body of plain many code spent leaves =
+    let same : block_code fun.body ≡ bare (tokened_code made.body) = plain ∙ sym (ap bare code) in
     record {
       parameters = many ∙ of.parameters;
       judged =
           subst (λ n. IsJudged positions f (record { parameters = n; body = bare (tokened_code made.body) })) (sym many)
           (subst (λ (c : Counted). IsJudged positions f (record { parameters = fun.parameters; body = c })) same of.judged);
       arms = subst HasArms same of.arms;
-      tokens = subst (SpendsTokens [] [] []) (sym code) ends.0;
-      leaves = subst (LeavesKnown []) (sym code) ends.1.0;
+      tokens = subst (SpendsTokens [] [] []) (sym code) spent;
+      leaves = subst (LeavesKnown []) (sym code) leaves;
     }
 
-pub given_function : (d : Draft) (t : TokenDraft) (fun : CountedFun) (made : TokenedFun) (x : ℕ) → IsTokened d t → t.spare ≡ []
-    → IsFunctionOf d.positions d.instance fun → block_code fun.body ≡ finished d x → made.parameters ≡ fun.parameters → tokened_code made.body ≡ plug_tokened t.moves (Tokened.give x)
-    → IsTokenedFunctionOf d.positions d.instance made
-given_function d t fun made x is none of body many code =
-    tokened_function_is d.positions d.instance d t fun made (Tokened.give x) is of (body ∙ ap (λ e. plug d.steps (end_code e x)) is.ending) many code
-    (refl, λ y. ap (λ ys. is_among ys y) none) tt
+none_open : (branches : List TokenSplit) (splits : List Split) → splits ≡ [] → AreTokenSplits splits branches → branches ≡ []
+none_open [] splits none are = refl
+none_open (branch ∷ branches) splits none are = absurd (subst (λ (all : List Split). AreTokenSplits all (branch ∷ branches)) none are)
 
-pub called_function : (d : Draft) (t : TokenDraft) (fun : CountedFun) (made : TokenedFun) (f : ℕ) (arguments : List ℕ) → IsTokened d t → t.spare ≡ []
+-- a block whose branches are joined and whose tokens are spent, with its end
+ends_spent : (d : Draft) (t : TokenDraft) (last : Tokened) → IsTokened d t → d.splits ≡ [] → d.inside ≡ true → d.ending ≡ None → t.spare ≡ []
+    → SpendsTokens [] t.spare [] last → LeavesKnown (known_now t) last
+    → SpendsTokens [] [] [] (plug_tokened t.moves last) × LeavesKnown [] (plug_tokened t.moves last)
+ends_spent d t last is joined within open_end none spent leaves =
+    let no_branch : t.splits ≡ [] = none_open t.splits d.splits joined is.splits in (
+      subst (λ (all : List TokenSplit). SpendsTokens [] (first_spare all) [] (plug_tokened t.moves last)) no_branch (is.leads within open_end [] last spent),
+      subst (λ (all : List TokenSplit). LeavesKnown (first_known all) (plug_tokened t.moves last)) no_branch (leaves_plug t.moves (first_known t.splits) last is.leaves leaves),
+    )
+
+closed_spent : (d : Draft) (t : TokenDraft) (code : Tokened) → IsTokened d t → d.splits ≡ [] → t.ending ≡ Some code
+    → SpendsTokens [] [] [] (plug_tokened t.moves code) × LeavesKnown [] (plug_tokened t.moves code)
+closed_spent d t code is joined ends =
+    let no_branch : t.splits ≡ [] = none_open t.splits d.splits joined is.splits in
+    let closed = is.closed code ends in (
+      subst (λ (all : List TokenSplit). SpendsTokens [] (first_spare all) [] (plug_tokened t.moves code)) no_branch closed.1.0,
+      subst (λ (all : List TokenSplit). LeavesKnown (first_known all) (plug_tokened t.moves code)) no_branch (leaves_plug t.moves (first_known t.splits) code is.leaves closed.1.1),
+    )
+
+pub given_function : (d : Draft) (t : TokenDraft) (fun : CountedFun) (made : TokenedFun) (x : ℕ) → IsTokened d t → t.spare ≡ [] → d.splits ≡ [] → d.inside ≡ true
+    → IsFunctionOf d.positions d.instance fun → block_code fun.body ≡ finished d x → made.parameters ≡ fun.parameters → tokened_code made.body ≡ tokens_finished t x
+    → IsTokenedFunctionOf d.positions d.instance made
+given_function d t fun made x is none joined within of body many code =
+    let both = spent_by t.ending refl in
+    tokened_function_is d.positions d.instance fun made (tokens_finished t x) of
+    (body ∙ (ap (λ moves. plug moves (end_code d.ending x)) (sym is.plain) ∙ (ap (λ e. plug (bare_moves t.moves) (end_code e x)) (sym is.ending) ∙ (ap (plug (bare_moves t.moves)) (bare_end t.ending) ∙ sym (bare_plug t.moves (tokened_end t.ending x))))))
+    many code both.0 both.1
+  where
+    bare_end : (ending : Option Tokened) → end_code (option_map bare ending) x ≡ bare (tokened_end ending x)
+    bare_end None = refl
+    bare_end (Some last) = refl
+
+    spent_by : (ending : Option Tokened) → t.ending ≡ ending
+        → SpendsTokens [] [] [] (plug_tokened t.moves (tokened_end ending x)) × LeavesKnown [] (plug_tokened t.moves (tokened_end ending x))
+    spent_by None ends =
+        ends_spent d t (Tokened.give x) is joined within (sym is.ending ∙ ap (option_map bare) ends) none (refl, λ y. ap (λ ys. is_among ys y) none) tt
+    spent_by (Some last) ends = closed_spent d t last is joined ends
+
+pub called_function : (d : Draft) (t : TokenDraft) (fun : CountedFun) (made : TokenedFun) (f : ℕ) (arguments : List ℕ) → IsTokened d t → t.spare ≡ [] → d.splits ≡ [] → d.inside ≡ true → d.ending ≡ None
     → IsFunctionOf d.positions d.instance fun → block_code fun.body ≡ plug d.steps (tail_call f arguments) → made.parameters ≡ fun.parameters
     → tokened_code made.body ≡ plug_tokened t.moves (Tokened.tail_call f arguments) → IsTokenedFunctionOf d.positions d.instance made
-called_function d t fun made f arguments is none of body many code =
-    tokened_function_is d.positions d.instance d t fun made (Tokened.tail_call f arguments) is of body many code
-    (refl, λ y. ap (λ ys. is_among ys y) none) tt
+called_function d t fun made f arguments is none joined within open_end of body many code =
+    let both = ends_spent d t (Tokened.tail_call f arguments) is joined within open_end none (refl, λ y. ap (λ ys. is_among ys y) none) tt in
+    tokened_function_is d.positions d.instance fun made (plug_tokened t.moves (Tokened.tail_call f arguments)) of
+    (body ∙ (ap (λ moves. plug moves (tail_call f arguments)) (sym is.plain) ∙ sym (bare_plug t.moves (Tokened.tail_call f arguments))))
+    many code both.0 both.1

@@ -61,6 +61,7 @@ impl<'a> Emitter<'a> {
                     emitter: self.work.instance,
                     depth: self.work.forks.len(),
                     left,
+                    spare: Vec::new(self.work.alloc),
                 });
             }
             Err(variables) => {
@@ -86,6 +87,7 @@ impl<'a> Emitter<'a> {
         ensures emitter { IfSome result (λ debts. debts.emitter ≡ arms.old.emitter) }
         ensures spare { IfSome result (λ debts. debts.spare.items ≡ []) }
         ensures same { (arms.new.emitter ≡ arms.old.emitter) × (arms.new.depth ≡ arms.old.depth) }
+        ensures tokens { arms.new.spare ≡ arms.old.spare }
     {
         let emitter = arms.emitter;
         let variables = arms.left.pop()?;
@@ -202,6 +204,7 @@ impl<'a> Emitter<'a> {
                     emitter: _,
                     depth: _,
                     left: _,
+                    spare: _,
                 } = arms;
                 return Ok(Owed {
                     emitter: self.work.instance,

@@ -12,14 +12,16 @@ mod form;
 mod law;
 mod lists;
 mod shape;
+mod token_branches;
 mod token_emitter;
+mod token_joins;
 mod token_work;
 mod tokened;
 mod work;
 
 pub use copies::copied_decisions;
 pub use counted::{Counted, CountedFun, counted_programs_are_judged};
-pub use debts::{ArmEnd, Arms, Debts, Kept, Owed, Spare, give_up};
+pub use debts::{ArmEnd, Arms, Debts, Kept, Owed, Spare, TokenArmEnd, give_up};
 pub use emitter::Emitter;
 pub use form::{Block, Last, Step};
 pub use law::{

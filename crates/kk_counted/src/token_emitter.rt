@@ -5,7 +5,7 @@ ghost use Rattle.kk_counted.specs.TokenedForms.{TokenedMove, tokened_move, token
 ghost use Rattle.kk_counted.specs.Spending.{numbers_from};
 ghost use Rattle.kk_counted.specs.Drafts.{begun, fallen, given, duplicated, dropped, unpacked, looked, fields_given, computed, chosen_of, Writes, Awaits, Reaches, IsLentTo, IsAtHand, Owns, OwnsAll, HoldsAll, HasConstructor, HasField, HasFields, IsPlain, IsOnly, Takes, EndsByCall, used_in, LendsAll};
 ghost use Rattle.kk_counted.specs.Shaping.{positions_in, fields_in};
-ghost use Rattle.kk_counted.specs.TokenDrafts.{no_tokens, adds, gains, spends, next_slot, under_holds, opens_with, reads_with, fills_with, kept_by};
+ghost use Rattle.kk_counted.specs.TokenDrafts.{no_tokens, adds, gains, spends, next_slot, under_holds, opens_with, reads_with, fills_with, kept_by, tokens_finished};
 ghost use Rattle.kk_counted.specs.TokenEmissions.{counted_of, tokens_of};
 ghost use Rattle.kk_counted.specs.TokenEmitting.{HasKnown, HasSpare, HasNoSpare, IsTokenedFunctionOf, fields_at};
 
@@ -23,11 +23,11 @@ use std::marker::Model;
 /// What writes one function in code with tokens. Each reference stands in an `Owed` and each token in a `Spare`, which cannot be
 /// let go: so each is spent once on each path.
 ///
-/// It writes the same code without tokens too, by an `Emitter`, whose rules its calls follow. It has no branch.
+/// It writes the same code without tokens too, by an `Emitter`, whose rules its calls follow.
 #[derive(Drop)]
 pub struct TokenEmitter<'a> {
-    plain: Emitter<'a>,
-    work: TokenWork,
+    pub(crate) plain: Emitter<'a>,
+    pub(crate) work: TokenWork,
 }
 
 impl<'a> Model for TokenEmitter<'a> {
@@ -61,6 +61,8 @@ impl<'a> TokenEmitter<'a> {
             alloc,
             steps: Vec::new(alloc),
             spare: Vec::new(alloc),
+            forks: Vec::new(alloc),
+            ending: None,
         };
         Ok(TokenEmitter { plain, work })
     }
@@ -567,6 +569,7 @@ impl<'a> TokenEmitter<'a> {
     /// is unspent, no token either.
     pub fn finish_tail(self, instance: u32, arguments: Vec<u32>) -> Result<TokenedFun, Kept>
         requires writes { Writes (counted_of self) }
+        requires joined { (counted_of self).failed ≡ false → (counted_of self).splits ≡ [] }
         requires takes { Takes (counted_of self) instance arguments.items }
         requires ends { EndsByCall (counted_of self) instance arguments.items }
         requires none { HasNoSpare (counted_of self) (tokens_of self) }
@@ -593,11 +596,12 @@ impl<'a> TokenEmitter<'a> {
     /// Ends the function by giving the value that a reference owns. No other reference and no token is unspent.
     pub fn finish(self, owed: Owed) -> Result<TokenedFun, Kept>
         requires inside { (counted_of self).failed ≡ false → (counted_of self).inside ≡ true }
+        requires joined { (counted_of self).failed ≡ false → (counted_of self).splits ≡ [] }
         requires called { (counted_of self).failed ≡ false → (counted_of self).uncalled ≡ [] }
         requires only { IsOnly (counted_of self) owed.emitter owed.variable }
         requires none { HasNoSpare (counted_of self) (tokens_of self) }
         ensures going { OnOk result ((counted_of self.entry).failed ≡ false) }
-        ensures body { IfOk result (λ function. tokened_code function.body ≡ plug_tokened (tokens_of self.entry).moves (Tokened.give owed.variable)) }
+        ensures body { IfOk result (λ function. tokened_code function.body ≡ tokens_finished (tokens_of self.entry) owed.variable) }
         ensures function { IfOk result (λ function. IsTokenedFunctionOf (counted_of self.entry).positions (counted_of self.entry).instance function) }
         ensures kept { IfErr result (λ kept. kept.held ≡ Held.One owed) }
         ensures ended { IfErr result (λ kept. kept.ended ≡ true) }
@@ -607,10 +611,7 @@ impl<'a> TokenEmitter<'a> {
         let function = plain.finish(owed)?;
         Ok(TokenedFun {
             parameters: function.parameters(),
-            body: TokenedBlock {
-                steps: work.steps,
-                last: TokenedLast::Return(variable),
-            },
+            body: work.finish(variable),
         })
     }
 

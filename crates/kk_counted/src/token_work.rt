@@ -1,13 +1,46 @@
-ghost use Rattle.std.specs.Prelude.{◌≡◌, ◌+◌, ◌<◌, ◌≤◌, ◌∷◌, ◌++◌, [], map, length, vec_len, vec_capacity, IfOk, OnOk};
+ghost use Rattle.std.specs.Prelude.{◌≡◌, ◌+◌, ◌<◌, ◌≤◌, ◌∷◌, ◌++◌, [], true, map, reverse, length, option_map, is_some, vec_len, vec_capacity, IfOk, OnOk};
 ghost use Rattle.kk_syntax.specs.Shapes.{without};
-ghost use Rattle.kk_counted.specs.Drafts.{chosen_of};
-ghost use Rattle.kk_counted.specs.TokenDrafts.{token_draft, next_slot, adds, gains, spends, under_holds, opens_with, reads_with, fills_with};
-ghost use Rattle.kk_counted.specs.TokenedForms.{TokenedMove, tokened_move};
+ghost use Rattle.kk_counted.specs.CountedForms.{decisions_of};
+ghost use Rattle.kk_counted.specs.Drafts.{chosen_of, copies};
+ghost use Rattle.kk_counted.specs.TokenDrafts.{token_draft, token_split_of, arm_of, next_slot, adds, gains, spends, under_holds, opens_with, reads_with, fills_with, tokens_forked, tokens_entered, tokens_ended_in, tokened_end, more_ended, tokens_joined, tokens_resumed, tokens_finished};
+ghost use Rattle.kk_counted.specs.TokenedCodes.{Tokened};
+ghost use Rattle.kk_counted.specs.TokenedForms.{TokenedMove, tokened_move, tokened_last_code, tokened_code};
+ghost use Rattle.kk_counted.specs.Works.{items_of};
 
-use crate::lists::chosen;
-use crate::tokened::TokenedStep;
+use crate::copies::copied_decisions;
+use crate::lists::{chosen, copies};
+use crate::token_joins::{block_of, blocks_of, case_of, joined_slots};
+use crate::tokened::{TokenedBlock, TokenedLast, TokenedStep};
 use kk_base::NoMemory;
+use kk_core::Decisions;
 use std::alloc::Global;
+use std::mem;
+
+/// An arm that is ended.
+#[derive(Drop)]
+pub struct TokenArm {
+    pub steps: Vec<TokenedStep>,
+    pub last: TokenedLast,
+    /// The slots of the tokens that it leaves to the code behind the branch, the newest last.
+    pub spare: Vec<u32>,
+}
+
+/// A branch that is not joined.
+#[derive(Drop)]
+pub struct TokenFork {
+    pub on: u32,
+    pub tests: Decisions,
+    /// The steps of the block before the branch.
+    pub before: Vec<TokenedStep>,
+    /// The slots of the tokens that each arm is to spend, the newest last.
+    pub each: Vec<u32>,
+    /// The same list for each arm that is not entered.
+    pub left: Vec<Vec<u32>>,
+    /// The arms that are ended.
+    pub arms: Vec<TokenArm>,
+    /// Whether one of them ends by a tail call.
+    pub tails: bool,
+}
 
 /// What an emitter has written of a function in code with tokens, and the tokens that are unspent.
 #[derive(Drop)]
@@ -16,6 +49,10 @@ pub struct TokenWork {
     pub steps: Vec<TokenedStep>,
     /// The slots of the unspent tokens, the newest last.
     pub spare: Vec<u32>,
+    /// The branches that are not joined, the newest last.
+    pub forks: Vec<TokenFork>,
+    /// How the block ends, once a branch with tail calls is joined.
+    pub ending: Option<TokenedLast>,
 }
 
 impl TokenWork {
@@ -34,10 +71,7 @@ impl TokenWork {
     pub fn next_slot(&self) -> Result<u32, NoMemory>
         ensures { IfOk result (λ slot. slot ≡ next_slot (token_draft self.now).spare) }
     {
-        match self.spare.last() {
-            None => Ok(0),
-            Some(newest) => newest.checked_add(1).ok_or(NoMemory),
-        }
+        next_slot(&self.spare)
     }
 
     /// Writes a step, for which room was made.
@@ -104,6 +138,198 @@ impl TokenWork {
         steps.push(call)?;
         unhold_all(&mut steps, &newest_first)?;
         Ok(steps)
+    }
+}
+
+impl TokenWork {
+    /// Begins a branch, and gives the slots of the tokens once for each arm.
+    pub fn split(&mut self, on: u32, tests: &Decisions) -> Result<Vec<Vec<u32>>, NoMemory>
+        ensures given { IfOk result (λ given. map items_of given.items ≡ copies tests.now.rows self.old.spare.items) }
+        ensures ok { OnOk result (token_draft self.new ≡ tokens_forked (token_draft self.old) on (decisions_of tests.now) tests.now.rows) }
+    {
+        let copy = copied_decisions(self.alloc, tests)?;
+        let given = copies(self.alloc, &self.spare, tests.rows())?;
+        let left = copies(self.alloc, &self.spare, tests.rows())?;
+        let before = mem::replace(&mut self.steps, Vec::new(self.alloc));
+        let each = mem::replace(&mut self.spare, Vec::new(self.alloc));
+        self.forks.push(TokenFork {
+            on,
+            tests: copy,
+            before,
+            each,
+            left,
+            arms: Vec::new(self.alloc),
+            tails: false,
+        })?;
+        Ok(given)
+    }
+
+    /// Enters the next arm of the newest branch, if there is one.
+    pub fn enter(&mut self)
+        ensures { token_draft self.new ≡ tokens_entered (token_draft self.old) }
+    {
+        let Some(mut fork) = self.forks.pop() else {
+            return;
+        };
+        match fork.left.pop() {
+            None => self.forks.push_reserved(fork),
+            Some(each) => {
+                self.spare = each;
+                self.forks.push_reserved(fork);
+            }
+        }
+    }
+
+    /// Ends the arm that is written, and tells whether that is by a tail call. It leaves the tokens that are unspent.
+    pub fn end_arm(&mut self, last: TokenedLast, tails: bool) -> Result<(), NoMemory>
+        ensures { OnOk result (token_draft self.new ≡ tokens_ended_in (token_draft self.old) (tokened_last_code last) tails (token_draft self.old).splits) }
+    {
+        let _ = mem::replace(&mut self.ending, None);
+        let Some(fork) = self.forks.pop() else {
+            return Ok(());
+        };
+        let steps = mem::replace(&mut self.steps, Vec::new(self.alloc));
+        let spare = mem::replace(&mut self.spare, Vec::new(self.alloc));
+        let more = with_arm(fork, TokenArm { steps, last, spare }, tails)?;
+        self.forks.push_reserved(more);
+        Ok(())
+    }
+
+    /// Ends the arm that is written by giving a variable's value.
+    pub fn end_arm_by_value(&mut self, variable: u32) -> Result<(), NoMemory>
+        ensures { OnOk result (token_draft self.new ≡ tokens_ended_in (token_draft self.old) (tokened_end (token_draft self.old).ending variable) (is_some (token_draft self.old).ending) (token_draft self.old).splits) }
+    {
+        match mem::replace(&mut self.ending, None) {
+            None => {
+                self.end_arm(TokenedLast::Return(variable), false)?;
+                Ok(())
+            }
+            Some(last) => {
+                self.end_arm(last, true)?;
+                Ok(())
+            }
+        }
+    }
+
+    /// Ends the arm that is written by a tail call.
+    pub fn end_arm_by_call(&mut self, instance: u32, arguments: &[u32]) -> Result<(), NoMemory>
+        ensures { OnOk result (token_draft self.new ≡ tokens_ended_in (token_draft self.old) (Tokened.tail_call instance arguments.now) true (token_draft self.old).splits) }
+    {
+        let copy = Vec::from_slice(self.alloc, arguments)?;
+        self.end_arm(TokenedLast::TailCall(instance, copy), true)?;
+        Ok(())
+    }
+
+    /// Joins the newest branch, whose value a variable takes, and gives the slots of the tokens that go on, the newest last.
+    pub fn join(&mut self, variable: u32) -> Result<Vec<u32>, NoMemory>
+        ensures slots { IfOk result (λ slots. slots.items ≡ reverse (token_draft self.new).spare) }
+        ensures ok { OnOk result (token_draft self.new ≡ tokens_joined (token_draft self.old) variable) }
+    {
+        let Some(fork) = self.forks.pop() else {
+            let slots = Vec::from_slice(self.alloc, &self.spare)?;
+            return Ok(slots);
+        };
+        self.resume(fork, variable)?;
+        let slots = Vec::from_slice(self.alloc, &self.spare)?;
+        Ok(slots)
+    }
+
+    // Goes on behind a branch, whose value the variable takes.
+    fn resume(&mut self, fork: TokenFork, variable: u32) -> Result<(), NoMemory>
+        ensures { OnOk result (token_draft self.new ≡ tokens_resumed (token_draft self.old) (token_split_of fork) variable fork.tails) }
+    {
+        let TokenFork {
+            on,
+            tests,
+            mut before,
+            each: _,
+            left: _,
+            arms,
+            tails,
+        } = fork;
+        let slots = joined_slots(self.alloc, &arms)?;
+        let mut newest_first = Vec::from_slice(self.alloc, &slots)?;
+        newest_first.reverse();
+        let blocks = blocks_of(self.alloc, arms, &newest_first)?;
+        let last = case_of(on, tests, blocks);
+        self.spare = slots;
+        if tails {
+            self.steps = before;
+            let _ = mem::replace(&mut self.ending, Some(last));
+            return Ok(());
+        }
+        before.push(run_of(self.alloc, variable, last))?;
+        self.steps = before;
+        Ok(())
+    }
+
+    /// The block of the function that ends by giving a variable's value.
+    pub fn finish(self, variable: u32) -> TokenedBlock
+        ensures { tokened_code result ≡ tokens_finished (token_draft self) variable }
+    {
+        let TokenWork {
+            alloc: _,
+            steps,
+            spare: _,
+            forks: _,
+            ending,
+        } = self;
+        block_of(steps, end_of(ending, variable))
+    }
+}
+
+/// The slot above all of some slots, of which the newest one stands last.
+pub fn next_slot(slots: &[u32]) -> Result<u32, NoMemory>
+    ensures { IfOk result (λ slot. slot ≡ next_slot (reverse slots.now)) }
+{
+    match slots.last() {
+        None => Ok(0),
+        Some(newest) => newest.checked_add(1).ok_or(NoMemory),
+    }
+}
+
+// A branch with one more arm.
+fn with_arm(fork: TokenFork, arm: TokenArm, tails: bool) -> Result<TokenFork, NoMemory>
+    ensures { IfOk result (λ more. token_split_of more ≡ more_ended (token_split_of fork) (arm_of arm) tails) }
+{
+    let TokenFork {
+        on,
+        tests,
+        before,
+        each,
+        left,
+        mut arms,
+        tails: older,
+    } = fork;
+    arms.push(arm)?;
+    Ok(TokenFork {
+        on,
+        tests,
+        before,
+        each,
+        left,
+        arms,
+        tails: older || tails,
+    })
+}
+
+// The step that runs a block which is no more than its end.
+fn run_of(alloc: Global, variable: u32, last: TokenedLast) -> TokenedStep
+    ensures { tokened_move result ≡ TokenedMove.runs variable (tokened_last_code last) }
+{
+    TokenedStep::Inside {
+        variable,
+        block: block_of(Vec::new(alloc), last),
+    }
+}
+
+// How a block ends that gives a variable's value.
+fn end_of(ending: Option<TokenedLast>, variable: u32) -> TokenedLast
+    ensures { tokened_last_code result ≡ tokened_end (option_map tokened_last_code ending) variable }
+{
+    match ending {
+        None => TokenedLast::Return(variable),
+        Some(last) => last,
     }
 }
 

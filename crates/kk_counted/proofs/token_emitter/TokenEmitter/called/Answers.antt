@@ -1,6 +1,6 @@
-use Rattle.std.proofs.Common.{ap, sym, ◌∙◌}
+use Rattle.std.proofs.Common.{ap, sym, ◌∙◌, subst}
 use Rattle.kk_syntax.specs.declared.program.Form.TheVariants.{Call}
-use Rattle.kk_counted.specs.Drafts.{used_in}
+use Rattle.kk_counted.specs.Drafts.{used_in, Writes}
 use Rattle.kk_counted.specs.Emissions.{state}
 use Rattle.kk_counted.specs.TokenDrafts.{token_draft, under_holds}
 use Rattle.kk_counted.specs.TokenedForms.{TokenedMove}
@@ -17,7 +17,7 @@ invariant_of-self-2 c =
     let was = c.args.self.now in
     let form = Call c.args.instance in
     let arguments = c.args.arguments.items in
-    call_keeps (state e) (state c.called.new.self) before after c.self.invariant c.args.instance arguments (used_in (state e) c.args.instance arguments) c.in_ok-owed.ensures.ok
+    call_keeps (state e) (state c.called.new.self) before after c.self.invariant (subst (λ x. Writes (counted_of x)) (sym c.self.view_is) c.requires.writes) c.args.instance arguments (used_in (state e) c.args.instance arguments) c.in_ok-owed.ensures.ok
     (adds_on before now after c.reserve.ensures.same _ (under_holds before.spare (TokenedMove.computes (state e).next form arguments before.spare)) c.put_all.ensures
     (c.in-Ok.ensures
     ∙ (ap (λ xs. under_holds (tokens_of was).spare (TokenedMove.computes (counted_of was).next form xs (tokens_of was).spare)) c.deref.ensures.value

@@ -1,4 +1,5 @@
-use Rattle.std.proofs.Common.{ap, sym, ◌∙◌}
+use Rattle.kk_counted.specs.Drafts.{Writes}
+use Rattle.std.proofs.Common.{ap, sym, ◌∙◌, subst}
 use Rattle.kk_syntax.specs.declared.program.Form.TheVariants.{Construct}
 use Rattle.kk_counted.specs.Emissions.{state}
 use Rattle.kk_counted.specs.TokenDrafts.{token_draft}
@@ -16,7 +17,7 @@ invariant_of-self-2 c =
     let was = c.args.self.now in
     let form = Construct c.args.constructor in
     let arguments = c.args.debts.variables.items in
-    construct_keeps (state e) (state c.construct.new.self) before after c.self.invariant c.args.constructor arguments c.in_ok-owed.ensures.ok
+    construct_keeps (state e) (state c.construct.new.self) before after c.self.invariant (subst (λ x. Writes (counted_of x)) (sym c.self.view_is) c.requires.writes) c.args.constructor arguments c.in_ok-owed.ensures.ok
     (put_on before now after c.reserve.ensures.same _ (TokenedMove.computes (state e).next form arguments before.spare) c.put.ensures
     (c.in-Ok.ensures
     ∙ (ap (λ xs. TokenedMove.computes (counted_of was).next form xs (tokens_of was).spare) c.vars.ensures ∙ ap (λ x. TokenedMove.computes (counted_of x).next form arguments (tokens_of x).spare) (sym c.self.view_is))))

@@ -1,4 +1,6 @@
-use Rattle.std.proofs.Common.{ap, ◌∙◌}
+use Rattle.kk_counted.specs.TokenEmissions.{counted_of}
+use Rattle.kk_counted.specs.Drafts.{Writes}
+use Rattle.std.proofs.Common.{ap, ◌∙◌, sym, subst}
 use Rattle.kk_counted.specs.Emissions.{state}
 use Rattle.kk_counted.specs.TokenDrafts.{token_draft}
 use Rattle.kk_counted.specs.TokenedForms.{TokenedMove}
@@ -12,5 +14,5 @@ invariant_of-self-2 c =
     let before = token_draft c.self.inside.work in
     let now = token_draft c.reserve.new.self in
     let after = token_draft c.put.new.self in
-    dup_keeps (state e) (state c.dup.new.self) before after c.self.invariant c.args.owed.now.variable c.in_ok-one.ensures.ok
+    dup_keeps (state e) (state c.dup.new.self) before after c.self.invariant (subst (λ x. Writes (counted_of x)) (sym c.self.view_is) c.requires.writes) c.args.owed.now.variable c.in_ok-one.ensures.ok
     (put_on before now after c.reserve.ensures.same _ (TokenedMove.dups c.args.owed.now.variable) c.put.ensures (dup_step c.var-variable.result ∙ ap TokenedMove.dups c.var-variable.ensures))

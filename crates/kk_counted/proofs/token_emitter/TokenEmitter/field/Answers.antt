@@ -1,5 +1,5 @@
-use Rattle.std.proofs.Common.{◌≡◌, ℕ, List, [], ◌∷◌, refl, ap, sym, ◌∙◌}
-use Rattle.kk_counted.specs.Drafts.{chosen_of, fields_given}
+use Rattle.std.proofs.Common.{◌≡◌, ℕ, List, [], ◌∷◌, refl, ap, sym, ◌∙◌, subst}
+use Rattle.kk_counted.specs.Drafts.{chosen_of, fields_given, Writes}
 use Rattle.kk_counted.specs.Emissions.{state}
 use Rattle.kk_counted.specs.TokenDrafts.{token_draft, reads_with}
 use Rattle.kk_counted.specs.TokenEmissions.{counted_of, tokens_of}
@@ -19,7 +19,7 @@ invariant_of-self-2 c =
     let now = token_draft c.reserve.new.self in
     let after = token_draft c.put_all.new.self in
     let k = c.args.constructor in
-    reads_keeps (state e) (state c.field.new.self) before after c.self.invariant c.args.variable k 0 c.in_ok-field.ensures.ok
+    reads_keeps (state e) (state c.field.new.self) before after c.self.invariant (subst (λ x. Writes (counted_of x)) (sym c.self.view_is) c.requires.writes) c.args.variable k 0 c.in_ok-field.ensures.ok
     (adds_on before now after c.reserve.ensures.same _ (reads_with c.args.variable k (fields_at (state e) k) (fields_given (state e) k 0)) c.put_all.ensures
     (c.in-Ok.ensures ∙ ap (λ x. reads_with c.args.variable k (fields_at (counted_of x) k) (fields_given (counted_of x) k 0)) (sym c.self.view_is)))
 

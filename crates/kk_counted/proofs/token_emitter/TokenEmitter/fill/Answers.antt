@@ -1,3 +1,4 @@
+use Rattle.kk_counted.specs.Drafts.{Writes}
 use Rattle.std.proofs.Common.{◌∷◌, [], ap, sym, subst, ◌∙◌}
 use Rattle.kk_syntax.specs.Shapes.{without}
 use Rattle.kk_counted.specs.Emissions.{state}
@@ -17,7 +18,7 @@ invariant_of-self-in-Ok-construct c =
     let slot = c.args.spare.slot in
     let k = c.args.constructor in
     let arguments = c.args.debts.variables.items in
-    fill_keeps (state e) (state c.construct.new.self) before after c.self.invariant slot k arguments c.args.kept.items c.requires.some
+    fill_keeps (state e) (state c.construct.new.self) before after c.self.invariant (subst (λ x. Writes (counted_of x)) (sym c.self.view_is) c.requires.writes) slot k arguments c.args.kept.items c.requires.some
     (λ going. (subst (λ x. HasSpare (counted_of x) (tokens_of x) c.args.spare.emitter slot) (sym c.self.view_is) c.requires.has going).1)
     (subst (λ x. HasKnown (counted_of x) (tokens_of x) slot c.args.kept.items arguments) (sym c.self.view_is) c.requires.known) c.in-Ok-construct.ensures.ok
     (spends_on before now after c.reserve.ensures.same _ (fills_with (state e).next slot k arguments c.args.kept.items (without (slot ∷ []) before.spare)) c.slot-slot.result slot c.put_spend.ensures

@@ -1,11 +1,9 @@
-use Rattle.std.proofs.Common.{◌≡◌, false, map, sym, ap, ◌∙◌, subst}
+use Rattle.std.proofs.Common.{◌≡◌, false, sym, ap, ◌∙◌, subst}
 use Rattle.kk_counted.specs.Drafts.{finished}
 use Rattle.kk_counted.specs.Programs.{IsFunctionOf}
-use Rattle.kk_counted.specs.TokenedCodes.{Tokened}
-use Rattle.kk_counted.specs.TokenedForms.{plug_tokened, tokened_move}
 use Rattle.kk_counted.specs.TokenEmissions.{counted_of, tokens_of}
 use Rattle.kk_counted.specs.TokenEmitting.{KeepsTokens}
-use Rattle.kk_counted.proofs.TokenedViews.{tokened_block_is, return_end}
+use Rattle.kk_counted.specs.TokenDrafts.{tokens_finished}
 use Rattle.kk_counted.proofs.TokenDrafting.{given_function}
 use Rattle.kk_counted.proofs.token_emitter.TokenEmitter.finish.Goals as goal
 
@@ -15,6 +13,7 @@ returns-clause-function c =
     let of = c.in_ok-function.ensures in
     let going : (counted_of now).failed ≡ false = ap (λ x. (counted_of x).failed) (sym c.self.view_is) ∙ of.going in
     given_function (counted_of now) (tokens_of now) c.in_ok-function.function _ c.args.owed.variable (subst (λ x. KeepsTokens (counted_of x) (tokens_of x)) c.self.view_is c.self.invariant going) (c.requires.none going)
+    (c.requires.joined going) (c.requires.inside going)
     (subst (λ x. IsFunctionOf (counted_of x).positions (counted_of x).instance c.in_ok-function.function) c.self.view_is of.function)
     (of.body ∙ ap (λ x. finished (counted_of x) c.args.owed.variable) c.self.view_is) c.parameters.ensures
-    (tokened_block_is _ ∙ (ap (plug_tokened (map tokened_move c.self.inside.work.steps.items)) (return_end c.var-variable.result ∙ ap Tokened.give c.var-variable.ensures) ∙ ap (λ x. plug_tokened (tokens_of x).moves (Tokened.give c.args.owed.variable)) c.self.view_is))
+    (c.finish-2.ensures ∙ (ap (tokens_finished (tokens_of (record { emission = c.self.inside.plain; work = c.self.inside.work }))) c.var-variable.ensures ∙ ap (λ x. tokens_finished (tokens_of x) c.args.owed.variable) c.self.view_is))

@@ -16,6 +16,7 @@ returns-clause-function c =
     let of = c.in_ok-function.ensures in
     let going : (counted_of now).failed ≡ false = ap (λ x. (counted_of x).failed) (sym c.self.view_is) ∙ of.going in
     called_function (counted_of now) (tokens_of now) c.in_ok-function.function _ c.args.instance c.args.arguments.items (subst (λ x. KeepsTokens (counted_of x) (tokens_of x)) c.self.view_is c.self.invariant going) (c.requires.none going)
+    (c.requires.joined going) (c.requires.writes going).0 (c.requires.writes going).1
     (subst (λ x. IsFunctionOf (counted_of x).positions (counted_of x).instance c.in_ok-function.function) c.self.view_is of.function)
     (of.body ∙ ap (λ x. plug (counted_of x).steps (tail_call c.args.instance c.args.arguments.items)) c.self.view_is) c.parameters.ensures
     (tokened_block_is _ ∙ (ap (plug_tokened (map tokened_move c.self.inside.work.steps.items)) (tail_call_end c.args.instance _ ∙ ap (Tokened.tail_call c.args.instance) (search rules)) ∙ ap (λ x. plug_tokened (tokens_of x).moves (Tokened.tail_call c.args.instance c.args.arguments.items)) c.self.view_is))

@@ -1,5 +1,5 @@
 use Rattle.std.proofs.Common.{ap, sym, subst, ◌∙◌}
-use Rattle.kk_counted.specs.Drafts.{IsPlain}
+use Rattle.kk_counted.specs.Drafts.{IsPlain, Writes}
 use Rattle.kk_counted.specs.Emissions.{state}
 use Rattle.kk_counted.specs.TokenDrafts.{token_draft}
 use Rattle.kk_counted.specs.TokenedForms.{TokenedMove}
@@ -16,7 +16,7 @@ invariant_of-self-2 c =
     let was = c.args.self.now in
     let form = c.args.form in
     let arguments = c.args.arguments.items in
-    plain_keeps (state e) (state c.plain.new.self) before after c.self.invariant form arguments (subst (λ x. IsPlain (counted_of x) form arguments) (sym c.self.view_is) c.requires.plain) c.in_ok-owed.ensures.ok
+    plain_keeps (state e) (state c.plain.new.self) before after c.self.invariant (subst (λ x. Writes (counted_of x)) (sym c.self.view_is) c.requires.writes) form arguments (subst (λ x. IsPlain (counted_of x) form arguments) (sym c.self.view_is) c.requires.plain) c.in_ok-owed.ensures.ok
     (put_on before now after c.reserve.ensures.same _ (TokenedMove.computes (state e).next form arguments before.spare) c.put.ensures
     (c.in-Ok.ensures
     ∙ (ap (λ xs. TokenedMove.computes (counted_of was).next form xs (tokens_of was).spare) c.deref.ensures.value ∙ ap (λ x. TokenedMove.computes (counted_of x).next form arguments (tokens_of x).spare) (sym c.self.view_is))))
