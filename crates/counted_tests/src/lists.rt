@@ -81,6 +81,7 @@ fn filled(
     second: Owed,
 ) -> Result<TokenedFun, NoMemory>
     requires inside { (counted_of emitter).failed ≡ false → ((counted_of emitter).inside ≡ true) × ((counted_of emitter).ending ≡ None) }
+    requires joined { (counted_of emitter).failed ≡ false → (counted_of emitter).splits ≡ [] }
     requires has { HasSpare (counted_of emitter) (tokens_of emitter) spare.emitter spare.slot }
     requires alone { (counted_of emitter).failed ≡ false → without (spare.slot ∷ []) (tokens_of emitter).spare ≡ [] }
     requires known { HasKnown (counted_of emitter) (tokens_of emitter) spare.slot (kept_by keep 2) (first.variable ∷ second.variable ∷ []) }
@@ -159,6 +160,7 @@ fn constructed(
     second: Owed,
 ) -> Result<TokenedFun, NoMemory>
     requires inside { (counted_of emitter).failed ≡ false → ((counted_of emitter).inside ≡ true) × ((counted_of emitter).ending ≡ None) }
+    requires joined { (counted_of emitter).failed ≡ false → (counted_of emitter).splits ≡ [] }
     requires none { HasNoSpare (counted_of emitter) (tokens_of emitter) }
     requires owns { OwnsAll (counted_of emitter) first.emitter (first.variable ∷ second.variable ∷ []) }
     requires only { (counted_of emitter).failed ≡ false → minus_all (first.variable ∷ second.variable ∷ []) (counted_of emitter).owed ≡ [] }
@@ -278,6 +280,7 @@ fn summed(
     rest: Owed,
 ) -> Result<TokenedFun, NoMemory>
     requires inside { (counted_of emitter).failed ≡ false → ((counted_of emitter).inside ≡ true) × ((counted_of emitter).ending ≡ None) }
+    requires joined { (counted_of emitter).failed ≡ false → (counted_of emitter).splits ≡ [] }
     requires positions { (counted_of emitter).positions ≡ (Owned ∷ []) ∷ [] }
     requires fields { (counted_of emitter).field_counts ≡ 2 ∷ [] }
     requires called { (counted_of emitter).failed ≡ false → (counted_of emitter).uncalled ≡ [] }
@@ -351,6 +354,7 @@ fn called_and_filled(
     rest: Owed,
 ) -> Result<TokenedFun, NoMemory>
     requires inside { (counted_of emitter).failed ≡ false → ((counted_of emitter).inside ≡ true) × ((counted_of emitter).ending ≡ None) }
+    requires joined { (counted_of emitter).failed ≡ false → (counted_of emitter).splits ≡ [] }
     requires positions { (counted_of emitter).positions ≡ (Owned ∷ []) ∷ [] }
     requires fields { (counted_of emitter).field_counts ≡ 2 ∷ [] }
     requires called { (counted_of emitter).failed ≡ false → (counted_of emitter).uncalled ≡ [] }

@@ -63,6 +63,7 @@ fn rebuilt(
     field: Owed,
 ) -> Result<TokenedFun, NoMemory>
     requires inside { (counted_of emitter).failed ≡ false → ((counted_of emitter).inside ≡ true) × ((counted_of emitter).ending ≡ None) }
+    requires joined { (counted_of emitter).failed ≡ false → (counted_of emitter).splits ≡ [] }
     requires has { HasSpare (counted_of emitter) (tokens_of emitter) spare.emitter spare.slot }
     requires alone { (counted_of emitter).failed ≡ false → without (spare.slot ∷ []) (tokens_of emitter).spare ≡ [] }
     requires only { IsOnly (counted_of emitter) field.emitter field.variable }
