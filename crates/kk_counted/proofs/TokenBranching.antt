@@ -1,5 +1,6 @@
 -- What the branches of an emitter of code with tokens change of what it has written leaves it such code.
-use Rattle.std.proofs.Common.{◌≡◌, ℕ, zero, suc, ◌+◌, ◌-◌, ◌<◌, ◌≤◌, ◌==◌, ◌&&◌, ◌||◌, Bool, true, false, not, List, [], ◌∷◌, ◌++◌, map, reverse, length, Option, Some, None, arith, refl, sym, ap, ◌∙◌, subst}
+use Rattle.std.proofs.Common.{◌≡◌, ℕ, zero, suc, ◌+◌, ◌-◌, ◌<◌, ◌≤◌, ◌==◌, ◌&&◌, ◌||◌, Bool, true, false, not, List, [], ◌∷◌}
+use Rattle.std.proofs.Common.{◌++◌, map, reverse, length, Option, Some, None, arith, refl, sym, ap, ◌∙◌, subst}
 use Rattle.std.specs.Prelude.{if◌then◌else◌, max, option_map, is_some}
 use Rattle.std.proofs.lemmas.Grind.{reverse_onto}
 use Rattle.std.proofs.lemmas.Bool.Decides.{nat_tests}
@@ -14,12 +15,20 @@ use Rattle.kk_counted.specs.TokenedForms.{TokenedMove, plug_tokened, tokened_arm
 use Rattle.kk_counted.specs.TokenSpending.{AreSame, SpendsTokens, SpendAllTokens}
 use Rattle.kk_counted.specs.BareForms.{bare, bare_arms}
 use Rattle.kk_counted.specs.KeptFields.{KnownFields, LeavesKnown, LeaveKnown}
-use Rattle.kk_counted.specs.Drafts.{Split, Draft, copies, forked, entered, entered_in, entered_by, ended_in, more_arms, joined, joined_in, resumed_as, IsBetween, AreNewest, IsInArm, Writes, end_code, is_tail, ended_by_value, ended_by_call}
-use Rattle.kk_counted.specs.TokenDrafts.{EndedArm, TokenSplit, TokenDraft, bare_moves, next_slot, tokens_forked, tokens_entered, tokens_entered_in, tokens_entered_by, tokens_ended_in, tokened_end, more_ended, most_left, above_all, joined_slots, renames, renamed, joined_code, tokens_resumed, tokens_joined, tokens_joined_in}
-use Rattle.kk_counted.specs.TokenEmitting.{LeadsTokens, AreFalling, known_behind, AllLeave, first_spare, first_known, known_now, LeaveNone, IsTokenArm, AreTokenArms, IsTokenSplit, AreTokenSplits, IsTokened, KeepsTokens, AreNone, CanEnd, AreNewestTokens}
+use Rattle.kk_counted.specs.Drafts.{Split, Draft, copies, forked, entered, entered_in, entered_by, ended_in, more_arms, joined}
+use Rattle.kk_counted.specs.Drafts.{joined_in, resumed_as, IsBetween, AreNewest, IsInArm, Writes, end_code, is_tail}
+use Rattle.kk_counted.specs.Drafts.{ended_by_value, ended_by_call}
+use Rattle.kk_counted.specs.TokenDrafts.{EndedArm, TokenSplit, TokenDraft, bare_moves, next_slot, tokens_forked, tokens_entered}
+use Rattle.kk_counted.specs.TokenDrafts.{tokens_entered_in, tokens_entered_by, tokens_ended_in, tokened_end, more_ended}
+use Rattle.kk_counted.specs.TokenDrafts.{most_left, above_all, joined_slots, renames, renamed, joined_code, tokens_resumed}
+use Rattle.kk_counted.specs.TokenDrafts.{tokens_joined, tokens_joined_in}
+use Rattle.kk_counted.specs.TokenEmitting.{LeadsTokens, AreFalling, known_behind, AllLeave, first_spare, first_known, known_now}
+use Rattle.kk_counted.specs.TokenEmitting.{LeaveNone, IsTokenArm, AreTokenArms, IsTokenSplit, AreTokenSplits, IsTokened}
+use Rattle.kk_counted.specs.TokenEmitting.{KeepsTokens, AreNone, CanEnd, AreNewestTokens}
 use Rattle.kk_counted.specs.Emitting.{AreLow}
 use Rattle.kk_counted.proofs.TokenForms.{among_without}
-use Rattle.kk_counted.proofs.TokenDrafting.{bare_more, bare_plug, plug_more, leads_then, append_nil, leaves_plug, leaves_more, not_closed}
+use Rattle.kk_counted.proofs.TokenDrafting.{bare_more, bare_plug, plug_more, leads_then, append_nil, leaves_plug, leaves_more}
+use Rattle.kk_counted.proofs.TokenDrafting.{not_closed}
 
 -- ---- a branch begins
 
@@ -33,7 +42,8 @@ no_two one two = absurd (clash one two)
     clash : {b : Bool} → b ≡ true → b ≡ false → ⊥
     clash one two = cc
 
-pub forked_keeps : (d e : Draft) (t u : TokenDraft) → KeepsTokens d t → Writes d → (on : ℕ) (decisions : List NodeTree) (each : List ℕ) (rows : ℕ)
+pub forked_keeps : (d e : Draft) (t u : TokenDraft) → KeepsTokens d t → Writes d
+    → (on : ℕ) (decisions : List NodeTree) (each : List ℕ) (rows : ℕ)
     → e ≡ forked d on decisions each rows → u ≡ tokens_forked t on decisions rows → KeepsTokens e u
 forked_keeps d e t u keeps writes on decisions each rows becomes is failed =
     subst (IsTokened e) (sym is) (subst (λ (x : Draft). IsTokened x (tokens_forked t on decisions rows)) (sym becomes) begun)
@@ -78,7 +88,8 @@ forked_keeps d e t u keeps writes on decisions each rows becomes is failed =
         open_end (Some code) none = absurd (not_closed (Some code) code none refl)
 
 -- what is left for the arms is what they are handed
-pub forked_left : (t u : TokenDraft) (on : ℕ) (decisions : List NodeTree) (rows : ℕ) (left : List (List ℕ)) → u ≡ tokens_forked t on decisions rows → left ≡ copies rows (reverse t.spare) → AreNewestTokens u.splits left
+pub forked_left : (t u : TokenDraft) (on : ℕ) (decisions : List NodeTree) (rows : ℕ) (left : List (List ℕ))
+    → u ≡ tokens_forked t on decisions rows → left ≡ copies rows (reverse t.spare) → AreNewestTokens u.splits left
 forked_left t u on decisions rows left is same = subst (λ (x : TokenDraft). AreNewestTokens x.splits left) (sym is) (sym same)
 
 -- ---- an arm is entered
@@ -114,7 +125,8 @@ module _ (d : Draft) (t : TokenDraft) (is : IsTokened d t) (out : d.inside ≡ f
         quiet = λ inside. no_two refl inside;
       }
 
-  entered_now : (splits : List Split) (branches : List TokenSplit) (depth : ℕ) (next : List ℕ) (rest : List (List ℕ)) → AreTokenSplits splits branches → AreNewest splits depth (next ∷ rest)
+  entered_now : (splits : List Split) (branches : List TokenSplit) (depth : ℕ) (next : List ℕ) (rest : List (List ℕ))
+      → AreTokenSplits splits branches → AreNewest splits depth (next ∷ rest)
       → IsTokened (entered_in d splits) (tokens_entered_in t branches)
   entered_now [] branches depth next rest are newest = absurd newest
   entered_now (split ∷ splits) [] depth next rest are newest = absurd are
@@ -132,39 +144,21 @@ went d e fell going = by_test d.failed refl
     by_test true is = sym (ap (λ (x : Draft). x.failed) (fell is)) ∙ going
     by_test false is = is
 
-pub entered_keeps : (d e : Draft) (t u : TokenDraft) → KeepsTokens d t → (e.failed ≡ false → d.failed ≡ false) → IsBetween d → (depth : ℕ) (next : List ℕ) (rest : List (List ℕ))
-    → (d.failed ≡ false → AreNewest d.splits depth (next ∷ rest)) → (d.failed ≡ false → e ≡ entered d) → u ≡ tokens_entered t → KeepsTokens e u
+pub entered_keeps : (d e : Draft) (t u : TokenDraft) → KeepsTokens d t → (e.failed ≡ false → d.failed ≡ false) → IsBetween d
+    → (depth : ℕ) (next : List ℕ) (rest : List (List ℕ))
+    → (d.failed ≡ false → AreNewest d.splits depth (next ∷ rest)) → (d.failed ≡ false → e ≡ entered d) → u ≡ tokens_entered t
+    → KeepsTokens e u
 entered_keeps d e t u keeps going between depth next rest newest becomes is failed =
     let on : d.failed ≡ false = going failed in
     let old : IsTokened d t = keeps on in
     subst (IsTokened e) (sym is) (subst (λ (x : Draft). IsTokened x (tokens_entered t)) (sym (becomes on))
     (entered_now d t old (between on) d.splits t.splits depth next rest old.splits (newest on)))
 
--- the tokens that are left for the next arm are those of the branch
-newest_left : (splits : List Split) (branches : List TokenSplit) (depth : ℕ) (next : List ℕ) (rest left : List (List ℕ)) → AreTokenSplits splits branches → AreNewest splits depth (next ∷ rest)
-    → AreNewestTokens branches left → (one : List ℕ) × ((more : List (List ℕ)) × (left ≡ one ∷ more))
-newest_left [] branches depth next rest left are newest tokens = absurd newest
-newest_left (split ∷ splits) [] depth next rest left are newest tokens = absurd are
-newest_left (split ∷ splits) (branch ∷ branches) depth next rest left are newest tokens = (
-  reverse branch.each,
-  (
-    copies (length rest) (reverse branch.each),
-    sym tokens ∙ (are.0.left ∙ ap (λ all. copies (length all) (reverse branch.each)) newest.1),
-  ),
-)
-
-pub tokens_left : (d : Draft) (t : TokenDraft) → KeepsTokens d t → (depth : ℕ) (next : List ℕ) (rest left : List (List ℕ)) → (d.failed ≡ false → AreNewest d.splits depth (next ∷ rest))
-    → (d.failed ≡ false → AreNewestTokens t.splits left) → (got : List ℕ) (after : List (List ℕ))
-    → ((one : List ℕ) (more : List (List ℕ)) → left ≡ one ∷ more → (got ≡ one) × (after ≡ more)) → d.failed ≡ false → left ≡ got ∷ after
-tokens_left d t keeps depth next rest left newest tokens got after takes going =
-    let there = newest_left d.splits t.splits depth next rest left (keeps going).splits (newest going) (tokens going) in
-    let taken = takes there.0 there.1.0 there.1.1 in
-    there.1.1 ∙ (ap (λ one. one ∷ there.1.0) (sym taken.0) ∙ ap (λ more. got ∷ more) (sym taken.1))
-
 -- ---- an arm is ended
 
 -- arms of a branch that has no tail call yet, where the next one ends by a tail call
-arms_stop : (each : List ℕ) (known : List KnownFields) (arms : List EndedArm) (codes : List Counted) → LeaveNone arms → AreTokenArms each known false arms codes → AreTokenArms each known true arms codes
+arms_stop : (each : List ℕ) (known : List KnownFields) (arms : List EndedArm) (codes : List Counted) → LeaveNone arms
+    → AreTokenArms each known false arms codes → AreTokenArms each known true arms codes
 arms_stop each known [] [] none are = tt
 arms_stop each known [] (code ∷ codes) none are = absurd are
 arms_stop each known (one ∷ arms) [] none are = absurd are
@@ -178,7 +172,8 @@ arms_stop each known (one ∷ arms) (code ∷ codes) none are = (
   arms_stop each known arms codes none.1 are.1,
 )
   where
-    stop : (x : ℕ) × ((one.end ≡ Tokened.give x) × (LeadsTokens each one.spare one.moves × AreFalling one.spare)) → SpendsTokens [] each [] (plug_tokened one.moves one.end)
+    stop : (x : ℕ) × ((one.end ≡ Tokened.give x) × (LeadsTokens each one.spare one.moves × AreFalling one.spare))
+        → SpendsTokens [] each [] (plug_tokened one.moves one.end)
     stop goes =
         subst (λ (end : Tokened). SpendsTokens [] each [] (plug_tokened one.moves end)) (sym goes.1.0)
         (goes.1.1.0 [] (Tokened.give goes.0) (refl, λ y. ap (λ ys. is_among ys y) none.0))
@@ -190,7 +185,8 @@ arms_so_far each known false true arms codes spare none are = arms_stop each kno
 arms_so_far each known false false arms codes spare none are = are
 
 arms_more : (each : List ℕ) (known : List KnownFields) (tails : Bool) (arms : List EndedArm) (codes : List Counted) (one : EndedArm) (code : Counted)
-    → AreTokenArms each known tails arms codes → IsTokenArm each known tails one code → AreTokenArms each known tails (arms ++ one ∷ []) (codes ++ code ∷ [])
+    → AreTokenArms each known tails arms codes → IsTokenArm each known tails one code
+    → AreTokenArms each known tails (arms ++ one ∷ []) (codes ++ code ∷ [])
 arms_more each known tails [] [] one code are is = (is, tt)
 arms_more each known tails [] (other ∷ codes) one code are is = absurd are
 arms_more each known tails (first ∷ arms) [] one code are is = absurd are
@@ -200,7 +196,8 @@ module _ (d : Draft) (t : TokenDraft) (is : IsTokened d t) (code : Counted) (end
     (leaves : LeavesKnown (known_now t) end)
     (stops : t.spare ≡ [] → SpendsTokens [] (first_spare t.splits) [] (plug_tokened t.moves end))
     (goes : tails ≡ false → (x : ℕ) × ((end ≡ Tokened.give x) × LeadsTokens (first_spare t.splits) t.spare t.moves)) where
-  new_arm : (branch : TokenSplit) (branches : List TokenSplit) → t.splits ≡ branch ∷ branches → AreNone (branch.tails || tails) branch.arms t.spare
+  new_arm : (branch : TokenSplit) (branches : List TokenSplit) → t.splits ≡ branch ∷ branches
+      → AreNone (branch.tails || tails) branch.arms t.spare
       → IsTokenArm branch.each (known_behind branch.before (first_known branches)) (branch.tails || tails) (record { moves = t.moves; end = end; spare = t.spare }) (plug d.steps code)
   new_arm branch branches of none =
       record {
@@ -221,7 +218,8 @@ module _ (d : Draft) (t : TokenDraft) (is : IsTokened d t) (code : Counted) (end
       neither true b is = no_two refl is
       neither false b is = is
 
-  ended_now : (splits : List Split) (branches : List TokenSplit) → t.splits ≡ branches → AreTokenSplits splits branches → IsInArm splits → CanEnd t tails branches
+  ended_now : (splits : List Split) (branches : List TokenSplit) → t.splits ≡ branches → AreTokenSplits splits branches
+      → IsInArm splits → CanEnd t tails branches
       → IsTokened (ended_in d code tails splits) (tokens_ended_in t end tails branches)
   ended_now [] branches of are in_arm can = absurd in_arm
   ended_now (split ∷ splits) [] of are in_arm can = absurd are
@@ -252,12 +250,14 @@ module _ (d : Draft) (t : TokenDraft) (is : IsTokened d t) (code : Counted) (end
         quiet = λ inside. (refl, refl);
       }
 
-pub ended_by_value_is : (d : Draft) (t : TokenDraft) (x : ℕ) → IsTokened d t → d.inside ≡ true → IsInArm d.splits → CanEnd t (is_some t.ending) t.splits
+pub ended_by_value_is : (d : Draft) (t : TokenDraft) (x : ℕ) → IsTokened d t → d.inside ≡ true → IsInArm d.splits
+    → CanEnd t (is_some t.ending) t.splits
     → IsTokened (ended_by_value d x) (tokens_ended_in t (tokened_end t.ending x) (is_some t.ending) t.splits)
 ended_by_value_is d t x is inside in_arm can =
     subst (λ (e : Option Counted). IsTokened (ended_in d (end_code e x) (is_tail e) d.splits) (tokens_ended_in t (tokened_end t.ending x) (is_some t.ending) t.splits)) is.ending (found t.ending refl)
   where
-    found : (ending : Option Tokened) → t.ending ≡ ending → IsTokened (ended_in d (end_code (option_map bare ending) x) (is_tail (option_map bare ending)) d.splits) (tokens_ended_in t (tokened_end ending x) (is_some ending) t.splits)
+    found : (ending : Option Tokened) → t.ending ≡ ending
+        → IsTokened (ended_in d (end_code (option_map bare ending) x) (is_tail (option_map bare ending)) d.splits) (tokens_ended_in t (tokened_end ending x) (is_some ending) t.splits)
     found None ends =
         let open_end : d.ending ≡ None = sym is.ending ∙ ap (option_map bare) ends in
         let leads : LeadsTokens (first_spare t.splits) t.spare t.moves = is.leads inside open_end in
@@ -269,15 +269,19 @@ ended_by_value_is d t x is inside in_arm can =
         ended_now d t is (bare last) last true refl closed.1.1 (λ none. closed.1.0) (λ no. no_two refl no) d.splits t.splits refl is.splits in_arm
         (subst (λ e. CanEnd t (is_some e) t.splits) ends can)
 
-pub ended_value_keeps : (d e : Draft) (t u : TokenDraft) (x : ℕ) → KeepsTokens d t → (d.failed ≡ false → d.inside ≡ true) → (d.failed ≡ false → IsInArm d.splits) → (d.failed ≡ false → CanEnd t (is_some t.ending) t.splits)
-    → (e.failed ≡ false → d.failed ≡ false) → e ≡ ended_by_value d x → u ≡ tokens_ended_in t (tokened_end t.ending x) (is_some t.ending) t.splits → KeepsTokens e u
+pub ended_value_keeps : (d e : Draft) (t u : TokenDraft) (x : ℕ) → KeepsTokens d t → (d.failed ≡ false → d.inside ≡ true)
+    → (d.failed ≡ false → IsInArm d.splits) → (d.failed ≡ false → CanEnd t (is_some t.ending) t.splits)
+    → (e.failed ≡ false → d.failed ≡ false) → e ≡ ended_by_value d x
+    → u ≡ tokens_ended_in t (tokened_end t.ending x) (is_some t.ending) t.splits → KeepsTokens e u
 ended_value_keeps d e t u x keeps inside in_arm can going becomes is failed =
     let on : d.failed ≡ false = going failed in
     subst (IsTokened e) (sym is) (subst (λ (y : Draft). IsTokened y (tokens_ended_in t (tokened_end t.ending x) (is_some t.ending) t.splits)) (sym becomes)
     (ended_by_value_is d t x (keeps on) (inside on) (in_arm on) (can on)))
 
-pub ended_call_keeps : (d e : Draft) (t u : TokenDraft) (f : ℕ) (arguments : List ℕ) → KeepsTokens d t → Writes d → (d.failed ≡ false → IsInArm d.splits) → (d.failed ≡ false → CanEnd t true t.splits)
-    → (e.failed ≡ false → d.failed ≡ false) → e ≡ ended_by_call d f arguments → u ≡ tokens_ended_in t (Tokened.tail_call f arguments) true t.splits → KeepsTokens e u
+pub ended_call_keeps : (d e : Draft) (t u : TokenDraft) (f : ℕ) (arguments : List ℕ) → KeepsTokens d t → Writes d
+    → (d.failed ≡ false → IsInArm d.splits) → (d.failed ≡ false → CanEnd t true t.splits)
+    → (e.failed ≡ false → d.failed ≡ false) → e ≡ ended_by_call d f arguments
+    → u ≡ tokens_ended_in t (Tokened.tail_call f arguments) true t.splits → KeepsTokens e u
 ended_call_keeps d e t u f arguments keeps writes in_arm can going becomes is failed =
     let on : d.failed ≡ false = going failed in
     let old : IsTokened d t = keeps on in

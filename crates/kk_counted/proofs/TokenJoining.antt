@@ -1,5 +1,6 @@
 -- Where a branch is joined, its arms leave tokens in the same slots.
-use Rattle.std.proofs.Common.{◌≡◌, ℕ, zero, suc, ◌+◌, ◌-◌, ◌<◌, ◌≤◌, ◌==◌, ◌&&◌, ◌||◌, Bool, true, false, not, List, [], ◌∷◌, ◌++◌, map, reverse, length, Option, Some, None, arith, refl, sym, ap, ◌∙◌, subst}
+use Rattle.std.proofs.Common.{◌≡◌, ℕ, zero, suc, ◌+◌, ◌-◌, ◌<◌, ◌≤◌, ◌==◌, ◌&&◌, ◌||◌, Bool, true, false, not, List, [], ◌∷◌}
+use Rattle.std.proofs.Common.{◌++◌, map, reverse, length, Option, Some, None, arith, refl, sym, ap, ◌∙◌, subst}
 use Rattle.std.specs.Prelude.{if◌then◌else◌, max, option_map}
 use Rattle.std.proofs.lemmas.Grind.{reverse_onto}
 use Rattle.std.proofs.lemmas.Bool.Decides.{nat_tests}
@@ -13,11 +14,16 @@ use Rattle.kk_counted.specs.TokenSpending.{AreSame, SpendsTokens, SpendAllTokens
 use Rattle.kk_counted.specs.BareForms.{bare, bare_arms}
 use Rattle.kk_counted.specs.KeptFields.{KnownFields, LeavesKnown, LeaveKnown}
 use Rattle.kk_counted.specs.Drafts.{Split, Draft, joined, joined_in, resumed_as, IsBetween, AreNewest}
-use Rattle.kk_counted.specs.TokenDrafts.{EndedArm, TokenSplit, TokenDraft, bare_moves, next_slot, most_left, above_all, joined_slots, renames, renamed, joined_code, tokens_resumed, tokens_joined, tokens_joined_in}
-use Rattle.kk_counted.specs.TokenEmitting.{LeadsTokens, AreFalling, known_by, known_behind, AllLeave, first_spare, first_known, known_now, IsTokenArm, AreTokenArms, IsTokenSplit, AreTokenSplits, IsTokened, KeepsTokens}
+use Rattle.kk_counted.specs.TokenDrafts.{EndedArm, TokenSplit, TokenDraft, bare_moves, next_slot, most_left, above_all}
+use Rattle.kk_counted.specs.TokenDrafts.{joined_slots, renames, renamed, joined_code, tokens_resumed, tokens_joined}
+use Rattle.kk_counted.specs.TokenDrafts.{tokens_joined_in}
+use Rattle.kk_counted.specs.TokenEmitting.{LeadsTokens, AreFalling, known_by, known_behind, AllLeave, first_spare, first_known}
+use Rattle.kk_counted.specs.TokenEmitting.{known_now, IsTokenArm, AreTokenArms, IsTokenSplit, AreTokenSplits, IsTokened}
+use Rattle.kk_counted.specs.TokenEmitting.{KeepsTokens}
 use Rattle.kk_counted.specs.Emitting.{AreLow}
 use Rattle.kk_counted.proofs.TokenForms.{among_without}
-use Rattle.kk_counted.proofs.TokenDrafting.{bare_more, bare_plug, plug_more, leads_then, append_nil, leaves_plug, leaves_more, not_closed}
+use Rattle.kk_counted.proofs.TokenDrafting.{bare_more, bare_plug, plug_more, leads_then, append_nil, leaves_plug, leaves_more}
+use Rattle.kk_counted.proofs.TokenDrafting.{not_closed}
 use Rattle.kk_counted.proofs.TokenBranching.{no_two}
 
 -- ---- slots that fall
@@ -39,7 +45,8 @@ down_low : (base n w : ℕ) → is_among (down base n) w ≡ true → w < base +
 down_low base zero w is = absurd (cc)
 down_low base (suc n) w is = by_test ((base + n) == w) refl is (down_low base n w)
   where
-    by_test : (b : Bool) → ((base + n) == w) ≡ b → (b || is_among (down base n) w) ≡ true → (is_among (down base n) w ≡ true → w < base + n) → w < base + suc n
+    by_test : (b : Bool) → ((base + n) == w) ≡ b → (b || is_among (down base n) w) ≡ true
+        → (is_among (down base n) w ≡ true → w < base + n) → w < base + suc n
     by_test true same one later = grind (arith, nat_tests, same)
     by_test false other one later = omega (arith, later one)
 
@@ -83,7 +90,8 @@ module _ (x : ℕ) (left : List ℕ) (base : ℕ) where
       by_test true is = absurd (omega (arith, above (base + n) is))
       by_test false is = refl
 
-  above_next : (n : ℕ) (done : List ℕ) → ((w : ℕ) → is_among done w ≡ true → base + suc n ≤ w) → (w : ℕ) → (((base + n) == w) || is_among done w) ≡ true → base + n ≤ w
+  above_next : (n : ℕ) (done : List ℕ) → ((w : ℕ) → is_among done w ≡ true → base + suc n ≤ w) → (w : ℕ)
+      → (((base + n) == w) || is_among done w) ≡ true → base + n ≤ w
   above_next n done above w is = by_test ((base + n) == w) refl is
     where
       by_test : (b : Bool) → ((base + n) == w) ≡ b → (b || is_among done w) ≡ true → base + n ≤ w
@@ -94,7 +102,8 @@ module _ (x : ℕ) (left : List ℕ) (base : ℕ) where
   no_slots n [] long = refl
   no_slots n (y ∷ ys) long = absurd (omega (arith, long))
 
-  renaming : (n : ℕ) (ys unspent done : List ℕ) → Renaming n ys unspent done → SpendsTokens left unspent [] (plug_tokened (renames ys (down base n)) (Tokened.give x))
+  renaming : (n : ℕ) (ys unspent done : List ℕ) → Renaming n ys unspent done
+      → SpendsTokens left unspent [] (plug_tokened (renames ys (down base n)) (Tokened.give x))
   renaming zero ys unspent done is =
       (refl, λ w. is.now w ∙ (ap (λ zs. is_among done w || is_among zs w) (no_slots 0 ys is.long) ∙ sym (is.last w)))
   renaming (suc n) [] unspent done is = (
@@ -146,7 +155,8 @@ module _ (x : ℕ) (left : List ℕ) (base : ℕ) where
           by_older true older = absurd (omega (arith, below, is.falling.0 (base + n) older))
           by_older false older = refl
 
-      moved : (w : ℕ) → (t : Bool) → (y == w) ≡ t → (((base + n) == w) || ((is_among done w || (t || is_among ys w)) && not t)) ≡ ((((base + n) == w) || is_among done w) || is_among ys w)
+      moved : (w : ℕ) → (t : Bool) → (y == w) ≡ t
+          → (((base + n) == w) || ((is_among done w || (t || is_among ys w)) && not t)) ≡ ((((base + n) == w) || is_among done w) || is_among ys w)
       moved w true same =
           sym (ap (λ b. (((base + n) == w) || b) || is_among ys w) (gone_done w (equal_slots y w same)) ∙ (ap (λ b. (((base + n) == w) || false) || b) (gone_older w (equal_slots y w same)) ∙ plain ((base + n) == w) (is_among done w)))
         where
@@ -177,7 +187,8 @@ module _ (x : ℕ) (left : List ℕ) (base : ℕ) where
           still false false false = refl
 
       by_test : (t : Bool) → (y == (base + n)) ≡ t
-          → ((unspent' done' : List ℕ) → Renaming n ys unspent' done' → SpendsTokens left unspent' [] (plug_tokened (renames ys (down base n)) (Tokened.give x)))
+          → ((unspent' done' : List ℕ) → Renaming n ys unspent' done'
+          → SpendsTokens left unspent' [] (plug_tokened (renames ys (down base n)) (Tokened.give x)))
           → SpendsTokens left unspent []
           (plug_tokened (if t then renames ys (down base n) else TokenedMove.moves (base + n) y ∷ renames ys (down base n)) (Tokened.give x))
       by_test true same more =
@@ -234,7 +245,8 @@ bare_renames ys [] = refl
 bare_renames [] (z ∷ zs) = bare_renames [] zs
 bare_renames (y ∷ ys) (z ∷ zs) = by_test (y == z) (bare_renames ys zs)
   where
-    by_test : (t : Bool) → bare_moves (renames ys zs) ≡ [] → bare_moves (if t then renames ys zs else TokenedMove.moves z y ∷ renames ys zs) ≡ []
+    by_test : (t : Bool) → bare_moves (renames ys zs) ≡ []
+        → bare_moves (if t then renames ys zs else TokenedMove.moves z y ∷ renames ys zs) ≡ []
     by_test true rest = rest
     by_test false rest = rest
 
@@ -251,13 +263,15 @@ leaves_renames known (y ∷ ys) (z ∷ zs) = by_test (y == z) (leaves_renames kn
 -- ---- the arms
 
 module _ (each : List ℕ) (known : List KnownFields) (slots : List ℕ) where
-  bare_arm : (tails : Bool) (one : EndedArm) (code : Counted) → IsTokenArm each known tails one code → bare (renamed slots one) ≡ code
+  bare_arm : (tails : Bool) (one : EndedArm) (code : Counted) → IsTokenArm each known tails one code
+      → bare (renamed slots one) ≡ code
   bare_arm tails one code is =
       bare_plug (one.moves ++ renames one.spare slots) one.end
       ∙ (ap (λ moves. plug moves (bare one.end)) (bare_more one.moves (renames one.spare slots) ∙ (ap (λ moves. bare_moves one.moves ++ moves) (bare_renames one.spare slots) ∙ append_nil (bare_moves one.moves)))
       ∙ is.plain)
 
-  pub bare_joined : (tails : Bool) (arms : List EndedArm) (codes : List Counted) → AreTokenArms each known tails arms codes → bare_arms (tokened_arms (map (renamed slots) arms)) ≡ arms_of codes
+  pub bare_joined : (tails : Bool) (arms : List EndedArm) (codes : List Counted) → AreTokenArms each known tails arms codes
+      → bare_arms (tokened_arms (map (renamed slots) arms)) ≡ arms_of codes
   bare_joined tails [] [] are = refl
   bare_joined tails [] (code ∷ codes) are = absurd are
   bare_joined tails (one ∷ arms) [] are = absurd are
@@ -269,7 +283,8 @@ module _ (each : List ℕ) (known : List KnownFields) (slots : List ℕ) where
       leaves_plug (one.moves ++ renames one.spare slots) known one.end (leaves_more one.moves (renames one.spare slots) known is.leaves.0 (leaves_renames _ one.spare slots))
       (subst (LeavesKnown _) (sym (is.goes refl).1.0) tt)
 
-  pub leaves_joined : (arms : List EndedArm) (codes : List Counted) → AreTokenArms each known false arms codes → LeaveKnown known (tokened_arms (map (renamed slots) arms))
+  pub leaves_joined : (arms : List EndedArm) (codes : List Counted) → AreTokenArms each known false arms codes
+      → LeaveKnown known (tokened_arms (map (renamed slots) arms))
   leaves_joined [] [] are = tt
   leaves_joined [] (code ∷ codes) are = absurd are
   leaves_joined (one ∷ arms) [] are = absurd are
@@ -278,7 +293,8 @@ module _ (each : List ℕ) (known : List KnownFields) (slots : List ℕ) where
 larger_one : (a b n : ℕ) → max a b ≤ n → (a ≤ n) × (b ≤ n)
 larger_one a b n is = (omega (arith, is), omega (arith, is))
 
-pub spends_joined : (each : List ℕ) (known : List KnownFields) (base n : ℕ) (arms : List EndedArm) (codes : List Counted) → AreTokenArms each known false arms codes → most_left arms ≤ n → above_all arms ≤ base + n
+pub spends_joined : (each : List ℕ) (known : List KnownFields) (base n : ℕ) (arms : List EndedArm) (codes : List Counted)
+    → AreTokenArms each known false arms codes → most_left arms ≤ n → above_all arms ≤ base + n
     → SpendAllTokens (reverse (numbers_from base n)) each (tokened_arms (map (renamed (reverse (numbers_from base n))) arms))
 spends_joined each known base n [] [] are most above = tt
 spends_joined each known base n [] (code ∷ codes) are most above = absurd are
@@ -291,7 +307,8 @@ spends_joined each known base n (one ∷ arms) (code ∷ codes) are most above =
     slots : List ℕ
     slots = reverse (numbers_from base n)
 
-    spends_one : (x : ℕ) × ((one.end ≡ Tokened.give x) × (LeadsTokens each one.spare one.moves × AreFalling one.spare)) → length one.spare ≤ n → next_slot one.spare ≤ base + n
+    spends_one : (x : ℕ) × ((one.end ≡ Tokened.give x) × (LeadsTokens each one.spare one.moves × AreFalling one.spare))
+        → length one.spare ≤ n → next_slot one.spare ≤ base + n
         → SpendsTokens slots each [] (plug_tokened (one.moves ++ renames one.spare slots) one.end)
     spends_one goes long under =
         subst (λ (end : Tokened). SpendsTokens slots each [] (plug_tokened (one.moves ++ renames one.spare slots) end)) (sym goes.1.0)
@@ -299,20 +316,23 @@ spends_joined each known base n (one ∷ arms) (code ∷ codes) are most above =
         (goes.1.1.0 slots (plug_tokened (renames one.spare slots) (Tokened.give goes.0)) (renames_spend goes.0 base n one.spare goes.1.1.1 long under)))
 
 -- arms of a branch with a tail call leave no token
-none_left : (each : List ℕ) (known : List KnownFields) (arms : List EndedArm) (codes : List Counted) → AreTokenArms each known true arms codes → most_left arms ≡ 0
+none_left : (each : List ℕ) (known : List KnownFields) (arms : List EndedArm) (codes : List Counted)
+    → AreTokenArms each known true arms codes → most_left arms ≡ 0
 none_left each known [] [] are = refl
 none_left each known [] (code ∷ codes) are = absurd are
 none_left each known (one ∷ arms) [] are = absurd are
 none_left each known (one ∷ arms) (code ∷ codes) are = omega (arith, ap length (are.0.stops refl).0, none_left each known arms codes are.1)
 
-pub no_slots_left : (each : List ℕ) (known : List KnownFields) (arms : List EndedArm) (codes : List Counted) → AreTokenArms each known true arms codes → reverse (joined_slots arms) ≡ []
+pub no_slots_left : (each : List ℕ) (known : List KnownFields) (arms : List EndedArm) (codes : List Counted)
+    → AreTokenArms each known true arms codes → reverse (joined_slots arms) ≡ []
 no_slots_left each known arms codes are = ap (λ n. reverse (numbers_from (above_all arms - n) n)) (none_left each known arms codes are)
 
 -- without slots an arm is as it was
 plain_arm : (one : EndedArm) → renamed [] one ≡ plug_tokened one.moves one.end
 plain_arm one = ap (λ moves. plug_tokened moves one.end) (append_nil one.moves)
 
-pub stops_joined : (each : List ℕ) (known : List KnownFields) (arms : List EndedArm) (codes : List Counted) → AreTokenArms each known true arms codes
+pub stops_joined : (each : List ℕ) (known : List KnownFields) (arms : List EndedArm) (codes : List Counted)
+    → AreTokenArms each known true arms codes
     → SpendAllTokens [] each (tokened_arms (map (renamed []) arms)) × LeaveKnown known (tokened_arms (map (renamed []) arms))
 stops_joined each known [] [] are = (tt, tt)
 stops_joined each known [] (code ∷ codes) are = absurd are
@@ -393,17 +413,20 @@ module _ (d : Draft) (t : TokenDraft) (is : IsTokened d t) (out : d.inside ≡ f
       subst (λ b. IsTokened (resumed_as (record d { next = d.next + 1; splits = splits }) split x b) (tokens_resumed (record t { splits = branches }) branch x branch.tails)) one.tails
       (by_tails branch.tails refl)
     where
-      by_tails : (b : Bool) → branch.tails ≡ b → IsTokened (resumed_as (record d { next = d.next + 1; splits = splits }) split x b) (tokens_resumed (record t { splits = branches }) branch x b)
+      by_tails : (b : Bool) → branch.tails ≡ b
+          → IsTokened (resumed_as (record d { next = d.next + 1; splits = splits }) split x b) (tokens_resumed (record t { splits = branches }) branch x b)
       by_tails false is = joined_goes is
       by_tails true is = joined_stops is
 
-joined_all : (d : Draft) (t : TokenDraft) → IsTokened d t → d.inside ≡ false → (depth : ℕ) (splits : List Split) (branches : List TokenSplit) → AreTokenSplits splits branches → AreNewest splits depth []
+joined_all : (d : Draft) (t : TokenDraft) → IsTokened d t → d.inside ≡ false
+    → (depth : ℕ) (splits : List Split) (branches : List TokenSplit) → AreTokenSplits splits branches → AreNewest splits depth []
     → IsTokened (joined_in d splits) (tokens_joined_in t d.next branches)
 joined_all d t is out depth [] branches are newest = absurd newest
 joined_all d t is out depth (split ∷ splits) [] are newest = absurd are
 joined_all d t is out depth (split ∷ splits) (branch ∷ branches) are newest = joined_one d t is out d.next split splits branch branches are.0 are.1
 
-pub joined_keeps : (d e : Draft) (t u : TokenDraft) (depth : ℕ) → KeepsTokens d t → (e.failed ≡ false → d.failed ≡ false) → IsBetween d → (d.failed ≡ false → AreNewest d.splits depth []) → e ≡ joined d → u ≡ tokens_joined t d.next → KeepsTokens e u
+pub joined_keeps : (d e : Draft) (t u : TokenDraft) (depth : ℕ) → KeepsTokens d t → (e.failed ≡ false → d.failed ≡ false)
+    → IsBetween d → (d.failed ≡ false → AreNewest d.splits depth []) → e ≡ joined d → u ≡ tokens_joined t d.next → KeepsTokens e u
 joined_keeps d e t u depth keeps going between newest becomes is failed =
     let on : d.failed ≡ false = going failed in
     let old : IsTokened d t = keeps on in

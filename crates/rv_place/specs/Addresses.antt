@@ -1,9 +1,11 @@
 -- Where the parts of placed code stand: how many instructions each line is, and the addresses of functions, of labels and of
 -- the runtime's routines.
-use Rattle.std.specs.Prelude.{◌==◌, ◌≡◌, ◌≢◌, ◌⊎◌, ℕ, ◌+◌, ◌*◌, ◌/◌, max, List, [], ◌∷◌, Option, Some, None, Bool, true, false, ◌&&◌, ◌||◌, cond, nat_lt, map}
+use Rattle.std.specs.Prelude.{◌==◌, ◌≡◌, ◌≢◌, ◌⊎◌, ℕ, ◌+◌, ◌*◌, ◌/◌, max, List, [], ◌∷◌, Option, Some, None, Bool, true, false}
+use Rattle.std.specs.Prelude.{◌&&◌, ◌||◌, cond, nat_lt, map}
 use Rattle.std.specs.List.{list_any}
 use Rattle.rv_isa.specs.declared.asm.Action.{Action}
-use Rattle.rv_isa.specs.declared.asm.Action.TheVariants.{Compute, Label, Jump, Branch, Call, TailCall, Return, Routine, Hold, Unhold}
+use Rattle.rv_isa.specs.declared.asm.Action.TheVariants.{Compute, Label, Jump, Branch, Call, TailCall, Return, Routine, Hold}
+use Rattle.rv_isa.specs.declared.asm.Action.TheVariants.{Unhold}
 use Rattle.rv_isa.specs.declared.asm.Operation.{Operation}
 use Rattle.rv_isa.specs.declared.asm.Operation.TheVariants.{Dup}
 use Rattle.rv_isa.specs.declared.placed.Way.{Way}
@@ -148,7 +150,8 @@ words_to_frame Near = 0
 words_to_frame Far = 0
 words_to_frame Wide = 1
 
--- A function begins with its entry. It compares the newest frame with the lowest one; behind that test a function that takes a frame does so, and
+-- A function begins with its entry. It compares the newest frame with the lowest one; behind that test a function that takes a
+-- frame does so, and
 -- saves the way back. A function that takes none has there, for tail calls, what gives a frame back, and as many instructions.
 abbrev pub entry_words : Reach → ℕ
 entry_words jumps = words_to_frame jumps + 2 + words_of_jump jumps + words_of_shift jumps
@@ -157,7 +160,8 @@ entry_words jumps = words_to_frame jumps + 2 + words_of_jump jumps + words_of_sh
 abbrev pub test_words : Reach → ℕ
 test_words jumps = words_to_frame jumps + 1 + words_of_jump jumps
 
--- How many of its callee's first instructions a tail call leaves out, by whether its own function takes a frame, and whether the callee does: the
+-- How many of its callee's first instructions a tail call leaves out, by whether its own function takes a frame, and whether the
+-- callee does: the
 -- entry; where only one of them takes a frame, the test alone.
 abbrev pub skipped_words : Reach → Bool → Bool → ℕ
 skipped_words jumps true true = entry_words jumps
@@ -227,7 +231,8 @@ slot_offset k = 4 * k + 4
 
 -- ---- the runtime's symbols
 
--- a symbol's label comes first behind so many instructions, by the labels of the runtime's lines and the numbers of instructions before them
+-- a symbol's label comes first behind so many instructions, by the labels of the runtime's lines and the numbers of instructions
+-- before them
 abbrev pub IsBehind : Symbol → ℕ → List (Symbol × ℕ) → Type 0
 IsBehind symbol before [] = ⊥
 IsBehind symbol before ((other, count) ∷ labels) =

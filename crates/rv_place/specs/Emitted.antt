@@ -1,5 +1,6 @@
 -- Emitted instructions: what they are wherever they stand, and what a chart says of where things stand.
-use Rattle.std.specs.Prelude.{◌≡◌, ℕ, ◌+◌, ◌-◌, ◌*◌, ◌%◌, ◌^◌, ◌<◌, ◌≤◌, Bool, List, [], ◌∷◌, ◌++◌, length, Option, Some, None, slice_get}
+use Rattle.std.specs.Prelude.{◌≡◌, ℕ, ◌+◌, ◌-◌, ◌*◌, ◌%◌, ◌^◌, ◌<◌, ◌≤◌, Bool, List, [], ◌∷◌, ◌++◌, length, Option, Some, None}
+use Rattle.std.specs.Prelude.{slice_get}
 use Rattle.std.specs.Ordering.{nat_cmp}
 use Rattle.std.specs.BTreeMap.{get}
 use Rattle.rv_isa.specs.declared.instr.Instr.{Instr}
@@ -21,8 +22,11 @@ use Rattle.rv_isa.specs.Standing.{Code, Has}
 use Rattle.cell_runtime.specs.Lines.{Spells}
 use Rattle.cell_runtime.specs.Lines as OfRuntime
 use Rattle.rv_world.specs.Operations.{address_in}
-use Rattle.rv_place.specs.Addresses.{words_of_action, words_of_shift, words_of_line, words_of_lines, words_of_function, words_of_functions, branch_words, jump_words, entry_words, entries_from, slot_offset, IsBehind, label_address}
-use Rattle.rv_place.specs.Lines.{Map, IsFromPointer, ShiftsStack, ActsAt, LineAt, LinesAt, FunctionAt, FunctionsAt, BeginsAt, MovesBy, ReturnsBy, registers_of, register_into}
+use Rattle.rv_place.specs.Addresses.{words_of_action, words_of_shift, words_of_line, words_of_lines, words_of_function}
+use Rattle.rv_place.specs.Addresses.{words_of_functions, branch_words, jump_words, entry_words, entries_from, slot_offset}
+use Rattle.rv_place.specs.Addresses.{IsBehind, label_address}
+use Rattle.rv_place.specs.Lines.{Map, IsFromPointer, ShiftsStack, ActsAt, LineAt, LinesAt, FunctionAt, FunctionsAt, BeginsAt}
+use Rattle.rv_place.specs.Lines.{MovesBy, ReturnsBy, registers_of, register_into}
 use Rattle.rv_place.specs.Registers.{zero_register, ra, sp}
 use Rattle.rv_isa.specs.PlacedMachine.{only_slot}
 use Rattle.rv_place.specs.Instructions.{Computes}
@@ -121,7 +125,8 @@ pub record Charts (chart : Chart) (map : Map) : Type 0 where
   pub short : map.jumps ≡ Near → map.constants.first < map.runtime + 4 * jump_words
   pub below : map.constants.first < 2 ^ 32
   pub symbols : AreSymbols map.runtime map.labels chart.symbols
-  pub constants : (index address : ℕ) → address_in map.constants.first map.constants.texts index ≡ Some address → slice_get chart.constants.items index ≡ Some address
+  pub constants : (index address : ℕ) → address_in map.constants.first map.constants.texts index ≡ Some address
+      → slice_get chart.constants.items index ≡ Some address
 
 -- the register of an operand; the zero register where the operand is in a slot, or there is none
 abbrev pub register_or_zero : Option Operand → Register
@@ -146,11 +151,13 @@ abbrev pub TokenBy : (Code → ℕ → Immediate → Type 0) → Reach → List 
 TokenBy Stands jumps args code at =
     (k : ℕ) → only_slot args ≡ Some k → (offset : Immediate) × IsFromPointer jumps (slot_offset k) offset × Stands code at offset
 
--- code of each kind that was emitted for an address, `from`, by every map that the chart is of; lines are those of a function that has these labels
+-- code of each kind that was emitted for an address, `from`, by every map that the chart is of; lines are those of a function
+-- that has these labels
 abbrev pub ActionBy : Chart → Labels → ℕ → Action → List Operand → Option Operand → Code → ℕ → Type 0
 ActionBy chart labels from action args into code at =
     at ≡ from → (map : Map) → Charts chart map → (start : ℕ) (whole : List PlacedLine) → HasLabels labels start whole
-    → IsInFunction map labels.forms start whole at (words_of_action labels.forms action) → ActsAt map labels.forms code start whole at action args into
+    → IsInFunction map labels.forms start whole at (words_of_action labels.forms action)
+    → ActsAt map labels.forms code start whole at action args into
 
 abbrev pub OperationBy : Chart → Operation → List Operand → Option Operand → Code → ℕ → Type 0
 OperationBy chart operation args into code at =
@@ -160,12 +167,14 @@ OperationBy chart operation args into code at =
 abbrev pub LineBy : Chart → Labels → ℕ → PlacedLine → Code → ℕ → Type 0
 LineBy chart labels from line code at =
     at ≡ from → (map : Map) → Charts chart map → (start : ℕ) (whole : List PlacedLine) → HasLabels labels start whole
-    → IsInFunction map labels.forms start whole at (words_of_line labels.forms line) → LineAt map labels.forms code start whole at line
+    → IsInFunction map labels.forms start whole at (words_of_line labels.forms line)
+    → LineAt map labels.forms code start whole at line
 
 abbrev pub LinesBy : Chart → Labels → ℕ → List PlacedLine → Code → ℕ → Type 0
 LinesBy chart labels from lines code at =
     at ≡ from → (map : Map) → Charts chart map → (start : ℕ) (whole : List PlacedLine) → HasLabels labels start whole
-    → IsInFunction map labels.forms start whole at (words_of_lines labels.forms lines) → LinesAt map labels.forms code start whole at lines
+    → IsInFunction map labels.forms start whole at (words_of_lines labels.forms lines)
+    → LinesAt map labels.forms code start whole at lines
 
 abbrev pub ReturnBy : Chart → Bool → Code → ℕ → Type 0
 ReturnBy chart frame code at = (map : Map) → Charts chart map → ReturnsBy frame map code at

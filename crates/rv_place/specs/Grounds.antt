@@ -1,4 +1,5 @@
--- What a run of placed code rests on: where the code, the constants, the stack and the runtime stand, and what stays so in each state.
+-- What a run of placed code rests on: where the code, the constants, the stack and the runtime stand, and what stays so in each
+-- state.
 use Rattle.std.specs.Prelude.{◌≡◌, ℕ, ◌+◌, ◌*◌, ◌%◌, ◌^◌, ◌≤◌, ◌<◌, List, Some, length, true}
 use Rattle.kk_base.specs.Memory.{Part}
 use Rattle.rv_isa.specs.declared.instr.Instr.{Instr}
@@ -32,9 +33,12 @@ constant_bytes map = length (all_bytes map.constants.texts)
 abbrev pub stack_end : Map → ℕ → ℕ
 stack_end map depth = map.bottom + depth * map.frame
 
--- The functions and the routines stand in the code, whose addresses are below 2^32, and it is known which functions take a frame. The frames of the stack are words that may be
--- loaded and stored. The cells end where the lowest frame begins, and the buffer of the prints lies below the cells. The constants may be
--- loaded, and no store reaches them. Behind the end of main the run comes to a stop. The routines and the stops stand in the runtime's
+-- The functions and the routines stand in the code, whose addresses are below 2^32, and it is known which functions take a
+-- frame. The frames of the stack are words that may be
+-- loaded and stored. The cells end where the lowest frame begins, and the buffer of the prints lies below the cells. The
+-- constants may be
+-- loaded, and no store reaches them. Behind the end of main the run comes to a stop. The routines and the stops stand in the
+-- runtime's
 -- own code, which is a part of the code, and within its words.
 pub record Ground (map : Map) (pool : Pool) (functions : List PlacedLines) (depth buffer stop : ℕ) (code : Code) (parts : List Part) : Type 0 where
   pub functions_at : FunctionsAt map code map.entries functions
@@ -54,8 +58,10 @@ pub record Ground (map : Map) (pool : Pool) (functions : List PlacedLines) (dept
   pub byte_loads : can_load parts buffer 1 ≡ true
   pub byte_stores : can_store parts buffer 1 ≡ true
   pub constants_below : map.constants.first + constant_bytes map < 2 ^ 32
-  pub constants_load : (at count : ℕ) → map.constants.first ≤ at → at + count ≤ map.constants.first + constant_bytes map → can_load parts at count ≡ true
-  pub constants_kept : (x count : ℕ) → can_store parts x count ≡ true → 0 < count → Apart x count map.constants.first (constant_bytes map)
+  pub constants_load : (at count : ℕ) → map.constants.first ≤ at → at + count ≤ map.constants.first + constant_bytes map
+      → can_load parts at count ≡ true
+  pub constants_kept : (x count : ℕ) → can_store parts x count ≡ true → 0 < count
+      → Apart x count map.constants.first (constant_bytes map)
   pub runtime_word : map.runtime % 4 ≡ 0
   pub own : Code
   pub own_part : (at : ℕ) (i : Instr) → own at ≡ Some i → code at ≡ Some i

@@ -41,7 +41,8 @@ code_in words = code_of text_start words.instructions.items
 abbrev pub main_entry : ℕ
 main_entry = text_start + 4 * TEXT_WORDS
 
--- a run has ended as the machine of the placed form, memory has the cells of the world, and the free cells of the image are those of the world,
+-- a run has ended as the machine of the placed form, memory has the cells of the world, and the free cells of the image are
+-- those of the world,
 -- each once
 pub record EndsWithCells (pool : Pool) (how : Ending) (world : World) (last : Progress) : Type 0 where
   pub ending : ended last.ending ≡ Some how
@@ -53,7 +54,8 @@ pub record EndsWithCells (pool : Pool) (how : Ending) (world : World) (last : Pr
 abbrev pub outside_lines : ℕ
 outside_lines = 10 + 5 + 3
 
--- A text whose image does what its program does: the runtime is that of these sizes and of the program's frames; the program can be placed; the text is the bytes of their words; and `main` is the first function.
+-- A text whose image does what its program does: the runtime is that of these sizes and of the program's frames; the program can
+-- be placed; the text is the bytes of their words; and `main` is the first function.
 pub record IsPlacedImage (cells depth : ℕ) (runtime program : Placed) (words : Words) (text : List ℕ) (main : PlacedLines) : Type 0 where
   pub sizes : AreSizes cells depth
   pub runtime_is : IsText cells depth (frame_size (placed_functions program)) runtime

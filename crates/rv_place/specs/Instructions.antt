@@ -11,7 +11,8 @@ use Rattle.rv_isa.specs.declared.asm.Condition.{Condition}
 use Rattle.rv_isa.specs.declared.asm.Condition.TheVariants.{Equal, NotEqual, Less, GreaterEqual, LessUnsigned, GreaterEqualUnsigned}
 use Rattle.rv_isa.specs.declared.asm.Operation.{Operation}
 use Rattle.rv_isa.specs.declared.asm.RegisterOperation.{RegisterOperation}
-use Rattle.rv_isa.specs.declared.asm.RegisterOperation.TheVariants.{Add, Sub, Sll, Slt, Sltu, Xor, Srl, Sra, Or, And, Mul, Mulh, Mulhsu, Mulhu, Div, Divu, Rem, Remu}
+use Rattle.rv_isa.specs.declared.asm.RegisterOperation.TheVariants.{Add, Sub, Sll, Slt, Sltu, Xor, Srl, Sra, Or, And, Mul, Mulh}
+use Rattle.rv_isa.specs.declared.asm.RegisterOperation.TheVariants.{Mulhsu, Mulhu, Div, Divu, Rem, Remu}
 use Rattle.rv_isa.specs.declared.asm.ImmediateOperation.{ImmediateOperation}
 use Rattle.rv_isa.specs.declared.asm.ImmediateOperation.TheVariants.{Addi, Slti, Sltiu, Xori, Ori, Andi}
 use Rattle.rv_isa.specs.declared.asm.ShiftOperation.{ShiftOperation}
@@ -78,7 +79,8 @@ LoadsWord code at rd word =
     (upper : UpperImmediate) × (lower : Immediate) × (sum_word upper.word lower.word ≡ word)
     × Has code at (Instr.Lui rd upper ∷ Instr.Addi rd rd lower ∷ [])
 
--- The form of a constant, the shortest that makes it: one that an immediate holds is added to zero, and one whose lower 12 bits are zero is set
+-- The form of a constant, the shortest that makes it: one that an immediate holds is added to zero, and one whose lower 12 bits
+-- are zero is set
 -- by LUI alone.
 abbrev pub form_of : ℕ → WordForm
 form_of word = cond (nat_lt (sum_word word 2048) 4096) Short (cond (nat_eq (word % 4096) 0) Upper Both)
@@ -144,14 +146,16 @@ BranchesOn jumps Near code at condition a b target =
 BranchesOn jumps Far code at condition a b target = BranchesFar jumps code at condition a b target
 BranchesOn jumps Wide code at condition a b target = BranchesFar jumps code at condition a b target
 
--- The count of the cell to which a register refers is raised: it is loaded to ra, and stored again. A branch leads over this where the reference
+-- The count of the cell to which a register refers is raised: it is loaded to ra, and stored again. A branch leads over this
+-- where the reference
 -- is odd, which names no cell.
 abbrev pub RaisesCount : Code → ℕ → Register → Type 0
 RaisesCount code at a =
     (one : Immediate) × (over : BranchOffset) × (zero : Immediate) × (one.word ≡ 1) × (over.word ≡ 16) × Zero zero
     × Has code at (Instr.Andi ra a one ∷ Instr.Bne ra zero_register over ∷ Instr.Lw ra a zero ∷ Instr.Addi ra ra one ∷ Instr.Sw a ra zero ∷ [])
 
--- The token in a register is put before the free cells: its first word is the first of them, and s0 is its address. A branch leads over this where
+-- The token in a register is put before the free cells: its first word is the first of them, and s0 is its address. A branch
+-- leads over this where
 -- it is null.
 abbrev pub FreesToken : Code → ℕ → Register → Type 0
 FreesToken code at a =
@@ -171,7 +175,8 @@ HoldsToken code at slot =
     (over : BranchOffset) × (over.word ≡ 20) × (code at ≡ Some (Instr.Lw ra sp slot))
     × (code (at + 4) ≡ Some (Instr.Beq ra zero_register over)) × LinksToken code (at + 4 + 4) slot
 
--- The newest held token is taken back from its slot: it is loaded to ra, and its first word, the address of the one that was held before it, goes to
+-- The newest held token is taken back from its slot: it is loaded to ra, and its first word, the address of the one that was
+-- held before it, goes to
 -- s1. A branch leads over this where the slot has none.
 abbrev pub UnholdsToken : Code → ℕ → Immediate → Type 0
 UnholdsToken code at slot =

@@ -8,7 +8,8 @@ use Rattle.rv_isa.specs.declared.instr.Instr.TheVariants.{Addi, Bne, Jalr, Lw, S
 use Rattle.rv_isa.specs.declared.asm.Condition.{Condition}
 use Rattle.rv_isa.specs.declared.asm.Condition.TheVariants.{Equal}
 use Rattle.rv_isa.specs.declared.asm.Action.{Action}
-use Rattle.rv_isa.specs.declared.asm.Action.TheVariants.{Compute, Label, Jump, Branch, Call, TailCall, Return, Routine, Hold, Unhold}
+use Rattle.rv_isa.specs.declared.asm.Action.TheVariants.{Compute, Label, Jump, Branch, Call, TailCall, Return, Routine, Hold}
+use Rattle.rv_isa.specs.declared.asm.Action.TheVariants.{Unhold}
 use Rattle.rv_isa.specs.declared.placed.Place.{Place}
 use Rattle.rv_isa.specs.declared.placed.Place.TheVariants.{Register as register, Slot as slot}
 use Rattle.rv_isa.specs.declared.placed.Operand.{Operand}
@@ -23,7 +24,8 @@ use Rattle.rv_isa.specs.Sizes.{reach_down}
 use Rattle.rv_isa.specs.Standing.{Code, Has}
 use Rattle.rv_world.specs.Operations.{Constants}
 use Rattle.rv_place.specs.Instructions.{Zero, words_of_jump, JumpsTo, CallsTo, BranchesOn, HoldsToken, UnholdsToken, Computes}
-use Rattle.rv_place.specs.Addresses.{is_silent, words_of_line, words_of_shift, words_to_frame, label_address, forms_of, entry_words, skipped_words, takes_frame, frame_bias, slot_offset, IsBehind}
+use Rattle.rv_place.specs.Addresses.{is_silent, words_of_line, words_of_shift, words_to_frame, label_address, forms_of}
+use Rattle.rv_place.specs.Addresses.{entry_words, skipped_words, takes_frame, frame_bias, slot_offset, IsBehind}
 use Rattle.rv_place.specs.declared.reach.Forms.{Forms}
 use Rattle.rv_place.specs.declared.reach.Reach.{Reach}
 use Rattle.rv_place.specs.declared.reach.Reach.TheVariants.{Near, Far, Wide}
@@ -120,7 +122,8 @@ abbrev pub OnToken : (Code → ℕ → Immediate → Type 0) → Map → Code �
 OnToken Stands map code at args =
     (k : ℕ) → only_slot args ≡ Some k → (offset : Immediate) × IsOffsetOf map k offset × Stands code at offset
 
--- What stands at an address for an action of a function of these forms whose lines, `whole`, stand at `start`. Of what is none, as a jump to a label that is
+-- What stands at an address for an action of a function of these forms whose lines, `whole`, stand at `start`. Of what is none,
+-- as a jump to a label that is
 -- not there, nothing is said.
 abbrev pub ActsAt : Map → Forms → Code → ℕ → List PlacedLine → ℕ → Action → List Operand → Option Operand → Type 0
 ActsAt map forms code start whole at (Compute operation) args into =
@@ -166,7 +169,8 @@ FindsFrame Near code at = Unit {0}
 FindsFrame Far code at = Unit {0}
 FindsFrame Wide code at = (down : Immediate) × (down.word ≡ 2 ^ 32 - reach_down) × (code at ≡ Some (Addi t0 sp down))
 
--- The entry of a function that takes a frame: where the newest frame is the lowest, which begins at the end of the cells, no frame is left, and the
+-- The entry of a function that takes a frame: where the newest frame is the lowest, which begins at the end of the cells, no
+-- frame is left, and the
 -- runtime's stop for a full stack comes; else a frame is taken, and the way back saved in its first word.
 pub record EntersAt (map : Map) (code : Code) (at : ℕ) : Type 0 where
   pub finds : FindsFrame map.jumps code at
@@ -177,7 +181,8 @@ pub record EntersAt (map : Map) (code : Code) (at : ℕ) : Type 0 where
   pub back_is : IsFromPointer map.jumps 0 back
   pub saves : code (at + 4 * words_to_frame map.jumps + 4 + 4 * words_of_jump map.jumps + 4 * words_of_shift map.jumps) ≡ Some (Sw sp ra back)
 
--- The entry of a function that takes no frame: where no frame is left the stop comes; else the entry ends. A function that takes a frame jumps behind
+-- The entry of a function that takes no frame: where no frame is left the stop comes; else the entry ends. A function that takes
+-- a frame jumps behind
 -- this test for a tail call: the way back is taken from the frame, and the frame given back.
 pub record PassesAt (map : Map) (code : Code) (at : ℕ) : Type 0 where
   pub over : BranchOffset

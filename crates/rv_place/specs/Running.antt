@@ -1,5 +1,7 @@
--- When a processor stands for a state of the machine of the placed form: where it is in the code, its registers and the frames of its stack.
-use Rattle.std.specs.Prelude.{◌≡◌, ◌≢◌, ℕ, ◌+◌, ◌*◌, ◌%◌, ◌^◌, ◌≤◌, ◌<◌, max, List, [], ◌∷◌, length, Option, Some, None, Bool, true, false, cond, All, IsSome, slice_get}
+-- When a processor stands for a state of the machine of the placed form: where it is in the code, its registers and the frames
+-- of its stack.
+use Rattle.std.specs.Prelude.{◌≡◌, ◌≢◌, ℕ, ◌+◌, ◌*◌, ◌%◌, ◌^◌, ◌≤◌, ◌<◌, max, List, [], ◌∷◌, length, Option, Some, None, Bool}
+use Rattle.std.specs.Prelude.{true, false, cond, All, IsSome, slice_get}
 use Rattle.kk_base.specs.Memory.{Part}
 use Rattle.kk_base.specs.Machines.{state}
 use Rattle.rv_isa.specs.declared.asm.Action.{Action}
@@ -65,7 +67,8 @@ most_lines (function ∷ functions) = max (length function.code) (most_lines fun
 
 -- ---- states
 
--- The code that is left of a frame stands at an address, and the whole of its function behind the entry of the function. Where that code needs a frame,
+-- The code that is left of a frame stands at an address, and the whole of its function behind the entry of the function. Where
+-- that code needs a frame,
 -- the function takes one.
 pub record IsIn (map : Map) (code : Code) (most at : ℕ) (frame : Frame PlacedLine) : Type 0 where
   pub forms : Forms
@@ -99,21 +102,25 @@ AwaitsFirst (Some x) = x ≡ 10
 abbrev pub IsWaiting : Map → Frame PlacedLine → Type 0
 IsWaiting map frame = AwaitsFirst frame.into × (takes_frame map.jumps frame.whole ≡ true)
 
--- Frames that wait, from the newest one on, which goes on at an address, and whose first word is at another. Each is of a function that takes a frame. The
--- first word of each is the address where the frame goes on that waits for it; behind the oldest frame that is the stop, and the stack ends.
+-- Frames that wait, from the newest one on, which goes on at an address, and whose first word is at another. Each is of a
+-- function that takes a frame. The
+-- first word of each is the address where the frame goes on that waits for it; behind the oldest frame that is the stop, and the
+-- stack ends.
 abbrev pub FramesAt : Map → Code → ℕ → ℕ → ℕ → (ℕ → ℕ) → ℕ → ℕ → List (Frame PlacedLine) → Type 0
 FramesAt map code most stop roof memory at base [] = (at ≡ stop) × (base ≡ roof)
 FramesAt map code most stop roof memory at base (frame ∷ frames) =
     IsIn map code most at frame × Slots map memory base frame.cells × IsWaiting map frame
     × FramesAt map code most stop roof memory (number_at memory base 4) (base + map.frame) frames
 
--- where the frame goes on that waits for the running one: the address is the first word of the running one's memory, or, where its function takes no
+-- where the frame goes on that waits for the running one: the address is the first word of the running one's memory, or, where
+-- its function takes no
 -- frame, in ra
 abbrev pub way_back : Bool → (ℕ → ℕ) → (ℕ → ℕ) → ℕ → ℕ
 way_back true registers memory base = number_at memory base 4
 way_back false registers memory base = value registers ra.number
 
--- The running frame and those that wait behind it. Where the function of the running one takes no frame, its memory is none that is taken, below the
+-- The running frame and those that wait behind it. Where the function of the running one takes no frame, its memory is none that
+-- is taken, below the
 -- newest frame that is.
 abbrev pub StackAt : Map → Code → ℕ → ℕ → ℕ → (ℕ → ℕ) → (ℕ → ℕ) → ℕ → ℕ → List (Frame PlacedLine) → Type 0
 StackAt map code most stop roof registers memory at base [] = (at ≡ stop) × (base ≡ roof)
@@ -143,7 +150,8 @@ links_of map base (frame ∷ frames) = links_in base frame.cells frame.held (lin
 abbrev pub Agrees : (ℕ → Option ℕ) → (ℕ → ℕ) → Type 0
 Agrees known registers = (x word : ℕ) → known x ≡ Some word → (is_handed_out x ≡ true) × (value registers x ≡ word) × (word < 2 ^ 32)
 
--- the processor stands for a state: its frames number `depth` at most, what is left of the input are bytes, and memory has the cells and the held
+-- the processor stands for a state: its frames number `depth` at most, what is left of the input are bytes, and memory has the
+-- cells and the held
 -- tokens
 pub record Running (map : Map) (pool : Pool) (functions : List PlacedLines) (depth stop : ℕ) (code : Code) (parts : List Part) (t : PlacedState World) (s : Processor) : Type 0 where
   pub rests : Rests map code parts s
@@ -167,9 +175,11 @@ lines_left (frame ∷ frames) = length frame.code
 abbrev pub HasCells : Pool → Cells → Processor → Type 0
 HasCells pool cells s = (links : List Link) × HoldsCells pool cells links s
 
--- What a run has come to stands for a turn. While it goes on, 3 instructions are saved for the exit behind main, and labels, which are no
+-- What a run has come to stands for a turn. While it goes on, 3 instructions are saved for the exit behind main, and labels,
+-- which are no
 -- instructions, go by within the lines that are left. At an end memory has the cells of the world.
-abbrev pub StandsFor : Map → Pool → List PlacedLines → ℕ → ℕ → Code → List Part → ℕ → ℕ → PlacedTurn World Ending → Progress → Type 0
+abbrev pub StandsFor : Map → Pool → List PlacedLines → ℕ → ℕ → Code → List Part → ℕ → ℕ → PlacedTurn World Ending → Progress
+    → Type 0
 StandsFor map pool functions depth stop code parts credit idle (go t) progress =
     (s : Processor) × (progress ≡ goes s) × (3 ≤ credit) × (lines_left t.frames ≤ idle) × Running map pool functions depth stop code parts t s
 StandsFor map pool functions depth stop code parts credit idle (ended how shared) progress =

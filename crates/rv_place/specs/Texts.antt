@@ -102,7 +102,8 @@ map_of runtime program = record {
   constants = constants_of runtime program;
 }
 
--- These are the words of a runtime and a program: the runtime's instructions, and behind them the functions; all at the text's begin.
+-- These are the words of a runtime and a program: the runtime's instructions, and behind them the functions; all at the text's
+-- begin.
 pub record ArePlacedWords (runtime program : Placed) (words : Words) : Type 0 where
   pub own : List Instr
   pub rest : List Instr
