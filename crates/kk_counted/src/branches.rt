@@ -84,6 +84,7 @@ impl<'a> Emitter<'a> {
         ensures unchanged { IfNone result (state self.new ≡ state self.old) }
         ensures left { IfSome result (λ debts. left_in arms.old.left.items ≡ debts.variables.items ∷ left_in arms.new.left.items) }
         ensures none { IfNone result (left_in arms.old.left.items ≡ []) }
+        ensures last { IfNone result (left_in arms.new.left.items ≡ []) }
         ensures emitter { IfSome result (λ debts. debts.emitter ≡ arms.old.emitter) }
         ensures spare { IfSome result (λ debts. debts.spare.items ≡ []) }
         ensures same { (arms.new.emitter ≡ arms.old.emitter) × (arms.new.depth ≡ arms.old.depth) }

@@ -66,6 +66,7 @@ impl<'a> TokenEmitter<'a> {
         ensures left { IfSome result (λ debts. left_in arms.old.left.items ≡ debts.variables.items ∷ left_in arms.new.left.items) }
         ensures slots { IfSome result (λ debts. (counted_of self.old).failed ≡ false → left_in arms.old.spare.items ≡ debts.spare.items ∷ left_in arms.new.spare.items) }
         ensures none { IfNone result (left_in arms.old.left.items ≡ []) }
+        ensures last { IfNone result (left_in arms.new.left.items ≡ []) }
         ensures emitter { IfSome result (λ debts. debts.emitter ≡ arms.old.emitter) }
         ensures same { (arms.new.emitter ≡ arms.old.emitter) × (arms.new.depth ≡ arms.old.depth) }
     {
