@@ -3,7 +3,7 @@ use Rattle.std.proofs.lemmas.List.{drop_all}
 use Rattle.kk_base.specs.declared.limit.LimitKind.TheVariants.{FunctionNodes}
 use Rattle.kk_base.specs.Limits.{greatest_of}
 use Rattle.kk_syntax.specs.Programs.{function_tree}
-use Rattle.kk_syntax.specs.Shapes.{greatest_of, nodes_of}
+use Rattle.kk_syntax.specs.Shapes.{greatest_of as nodes_at_most, nodes_of}
 use Rattle.kk_syntax.specs.Trees.{expr_tree}
 use Rattle.std.specs.Prelude.{option_map}
 use Rattle.kk_mono.specs.Counts.{too_many_nodes}
@@ -29,7 +29,7 @@ loop-function-preserved c =
 
 pub returns-clause-ok : goal.returns-clause-ok
 returns-clause-ok c =
-    let none = ap (λ fs. greatest_of (map function_tree fs))
+    let none = ap (λ fs. nodes_at_most (map function_tree fs))
     (drop_all c.loop-function.function-index c.args.functions.now c.loop-function-test.false) in
     let so_far = c.loop-function.invariant.greatest in
     omega (arith, none, so_far)
