@@ -1,12 +1,11 @@
 -- The sizes of programs that are generated: how many functions `f1`, `f2` and so on they have.
 use Rattle.std.specs.Prelude.{ℕ, ◌≤◌}
-use Rattle.kk_command.specs.declared.words.TheConstants.{GREATEST_SIZE}
 
 abbrev pub least_size : ℕ
 least_size = 1
 
 abbrev pub greatest_size : ℕ
-greatest_size = GREATEST_SIZE
+greatest_size = 100
 
 -- a program of such a size may be asked for
 pub record IsProgramSize (size : ℕ) : Type 0 where

@@ -8,7 +8,6 @@ use Rattle.clap.specs.Walk.{is_empty}
 use Rattle.clap.specs.declared.builder.action.ArgAction.TheVariants.{SetTrue}
 use Rattle.kk_base.specs.Sizes.{greatest_cells, greatest_depth}
 use Rattle.kk_command.specs.ProgramSizes.{least_size, greatest_size}
-use Rattle.kk_command.specs.declared.words.TheConstants.{DEFAULT_CELLS, DEFAULT_DEPTH, DEFAULT_STEPS, GREATEST_STEPS}
 
 -- what the program is asked for: to judge the text in a file; to build its image into another; to build its image and run it, and
 -- perhaps to tell what the run took; to run the image in a file; to run the text in a file by its definition; to build the image of
@@ -117,13 +116,13 @@ option_in default least greatest None = Some default
 option_in default least greatest (Some text) = number_in least greatest text
 
 abbrev pub cells_in : List Row → Option ℕ
-cells_in rows = option_in DEFAULT_CELLS 0 greatest_cells (first_of (codes "cells") rows)
+cells_in rows = option_in 65536 0 greatest_cells (first_of (codes "cells") rows)
 
 abbrev pub depth_in : List Row → Option ℕ
-depth_in rows = option_in DEFAULT_DEPTH 1 greatest_depth (first_of (codes "depth") rows)
+depth_in rows = option_in 4096 1 greatest_depth (first_of (codes "depth") rows)
 
 abbrev pub steps_in : List Row → Option ℕ
-steps_in rows = option_in DEFAULT_STEPS 0 GREATEST_STEPS (first_of (codes "steps") rows)
+steps_in rows = option_in 1000000000 0 (2 ^ 63 - 1) (first_of (codes "steps") rows)
 
 -- whether a flag is there: clap gives it the text `true` where it was given, or else `false`
 abbrev pub is_true : Option Text → Bool

@@ -13,20 +13,17 @@ use clap::error::ErrorKind;
 use kk_base::{GREATEST_CELLS, GREATEST_DEPTH, NoMemory};
 use std::alloc::Global;
 
-/// The cells of a heap where none are asked for.
-pub const DEFAULT_CELLS: u32 = 65_536;
+const DEFAULT_CELLS: u32 = 65_536;
 
-/// The calls that may be open where no depth is asked for.
-pub const DEFAULT_DEPTH: u32 = 4_096;
+const DEFAULT_DEPTH: u32 = 4_096;
 
-/// The instructions of a run where no number is asked for.
-pub const DEFAULT_STEPS: u64 = 1_000_000_000;
+const DEFAULT_STEPS: u64 = 1_000_000_000;
 
 /// The greatest number of instructions that a run may be asked for.
-pub const GREATEST_STEPS: u64 = (1 << 63) - 1;
+const GREATEST_STEPS: u64 = 9_223_372_036_854_775_807;
 
 /// The greatest size of a generated program.
-pub const GREATEST_SIZE: u64 = 100;
+const GREATEST_SIZE: u64 = 100;
 
 /// The command that the words of a line are; none where they are no command. The first word is the program's name.
 pub fn command_in<'a>(alloc: Global, words: &'a [String]) -> Result<Option<Command<'a>>, NoMemory>
