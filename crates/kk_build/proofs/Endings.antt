@@ -22,6 +22,10 @@ counted_stopped stuck by is = absurd (cc)
 apart : (n m : ℕ) → nat_eq n m ≡ false → n ≡ m → ⊥
 apart n m differs same = let equal : nat_eq n m ≡ true = subst (λ (k : ℕ). nat_eq n k ≡ true) same (grind (arith, nat_tests)) in cc
 
+-- an image exits with 101 where live cells fill the heap, and with 102 where calls pass the depth
+exits_are : (exit_of heap_full ≡ 101) × (exit_of stack_full ≡ 102)
+exits_are = (refl, refl)
+
 -- no two ends have the same exit number
 pub differ : (a b : End) → exit_of a ≡ exit_of b → a ≡ b
 differ ended ended same = refl
