@@ -17,7 +17,7 @@ use Rattle.kk_syntax.proofs.Elements.{each_parts}
 use Rattle.kk_syntax.proofs.Lists.{all_left, all_right}
 use Rattle.kk_syntax.proofs.TailCalls.{inside_push}
 use Rattle.kk_syntax.specs.Shapes.{bound, bound_all, bound_by, is_among, variable_of, Opening, tails_inside, tails_of_rows, tail_walked, tail_walked_rows}
-use Rattle.kk_syntax.specs.Trees.{Tree, variable, apply, branch, match, sequence, Trees, no_tree, tree, Rows, no_row, row}
+use Rattle.kk_syntax.specs.Trees.{Tree, variable, apply, branch, match, sequence, Trees, no_tree, tree, Rows, no_row, row, row_parts}
 use Rattle.kk_core.specs.Codes.{Code, give, tail_call, case, compute, use_of, unpack, inside, Arms, no_arm, arm}
 use Rattle.kk_core.specs.Truths.{truth_case}
 use Rattle.kk_norm.specs.Names.{Names, name_of, named}
@@ -420,7 +420,7 @@ module _ (program : ProgramTree) (positions : PositionTable)
           → AreOwned program positions (given_by_rows around e rows) → AllLendTails positions lent arms
       arms_lend no_row e around names a n arms before lent is named cell low keeps owned =
           subst (AllLendTails positions lent) (sym is) tt
-      arms_lend (row pattern body rest) e around names a n arms before lent is named cell low keeps owned =
+      arms_lend (row (row_parts pattern body) rest) e around names a n arms before lent is named cell low keeps owned =
           let o : Opening = record { scrutinee = e; pattern = pattern } in
           let code : Code = opened a n pattern is.0 in
           let inner : List ℕ = lent_inside own around in

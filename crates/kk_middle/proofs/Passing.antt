@@ -7,7 +7,7 @@ use Rattle.kk_syntax.specs.Patterns.{Pattern, anything, variable as pattern_vari
 use Rattle.kk_syntax.specs.PositionsOf.{PositionTable}
 use Rattle.kk_syntax.specs.Programs.{ConstructorTree}
 use Rattle.kk_syntax.specs.Shapes.{is_among, variable_of}
-use Rattle.kk_syntax.specs.Trees.{Tree, variable, apply, branch, match, sequence, Trees, no_tree, tree, Rows, no_row, row}
+use Rattle.kk_syntax.specs.Trees.{Tree, variable, apply, branch, match, sequence, Trees, no_tree, tree, Rows, no_row, row, row_parts}
 use Rattle.kk_core.specs.Codes.{Code, give, tail_call, case, compute, use_of, unpack, inside, Arms, no_arm, arm}
 use Rattle.kk_core.specs.Truths.{truth_case}
 use Rattle.kk_norm.specs.Names.{Names, name_of, named}
@@ -222,7 +222,7 @@ module _ (positions : PositionTable) where
       pub end_arms : (rows : Rows) (names : Names) (a n : ℕ) (arms : Arms) → AreArms constructors (final false) names a n rows arms
           → (lent : List ℕ) → AllLendTails positions lent arms
       end_arms no_row names a n arms is lent = subst (AllLendTails positions lent) (sym is) tt
-      end_arms (row pattern body rest) names a n arms is lent =
+      end_arms (row (row_parts pattern body) rest) names a n arms is lent =
           subst (AllLendTails positions lent) (sym is.2) (
             (opened_passes pattern a n is.0).tails lent
                 (ends body (pattern_names a n pattern names) (n + pattern_size pattern) is.0 is.3 lent),
