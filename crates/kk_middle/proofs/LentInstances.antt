@@ -110,7 +110,7 @@ module _ (new : Renaming) where
   handed_same : (own : List ℕ) (e : Tree) → handed own (renamed new e) ≡ map moved (handed own e)
   handed_same own e =
       handed_is own (renamed new e)
-      ∙ (tails_replaced renames AreNew (λ other is e. is) (λ other is p. is) (λ other is p e. is) to_handed to_handed
+      ∙ (tails_replaced renames AreNew (λ other is e. is) (λ other is p. is) (λ other is r. is) to_handed to_handed
       (λ (ps qs : List Position). qs ≡ map moved ps) refl
       (λ xs ys us vs left right. (λ i. left i ++ right i) ∙ sym (map-append moved xs ys))
       (λ ns ms. ms ≡ ns)
@@ -134,7 +134,7 @@ module _ (new : Renaming) where
 
   pub keeps_back : (lent : List ℕ) (e : Tree) → KeepsLent lent (renamed new e) → KeepsLent lent e
   keeps_back lent e =
-      tails_replaced renames AreNew (λ other is e. is) (λ other is p. is) (λ other is p e. is) to_bound to_bound
+      tails_replaced renames AreNew (λ other is e. is) (λ other is p. is) (λ other is r. is) to_bound to_bound
       (λ (bs cs : List Bound). AreApart cs → AreApart bs) (λ none. none)
       (λ xs ys us vs left right whole.
       let parts = each_parts (λ b. AreOthers b.variables b.lent) us vs whole in
