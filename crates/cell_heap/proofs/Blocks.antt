@@ -11,9 +11,9 @@ use Rattle.cell_heap.specs.Pool.{Pool, end_of, IsCell}
 use Rattle.cell_heap.specs.View.{Link}
 use Rattle.cell_heap.specs.Memory.{word, HasWords, Shows, Memory}
 use Rattle.cell_heap.specs.Blocks.{Block, no_block, unused, own, kept, Cells, with_block, with_word, index_of, word_in, load, stored_in, store, known_then, known_from, fields_of, seen_with, seen, seen_cells, view_of}
-use Rattle.cell_heap.specs.Known.{AreKnown, IsKnown, IsOwnBlock, HoldsCells, SameRoots, IsOwnWord}
+use Rattle.cell_heap.specs.ProgramMemory.{AreKnown, IsKnown, IsOwnBlock, HoldsCells, SameRoots, IsOwnWord}
 use Rattle.cell_heap.proofs.Frames.{SameWords, SameBut, SameBut-store, SameWords-but, SameInside, SameWords-inside, SameSlots, shown-cell, cell-inside}
-use Rattle.cell_heap.proofs.Owning.{IsOwn, IsOwnState, counted-own, token-own, own_change, outside_store, own_free}
+use Rattle.cell_heap.proofs.OutsideChanges.{IsOwn, IsOwnState, counted-own, token-own, own_change, outside_store, own_free}
 
 pub mapped : {A B : Type 0} (f : A → B) (o : Option A) (b : B) → option_map f o ≡ Some b → (a : A) × (o ≡ Some a) × (f a ≡ b)
 mapped f None b is = cc

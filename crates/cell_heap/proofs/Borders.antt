@@ -7,7 +7,7 @@ use Rattle.cell_heap.specs.View.{View, HasBorder}
 use Rattle.cell_heap.specs.Memory.{IsShown}
 use Rattle.cell_heap.proofs.Sums.{occurs-first, occurs-other, occurs-cells}
 use Rattle.cell_heap.proofs.Frames.{changed-by, shown-cell}
-use Rattle.cell_heap.proofs.Counting.{IsListed, counted-some, waiting-some, is-some}
+use Rattle.cell_heap.proofs.CountChanges.{IsListed, counted-some, waiting-some, is-some}
 use Rattle.cell_heap.specs.Turns.{Turns, ended, passed, lower, waits_now, opened}
 
 -- each cell of the heap is one of the pool

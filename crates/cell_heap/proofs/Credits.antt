@@ -2,7 +2,7 @@
 use Rattle.std.proofs.Common.{◌≡◌, ℕ, ◌+◌, ◌*◌, List, length, ap, arith}
 use Rattle.cell_heap.specs.Cells.{Body, token, counted, Heap, changed, references, occurs}
 use Rattle.cell_heap.specs.Counts.{credit_of, credit}
-use Rattle.cell_heap.proofs.Counting.{credit-changed}
+use Rattle.cell_heap.proofs.CountChanges.{credit-changed}
 
 module _ (places : List ℕ) (heap : Heap) (at : ℕ) (once : occurs at places ≡ 1) (a_cell a_reference : ℕ) where
   -- a cell that is made saves its own credit

@@ -8,7 +8,7 @@ use Rattle.cell_heap.specs.Pool.{IsCell, IsUsable, places}
 use Rattle.cell_heap.specs.View.{View, HasBorder}
 use Rattle.cell_heap.specs.Memory.{Shows, IsShown, IsChain, IsHeldChain, Memory}
 use Rattle.cell_heap.specs.Counts.{HasCounts, count_of, references_to}
-use Rattle.cell_heap.specs.GivingUp.{GivesUp, all_given, constant, last}
+use Rattle.cell_heap.specs.DropMeaning.{GivesUp, all_given, constant, last}
 use Rattle.cell_heap.specs.Sound.{IsSound}
 use Rattle.cell_heap.proofs.Examples.{pool, pair, memory_part, slot_stands}
 use Rattle.cell_heap.proofs.Sums.{occurs-other}

@@ -5,7 +5,7 @@ use Rattle.rv_isa.specs.Bytes.{number_at, with_number, bytes_at, with_bytes}
 use Rattle.cell_heap.specs.Cells.{Body, no_cell, free, token, counted, Heap, changed, chosen}
 use Rattle.cell_heap.specs.Pool.{Pool, places, end_of}
 use Rattle.cell_heap.specs.Memory.{HasBody, IsChain, IsSlot, IsHeldChain}
-use Rattle.cell_heap.specs.GivingUp.{GivesUp, all_given, constant, lowered, last}
+use Rattle.cell_heap.specs.DropMeaning.{GivesUp, all_given, constant, lowered, last}
 use Rattle.cell_heap.specs.Counts.{references_to, credit}
 
 abbrev pub pool : Pool

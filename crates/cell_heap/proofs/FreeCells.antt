@@ -12,8 +12,8 @@ use Rattle.cell_heap.specs.Memory.{word, IsShown, IsChain, Memory}
 use Rattle.cell_heap.specs.FreeCells.{ListsFree}
 use Rattle.cell_heap.proofs.Sums.{occurs-by, occurs-other, occurs-same, occurs-append, occurs-below, occurs-cells}
 use Rattle.cell_heap.proofs.Frames.{shown-cell, free-some, cell-inside}
-use Rattle.cell_heap.proofs.Waits.{IsChain-apart}
-use Rattle.cell_heap.proofs.Counted.{cells_from-member, length-cells_from, length-total, total-at_most}
+use Rattle.cell_heap.proofs.WaitChains.{IsChain-apart}
+use Rattle.cell_heap.proofs.DistinctCells.{cells_from-member, length-cells_from, length-total, total-at_most}
 
 -- each member of a chain is free and stands there once
 pub IsChain-free : (memory : ℕ → ℕ) (heap : Heap) (from : ℕ) (cells : List ℕ) → IsChain memory heap from cells → (x : ℕ) → occurs x cells ≢ 0 → heap x ≡ free

@@ -3,7 +3,7 @@ use Rattle.std.proofs.Common.{◌≡◌, ◌≢◌, ◌<◌, ℕ, zero, suc, ◌
 use mathlib.Core.Path.{fun_ext}
 use Rattle.std.proofs.lemmas.Bool.{cases_eq}
 use Rattle.cell_heap.specs.Cells.{Body, Cell, free, counted, Heap, changed, references, occurs}
-use Rattle.cell_heap.specs.GivingUp.{GivesUp, all_given, constant, lowered, last}
+use Rattle.cell_heap.specs.DropMeaning.{GivesUp, all_given, constant, lowered, last}
 use Rattle.cell_heap.proofs.Sums.{occurs-first, occurs-other, occurs-append}
 use Rattle.cell_heap.proofs.Frames.{changed-by, changed-other}
 

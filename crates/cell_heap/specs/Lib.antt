@@ -2,10 +2,10 @@ pub mod Cells
 pub mod Pool
 pub mod View
 pub mod Memory
-pub mod GivingUp
+pub mod DropMeaning
 pub mod Turns
 pub mod Counts
 pub mod Sound
 pub mod FreeCells
 pub mod Blocks
-pub mod Known
+pub mod ProgramMemory

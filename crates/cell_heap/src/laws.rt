@@ -4,13 +4,13 @@ ghost use Rattle.std.specs.Prelude.{◌≡◌, ◌↔◌, ◌<◌, ℕ, ◌+◌,
 ghost use Rattle.cell_heap.specs.Cells.{Heap, occurs};
 ghost use Rattle.cell_heap.specs.Turns.{Turns, Work, work_of, turns};
 ghost use Rattle.cell_heap.specs.Pool.{Pool, places};
-ghost use Rattle.cell_heap.specs.GivingUp.{GivesUp};
+ghost use Rattle.cell_heap.specs.DropMeaning.{GivesUp};
 ghost use Rattle.cell_heap.specs.Counts.{credit};
 ghost use Rattle.cell_heap.specs.Sound.{ArePlaced, IsSound};
 ghost use Rattle.cell_heap.specs.View.{Link, View};
 ghost use Rattle.cell_heap.specs.Memory.{word, Memory, IsNoCount};
 ghost use Rattle.cell_heap.specs.Blocks.{Cells, load, store, view_of, seen_cells, drop_cells, merged_cells};
-ghost use Rattle.cell_heap.specs.Known.{HoldsCells, SameRoots, IsOwnWord};
+ghost use Rattle.cell_heap.specs.ProgramMemory.{HoldsCells, SameRoots, IsOwnWord};
 ghost use Rattle.rv_isa.specs.Bytes.{with_number};
 ghost use Rattle.cell_heap.specs.FreeCells.{ListsFree};
 ghost use Rattle.rv_isa.specs.FreeCells.{free_list};

@@ -13,16 +13,16 @@ use Rattle.cell_heap.specs.View.{Link, View}
 use Rattle.cell_heap.specs.Memory.{word, IsChain, IsToken, IsHeldChain, Memory}
 use Rattle.cell_heap.specs.Blocks.{no_block, unused, own, kept, Cells, with_block, unused_cells, nothing, takes, request_by}
 use Rattle.cell_heap.specs.Blocks.{request, past_links, fields_of, seen, seen_cells, view_of}
-use Rattle.cell_heap.specs.Known.{AreKnown, IsKnown, IsOwnBlock, HoldsCells, SameRoots}
+use Rattle.cell_heap.specs.ProgramMemory.{AreKnown, IsKnown, IsOwnBlock, HoldsCells, SameRoots}
 use Rattle.cell_heap.proofs.Sums.{occurs-none, occurs-other}
 use Rattle.cell_heap.proofs.Frames.{SameBut, SameInside, SameWords-but, SameWords-inside, shown-cell, IsHeld-cell}
-use Rattle.cell_heap.proofs.Owning.{IsOwn, token-own, own_change, changed-nothing}
+use Rattle.cell_heap.proofs.OutsideChanges.{IsOwn, token-own, own_change, changed-nothing}
 use Rattle.cell_heap.proofs.Blocks.{seen-changed, block-same, placed-by, own-cell, own-known, is-own, known-length}
 use Rattle.cell_heap.proofs.Blocks.{known-fields}
 use Rattle.cell_runtime.specs.Calls.{KeepsOutside}
 use Rattle.cell_runtime.specs.Starts.{first_view}
 use Rattle.cell_runtime.specs.Takes.{Taken, from_chain, at_border, from_held, EmptiesSlot, AfterTake}
-use Rattle.cell_runtime.proofs.TakingCells.{none_held, free-no-token}
+use Rattle.cell_runtime.proofs.CellRequests.{none_held, free-no-token}
 
 abbrev cells_of : List Link → List ℕ
 cells_of links = map (λ link. link.cell) links

@@ -10,9 +10,9 @@ use Rattle.cell_heap.specs.Cells.{Body, Heap, free, waiting, counted, changed, c
 use Rattle.cell_heap.specs.Pool.{Pool, end_of, IsCell}
 use Rattle.cell_heap.specs.Memory.{word}
 use Rattle.cell_heap.proofs.Frames.{cell-inside}
-use Rattle.cell_heap.proofs.Leaving.{IsLeft-counted, IsLeft-opened, IsLeft-was_counted, IsLeft-was_waiting}
-use Rattle.cell_heap.proofs.Waits.{AreCells-counted, AreCells-lower, AreCells-wait, AreCells-waiting, AreCells-opened, AreFields-body, AreFields-first, IsWaitChain-below, SameWords-first}
-use Rattle.cell_heap.proofs.Choosing.{chosen-none, chosen-set, chosen-clear, half-below, mask-none}
+use Rattle.cell_heap.proofs.CellsAfterDrop.{IsLeft-counted, IsLeft-opened, IsLeft-was_counted, IsLeft-was_waiting}
+use Rattle.cell_heap.proofs.WaitChains.{AreCells-counted, AreCells-lower, AreCells-wait, AreCells-waiting, AreCells-opened, AreFields-body, AreFields-first, IsWaitChain-below, SameWords-first}
+use Rattle.cell_heap.proofs.FieldMasks.{chosen-none, chosen-set, chosen-clear, half-below, mask-none}
 use Rattle.cell_runtime.proofs.DropRows.{drop_code, row_odd, row_lower, row_wait, row_scanned, row_reference, row_skip, row_done, row_open}
 use Rattle.cell_runtime.proofs.DropStates.{IsQuiet, IsQuiet-then, count-stored, kept-5, kept-8, kept-10, kept-11, kept-12, kept-13, IsWithin, IsScanning, first-use, field-use, Comes, Comes-from}
 

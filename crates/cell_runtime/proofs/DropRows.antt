@@ -16,7 +16,7 @@ use Rattle.rv_isa.proofs.Instructions.{leads-sets, leads-addi, leads-lw, leads-s
 use Rattle.cell_heap.specs.Memory.{word}
 use Rattle.rv_isa.proofs.Registers.{x0, x1, x5, x8, x10, x11, x12, x13}
 use Rattle.cell_runtime.proofs.Operands.{imm_0, imm_1, imm_4, imm_minus_1, forward_8}
-use Rattle.cell_runtime.proofs.Calling.{leads-back, then_one}
+use Rattle.cell_runtime.proofs.RoutineCalls.{leads-back, then_one}
 
 abbrev pub imm_8 : Immediate
 imm_8 = record { word = 8; in_range = (lit< tt, lit< tt) }

@@ -9,11 +9,11 @@ use Rattle.cell_heap.specs.View.{View}
 use Rattle.cell_heap.specs.Memory.{IsHeldChain}
 use Rattle.cell_heap.specs.Turns.{Turns, ended, passed, lower, waits_now, opened}
 use Rattle.cell_heap.proofs.Turns.{Turns-settled}
-use Rattle.cell_heap.proofs.Waits.{AreCells-waiting}
-use Rattle.cell_heap.proofs.Leaving.{IsLeft-same}
+use Rattle.cell_heap.proofs.WaitChains.{AreCells-waiting}
+use Rattle.cell_heap.proofs.CellsAfterDrop.{IsLeft-same}
 use Rattle.cell_heap.proofs.Borders.{IsPlaced, IsPlaced-shown, Turns-border}
-use Rattle.cell_heap.proofs.Held.{IsHeldChain-kept}
-use Rattle.cell_heap.proofs.GivingUp.{Turns-left}
+use Rattle.cell_heap.proofs.HeldTokens.{IsHeldChain-kept}
+use Rattle.cell_heap.proofs.DropMeaning.{Turns-left}
 use Rattle.rv_isa.specs.declared.routine.Routine.TheVariants.{Drop}
 use Rattle.rv_isa.specs.declared.placed.Symbol.TheVariants.{Routine}
 use Rattle.cell_runtime.specs.Registers.{KeptBy}
@@ -23,7 +23,7 @@ use Rattle.cell_runtime.specs.Drops.{Dropped, IsDrop, BeforeDrop, AfterDrop}
 use Rattle.cell_runtime.proofs.Spelling.{plain, plain_makes}
 use Rattle.cell_runtime.proofs.DropRows.{drop_code, row_start}
 use Rattle.cell_runtime.proofs.DropStates.{IsQuiet, kept-12, kept-13, IsWithin, IsScanning, Comes, Comes-from, Comes-weaker}
-use Rattle.cell_runtime.proofs.Calling.{returns_by}
+use Rattle.cell_runtime.proofs.RoutineCalls.{returns_by}
 use Rattle.cell_runtime.proofs.DropMoves.{scan-none, scan-some, give-odd, give-lower, give-wait, pop-none, pop-open}
 
 -- the routine keeps the registers of the held chain and of the border

@@ -9,8 +9,8 @@ use Rattle.cell_heap.specs.Cells.{Body, Heap, counted}
 use Rattle.cell_heap.specs.Pool.{Pool, IsCell}
 use Rattle.cell_heap.specs.Memory.{IsNoCount}
 use Rattle.cell_heap.proofs.Frames.{cell-inside, byte-stored_apart}
-use Rattle.cell_heap.proofs.Leaving.{IsLeft}
-use Rattle.cell_heap.proofs.Waits.{AreCells, AreFields}
+use Rattle.cell_heap.proofs.CellsAfterDrop.{IsLeft}
+use Rattle.cell_heap.proofs.WaitChains.{AreCells, AreFields}
 use Rattle.rv_isa.specs.declared.routine.Routine.TheVariants.{Drop}
 use Rattle.rv_isa.specs.declared.placed.Symbol.TheVariants.{Routine}
 use Rattle.cell_runtime.specs.Registers.{KeptBy}

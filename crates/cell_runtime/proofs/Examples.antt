@@ -6,7 +6,7 @@ use Rattle.rv_isa.specs.Arithmetic.{signed}
 use Rattle.cell_heap.specs.Cells.{free, token, changed}
 use Rattle.cell_heap.specs.Pool.{Pool}
 use Rattle.cell_heap.specs.View.{View}
-use Rattle.cell_runtime.specs.declared.stop.Ending.TheVariants.{Ended, HeapFull, StackFull}
+use Rattle.cell_runtime.specs.declared.process.Ending.TheVariants.{Ended, HeapFull, StackFull}
 use Rattle.cell_runtime.specs.Layouts.{layout_of}
 use Rattle.cell_runtime.specs.Prints.{int_piece, int_count, put_of}
 use Rattle.cell_runtime.specs.Starts.{first_view, all_free}

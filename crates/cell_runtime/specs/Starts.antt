@@ -8,7 +8,7 @@ use Rattle.cell_heap.specs.Cells.{no_cell, free, Heap}
 use Rattle.cell_heap.specs.Pool.{Pool, end_of, IsUsable}
 use Rattle.cell_heap.specs.View.{View}
 use Rattle.cell_heap.specs.Memory.{Memory}
-use Rattle.cell_runtime.specs.declared.start.TheConstants.{TEXT_WORDS}
+use Rattle.cell_runtime.specs.declared.process.TheConstants.{TEXT_WORDS}
 use Rattle.cell_runtime.specs.declared.layout.Layout.{Layout}
 use Rattle.rv_isa.specs.declared.placed.Symbol.TheVariants.{Start}
 use Rattle.cell_runtime.specs.Registers.{KeptBy}

@@ -3,8 +3,8 @@ use Rattle.std.specs.Prelude.{ℕ}
 use Rattle.kk_base.specs.declared.exits.TheConstants.{HEAP_FULL_EXIT, STACK_FULL_EXIT}
 use Rattle.rv_isa.specs.Processor.{Processor}
 use Rattle.rv_isa.specs.Standing.{Code}
-use Rattle.cell_runtime.specs.declared.stop.Ending.{Ending}
-use Rattle.cell_runtime.specs.declared.stop.Ending.TheVariants.{Ended, HeapFull, StackFull}
+use Rattle.cell_runtime.specs.declared.process.Ending.{Ending}
+use Rattle.cell_runtime.specs.declared.process.Ending.TheVariants.{Ended, HeapFull, StackFull}
 use Rattle.cell_runtime.specs.Calls.{IsAt, Exits}
 
 -- the exit number of an end

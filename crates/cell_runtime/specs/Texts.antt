@@ -10,7 +10,7 @@ use Rattle.rv_isa.specs.Sizes.{reach_down}
 use Rattle.rv_isa.specs.Standing.{Code, Has}
 use Rattle.cell_heap.specs.Pool.{Pool}
 use Rattle.cell_runtime.specs.declared.layout.Layout.{Layout}
-use Rattle.cell_runtime.specs.declared.stop.Ending.TheVariants as ending
+use Rattle.cell_runtime.specs.declared.process.Ending.TheVariants as ending
 use Rattle.cell_runtime.specs.Layouts.{layout_of}
 use Rattle.cell_runtime.specs.Lines.{Spells, words_of, labels_of, AreWithin}
 use Rattle.cell_runtime.specs.Prints.{IsPrintInt, IsPrintText, IsReadByte}
@@ -18,7 +18,7 @@ use Rattle.cell_runtime.specs.Stops.{IsStop}
 use Rattle.cell_runtime.specs.Takes.{IsTake}
 use Rattle.cell_runtime.specs.Drops.{IsDrop}
 use Rattle.cell_runtime.specs.Starts.{IsStart}
-use Rattle.cell_runtime.specs.declared.start.TheConstants.{TEXT_WORDS}
+use Rattle.cell_runtime.specs.declared.process.TheConstants.{TEXT_WORDS}
 
 -- the cells of an image, of whose memory this is the begin
 abbrev pub pool_of : ℕ → ℕ → Pool

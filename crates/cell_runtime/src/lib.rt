@@ -4,16 +4,12 @@
 #![tactic(auto)]
 
 mod assembly;
-mod drop;
+mod cells;
 mod layout;
-mod print_int;
-mod print_text;
-mod read_byte;
+mod process;
 mod runtime;
-mod start;
-mod stop;
-mod take;
+mod streams;
 
 pub use layout::Layout;
+pub use process::Ending;
 pub use runtime::text;
-pub use stop::Ending;

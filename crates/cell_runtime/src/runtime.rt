@@ -5,14 +5,10 @@ ghost use Rattle.kk_base.specs.Sizes.{greatest_cells, greatest_depth};
 ghost use Rattle.rv_isa.specs.Sizes.{reach_down};
 ghost use Rattle.cell_runtime.specs.Texts.{IsText};
 
-use crate::drop::give_up;
+use crate::cells::{give_up, take};
 use crate::layout::Layout;
-use crate::print_int::print_int;
-use crate::print_text::print_text;
-use crate::read_byte::read_byte;
-use crate::start::start;
-use crate::stop::{Ending, stop};
-use crate::take::take;
+use crate::process::{Ending, start, stop};
+use crate::streams::{print_int, print_text, read_byte};
 use kk_base::NoMemory;
 use rv_isa::{DataSection, Native, Placed, Routine, Symbol};
 use std::alloc::Global;

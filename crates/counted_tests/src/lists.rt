@@ -3,7 +3,7 @@
 ghost use Rattle.std.specs.Prelude.{◌≡◌, ◌∷◌, [], true, false, None, IfOk, OnOk, OnErr};
 ghost use Rattle.kk_syntax.specs.Shapes.{without};
 ghost use Rattle.kk_syntax.specs.declared.positions.Ownership.TheVariants.{Owned, Lent};
-ghost use Rattle.kk_counted.specs.Shaping.{positions_in, fields_in};
+ghost use Rattle.kk_counted.specs.InstancePositions.{positions_in, fields_in};
 ghost use Rattle.kk_counted.specs.Drafts.{minus_all, Writes, Owns, OwnsAll, HasFields};
 ghost use Rattle.kk_counted.specs.TokenDrafts.{kept_by};
 ghost use Rattle.kk_counted.specs.TokenEmissions.{counted_of, tokens_of};

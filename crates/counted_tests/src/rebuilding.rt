@@ -3,7 +3,7 @@
 ghost use Rattle.std.specs.Prelude.{◌≡◌, ◌∷◌, [], true, false, None, IfOk};
 ghost use Rattle.kk_syntax.specs.Shapes.{without};
 ghost use Rattle.kk_syntax.specs.declared.positions.Ownership.TheVariants.{Owned};
-ghost use Rattle.kk_counted.specs.Shaping.{positions_in, fields_in};
+ghost use Rattle.kk_counted.specs.InstancePositions.{positions_in, fields_in};
 ghost use Rattle.kk_counted.specs.TokenEmissions.{counted_of, tokens_of};
 ghost use Rattle.kk_counted.specs.TokenEmitting.{HasSpare, IsTokenedFunctionOf};
 ghost use Rattle.kk_counted.specs.Drafts.{IsOnly, HasFields};

@@ -12,7 +12,7 @@ use Rattle.elf_image.specs.Fields.{headers_of, is_load, loads_of, entry_of, tabl
 use Rattle.elf_image.specs.Parts.{end_of, greatest_end, share_address, are_apart, are_in_reach, are_filled, is_executable_at, is_entry}
 use Rattle.elf_image.specs.Loaded.{part_of, parts_of, is_inside, has_headers, has_segments, greatest_file, reason_of, IsLoaded}
 use Rattle.elf_image.specs.Reading.{extent_of, IsFileHeader, HasLoads, HasSegments}
-use Rattle.elf_image.proofs.Gathered.{list_any-map}
+use Rattle.elf_image.proofs.SegmentLists.{list_any-map}
 
 -- ---- the program headers
 

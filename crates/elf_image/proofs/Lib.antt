@@ -1,4 +1,4 @@
 pub mod Conditions
 mod Examples
-pub mod Gathered
-pub mod Written
+pub mod SegmentLists
+pub mod ProgramFile

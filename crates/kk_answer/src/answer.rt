@@ -1,8 +1,9 @@
 ghost use Rattle.std.specs.Prelude.{◌≡◌};
 ghost use Rattle.kk_front.specs.Judgement.{wants_memory};
 ghost use Rattle.kk_answer.specs.Answer.{fault_status, refusal_status, run_status, halt_status, status_of};
+ghost use Rattle.kk_answer.specs.Ending.{EndsWith};
 
-use kk_base::{LexError, NameError, ParseError, Refusal, Status};
+use kk_base::{LexError, NameError, ParseError, Refusal, Sink, Status};
 use rv_sim::Halt;
 
 /// How a command came to its end, with all that its line tells.
@@ -140,5 +141,20 @@ fn fault_status(refusal: &Refusal) -> Status
     match refusal {
         Refusal::Over(_) => Status::Limit,
         _ => Status::Refused,
+    }
+}
+
+/// Puts the line of an answer, and gives the status that the command ends with.
+pub fn end_with<E: Sink>(answer: &Answer<'_>, err: &mut E) -> Status
+    ensures { EndsWith answer.now result (E.state err.old) (E.state err.new) }
+{
+    let is_told = match answer.line() {
+        Some(line) => line.put(err),
+        None => true,
+    };
+    if is_told {
+        answer.status()
+    } else {
+        Status::OutputFault
     }
 }

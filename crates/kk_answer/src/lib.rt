@@ -2,9 +2,7 @@
 #![tactic(auto)]
 
 mod answer;
-mod ending;
 mod line;
 
-pub use answer::{Answer, RunEnd, wants_memory};
-pub use ending::end_with;
+pub use answer::{Answer, RunEnd, end_with, wants_memory};
 pub use line::put_summary;

@@ -6,14 +6,14 @@ use Rattle.cell_heap.specs.Cells.{Cell, no_cell, free, token, counted, occurs}
 use Rattle.cell_heap.specs.Counts.{total}
 use Rattle.cell_heap.specs.FreeCells.{ListsFree}
 use Rattle.cell_heap.specs.Pool.{Pool, IsCell, places}
-use Rattle.cell_heap.proofs.Counted.{cells_from-member, length-cells_from, length-total}
+use Rattle.cell_heap.proofs.DistinctCells.{cells_from-member, length-cells_from, length-total}
 use Rattle.cell_heap.proofs.FreeCells.{free_list-lists}
 use Rattle.cell_heap.proofs.Frames.{shown-cell, free-some}
 use Rattle.cell_heap.proofs.Sums.{occurs-cells, occurs-first, occurs-later}
 use Rattle.rv_isa.specs.FreeCells.{free_list, free_cells}
 use Rattle.rv_isa.specs.Processor.{Processor}
 use Rattle.rv_cells.specs.Meaning.{AreFree}
-use Rattle.rv_place.specs.Running.{HasCells}
+use Rattle.rv_place.specs.ProcessorStates.{HasCells}
 use Rattle.kk_back.specs.FreeCells.{AreAllFree}
 
 -- a sum of ones

@@ -1,7 +1,7 @@
-pub mod Placeable
-pub mod Plain
-pub mod Looping
-pub mod Assembling
+pub mod FrameSizes
+pub mod PlainCode
+pub mod RotatedCode
+pub mod ImageLayers
 pub mod FreeCells
 pub mod OwnAddresses
-pub mod Imaging
+pub mod ImageMeaning

@@ -15,7 +15,7 @@ use Rattle.kk_counted.specs.CountedStates.{CountedSetting, CountedJoin, running,
 use Rattle.kk_counted.specs.Keeping.{counted_after}
 use Rattle.kk_counted.specs.TokenCosts.{HasRoom}
 use Rattle.kk_counted.specs.TokenedCodes.{TokenedProgram}
-use Rattle.cell_runtime.specs.declared.start.TheConstants.{TEXT_WORDS}
+use Rattle.cell_runtime.specs.declared.process.TheConstants.{TEXT_WORDS}
 use Rattle.elf_image.specs.Parts.{memory_of}
 use Rattle.elf_image.specs.declared.part.Part.{Part}
 use Rattle.rv_cells.specs.FormLines.{HaveOwnLines, ComesToItsLines, FollowsEachState}

@@ -3,7 +3,7 @@ use Rattle.std.specs.Prelude.{◌≡◌, ◌≢◌, ℕ, ◌+◌, ◌*◌, ◌%�
 use Rattle.kk_base.specs.Agreements.{Agree}
 use Rattle.kk_base.specs.Machines.{state, trace}
 use Rattle.cell_heap.specs.Pool.{Pool}
-use Rattle.cell_runtime.specs.declared.start.TheConstants.{TEXT_WORDS}
+use Rattle.cell_runtime.specs.declared.process.TheConstants.{TEXT_WORDS}
 use Rattle.elf_image.specs.Parts.{memory_of}
 use Rattle.elf_image.specs.Program.{IsProgramImage}
 use Rattle.elf_image.specs.declared.part.Part.{Part}
@@ -17,7 +17,7 @@ use Rattle.rv_isa.specs.Processor.{Processor, Ending, can_fetch, start, goes}
 use Rattle.rv_isa.specs.ProcessorMachine.{processor_machine}
 use Rattle.rv_isa.specs.WellFormed.{AreWellFormed}
 use Rattle.rv_place.specs.Images.{EndsWithCells, outside_lines}
-use Rattle.rv_place.specs.Running.{HasCells}
+use Rattle.rv_place.specs.ProcessorStates.{HasCells}
 use Rattle.rv_place.specs.Texts.{most_functions}
 use Rattle.rv_world.specs.Operations.{Constants, all_bytes}
 use Rattle.rv_world.specs.World.{World, first_world, primitives}

@@ -21,11 +21,11 @@ use Rattle.kk_counted.specs.TokenedCodes.{TokenedFunction, TokenedProgram}
 use Rattle.kk_counted.specs.declared.shape.Shape.{Shape}
 use Rattle.cell_heap.specs.Blocks.{Cells}
 use Rattle.cell_heap.specs.Pool.{Pool}
-use Rattle.cell_runtime.specs.declared.start.TheConstants.{TEXT_WORDS}
+use Rattle.cell_runtime.specs.declared.process.TheConstants.{TEXT_WORDS}
 use Rattle.elf_image.specs.Parts.{memory_of}
 use Rattle.elf_image.specs.declared.part.Part.{Part}
 use Rattle.rv_cells.specs.Fitting.{IsFit}
-use Rattle.rv_cells.specs.Follows.{Owner, Follows}
+use Rattle.rv_cells.specs.CountedCells.{Owner, Follows}
 use Rattle.rv_cells.specs.Layout.{Layout, IsNarrow}
 use Rattle.rv_cells.specs.Tables.{table_of, layout_in}
 use Rattle.rv_cells.specs.TokenedMeaning.{roomy_outside}
@@ -34,7 +34,7 @@ use Rattle.rv_isa.specs.FreeTouches.{TouchesNoFreeCell}
 use Rattle.rv_isa.specs.Processor.{Processor, Ending, exited, Progress, can_fetch, start, goes}
 use Rattle.rv_isa.specs.ProcessorMachine.{ended, processor_machine}
 use Rattle.rv_place.specs.Images.{outside_lines}
-use Rattle.rv_place.specs.Running.{HasCells}
+use Rattle.rv_place.specs.ProcessorStates.{HasCells}
 use Rattle.rv_place.specs.Texts.{most_functions}
 use Rattle.kk_back.specs.FreeCells.{AreAllFree}
 

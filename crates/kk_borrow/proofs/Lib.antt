@@ -1,10 +1,10 @@
 pub mod Blocks
-pub mod Kept
-pub mod Passed
-pub mod Placed
+pub mod RuleClosure
+pub mod TailCallRules
+pub mod PlaceRules
 pub mod Readings
 pub mod Rows
 pub mod Scopes
 pub mod Search
 pub mod Steps
-pub mod Waiting
+pub mod WaitLists

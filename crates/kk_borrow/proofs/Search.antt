@@ -9,9 +9,9 @@ use Rattle.kk_syntax.specs.OwnedSearch.{each_lent}
 use Rattle.kk_borrow.specs.Rules.{RuleTree, Keeps}
 use Rattle.kk_borrow.specs.Demands.{rules_from}
 use Rattle.kk_borrow.specs.Standings.{WaitingTable, waiting_at, none_waiting, InProgram, Agrees, Follows}
-use Rattle.kk_borrow.proofs.Kept.{closed_same}
+use Rattle.kk_borrow.proofs.RuleClosure.{closed_same}
 use Rattle.kk_syntax.proofs.PositionTables.{start_told, start_within, owned_in_program}
-use Rattle.kk_borrow.proofs.Waiting.{none_at}
+use Rattle.kk_borrow.proofs.WaitLists.{none_at}
 
 pub record Searches (program : ProgramTree) (table : PositionTable) (waiting : WaitingTable) (queue : List RuleTree) : Type 0 where
   pub told : Told program table

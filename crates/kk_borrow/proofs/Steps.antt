@@ -17,7 +17,7 @@ use Rattle.kk_borrow.specs.Standings.{WaitingTable, ownerships, waitings, waitin
 use Rattle.kk_syntax.proofs.Lists.{all_left, all_right}
 use Rattle.kk_borrow.proofs.Rows.{waits_in_rows, waits_in_row}
 use Rattle.kk_syntax.proofs.PositionTables.{owned_told, lent_told, told_row, grown_told, grown_within, grown_more, grown_has}
-use Rattle.kk_borrow.proofs.Waiting.{at_same, at_other, less_lent}
+use Rattle.kk_borrow.proofs.WaitLists.{at_same, at_other, less_lent}
 
 abbrev rule : List Position → Position → RuleTree
 rule premises conclusion = record { premises = premises; conclusion = conclusion }

@@ -1,12 +1,12 @@
-pub mod Alike
-pub mod Building
+pub mod MachineEquivalence
+pub mod FileAgreement
 pub mod Endings
 pub mod FileSteps
 pub mod LentNames
-pub mod Loading
+pub mod FileRuns
 pub mod Nodes
 pub mod Numbers
-pub mod Runnable
+pub mod ImageConditions
 pub mod Runs
-pub mod Weighed
+pub mod StepWeights
 pub mod WithoutLimits

@@ -7,8 +7,8 @@ use Rattle.kk_syntax.specs.Programs.{FunctionTree, ProgramTree, no_function}
 use Rattle.kk_syntax.specs.Shapes.{nodes_of, greatest_of, greatest_nodes}
 use Rattle.kk_syntax.specs.Typing.{Choice}
 use Rattle.kk_mono.specs.Instances.{InstanceTree, main_instance, origin_in, IsInstanceProgram}
-use Rattle.kk_mono.proofs.Copied.{nodes_renamed}
-use Rattle.kk_norm.proofs.FormByForm.{tree_some}
+use Rattle.kk_mono.proofs.BodyCopies.{nodes_renamed}
+use Rattle.kk_norm.proofs.FormInduction.{tree_some}
 
 -- no body of a list has more nodes than its greatest
 within_greatest : (functions : List FunctionTree) (n : ℕ) (function : FunctionTree) → slice_get functions n ≡ Some function

@@ -11,7 +11,7 @@ use Rattle.rv_isa.specs.Processor.{exited}
 use Rattle.kk_back.specs.FreeCells.{AreAllFree}
 use Rattle.kk_build.specs.ImageAfter.{file_after}
 use Rattle.rv_isa.specs.FreeTouches.{TouchesNoFreeCell}
-use Rattle.cell_runtime.specs.declared.start.TheConstants.{TEXT_WORDS}
+use Rattle.cell_runtime.specs.declared.process.TheConstants.{TEXT_WORDS}
 use Rattle.elf_image.specs.Fields.{entry_of}
 
 -- The image in a file agrees with a program on an input: it never traps, and exits with these numbers alone; each trace of one is a

@@ -1,4 +1,4 @@
 mod Examples
 mod Numbers
 mod Rules
-mod TakenLines
+mod LineCommands

@@ -3,7 +3,6 @@
 
 mod application;
 mod command;
-mod number;
 mod words;
 
 pub use command::{Command, Generation, RunOptions, Sizes};

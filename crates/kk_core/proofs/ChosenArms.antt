@@ -12,12 +12,12 @@ use Rattle.kk_source.specs.State.{Value, Store, Environment}
 use Rattle.kk_source.specs.Matching.{matched}
 use Rattle.kk_source.specs.ValueTypes.{Content, HasContent, IsContentOf, IsOf}
 use Rattle.kk_source.proofs.Matching.{outline_in, outline_typed, clashes}
-use Rattle.kk_core.specs.Choosing.{matches, first_row}
+use Rattle.kk_core.specs.RowChoice.{matches, first_row}
 use Rattle.kk_core.specs.Codes.{Code, give, tail_call, case, compute, use_of, unpack, inside, Arms, no_arm, arm, patterns_of}
 use Rattle.kk_core.specs.CoreMachine.{arm_at}
 use Rattle.kk_core.specs.CoreTyping.{Facts, knowing, HasCodeType, AreArmsTyped}
 use Rattle.kk_core.specs.Sizes.{Ordered, OrderedArms}
-use Rattle.kk_core.proofs.Stands.{Takes, matches_takes, rise_le}
+use Rattle.kk_core.proofs.VariableFacts.{Takes, matches_takes, rise_le}
 
 -- a code binds variables from one number on, below another one that is no smaller
 mutual

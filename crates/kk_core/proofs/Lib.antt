@@ -1,12 +1,12 @@
-mod Asking
+mod CodeDemands
 mod ChosenArms
 mod Examples
-pub mod FewParts
-mod Safe
+pub mod PartBounds
+mod TypeSafety
 mod SafeRuns
 mod SafeSteps
-mod Stands
-pub mod TakenKinds
+mod VariableFacts
+pub mod ValueKinds
 pub mod Truths
 mod TypedExamples
 mod TypedStates

@@ -4,13 +4,13 @@ use Rattle.std.proofs.lemmas.Option.{get_or_from_slice_get}
 use Rattle.kk_base.specs.Machines.{state}
 use Rattle.kk_syntax.specs.GroundTyping.{Table}
 use Rattle.kk_syntax.specs.Types.{unit_type}
-use Rattle.kk_source.proofs.Kept.{run_keeps}
+use Rattle.kk_source.proofs.RunInvariants.{run_keeps}
 use Rattle.kk_core.specs.Codes.{FunctionCode}
 use Rattle.kk_core.specs.CoreMachine.{core_step_of, core_ending_of, core_machine}
 use Rattle.kk_core.specs.CoreStates.{CoreSetting, running, CoreState, no_code, core_start, core_first_state}
 use Rattle.kk_core.specs.CoreTyping.{IsCoreTyped}
 use Rattle.kk_core.specs.NeverStuck.{NeverStuck}
-use Rattle.kk_core.proofs.Safe.{code_there, state_fits}
+use Rattle.kk_core.proofs.TypeSafety.{code_there, state_fits}
 use Rattle.kk_core.proofs.SafeSteps.{entered, step_safe}
 use Rattle.kk_core.proofs.TypedStates.{IsStateTyped}
 

@@ -13,7 +13,7 @@ use Rattle.kk_source.specs.Matching.{and_then}
 use Rattle.kk_source.specs.State.{Value, unit, place, Store, Environment, heap_full, stack_full}
 use Rattle.kk_source.specs.Step.{bind_parameters, lent_places}
 use Rattle.kk_source.specs.ValueTypes.{IsOf, AreOf}
-use Rattle.kk_source.proofs.Kept.{LeadsTo, print_leads}
+use Rattle.kk_source.proofs.RunInvariants.{LeadsTo, print_leads}
 use Rattle.kk_source.proofs.Operators.{byte_typed, EffectTyped, effect_typed}
 use Rattle.kk_source.proofs.Values.{get_behind, all_longer, construct_of, of_unit}
 use Rattle.kk_core.specs.Codes.{Code, give, tail_call, case, compute, use_of, unpack, inside, FunctionCode}
@@ -22,8 +22,8 @@ use Rattle.kk_core.specs.CoreStates.{CoreSetting, Join, CallFrame, CoreControl, 
 use Rattle.kk_core.specs.CoreTyping.{Facts, typing, typing_parameters, knowing, knowing_fields, HasCodeType, IsCodeTyped, IsCoreTyped}
 use Rattle.kk_core.specs.Sizes.{below, Ordered}
 use Rattle.kk_core.proofs.ChosenArms.{ordered_le}
-use Rattle.kk_core.proofs.Safe.{code_there, value_typed, values_typed, taken, opened_cell}
-use Rattle.kk_core.proofs.Stands.{Stand, unchanged, of_type, stand_none, stand_move, stand_bound, stand_known, parameters_stand, fields_stand, rise_le, same_bound, same_fields, stand_longer}
+use Rattle.kk_core.proofs.TypeSafety.{code_there, value_typed, values_typed, taken, opened_cell}
+use Rattle.kk_core.proofs.VariableFacts.{Stand, unchanged, of_type, stand_none, stand_move, stand_bound, stand_known, parameters_stand, fields_stand, rise_le, same_bound, same_fields, stand_longer}
 use Rattle.kk_core.proofs.TypedStates.{JoinsWait, FrameWaits, FramesWait, Runs, ControlTyped, IsStateTyped, joins_move, joins_longer, frames_longer}
 
 module _ (table : Table) where

@@ -14,7 +14,7 @@ use Rattle.kk_source.specs.FormEffects.{truth}
 use Rattle.kk_source.specs.Matching.{and_then}
 use Rattle.kk_source.specs.State.{Value, integer, unit, constant, place, Cell, Store}
 use Rattle.kk_core.specs.Cases.{IsLean}
-use Rattle.kk_core.specs.Choosing.{first_row, Decides}
+use Rattle.kk_core.specs.RowChoice.{first_row, Decides}
 use Rattle.kk_core.specs.Decisions.{NodeTree, chooses, tests, found_at, is_answer, next_by, chosen, targets, row_chosen, AreOrderly}
 use Rattle.kk_core.specs.declared.decisions.Answer.{Answer}
 use Rattle.kk_core.specs.declared.decisions.Answer.TheVariants.{Constructor}

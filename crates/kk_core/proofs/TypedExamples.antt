@@ -14,7 +14,7 @@ use Rattle.kk_syntax.specs.Types.{TypeTree, int32, unit_type, named, no_type}
 use Rattle.kk_syntax.specs.Typing.{bool}
 use Rattle.kk_source.specs.State.{Value, integer, unit, constant, place, Cell, Store}
 use Rattle.kk_core.specs.declared.decisions.Answer.TheVariants.{Constructor}
-use Rattle.kk_core.specs.Choosing.{first_row, Decides}
+use Rattle.kk_core.specs.RowChoice.{first_row, Decides}
 use Rattle.kk_core.specs.Codes.{give, case, compute, unpack, no_arm, arm, FunctionCode, ProgramCode}
 use Rattle.kk_core.specs.CoreStates.{running, CoreConfiguration}
 use Rattle.kk_core.specs.CoreTyping.{IsCodeTyped, IsCoreTyped}

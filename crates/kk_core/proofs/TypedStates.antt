@@ -7,7 +7,7 @@ use Rattle.kk_core.specs.Codes.{Code}
 use Rattle.kk_core.specs.CoreStates.{Join, CallFrame, CoreControl, running, stopped, CoreConfiguration}
 use Rattle.kk_core.specs.CoreTyping.{Facts, typing, HasCodeType}
 use Rattle.kk_core.specs.Sizes.{Ordered}
-use Rattle.kk_core.proofs.Stands.{Stand, SameBelow, stand_move, stand_longer}
+use Rattle.kk_core.proofs.VariableFacts.{Stand, SameBelow, stand_move, stand_longer}
 
 module _ (table : Table) where
   -- A join waits for a value of type t, where the variables that are read are below `low`, and those that the code inside binds

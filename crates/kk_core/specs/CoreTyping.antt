@@ -8,7 +8,7 @@ use Rattle.kk_syntax.specs.Outlines.{outline_of}
 use Rattle.kk_syntax.specs.Patterns.{Pattern, anything, constructor, Patterns, part}
 use Rattle.kk_syntax.specs.GroundTyping.{Signature}
 use Rattle.kk_syntax.specs.Types.{TypeTree, unit_type}
-use Rattle.kk_core.specs.Choosing.{Decides}
+use Rattle.kk_core.specs.RowChoice.{Decides}
 use Rattle.kk_core.specs.Codes.{Code, give, tail_call, case, compute, use_of, unpack, inside, Arms, patterns_of, arm, no_arm, FunctionCode, ProgramCode}
 use Rattle.kk_core.specs.CaseLengths.{all_cases_length, most_cases_length}
 use Rattle.kk_core.specs.Sizes.{forms, IsOrdered, most_parameters, most_variables, most_forms, most_instances, most_program_forms}

@@ -1,7 +1,7 @@
 pub mod CaseLengths
 pub mod Cases
 pub mod CellTypes
-pub mod Choosing
+pub mod RowChoice
 pub mod Codes
 pub mod ConstructorShapes
 pub mod CoreMachine

@@ -6,7 +6,7 @@ use Rattle.kk_counted.specs.Heaps.{Heap, count_at, set_count, more, dup_value, d
 use Rattle.kk_counted.specs.CountedMachine.{opened_heap}
 use Rattle.kk_counted.specs.Spending.{total, AreEven}
 use Rattle.kk_counted.specs.Cost.{turns_taken, drop_turns, saved, turns_if, opening_turns}
-use Rattle.kk_counted.proofs.Counting.{kept_weight, freed_weight}
+use Rattle.kk_counted.proofs.CountChanges.{kept_weight, freed_weight}
 
 some_is : (heap after : Heap) → Some heap ≡ Some after → heap ≡ after
 some_is heap after same = ap (λ (o : Option Heap). elim o [ None ↦ heap | Some h ↦ h ]) same

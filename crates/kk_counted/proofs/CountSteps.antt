@@ -6,7 +6,7 @@ use Rattle.std.specs.Fmt.{signed_decimal}
 use Rattle.kk_base.specs.Machines.{step_unless, state}
 use Rattle.kk_core.specs.CoreMachine.{bind_fields}
 use Rattle.kk_core.specs.Decisions.{chosen}
-use Rattle.kk_counted.proofs.Easing.{EasedTo, eased_same, eased_dup, eased_drop, eased_opening, eased_unique, fewer_busy}
+use Rattle.kk_counted.proofs.HeapChanges.{EasedTo, eased_same, eased_dup, eased_drop, eased_opening, eased_unique, fewer_busy}
 use Rattle.kk_counted.proofs.SoundRuns.{performed_kept}
 use Rattle.kk_counted.proofs.SoundSteps.{LeadsTo}
 use Rattle.kk_counted.specs.CountBounds.{SpendsAtMost, SpendAtMost, AllSpendAtMost, JoinsSpend, RestSpends, FramesSpend, ControlSpends, IsBounded}

@@ -4,7 +4,7 @@ use Rattle.std.proofs.lemmas.List.{map-append}
 use Rattle.kk_core.specs.Decisions.{node_tree}
 use Rattle.kk_core.specs.declared.decisions.Edge.{Edge}
 use Rattle.kk_core.specs.declared.decisions.Node.{Node}
-use Rattle.kk_counted.proofs.Listing.{next_one}
+use Rattle.kk_counted.proofs.PlaceLists.{next_one}
 use Rattle.kk_counted.specs.Int32.{IsAnswerInt32, AreEdgesInt32, IsNodeInt32, AreNodesInt32}
 
 edges_more : (edges : List Edge) (edge : Edge) → AreEdgesInt32 edges → IsAnswerInt32 edge.found

@@ -5,7 +5,7 @@ use Rattle.kk_syntax.specs.Shapes.{is_among}
 use Rattle.kk_counted.specs.Spending.{total, AreEven, AreFresh, AreApart, numbers_from}
 use Rattle.kk_counted.specs.Drafts.{minus, minus_all, HasAll}
 use Rattle.kk_counted.specs.Emitting.{AreLow}
-use Rattle.kk_counted.proofs.Counting.{same}
+use Rattle.kk_counted.proofs.CountChanges.{same}
 use Rattle.kk_counted.proofs.Variables.{among_cases}
 
 -- ---- sums

@@ -5,8 +5,8 @@ use Rattle.kk_source.specs.State.{Value, Cell}
 use Rattle.kk_source.specs.Sound.{AllWithin}
 use Rattle.kk_counted.specs.Heaps.{Heap, count_at, fields_held}
 use Rattle.kk_counted.specs.References.{refs, fields_if, counted_fields, IsSound, AreOlder, cells_of, spread, counted}
-use Rattle.kk_counted.proofs.Counting.{same, itself, refs_append, count_top, count_below}
-use Rattle.kk_counted.proofs.Reaching.{within_none, none_beyond, built_older, HasOlder, older_below, older_first, no_field, cells_length}
+use Rattle.kk_counted.proofs.CountChanges.{same, itself, refs_append, count_top, count_below}
+use Rattle.kk_counted.proofs.Reachability.{within_none, none_beyond, built_older, HasOlder, older_below, older_first, no_field, cells_length}
 
 pub counted_cells : (outside : ℕ → ℕ) (cells : List Cell) → cells_of (counted outside cells) ≡ cells
 counted_cells outside [] = refl

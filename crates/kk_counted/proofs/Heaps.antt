@@ -5,7 +5,7 @@ use Rattle.kk_source.specs.Matching.{and_then}
 use Rattle.kk_counted.specs.Heaps.{Heap, count_at, set_count, more, dup_value, dup_all, fields_held, weight, give_up, drop_value, drop_all}
 use Rattle.kk_counted.specs.CountedMachine.{opened_heap, unique_heap}
 use Rattle.kk_counted.specs.References.{refs_of, refs, counted_fields, Counts, IsCounted, cells_of}
-use Rattle.kk_counted.proofs.Counting.{same, itself, refs_append, set_cells, count_set, count_other, kept_fields, freed_fields, kept_weight, freed_weight}
+use Rattle.kk_counted.proofs.CountChanges.{same, itself, refs_append, set_cells, count_set, count_other, kept_fields, freed_fields, kept_weight, freed_weight}
 
 -- a heap has become one of the same cells, whose counts are right over other references from outside
 pub record Became (before : Heap) (result : Option Heap) (outside : ℕ → ℕ) : Type 0 where

@@ -17,9 +17,9 @@ use Rattle.kk_counted.specs.TokenKeeping.{IsJudged, AreKept, AreKeptBy, Lists, L
 use Rattle.kk_counted.specs.TokenRuns.{AllLead, is_quiet}
 use Rattle.kk_counted.specs.KeptFields.{LeavesKnown}
 use Rattle.kk_counted.proofs.TokenSteps.{follows}
-use Rattle.kk_counted.proofs.Unseen.{unseen}
+use Rattle.kk_counted.proofs.TokenOnlyForms.{unseen}
 use Rattle.kk_counted.proofs.TokenRuns.{led_kept, weaker, judged_at_start, main_spends}
-use Rattle.kk_counted.proofs.PlacedRuns.{pooled_at}
+use Rattle.kk_counted.proofs.PoolRuns.{pooled_at}
 use Rattle.kk_counted.proofs.KnownSteps.{IsKnownIn, AreThere, step_known, fills_known}
 
 -- each function leaves only what is known, at whose start nothing is

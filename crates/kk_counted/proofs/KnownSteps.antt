@@ -22,12 +22,12 @@ use Rattle.kk_counted.specs.TokenMachine.{at_code, bound_to, token_at_end, token
 use Rattle.kk_counted.specs.TokenRuns.{AllLead}
 use Rattle.kk_counted.specs.TokenKeeping.{FillsAt}
 use Rattle.kk_counted.specs.KeptFields.{KnownFields, forget_slot, forget_variable, forget_variables, known_opened, LeavesKnown, LeaveKnown}
-use Rattle.kk_counted.proofs.Counting.{fields_below, counted_within}
-use Rattle.kk_counted.proofs.Reaching.{cells_length}
-use Rattle.kk_counted.proofs.Easing.{Eased, EasedTo, eased_dup, eased_drop, eased_opening, eased_unique}
-use Rattle.kk_counted.proofs.Pooling.{Which, this, other, which, slot_at, slot_there, slot_here, no_token as is_none}
+use Rattle.kk_counted.proofs.CountChanges.{fields_below, counted_within}
+use Rattle.kk_counted.proofs.Reachability.{cells_length}
+use Rattle.kk_counted.proofs.HeapChanges.{Eased, EasedTo, eased_dup, eased_drop, eased_opening, eased_unique}
+use Rattle.kk_counted.proofs.SlotMarks.{Which, this, other, which, slot_at, slot_there, slot_here, no_token as is_none}
 use Rattle.kk_counted.proofs.SoundSteps.{NamedCell, OnNamed, named_cell}
-use Rattle.kk_counted.proofs.Knowing.{AreTrue, carried, bound_true, fields_true, forgotten, opened_true, known_fills}
+use Rattle.kk_counted.proofs.FieldKnowledge.{AreTrue, carried, bound_true, fields_true, forgotten, opened_true, known_fills}
 
 -- ---- states
 

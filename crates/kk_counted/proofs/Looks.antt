@@ -9,9 +9,9 @@ use Rattle.kk_core.specs.declared.decisions.Edge.{Edge}
 use Rattle.kk_core.specs.Decisions.{NodeTree, chooses, tests, fields_shown, value_at, answer_of, found_at, next_by, row_at, chosen_from, chosen}
 use Rattle.kk_counted.specs.Heaps.{Held, Heap, forwards, count_at, cell_at, fields_held}
 use Rattle.kk_counted.specs.References.{refs_of, refs, Counts, IsCounted}
-use Rattle.kk_counted.proofs.Counting.{same, itself, count_top, count_below}
+use Rattle.kk_counted.proofs.CountChanges.{same, itself, count_top, count_below}
 use Rattle.kk_counted.proofs.Heaps.{positive, value_counted, fields_counted}
-use Rattle.kk_counted.proofs.Reaching.{forwards_length, store_fields}
+use Rattle.kk_counted.proofs.Reachability.{forwards_length, store_fields}
 
 -- ---- a counted cell is that of the store
 

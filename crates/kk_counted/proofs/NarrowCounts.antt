@@ -7,7 +7,7 @@ use Rattle.kk_base.specs.Sizes.{greatest_cells, greatest_depth}
 use Rattle.kk_syntax.specs.PositionsOf.{PositionTable}
 use Rattle.kk_source.specs.State.{Environment}
 use Rattle.kk_counted.proofs.CountSteps.{always_bounded}
-use Rattle.kk_counted.proofs.Marking.{always_fit}
+use Rattle.kk_counted.proofs.MarkPreservation.{always_fit}
 use Rattle.kk_counted.proofs.OwnedBounds.{count_few}
 use Rattle.kk_counted.proofs.SoundRuns.{keeps_sound}
 use Rattle.kk_counted.specs.CountBounds.{AllSpendAtMost}

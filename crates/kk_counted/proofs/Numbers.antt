@@ -28,7 +28,7 @@ use Rattle.kk_counted.specs.CountedStates.{CountedSetting, CountedJoin, CountedF
 use Rattle.kk_counted.specs.Heaps.{Heap, held_at, count_at, set_count, busy, dup_value, drop_value, fields_if_held, fields_held}
 use Rattle.kk_counted.specs.Int32.{IsInt32, AreInt32, IsFormInt32, HasInt32, HaveInt32, AllHaveInt32, AreBindingsInt32, IsHeapInt32, AreJoinsInt32, IsRunInt32, AreFramesInt32, IsControlInt32, IsStateInt32}
 use Rattle.kk_counted.specs.Keeping.{counted_after}
-use Rattle.kk_counted.proofs.Recounting.{OnHeap, dup_keeps, drop_keeps, opened_keeps, unique_keeps}
+use Rattle.kk_counted.proofs.CountIndependence.{OnHeap, dup_keeps, drop_keeps, opened_keeps, unique_keeps}
 use Rattle.kk_counted.proofs.SoundSteps.{OnNamed, NamedCell, named_cell}
 
 -- ---- numbers

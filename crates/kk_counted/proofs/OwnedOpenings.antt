@@ -7,9 +7,9 @@ use Rattle.kk_source.specs.Matching.{and_then}
 use Rattle.kk_counted.specs.Heaps.{Heap, count_at, set_count, fields_held, weight, more, dup_value, dup_all, drop_value, give_up}
 use Rattle.kk_counted.specs.CountedMachine.{opened_heap, unique_heap}
 use Rattle.kk_counted.specs.References.{refs_of, refs, counted_fields, IsSound}
-use Rattle.kk_counted.proofs.Counting.{same, refs_append, count_set, count_other, kept_fields, freed_fields}
+use Rattle.kk_counted.proofs.CountChanges.{same, refs_append, count_set, count_other, kept_fields, freed_fields}
 use Rattle.kk_counted.proofs.Heaps.{ref_here, ref_other, with_place}
-use Rattle.kk_counted.proofs.Reaching.{within_none}
+use Rattle.kk_counted.proofs.Reachability.{within_none}
 use Rattle.kk_counted.proofs.SoundRuns.{openings_are_one}
 
 heap_is : {heap next : Heap} → Some heap ≡ Some next → heap ≡ next

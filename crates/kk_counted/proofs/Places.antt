@@ -7,9 +7,9 @@ use Rattle.kk_source.specs.Sound.{AllWithin}
 use Rattle.kk_source.proofs.Live.{among_within, live_reached, reached_live}
 use Rattle.kk_counted.specs.Heaps.{Held, Heap, forwards, count_at, fields_held, one_if_counted, busy}
 use Rattle.kk_counted.specs.References.{refs, fields_if, counted_fields, IsSound}
-use Rattle.kk_counted.proofs.Counting.{itself, refs_append, count_top, count_below, fields_top, fields_below, counted_within}
+use Rattle.kk_counted.proofs.CountChanges.{itself, refs_append, count_top, count_below, fields_top, fields_below, counted_within}
 use Rattle.kk_counted.proofs.Heaps.{positive}
-use Rattle.kk_counted.proofs.Reaching.{one_among, store_fields, forwards_length, reached_field, reached_counted, beside}
+use Rattle.kk_counted.proofs.Reachability.{one_among, store_fields, forwards_length, reached_field, reached_counted, beside}
 
 -- a cell is owned by a field of a counted one
 abbrev IsField : Heap → ℕ → Type 0

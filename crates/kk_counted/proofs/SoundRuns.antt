@@ -13,10 +13,10 @@ use Rattle.kk_counted.specs.CountedMachine.{counted_step_of, counted_step, count
 use Rattle.kk_counted.specs.References.{refs_of, refs, Counts, IsSound, cells_of, counted}
 use Rattle.kk_counted.specs.Spending.{AreEven, left_by, IsSpent}
 use Rattle.kk_counted.specs.Keeping.{values_of, HasNoCell, FitsAt, Waits, Own, IsRunning, IsKeptAt, IsKept}
-use Rattle.kk_counted.proofs.Counting.{refs_append}
+use Rattle.kk_counted.proofs.CountChanges.{refs_append}
 use Rattle.kk_counted.proofs.Heaps.{Became, with_place, with_fields, opened, opened_by_count}
 use Rattle.kk_counted.proofs.Variables.{even_refs}
-use Rattle.kk_counted.proofs.Reaching.{HasOlder, older_same, counted_is, none_counted}
+use Rattle.kk_counted.proofs.Reachability.{HasOlder, older_same, counted_is, none_counted}
 use Rattle.kk_counted.proofs.SoundSteps.{LeadsTo, entered, step_kept}
 
 pub performed_kept : (P : CountedConfiguration → Type 0) (action : Action CountedConfiguration) (input : List ℕ) → LeadsTo P action → P (performed action input).1.machine

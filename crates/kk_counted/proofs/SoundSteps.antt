@@ -29,10 +29,10 @@ use Rattle.kk_counted.specs.CountedMachine.{at_counted, bound_then, at_end, at_s
 use Rattle.kk_counted.specs.References.{refs_of, refs, counted_fields, Counts, IsSound, IsCounted, cells_of}
 use Rattle.kk_counted.specs.Spending.{AreEven, AllAmong, AreFresh, AreApart, at_positions, numbers_from, left_by, is_owned, used_by, lent_by, FitsForm, Spends, SpendsAll, IsSpent}
 use Rattle.kk_counted.specs.Keeping.{values_of, HaveNoCells, TakesNoCells, FitsAt, AreReached, Waits, Own, IsRunning, IsKeptAt, IsKept}
-use Rattle.kk_counted.proofs.Counting.{same, refs_append, counted_within}
+use Rattle.kk_counted.proofs.CountChanges.{same, refs_append, counted_within}
 use Rattle.kk_counted.proofs.Heaps.{Became, positive, ref_here, value_counted, fields_counted, dupped, dropped, with_place, with_fields, opened, opened_by_count}
 use Rattle.kk_counted.proofs.Variables.{among_cases, even_refs, refs_of_both, among_refs, among_values, among_others, value_new, value_old, values_fresh, other_variable, fields_fresh, field_past, field_or_old, field_is_one, used_refs, fields_part, values_at, parameters_owned, parameter_among}
-use Rattle.kk_counted.proofs.Reaching.{one_among, all_within, same_store, store_fields, same_fields, reached_widen, reached_field, reached_longer, reached_counted, built, built_older}
+use Rattle.kk_counted.proofs.Reachability.{one_among, all_within, same_store, store_fields, same_fields, reached_widen, reached_field, reached_longer, reached_counted, built, built_older}
 
 abbrev pub LeadsTo : (CountedConfiguration → Type 0) → Action CountedConfiguration → Type 0
 LeadsTo P (goes to) = P to

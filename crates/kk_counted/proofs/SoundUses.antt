@@ -14,7 +14,7 @@ use Rattle.kk_counted.specs.CountedMachine.{counted_machine}
 use Rattle.kk_counted.specs.References.{refs, IsCounted}
 use Rattle.kk_counted.specs.Spending.{AreFresh, IsSpent}
 use Rattle.kk_counted.specs.Keeping.{values_of, FitsAt, FitsAlways, counted_after, uses, Own, IsRunning, IsKeptAt, IsKept}
-use Rattle.kk_counted.proofs.Counting.{same, itself}
+use Rattle.kk_counted.proofs.CountChanges.{same, itself}
 use Rattle.kk_counted.proofs.Looks.{chosen_same}
 use Rattle.kk_counted.proofs.SoundSteps.{usable}
 use Rattle.kk_counted.proofs.SoundRuns.{keeps_sound}

@@ -11,10 +11,10 @@ use Rattle.kk_counted.specs.TokenStates.{TokenSetting, TokenJoin, TokenControl, 
 use Rattle.kk_counted.specs.TokenMachine.{at_code, to_tokens, token_code_step}
 use Rattle.kk_counted.specs.TokenSpending.{SpendsTokens}
 use Rattle.kk_counted.specs.TokenKeeping.{links_of, chain_of, WaitTokens, IsJudged, Lists, ListsAfter, AreKeptByAt}
-use Rattle.kk_counted.proofs.Pooling.{mark_here, released_room, by_null, by_cell}
-use Rattle.kk_counted.proofs.Counting.{itself}
-use Rattle.kk_counted.proofs.Chaining.{frames_many, not_linked}
-use Rattle.kk_counted.proofs.Requesting.{pooled_chain}
+use Rattle.kk_counted.proofs.SlotMarks.{mark_here, released_room, by_null, by_cell}
+use Rattle.kk_counted.proofs.CountChanges.{itself}
+use Rattle.kk_counted.proofs.TokenChain.{frames_many, not_linked}
+use Rattle.kk_counted.proofs.CellRequests.{pooled_chain}
 use Rattle.kk_counted.proofs.TokenForms.{AreNow, Has, is_null, has_cell, unspent_has, nulled_now, spent_null_now, spent_now, gained_now}
 use Rattle.kk_counted.proofs.TokenSteps.{lists_of, judged_now, now_of}
 

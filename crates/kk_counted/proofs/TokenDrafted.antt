@@ -13,7 +13,7 @@ use Rattle.kk_counted.specs.TokenDrafts.{EndedArm, TokenSplit, TokenDraft, token
 use Rattle.kk_counted.specs.TokenDrafts.{tokens_entered_in, tokens_entered_by, tokened_end, more_ended, tokens_ended_in}
 use Rattle.kk_counted.specs.TokenDrafts.{tokens_joined, tokens_joined_in, tokens_resumed}
 use Rattle.kk_counted.specs.Works.{items_of, back_to_front}
-use Rattle.kk_counted.proofs.Drafted.{back_more}
+use Rattle.kk_counted.proofs.DraftChanges.{back_more}
 
 -- drafts with equal parts are equal, and so are branches
 pub same_tokens : (t : TokenDraft) (m m' : List TokenedMove) (s s' : List ℕ) (f f' : List TokenSplit) (e e' : Option Tokened)

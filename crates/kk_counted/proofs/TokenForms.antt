@@ -6,12 +6,12 @@ use Rattle.kk_counted.specs.Heaps.{Held, Heap, count_at, busy}
 use Rattle.kk_counted.specs.Tokens.{Slot, spent, null, token, is_unspent, is_token, Mark, plain, token_of, Tokens, marked, slots_with, marks_with, blanked, released, gained, opened_tokens, held}
 use Rattle.kk_counted.specs.TokenStates.{TokenFrame}
 use Rattle.kk_counted.specs.TokenKeeping.{ArePooled, AreTokens, AreUnspent, AreHeldFrames}
-use Rattle.kk_counted.proofs.Counting.{same, itself, counted_within}
+use Rattle.kk_counted.proofs.CountChanges.{same, itself, counted_within}
 use Rattle.kk_counted.proofs.Heaps.{positive}
-use Rattle.kk_counted.proofs.Easing.{Eased, freed_busy}
-use Rattle.kk_counted.proofs.Pooling.{slot_at, slot_there, pooled_eased, pooled_blanked, pooled_released, pooled_gained, pooled_made}
-use Rattle.kk_counted.proofs.Chaining.{EqualBelow, equal_one, chain_same, frames_same, equal_unspent}
-use Rattle.kk_counted.proofs.Requesting.{IsServed}
+use Rattle.kk_counted.proofs.HeapChanges.{Eased, freed_busy}
+use Rattle.kk_counted.proofs.SlotMarks.{slot_at, slot_there, pooled_eased, pooled_blanked, pooled_released, pooled_gained, pooled_made}
+use Rattle.kk_counted.proofs.TokenChain.{EqualBelow, equal_one, chain_same, frames_same, equal_unspent}
+use Rattle.kk_counted.proofs.CellRequests.{IsServed}
 
 -- ---- members
 

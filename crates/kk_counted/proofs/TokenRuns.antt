@@ -20,7 +20,7 @@ use Rattle.kk_counted.specs.TokenMachine.{at_code, token_code_step, token_machin
 use Rattle.kk_counted.specs.TokenSpending.{SpendsTokens, AreTokensSpent}
 use Rattle.kk_counted.specs.TokenKeeping.{AreKeptAt, AreKept, Lists, IsJudged, ListsAfter, AreKeptByAt, AreKeptBy, FillsAt, FillsAlways, token_after}
 use Rattle.kk_counted.specs.TokenRuns.{bare_action, AllLead, IsFollowed, is_quiet, bare_weight, IsSameRun}
-use Rattle.kk_counted.proofs.Pooling.{plain_is_none}
+use Rattle.kk_counted.proofs.SlotMarks.{plain_is_none}
 use Rattle.kk_counted.proofs.TokenSteps.{follows}
 use Rattle.kk_counted.proofs.StillForms.{IsStill, free_still, null_still, move_still, hold_still, unhold_still, there_still, absent_still}
 

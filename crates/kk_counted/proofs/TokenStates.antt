@@ -4,7 +4,7 @@ use Rattle.kk_base.specs.Machines.{state}
 use Rattle.kk_source.specs.Actions.{Action, goes, puts, takes, builds, calls, performed}
 use Rattle.kk_counted.proofs.TokenRuns.{same_run, function_at}
 use Rattle.kk_counted.proofs.TokenSteps.{follows}
-use Rattle.kk_counted.proofs.Unseen.{unseen}
+use Rattle.kk_counted.proofs.TokenOnlyForms.{unseen}
 use Rattle.kk_counted.specs.CountedMachine.{NotStuck, counted_machine}
 use Rattle.kk_counted.specs.CountedStates.{CountedControl, CountedConfiguration, CountedState, counted_first_state}
 use Rattle.kk_counted.specs.CountedCodes.{CountedFunction}

@@ -27,11 +27,11 @@ use Rattle.kk_counted.specs.TokenMachine.{at_code, bound_to, token_at_end, token
 use Rattle.kk_counted.specs.TokenSpending.{AreSame, AtForm, SpendsTokens, SpendAllTokens, AreTokensSpent}
 use Rattle.kk_counted.specs.TokenRuns.{is_quiet, IsFollowed}
 use Rattle.kk_counted.specs.TokenKeeping.{AreTokens, WaitTokens, IsHeldFrame, IsJudged, Lists, ListsAfter, ListsAfterForm, AreKeptBy, FillsAt}
-use Rattle.kk_counted.proofs.Counting.{same}
-use Rattle.kk_counted.proofs.Easing.{EasedTo, eased_dup, eased_drop, eased_opening, eased_unique}
-use Rattle.kk_counted.proofs.Pooling.{released_room, by_null, by_cell}
-use Rattle.kk_counted.proofs.Chaining.{frames_many}
-use Rattle.kk_counted.proofs.Requesting.{Asked, full, served, asked}
+use Rattle.kk_counted.proofs.CountChanges.{same}
+use Rattle.kk_counted.proofs.HeapChanges.{EasedTo, eased_dup, eased_drop, eased_opening, eased_unique}
+use Rattle.kk_counted.proofs.SlotMarks.{released_room, by_null, by_cell}
+use Rattle.kk_counted.proofs.TokenChain.{frames_many}
+use Rattle.kk_counted.proofs.CellRequests.{Asked, full, served, asked}
 use Rattle.kk_counted.proofs.TokenForms.{AreNow, Has, is_null, has_cell, unspent_has, not_unspent, spent_null_now, spent_now, eased_now, opened_now, made_now, served_now}
 use Rattle.kk_counted.proofs.SoundSteps.{with_variable, NamedCell, OnNamed, named_cell}
 

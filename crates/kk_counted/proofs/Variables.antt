@@ -10,7 +10,7 @@ use Rattle.kk_counted.specs.CountedMachine.{used_values, other_values}
 use Rattle.kk_counted.specs.References.{refs_of, refs}
 use Rattle.kk_counted.specs.Spending.{total, AreEven, AllAmong, AreFresh, AreApart, at_positions, numbers_from}
 use Rattle.kk_counted.specs.Keeping.{values_of}
-use Rattle.kk_counted.proofs.Counting.{same, itself}
+use Rattle.kk_counted.proofs.CountChanges.{same, itself}
 
 -- ---- tests
 

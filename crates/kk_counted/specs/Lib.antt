@@ -24,7 +24,7 @@ pub mod Marks
 pub mod NumberedPool
 pub mod Programs
 pub mod References
-pub mod Shaping
+pub mod InstancePositions
 pub mod Spending
 pub mod TokenCosts
 pub mod TokenDrafts

@@ -1,7 +1,7 @@
 ghost use Rattle.std.specs.Prelude.{◌≡◌, ◌<◌, ℕ, List, ◌∷◌, ◌++◌, [], map, length, slice_index_or, OnOk, OnErr};
 ghost use Rattle.kk_counted.specs.CountedForms.{plug, step_move, block_code, last_code};
 ghost use Rattle.kk_counted.specs.Programs.{IsFunctionOf, AreFunctions, program_of};
-ghost use Rattle.kk_counted.specs.Shaping.{positions_in};
+ghost use Rattle.kk_counted.specs.InstancePositions.{positions_in};
 ghost use Rattle.kk_counted.specs.Spending.{IsSpent};
 
 use crate::form::{Block, Last, Step};

@@ -1,6 +1,6 @@
 ghost use Rattle.std.specs.Prelude.{◌≡◌, ◌+◌, ◌<◌, ◌∷◌, ◌++◌, [], false, true, length, slice_index_or, IfOk, IfErr, OnOk, OnErr};
 ghost use Rattle.kk_counted.specs.Drafts.{begun, fallen, given, duplicated, dropped, unpacked, looked, fields_given, computed, Writes, Awaits, Reaches, IsLentTo, IsAtHand, Owns, OwnsAll, HoldsAll, HasConstructor, HasField, HasFields, IsPlain, Takes, used_in, LendsAll};
-ghost use Rattle.kk_counted.specs.Shaping.{positions_in, fields_in};
+ghost use Rattle.kk_counted.specs.InstancePositions.{positions_in, fields_in};
 ghost use Rattle.kk_counted.specs.Emissions.{state};
 
 use crate::debts::{Debts, Held, Kept, Owed};
@@ -30,7 +30,7 @@ impl<'a> Model for Emitter<'a> {
 
     ghost coded = { emission_code };
 
-    ghost use Rattle.kk_counted.specs.Shaping.{positions_in, fields_in};
+    ghost use Rattle.kk_counted.specs.InstancePositions.{positions_in, fields_in};
     ghost use Rattle.kk_counted.specs.Emissions.{state};
     ghost use Rattle.kk_counted.specs.Emitting.{Works};
 

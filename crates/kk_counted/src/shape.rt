@@ -1,5 +1,5 @@
 ghost use Rattle.std.specs.Prelude.{◌≡◌};
-ghost use Rattle.kk_counted.specs.Shaping.{AreConsistent};
+ghost use Rattle.kk_counted.specs.InstancePositions.{AreConsistent};
 
 use kk_core::ConstructorShape;
 use kk_syntax::Ownership;

@@ -4,7 +4,7 @@ ghost use Rattle.kk_counted.specs.TokenedCodes.{Tokened};
 ghost use Rattle.kk_counted.specs.TokenedForms.{TokenedMove, tokened_move, tokened_code, plug_tokened};
 ghost use Rattle.kk_counted.specs.Spending.{numbers_from};
 ghost use Rattle.kk_counted.specs.Drafts.{begun, fallen, given, duplicated, dropped, unpacked, looked, fields_given, computed, chosen_of, Writes, Awaits, Reaches, IsLentTo, IsAtHand, Owns, OwnsAll, HoldsAll, HasConstructor, HasField, HasFields, IsPlain, IsOnly, Takes, EndsByCall, used_in, LendsAll};
-ghost use Rattle.kk_counted.specs.Shaping.{positions_in, fields_in};
+ghost use Rattle.kk_counted.specs.InstancePositions.{positions_in, fields_in};
 ghost use Rattle.kk_counted.specs.TokenDrafts.{no_tokens, adds, gains, spends, next_slot, under_holds, opens_with, reads_with, fills_with, kept_by, tokens_finished};
 ghost use Rattle.kk_counted.specs.TokenEmissions.{counted_of, tokens_of};
 ghost use Rattle.kk_counted.specs.TokenEmitting.{HasKnown, HasSpare, HasNoSpare, IsTokenedFunctionOf, fields_at};

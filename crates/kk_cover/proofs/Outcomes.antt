@@ -18,12 +18,12 @@ use Rattle.kk_cover.specs.Matches.{IsFirstMissed, Miss, IsFirstMiss, CoversAs, m
 use Rattle.kk_cover.specs.Narrowing.{anys, opened, top}
 use Rattle.kk_cover.specs.Problems.{OpenProblem, built, child, children, has_blank, first_asked, owner, LacksNumber, StepsTo, Settles}
 use Rattle.kk_cover.specs.TypedRows.{AreOfChosenType}
-use Rattle.kk_cover.proofs.Answering.{one_typed, one_misses}
-use Rattle.kk_cover.proofs.Deciding.{Leads, Closed, settles_leads, settles_closed}
-use Rattle.kk_cover.proofs.Fewer.{left, left_next}
-use Rattle.kk_cover.proofs.Keeping.{each-append, each_front, each_back}
-use Rattle.kk_cover.proofs.Knowing.{knows}
-use Rattle.kk_cover.proofs.Searching.{first_problem, first_leads, wildcards}
+use Rattle.kk_cover.proofs.MatchRows.{one_typed, one_misses}
+use Rattle.kk_cover.proofs.SearchSoundness.{Leads, Closed, settles_leads, settles_closed}
+use Rattle.kk_cover.proofs.SearchTermination.{left, left_next}
+use Rattle.kk_cover.proofs.KeptRows.{each-append, each_front, each_back}
+use Rattle.kk_cover.proofs.ConstructorDeclarations.{knows}
+use Rattle.kk_cover.proofs.CoverSearches.{first_problem, first_leads, wildcards}
 use Rattle.kk_cover.proofs.TypedRows.{function_rows}
 
 -- ---- a problem with rows is settled by some others

@@ -7,8 +7,8 @@ use Rattle.kk_syntax.specs.OfType.{Values, ArePatternsOf}
 use Rattle.kk_cover.specs.Narrowing.{IsMissedIn, IsCoveredIn, join, front, back}
 use Rattle.kk_cover.specs.Problems.{OpenProblem}
 use Rattle.kk_cover.specs.Turned.{rotated, leading, first_leading, turned}
-use Rattle.kk_cover.proofs.Joining.{typed_join, typed_front, typed_back, clash_split, clash_left, clash_right}
-use Rattle.kk_cover.proofs.Deciding.{Leads, Closed}
+use Rattle.kk_cover.proofs.PatternLists.{typed_join, typed_front, typed_back, clash_split, clash_left, clash_right}
+use Rattle.kk_cover.proofs.SearchSoundness.{Leads, Closed}
 
 each_map : {X Y : Type 0} (f : X → Y) (P : Y → Type 0) (Q : X → Type 0) → ((x : X) → Q x → P (f x)) → (xs : List X) → Each Q xs → Each P (map f xs)
 each_map f P Q h [] a = tt

@@ -6,8 +6,8 @@ use Rattle.kk_syntax.specs.Outlines.{Outline, any, exactly, made, Outlines, no_o
 use Rattle.kk_syntax.specs.OfType.{Values, ArePatternsOf}
 use Rattle.kk_cover.specs.Narrowing.{join, anys, front, back, narrow, open_row}
 use Rattle.kk_cover.specs.Problems.{asks_for, asked, LacksNumber}
-use Rattle.kk_cover.proofs.Joining.{typed_join, typed_anys, any_clash, anys_clash, clash_split, clash_left, clash_right}
-use Rattle.kk_cover.proofs.Keeping.{IfKept, if_so_from, if_so_to}
+use Rattle.kk_cover.proofs.PatternLists.{typed_join, typed_anys, any_clash, anys_clash, clash_split, clash_left, clash_right}
+use Rattle.kk_cover.proofs.KeptRows.{IfKept, if_so_from, if_so_to}
 
 -- a constructor has its fields' types once
 same_fields : {T : Type 0} (values : Values T) (t : T) (c d : ℕ) (us vs : List T) (qs : Outlines) → values.fields t c ≡ Some us → values.fields t d ≡ Some vs → d ≡ c → ArePatternsOf values vs qs → ArePatternsOf values us qs

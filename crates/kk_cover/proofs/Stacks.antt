@@ -7,7 +7,7 @@ use Rattle.kk_syntax.specs.declared.program.Pat.{Pat}
 use Rattle.kk_syntax.specs.Outlines.{Outline, Outlines, no_outline, outline, HasSmallNumbers, HaveSmallNumbers, outline_list, pattern_outline}
 use Rattle.kk_cover.specs.Narrowing.{join, front, back, top}
 use Rattle.kk_cover.specs.Problems.{problem_view, plug, built, stacked_on, stacked}
-use Rattle.kk_cover.proofs.Deciding.{built-append}
+use Rattle.kk_cover.proofs.SearchSoundness.{built-append}
 use Rattle.kk_cover.proofs.Slots.{outlines-append}
 
 stacked_on-append : (ps : List Outline) (p : Outline) (es : Outlines) → stacked_on (ps ++ (p ∷ [])) es ≡ outline p (stacked_on ps es)

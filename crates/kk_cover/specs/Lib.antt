@@ -2,6 +2,6 @@ pub mod Covered
 pub mod Matches
 pub mod Narrowing
 pub mod Problems
-pub mod Spelled
+pub mod ExampleSpelling
 pub mod Turned
 pub mod TypedRows

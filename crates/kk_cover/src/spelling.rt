@@ -2,7 +2,7 @@ ghost use Rattle.std.specs.Prelude.{◌≡◌, ◌++◌, IfOk, OnOk, map};
 ghost use Rattle.std.specs.Fmt.{signed_decimal};
 ghost use Rattle.kk_syntax.specs.Programs.{program_tree};
 ghost use Rattle.kk_syntax.specs.Outlines.{outline_list, pattern_outline};
-ghost use Rattle.kk_cover.specs.Spelled.{constructor_name, spelled, spelled_parts};
+ghost use Rattle.kk_cover.specs.ExampleSpelling.{constructor_name, spelled, spelled_parts};
 
 use kk_base::{NoMemory, Text};
 use kk_syntax::{Pat, Program};

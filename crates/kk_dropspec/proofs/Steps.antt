@@ -17,7 +17,7 @@ use Rattle.kk_counted.specs.CountedStates.{CountedSetting, CountedJoin, CountedF
 use Rattle.kk_counted.specs.CountedMachine.{at_counted, bound_then, at_end, with_heap, arm_at, case_step, give_step, in_code, tail_step, Named, cell_named, used_values, other_values, opened_heap, unique_heap, open_step, construct_step, call_step, counted_code_step}
 use Rattle.kk_counted.specs.References.{refs_of, refs}
 use Rattle.kk_counted.specs.Keeping.{values_of, IsRunning}
-use Rattle.kk_counted.proofs.Counting.{refs_append}
+use Rattle.kk_counted.proofs.CountChanges.{refs_append}
 use Rattle.kk_counted.proofs.Variables.{even_refs, fields_part}
 use Rattle.kk_counted.proofs.SoundSteps.{moved, NamedCell, OnNamed, named_cell}
 use Rattle.kk_counted.proofs.SoundRuns.{openings_are_alike}

@@ -16,7 +16,8 @@ use Rattle.kk_answer.specs.declared.answer.RunEnd.TheVariants as OfRun
 use Rattle.kk_eval.specs.Evaluations.{end_for, is_input_end, is_output_end, HasCome, TakesNext, PrintsNext, StopsAt, RunsSource, RunsOutOfMemory}
 use Rattle.kk_source.specs.Settings.{IsRun}
 use Rattle.kk_syntax.specs.Programs.{ProgramTree}
-use Rattle.kk_eval.specs.Evaluating.{with_input, StepsTo, AsksAt, PutsAt, Outcome, asks_input, asks_output, HasEvaluated, HasRun}
+use Rattle.kk_eval.specs.EvaluationStates.{with_input, StepsTo, AsksAt, PutsAt, Outcome, asks_input, asks_output, HasEvaluated}
+use Rattle.kk_eval.specs.EvaluationStates.{HasRun}
 
 same_end : (end : Option End) → option_map (λ (e : End). e) end ≡ end
 same_end None = refl

@@ -1,2 +1,2 @@
-mod Evaluating
+mod EvaluationSteps
 pub mod Evaluations

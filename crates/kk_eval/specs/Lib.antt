@@ -1,2 +1,2 @@
-pub mod Evaluating
+pub mod EvaluationStates
 pub mod Evaluations

@@ -5,7 +5,7 @@ ghost use Rattle.kk_meaning.specs.Machines.{setting_of, configuration_of};
 ghost use Rattle.kk_meaning.specs.Turns.{TakesByte};
 ghost use Rattle.kk_source.specs.State.{end_at};
 ghost use Rattle.kk_source.specs.Step.{step_of};
-ghost use Rattle.kk_eval.specs.Evaluating.{HasEvaluated, HasTurned, HasPrinted, HasRead, asks_input, asks_output, outcome_of};
+ghost use Rattle.kk_eval.specs.EvaluationStates.{HasEvaluated, HasTurned, HasPrinted, HasRead, asks_input, asks_output, outcome_of};
 
 use kk_answer::RunEnd;
 use kk_base::{Next, NoMemory, Put, Sink, Source};

@@ -1,5 +1,5 @@
-pub mod Accepting
+pub mod AcceptedPrograms
 pub mod Bounds
 pub mod Chains
-pub mod Checking
-pub mod Judging
+pub mod CheckedPrograms
+pub mod TextJudgements

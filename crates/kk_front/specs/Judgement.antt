@@ -15,7 +15,7 @@ use Rattle.kk_layout.specs.Layouts.{laid_out_list}
 use Rattle.kk_parser.specs.Parses.{ParsesAs}
 use Rattle.kk_names.specs.Names.{ResolvesAs}
 use Rattle.kk_cover.specs.Matches.{Miss, CoversAs}
-use Rattle.kk_cover.specs.Spelled.{spelled}
+use Rattle.kk_cover.specs.ExampleSpelling.{spelled}
 use Rattle.kk_mono.specs.Counts.{CountsAs}
 use Rattle.kk_mono.specs.Declarations.{DeclarationsAs}
 use Rattle.kk_front.specs.Chain.{Then, ToldAs, Checking}

@@ -9,7 +9,7 @@ ghost use Rattle.kk_syntax.specs.Typing.{ArePrincipal, TypesAs};
 ghost use Rattle.kk_syntax.specs.TypedPrograms.{typings_of};
 ghost use Rattle.kk_syntax.specs.Matches.{IsFunctionCovered};
 ghost use Rattle.kk_names.specs.Names.{ResolvesAs};
-ghost use Rattle.kk_cover.specs.Spelled.{spelled};
+ghost use Rattle.kk_cover.specs.ExampleSpelling.{spelled};
 ghost use Rattle.kk_mono.specs.Grounds.{AreGiven};
 ghost use Rattle.kk_front.specs.Judgement.{ChecksTypes, ChecksCover, ChecksProgram, RefusesProgram, wants_memory};
 ghost use Rattle.kk_front.specs.Outcome.{IsOutcome};

@@ -20,7 +20,7 @@ use Rattle.kk_counted.proofs.FormViews.{block_is, case_code}
 use Rattle.kk_dropspec.specs.Numbers.{IsMoveInt32, AreMovesInt32}
 use Rattle.kk_fuse.specs.Fused.{is_plain, without_drop, fused_dup, fuse, fuse_arms, fused_function}
 use Rattle.kk_fuse.specs.FusedForms.{backwards, drops_it, lets_past, moves_without, put_fused, fused_move, fused_moves}
-use Rattle.kk_fuse.proofs.Searching.{backwards_both, backwards_one, backwards_none}
+use Rattle.kk_fuse.proofs.DropSearch.{backwards_both, backwards_one, backwards_none}
 
 -- ---- steps in their order
 

@@ -3,7 +3,7 @@ use Rattle.std.proofs.Common.{◌≡◌, ◌≤◌, ℕ, suc, List, [], ◌∷�
 use Rattle.kk_counted.specs.CountedCodes.{Counted, give, tail_call, case, compute, inside, read, open_cell, if_unique, dup, drop, CountedArms, no_arm, arm, CountedFunction}
 use Rattle.kk_counted.specs.Lengths.{code_length, arms_length, functions_length, computes, arms_computes, all_computes, forms_in, arms_forms, all_forms_in, AreShort}
 use Rattle.kk_fuse.specs.Fused.{without_drop, fuse, fuse_arms, fused_function}
-use Rattle.kk_fuse.proofs.Without.{by_without, by_fused}
+use Rattle.kk_fuse.proofs.DropRemoval.{by_without, by_fused}
 
 -- the code without a drop is no longer
 less_length : (x : ℕ) (code less : Counted) → without_drop x code ≡ Some less → code_length less ≤ code_length code

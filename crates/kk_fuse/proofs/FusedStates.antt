@@ -18,15 +18,15 @@ use Rattle.kk_counted.specs.CountedMachine.{counted_machine, NotStuck}
 use Rattle.kk_counted.specs.Spending.{IsSpent}
 use Rattle.kk_counted.specs.Keeping.{FitsAt, IsThere, CallsOne, HasShape, counted_after, FitsAlways, HasShapeAlways}
 use Rattle.kk_counted.specs.Kinds.{HasKinds, HasKindsAlways}
-use Rattle.kk_counted.proofs.Reaching.{same_store}
-use Rattle.kk_counted.proofs.SoundGoing.{never_stuck}
+use Rattle.kk_counted.proofs.Reachability.{same_store}
+use Rattle.kk_counted.proofs.Progress.{never_stuck}
 use Rattle.kk_fuse.specs.Fused.{fuse, fused_function, fused_setting}
 use Rattle.kk_fuse.specs.FusedRuns.{steps_in, HasFewSteps, fused_join, IsAtForm, IsBetween, AreAtOne, AreFusedStates, IsSameTest, IsFusedRun}
 use Rattle.kk_fuse.proofs.Steps.{fused_configuration, arm_same}
-use Rattle.kk_fuse.proofs.Few.{start_few}
-use Rattle.kk_fuse.proofs.Simulating.{one_step}
-use Rattle.kk_fuse.proofs.Following.{Related, Passing, simulates}
-use Rattle.kk_fuse.proofs.Told.{IsTold, told_alike}
+use Rattle.kk_fuse.proofs.FormBounds.{start_few}
+use Rattle.kk_fuse.proofs.Simulation.{one_step}
+use Rattle.kk_fuse.proofs.FusedRuns.{Related, Passing, simulates}
+use Rattle.kk_fuse.proofs.FusedNotes.{IsTold, told_alike}
 
 -- ---- by the form at which the code is
 

@@ -1,20 +1,20 @@
 pub mod Examples
-pub mod Without
-pub mod Spends
-pub mod Lowered
+pub mod DropRemoval
+pub mod Spending
+pub mod Lowerability
 pub mod FusedLengths
-mod Opens
-mod Pairless
-pub mod Searching
+mod Openings
+mod NoPairs
+pub mod DropSearch
 pub mod Forms
 pub mod Strips
-pub mod Seen
+pub mod HeapEffects
 pub mod Steps
-pub mod Pending
-pub mod Between
-pub mod Few
-pub mod Simulating
-pub mod Following
-pub mod Told
+pub mod PendingDups
+pub mod PendingSteps
+pub mod FormBounds
+pub mod Simulation
+pub mod FusedRuns
+pub mod FusedNotes
 pub mod FusedStates
-pub mod Short
+pub mod FormLimits

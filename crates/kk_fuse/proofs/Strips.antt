@@ -7,7 +7,7 @@ use Rattle.kk_source.specs.Matching.{and_then}
 use Rattle.kk_counted.specs.CountedCodes.{Counted, compute, read, dup, drop}
 use Rattle.kk_counted.specs.Drafts.{minus}
 use Rattle.kk_counted.specs.Spending.{AreEven}
-use Rattle.kk_counted.proofs.Counting.{same, itself}
+use Rattle.kk_counted.proofs.CountChanges.{same, itself}
 use Rattle.kk_counted.proofs.Variables.{among_cases}
 use Rattle.kk_counted.proofs.Evenness.{minus_even, even_among, total_append}
 use Rattle.kk_fuse.specs.Fused.{is_plain, without_drop}

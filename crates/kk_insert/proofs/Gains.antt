@@ -18,7 +18,7 @@ use Rattle.kk_counted.specs.CountBounds.{gains, gains_in}
 use Rattle.kk_counted.specs.Spending.{at_positions, numbers_from, is_owned}
 use Rattle.kk_insert.specs.Insertion.{dups, drops, dropping, common, used, lends, owns, wants, back, opening, lent_of, own, insert, insert_arms, inserted_function}
 use Rattle.kk_insert.proofs.Lengths.{wants_few}
-use Rattle.kk_insert.proofs.Typed.{same_length}
+use Rattle.kk_insert.proofs.TypedPrograms.{same_length}
 
 -- ---- arguments
 

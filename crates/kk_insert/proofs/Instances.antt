@@ -13,7 +13,7 @@ use Rattle.kk_counted.specs.declared.counted.CountedFun.{CountedFun}
 use Rattle.kk_counted.specs.Emitting.{HaveParameters}
 use Rattle.kk_counted.specs.Programs.{function_of, IsFunctionOf}
 use Rattle.kk_counted.specs.Spending.{at_positions, numbers_from, is_owned, HasAsMany, SpendsParameters}
-use Rattle.kk_counted.proofs.Listing.{next_one}
+use Rattle.kk_counted.proofs.PlaceLists.{next_one}
 use Rattle.kk_insert.specs.Insertion.{dropping, lent_in, own, insert, inserted_function, inserted_functions}
 use Rattle.kk_insert.specs.Promise.{TakesAsMany, IsFunctionInsertable, HasRows}
 use Rattle.kk_insert.proofs.Programs.{function_spent}

@@ -10,7 +10,7 @@ use Rattle.kk_counted.proofs.ListLengths.{total_ones, filter_length}
 use Rattle.kk_counted.specs.Spending.{AreEven, AreApart}
 use Rattle.kk_counted.specs.Keeping.{values_of}
 use Rattle.kk_insert.specs.Insertion.{before, extra, common, wants}
-use Rattle.kk_insert.proofs.Fine.{AreBelow}
+use Rattle.kk_insert.proofs.VariableBindings.{AreBelow}
 use Rattle.kk_insert.proofs.Sets.{no_both, Part, among_first, filter_in, without_clear, apart_filter, total_append, total_one}
 
 -- even lists are as long

@@ -8,13 +8,13 @@ use Rattle.kk_core.specs.Sizes.{below}
 use Rattle.kk_core.specs.declared.form.Core.{Core}
 use Rattle.kk_counted.specs.Marks.{parameter_marks, result_mark, HaveMarks, IsMarked, AreMarked}
 use Rattle.kk_counted.specs.Spending.{at_positions, numbers_from, is_owned}
-use Rattle.kk_insert.proofs.Fine.{IsFine, ordered_fine}
-use Rattle.kk_insert.proofs.Marked.{CoreMark, dropping_marked, insert_marked, bound_more}
-use Rattle.kk_insert.proofs.Owned.{part_at}
+use Rattle.kk_insert.proofs.VariableBindings.{IsFine, ordered_fine}
+use Rattle.kk_insert.proofs.CodeMarks.{CoreMark, dropping_marked, insert_marked, bound_more}
+use Rattle.kk_insert.proofs.OwnedVariables.{part_at}
 use Rattle.kk_insert.proofs.Programs.{at_numbers, numbers_at, below_less, inserted_there, from_there}
 use Rattle.kk_insert.proofs.Sets.{Part}
 use Rattle.kk_insert.proofs.TypeMarks.{of_some, mapped_at, cells, parameter_marks_are, result_mark_is}
-use Rattle.kk_insert.proofs.Typed.{signature_there, function_there}
+use Rattle.kk_insert.proofs.TypedPrograms.{signature_there, function_there}
 use Rattle.kk_insert.proofs.TypedMarks.{split, split_low, split_high, parameters_fit, parameters_have, Choice, choose}
 use Rattle.kk_insert.specs.Insertion.{lent_of, own, insert, inserted_function, inserted}
 use Rattle.kk_insert.specs.MarkTables.{marks_of_types, marks_of_core, AreGround}

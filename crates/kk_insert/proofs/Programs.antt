@@ -8,13 +8,13 @@ use Rattle.kk_core.specs.Codes.{FunctionCode, ProgramCode}
 use Rattle.kk_core.specs.Sizes.{below}
 use Rattle.kk_counted.specs.CountedCodes.{CountedFunction}
 use Rattle.kk_counted.specs.Spending.{AreApart, at_positions, numbers_from, is_owned, HasAsMany, SpendsParameters, IsSpent}
-use Rattle.kk_counted.proofs.Counting.{same, itself}
+use Rattle.kk_counted.proofs.CountChanges.{same, itself}
 use Rattle.kk_insert.specs.Insertion.{lent_of, own, insert, inserted_function, inserted_functions, inserted}
 use Rattle.kk_insert.specs.Promise.{TakesAsMany, IsFunctionInsertable, IsInsertable}
 use Rattle.kk_insert.proofs.Sets.{or_cases, or_left, no_both, false_if, is_not, equal_tests, among_next}
-use Rattle.kk_insert.proofs.Fine.{IsFine, lent_before, ordered_fine}
-use Rattle.kk_insert.proofs.Owned.{own_part, own_clear, own_apart}
-use Rattle.kk_insert.proofs.Spent.{spends, spends_dropping}
+use Rattle.kk_insert.proofs.VariableBindings.{IsFine, lent_before, ordered_fine}
+use Rattle.kk_insert.proofs.OwnedVariables.{own_part, own_clear, own_apart}
+use Rattle.kk_insert.proofs.Spending.{spends, spends_dropping}
 
 -- ---- parameters
 

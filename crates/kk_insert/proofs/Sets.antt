@@ -3,7 +3,7 @@ use Rattle.std.proofs.Common.{◌≡◌, ◌⊎◌, inl, inr, ℕ, ◌+◌, ◌=
 use Rattle.std.specs.Prelude.{if◌then◌else◌, filter}
 use Rattle.kk_syntax.specs.Shapes.{is_among, without}
 use Rattle.kk_counted.specs.Spending.{total, AllAmong, AreFresh, AreApart}
-use Rattle.kk_counted.proofs.Counting.{same, itself}
+use Rattle.kk_counted.proofs.CountChanges.{same, itself}
 use Rattle.kk_insert.specs.Insertion.{add, before, extra, common}
 
 -- ---- tests

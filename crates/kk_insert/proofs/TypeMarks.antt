@@ -3,10 +3,10 @@ use Rattle.std.proofs.Common.{◌≡◌, ℕ, zero, suc, ◌==◌, ◌||◌, Boo
 use Rattle.std.specs.List.{list_any}
 use Rattle.std.specs.Prelude.{if◌then◌else◌, slice_get, slice_index_or}
 use Rattle.kk_core.specs.CellTypes.{has_any, makes_cells, has_cells, made_type}
-use Rattle.kk_counted.proofs.Counting.{same}
+use Rattle.kk_counted.proofs.CountChanges.{same}
 use Rattle.kk_counted.specs.Marks.{parameter_marks, result_mark, field_marks, made_mark, HaveMarks, AreUnmarked, IsFormMarked}
 use Rattle.kk_insert.specs.MarkTables.{marks_of_types, AreGround}
-use Rattle.kk_syntax.proofs.SameTypes.{all_same_only}
+use Rattle.kk_syntax.proofs.TypeEquality.{all_same_only}
 use Rattle.kk_syntax.specs.GroundTyping.{Table, IsFormTyped, HasTruths}
 use Rattle.kk_syntax.specs.OfType.{field_types, fields_of, fields_with, same_types}
 use Rattle.kk_syntax.specs.GroundTyping.{Signature}

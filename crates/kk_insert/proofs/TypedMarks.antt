@@ -4,11 +4,11 @@ use Rattle.std.specs.Prelude.{if◌then◌else◌, nat_le, slice_get}
 use Rattle.kk_core.specs.Codes.{Code, give, tail_call, case, compute, use_of, unpack, inside, Arms, no_arm, arm}
 use Rattle.kk_core.specs.CoreTyping.{Fact, Facts, fact_in, knowing, typing, typing_parameters, knowing_fields, HaveTypes, HasCodeType, AreArmsTyped}
 use Rattle.kk_core.specs.Sizes.{Rise, Ordered, OrderedArms}
-use Rattle.kk_counted.proofs.Counting.{same, itself}
+use Rattle.kk_counted.proofs.CountChanges.{same, itself}
 use Rattle.kk_counted.specs.Marks.{HaveMarks}
 use Rattle.kk_counted.specs.Spending.{numbers_from}
-use Rattle.kk_insert.proofs.Fine.{ordered_high, arms_high, rise_high}
-use Rattle.kk_insert.proofs.Marked.{CoreMark, ArmsMark}
+use Rattle.kk_insert.proofs.VariableBindings.{ordered_high, arms_high, rise_high}
+use Rattle.kk_insert.proofs.CodeMarks.{CoreMark, ArmsMark}
 use Rattle.kk_insert.proofs.TypeMarks.{cells, has_some, form_marked, field_marks_are, parameter_marks_are, result_mark_is}
 use Rattle.kk_insert.specs.MarkTables.{marks_of_types, AreGround}
 use Rattle.kk_syntax.specs.GroundTyping.{Table, HasTruths}

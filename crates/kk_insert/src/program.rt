@@ -3,7 +3,7 @@ ghost use Rattle.kk_syntax.specs.PositionsOf.{positions_of};
 ghost use Rattle.kk_core.specs.Codes.{core_code};
 ghost use Rattle.kk_counted.specs.Programs.{function_of};
 ghost use Rattle.kk_core.specs.declared.form.CoreFunction.{CoreFunction as CoreFunctionOf};
-ghost use Rattle.kk_counted.specs.Shaping.{positions_in, AreConsistent};
+ghost use Rattle.kk_counted.specs.InstancePositions.{positions_in, AreConsistent};
 ghost use Rattle.kk_counted.specs.declared.shape.InstanceShape.{InstanceShape as InstanceOf};
 ghost use Rattle.kk_insert.specs.Shapes.{cells_told, cells_in, facts_of, TellsAsMany};
 ghost use Rattle.kk_insert.specs.Insertion.{inserted};

@@ -1,6 +1,6 @@
 ghost use Rattle.std.specs.Prelude.{◌≡◌, map, length, IfOk};
 ghost use Rattle.kk_syntax.specs.PositionsOf.{positions_of};
-ghost use Rattle.kk_counted.specs.Shaping.{passed_to, positions_in};
+ghost use Rattle.kk_counted.specs.InstancePositions.{passed_to, positions_in};
 ghost use Rattle.kk_core.specs.declared.form.CoreFunction.{CoreFunction as CoreFunctionOf};
 ghost use Rattle.kk_counted.specs.declared.shape.InstanceShape.{InstanceShape as InstanceOf};
 ghost use Rattle.kk_insert.specs.Shapes.{cells_told, cells_in, facts_of, TellsAsMany};

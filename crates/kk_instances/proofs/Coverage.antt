@@ -16,7 +16,7 @@ use Rattle.kk_syntax.specs.Trees.{Rows, no_row, row, row_parts}
 use Rattle.kk_syntax.specs.Types.{TypeTree, put}
 use Rattle.kk_syntax.specs.Typing.{Choice, Scheme, Scope, constructor_scheme, IsPatternTyped, ArePatternsTyped, AreRowsTypedBy}
 use Rattle.kk_syntax.proofs.PatternTypes.{is_declared}
-use Rattle.kk_syntax.proofs.Putting.{rows_put}
+use Rattle.kk_syntax.proofs.TypeSubstitution.{rows_put}
 use Rattle.kk_mono.specs.Instances.{InstanceTree, Renaming, renamed_pattern, renamed_patterns, renamed_rows, origin_in, IsInstanceProgram}
 use Rattle.kk_instances.proofs.Grounds.{apart, back}
 

@@ -13,10 +13,10 @@ use Rattle.kk_syntax.specs.Types.{TypeTree, TypeTrees, int32, unit_type, type_va
 use Rattle.kk_syntax.specs.Typing.{bool, Choice}
 use Rattle.kk_syntax.proofs.Elements.{each_both, each_at}
 use Rattle.kk_syntax.proofs.PatternTypes.{fields_made}
-use Rattle.kk_syntax.proofs.SameTypes.{all_same_only, all_same_itself}
+use Rattle.kk_syntax.proofs.TypeEquality.{all_same_only, all_same_itself}
 use Rattle.kk_source.proofs.Operators.{constructor_there}
 use Rattle.kk_mono.specs.Instances.{InstanceTree, GroundConstructorTree, FirstSights, none_left, again, new_one, constructed_in, makers_from, makers, ground_constructors, of_same_type, AreGroundConstructors, ground_constructor, constructor_of, IsInstanceProgram}
-use Rattle.kk_mono.proofs.Sights.{only_one, sights_once}
+use Rattle.kk_mono.proofs.FirstSights.{only_one, sights_once}
 use Rattle.kk_instances.proofs.Choices.{AreApart}
 
 -- ---- lists

@@ -1,12 +1,12 @@
-pub mod Called
+pub mod InstanceCalls
 pub mod Choices
 pub mod Coverage
-pub mod Found
+pub mod InstanceFacts
 pub mod Grounds
 pub mod Images
-pub mod Instanced
+pub mod InstanceBodies
 pub mod Meaning
-pub mod Renamed
+pub mod NumberRenaming
 pub mod Runs
 pub mod Scopes
-pub mod Typed
+pub mod InstanceTyping

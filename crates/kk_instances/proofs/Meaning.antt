@@ -14,10 +14,10 @@ use Rattle.kk_source.specs.SourceAfter.{ending_of, store_machine, first_state, S
 use Rattle.kk_source.proofs.SafeRuns.{start_typed}
 use Rattle.kk_mono.specs.Instances.{InstanceTree, main_instance, Renaming, renamed, origin_in, IsInstanceProgram}
 use Rattle.kk_instances.specs.Meaning.{positions_in, setting_of, MeansTheSame}
-use Rattle.kk_instances.proofs.Found.{found_at, origin_is, function_at, instance_at, is_main, main_first}
+use Rattle.kk_instances.proofs.InstanceFacts.{found_at, origin_is, function_at, instance_at, is_main, main_first}
 use Rattle.kk_instances.proofs.Grounds.{false_first, true_second, apart}
 use Rattle.kk_instances.proofs.Runs.{state_image, same_ending, IsAlike, SameRun, same_run}
-use Rattle.kk_instances.proofs.Typed.{instances_typed}
+use Rattle.kk_instances.proofs.InstanceTyping.{instances_typed}
 
 module _ (program made : ProgramTree) (typings : List (List Choice)) (instances : List InstanceTree)
     (is : IsInstanceProgram program typings instances made) where

@@ -31,13 +31,13 @@ use Rattle.kk_source.specs.Step.{at_expression, at_value, at_end, at_new_place, 
 use Rattle.kk_source.specs.ValueTypes.{IsOf}
 use Rattle.kk_source.specs.SourceAfter.{step, ending_of, store_machine, State}
 use Rattle.kk_source.proofs.Bindings.{rows_of_type}
-use Rattle.kk_source.proofs.Kept.{performed_keeps}
-use Rattle.kk_source.proofs.Safe.{IsStateTyped, ControlTyped, FramesWait, state_fits, step_safe}
+use Rattle.kk_source.proofs.RunInvariants.{performed_keeps}
+use Rattle.kk_source.proofs.TypeSafety.{IsStateTyped, ControlTyped, FramesWait, state_fits, step_safe}
 use Rattle.kk_instances.specs.Meaning.{setting_of}
 use Rattle.kk_instances.proofs.Choices.{AreApart, choice_image, chosen_image}
 use Rattle.kk_mono.specs.Instances.{Renaming, renamed, renamed_all, renamed_rows, renamed_form}
 use Rattle.kk_instances.proofs.Images.{image, images, cell_image, store_image, environment_image, image_of_variable, image_of_variables, image_of_bound, image_of_parameters, image_of_argument, image_of_lent, live_image}
-use Rattle.kk_instances.proofs.Renamed.{same_free, same_free_all, same_free_rows}
+use Rattle.kk_instances.proofs.NumberRenaming.{same_free, same_free_all, same_free_rows}
 
 -- ---- images of states
 

@@ -16,10 +16,10 @@ use Rattle.kk_syntax.specs.Types.{TypeTree, named, type, types_of, put, put_each
 use Rattle.kk_syntax.specs.Typing.{Scope, Scheme, Choice, constructing, variables_of_type, constructor_scheme, type_in, with_parameters, with_binder, with_bound, IsPatternTyped, ArePatternsTyped}
 use Rattle.kk_syntax.proofs.Elements.{each_both}
 use Rattle.kk_syntax.proofs.PatternTypes.{variables_put, Declared, is_declared}
-use Rattle.kk_syntax.proofs.Putting.{put_at_types, put_all_at_types}
+use Rattle.kk_syntax.proofs.TypeSubstitution.{put_at_types, put_all_at_types}
 use Rattle.kk_mono.specs.Instances.{InstanceTree, GroundConstructorTree, constructed_at, tested, tested_all, Renaming, renamed_pattern, renamed_patterns, origin_in, IsInstanceProgram}
 use Rattle.kk_instances.proofs.Grounds.{fields_at}
-use Rattle.kk_instances.proofs.Renamed.{same_bound}
+use Rattle.kk_instances.proofs.NumberRenaming.{same_bound}
 
 module _ (s : ℕ → TypeTree) where
   abbrev pub Stands : Scope → Scope → Type 0

@@ -1,4 +1,4 @@
 pub mod BlockLemmas
 pub mod Examples
-pub mod Few
+pub mod TokenBounds
 pub mod LayoutLemmas

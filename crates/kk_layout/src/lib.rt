@@ -5,9 +5,7 @@
 #![tactic(auto)]
 
 mod block;
-mod copy;
 mod kind;
-mod list;
 mod state;
 
-pub use list::laid_out;
+pub use state::laid_out;

@@ -1,14 +1,14 @@
-ghost use Rattle.std.specs.Prelude.{◌≡◌, ◌≤◌, ◌++◌, replicate, vec_len, IfOk, OnOk};
-ghost use Rattle.kk_layout.specs.Layouts.{taken};
-ghost use Rattle.kk_layout.specs.Rules.{item, line_begun, first_rule, explicit_closed, second_rule, third_rule, fourth_rule, ended};
+ghost use Rattle.std.specs.Prelude.{◌≡◌, ◌≤◌, ◌++◌, replicate, vec_len, IfOk, OnOk, ◌*◌, length};
+ghost use Rattle.kk_layout.specs.Layouts.{taken, first_place, laid_out_list};
+ghost use Rattle.kk_layout.specs.Rules.{item, line_begun, first_rule, explicit_closed, second_rule, third_rule, fourth_rule};
+ghost use Rattle.kk_layout.specs.Rules.{ended};
 ghost use Rattle.kk_layout.specs.States.{start, symbol_at, without_innermost, closed, opened};
 ghost use Rattle.kk_layout.specs.Views.{state_of};
 
 use crate::block::{Block, above_explicit, closings, implicit_count, innermost_column};
-use crate::copy::copied;
 use crate::kind::{closes_block, closes_bracket, is_ender, is_starter, opens_block, opens_bracket};
 use kk_base::{NoMemory, Span};
-use kk_syntax::{LocatedToken, Symbol, Token};
+use kk_syntax::{LocatedToken, Symbol, Token, Tokens};
 use std::alloc::Global;
 
 /// How far the layout of a text has come.
@@ -190,4 +190,60 @@ fn insert(
         })?;
     }
     Ok(())
+}
+
+/// A copy of a token and its place.
+pub fn copied(alloc: Global, located: &LocatedToken) -> Result<LocatedToken, NoMemory>
+    ensures { IfOk result (λ copy. copy ≡ located.now) }
+{
+    Ok(LocatedToken {
+        token: copied_token(alloc, &located.token)?,
+        span: located.span,
+    })
+}
+
+fn copied_token(alloc: Global, token: &Token) -> Result<Token, NoMemory>
+    ensures { IfOk result (λ copy. copy ≡ token.now) }
+{
+    Ok(match token {
+        Token::Name(name) => Token::Name(name.copied(alloc)?),
+        Token::Constructor(name) => Token::Constructor(name.copied(alloc)?),
+        Token::Wildcard => Token::Wildcard,
+        Token::Number(number) => Token::Number(*number),
+        Token::String(text) => Token::String(text.copied(alloc)?),
+        Token::Keyword(keyword) => Token::Keyword(*keyword),
+        Token::Symbol(symbol) => Token::Symbol(*symbol),
+    })
+}
+
+/// The place of the first of some tokens, or of the text's end.
+fn first_place(tokens: &[LocatedToken], end: Span) -> Span
+    ensures { result ≡ first_place end tokens.now }
+{
+    match tokens.first() {
+        Some(token) => token.span,
+        None => end,
+    }
+}
+
+/// The tokens of a text with the braces and semicolons that its layout stands for. What is inserted has the place of the
+/// token behind it, or of the text's end.
+pub fn laid_out(alloc: Global, tokens: &Tokens) -> Result<Tokens, NoMemory>
+    ensures value { IfOk result (λ out. out ≡ laid_out_list tokens.now) }
+    ensures few { IfOk result (λ out. length out.items ≤ 3 * length tokens.now.items) }
+{
+    let end = tokens.end();
+    let Some((first, mut rest)) = tokens.as_slice().split_first() else {
+        return Ok(Tokens::from_vec(Vec::new(alloc), end));
+    };
+    let mut layout = Layout::new(alloc, first.span.column);
+    layout.take(first, first_place(rest, end).column)?;
+    let mut previous = first;
+    while let Some((token, after)) = rest.split_first() {
+        layout.begin(previous, token)?;
+        layout.take(token, first_place(after, end).column)?;
+        previous = token;
+        rest = after;
+    }
+    Ok(Tokens::from_vec(layout.finish(end)?, end))
 }

@@ -1,12 +1,12 @@
-pub mod Begins
+pub mod FirstBytes
 pub mod Classes
 pub mod CommentLemmas
-pub mod EachText
+pub mod ReadingExistence
 pub mod Examples
 pub mod FrontLemmas
-pub mod Insides
+pub mod StringInsides
 pub mod NameLemmas
 pub mod NumberLemmas
-pub mod OneMeaning
+pub mod ReadingUniqueness
 pub mod ReadingLemmas
 pub mod StringLemmas

@@ -11,7 +11,7 @@ use Rattle.kk_syntax.specs.Places.{start, place_behind}
 use Rattle.kk_lexer.specs.FirstLexemes.{meaning_of, IsFirstLexeme}
 use Rattle.kk_lexer.specs.Lexemes.{Meaning, BeginsWith, lexeme, no_lexeme}
 use Rattle.kk_lexer.specs.Readings.{is_sign, Outcome, ReadsText, ends, passes, keeps, refuses, IsReadAs, IsReading, UnlessNoMemory}
-use Rattle.kk_lexer.proofs.OneMeaning.{no_empty_lexeme, one_reading}
+use Rattle.kk_lexer.proofs.ReadingUniqueness.{no_empty_lexeme, one_reading}
 use Rattle.kk_lexer.specs.Scanners.{located}
 
 -- what a text begins with has a byte, and no more than the text

@@ -8,7 +8,7 @@ use Rattle.kk_lexer.specs.declared.strings.Part.TheVariants.{Byte}
 use Rattle.kk_lexer.specs.Parts.{IsFirstPart, MakesNoEscape}
 use Rattle.kk_lexer.specs.Strings.{IsInside, empty, plain, escape, is_plain, escaped}
 use Rattle.kk_lexer.proofs.Classes.{InQuote, in_closed, in_open, in_bad}
-use Rattle.kk_lexer.proofs.Insides.{IsInside-plain, IsInside-escape, IsInside-stop, IsInside-no_escape, IsInside-one, IsInside-append}
+use Rattle.kk_lexer.proofs.StringInsides.{IsInside-plain, IsInside-escape, IsInside-stop, IsInside-no_escape, IsInside-one, IsInside-append}
 
 no_byte : (text : List ℕ) (m : ℕ) → m ≤ length text → take m text ≡ [] → m ≤ 0
 no_byte text zero fits e = omega arith

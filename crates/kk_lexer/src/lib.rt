@@ -9,7 +9,6 @@ mod lexeme;
 mod list;
 mod names;
 mod numbers;
-mod places;
 mod strings;
 mod symbols;
 

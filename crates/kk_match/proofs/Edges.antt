@@ -17,10 +17,10 @@ use Rattle.kk_match.specs.Graphs.{StateTree, IsReached, at_start, by_answer, by_
 use Rattle.kk_match.specs.Built.{Names, InRow}
 use Rattle.kk_match.specs.Decided.{most_tests, IsFormed}
 use Rattle.kk_match.specs.Turned.{turn_edge, turn_node, turned}
-use Rattle.kk_match.proofs.After.{not_heavier}
-use Rattle.kk_match.proofs.InTurn.{AllLight}
+use Rattle.kk_match.proofs.StateAfterAnswer.{not_heavier}
+use Rattle.kk_match.proofs.RowOrder.{AllLight}
 use Rattle.kk_match.proofs.Places.{get_left}
-use Rattle.kk_match.proofs.Running.{IsAt, IsSound, Stands, as_long, at_place, get_turned, next_turned, turned_at}
+use Rattle.kk_match.proofs.NodeRuns.{IsAt, IsSound, Stands, as_long, at_place, get_turned, next_turned, turned_at}
 use Rattle.kk_match.proofs.Targets.{next_among}
 
 -- ---- turned nodes

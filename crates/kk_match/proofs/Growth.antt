@@ -12,8 +12,8 @@ use Rattle.kk_match.specs.Graphs.{StateTree, after, test_of, IsReached, at_start
 use Rattle.kk_match.specs.Outcomes.{IsOutcome, with_lines}
 use Rattle.kk_match.specs.Built.{Names, Branches, IsRight, one_more, AreRight}
 use Rattle.kk_match.specs.Decided.{is_test}
-use Rattle.kk_match.specs.Growing.{GraphTree, AreReached, AreApart, IsBuilt, Grows, IsOver, IsNumbered, EdgesLead, HasEdges, HasOther, IsPut}
-use Rattle.kk_match.proofs.Branching.{branches}
+use Rattle.kk_match.specs.GraphGrowth.{GraphTree, AreReached, AreApart, IsBuilt, Grows, IsOver, IsNumbered, EdgesLead, HasEdges, HasOther, IsPut}
+use Rattle.kk_match.proofs.EdgeAnswers.{branches}
 use Rattle.kk_match.proofs.Places.{get_left}
 
 -- ---- states that are reached

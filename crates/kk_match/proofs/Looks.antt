@@ -18,10 +18,10 @@ use Rattle.kk_match.specs.Parts.{Part, has_several, parts_of, parts_of_all}
 use Rattle.kk_match.specs.Graphs.{StateTree, agrees, left_after, kept_line, after, first_of, test_of, IsReached, at_start, by_answer, by_another, weight, lines_from}
 use Rattle.kk_match.specs.Built.{Names, InRow}
 use Rattle.kk_match.specs.Turned.{turn_edge, turn_node, turned}
-use Rattle.kk_match.proofs.After.{lighter}
-use Rattle.kk_match.proofs.InTurn.{AllLight, PartsShort, AreShort, AllShort}
+use Rattle.kk_match.proofs.StateAfterAnswer.{lighter}
+use Rattle.kk_match.proofs.RowOrder.{AllLight, PartsShort, AreShort, AllShort}
 use Rattle.kk_match.proofs.Places.{get_left}
-use Rattle.kk_match.proofs.Running.{IsAt, IsSound, Stands, as_long, at_place, get_turned, next_turned, turned_at}
+use Rattle.kk_match.proofs.NodeRuns.{IsAt, IsSound, Stands, as_long, at_place, get_turned, next_turned, turned_at}
 use Rattle.kk_match.proofs.Targets.{next_among}
 
 -- ---- positions stay short

@@ -14,12 +14,12 @@ use Rattle.kk_source.specs.Matching.{matched, matched_all, and_then, fields_unde
 use Rattle.kk_source.specs.State.{Value, Cell, Store, Environment}
 use Rattle.kk_source.specs.ValueTypes.{Content, amount, nothing, built, HasContent, IsContentOf, IsOf, AreOf}
 use Rattle.kk_core.specs.declared.decisions.Answer.TheVariants.{Number, Constructor}
-use Rattle.kk_core.specs.Choosing.{first_row}
+use Rattle.kk_core.specs.RowChoice.{first_row}
 use Rattle.kk_core.specs.Decisions.{fields_shown, value_at, answer_of, found_at, is_answer}
 use Rattle.kk_match.specs.Parts.{AreTypeNumbers, Part, has_several, parts_of, parts_of_all, IsKind}
 use Rattle.kk_match.specs.Graphs.{agrees, lines_from}
-use Rattle.kk_match.proofs.Fitting.{fits, first_fit, IsReady, AreReady}
-use Rattle.kk_match.proofs.Made.{WasMade, was_made, made_shows, made_answers, made_under, one_kind, alone}
+use Rattle.kk_match.proofs.RowFit.{fits, first_fit, IsReady, AreReady}
+use Rattle.kk_match.proofs.ConstructorValues.{WasMade, was_made, made_shows, made_answers, made_under, one_kind, alone}
 
 -- ---- positions
 

@@ -15,7 +15,7 @@ use Rattle.kk_match.specs.Built.{Names, IsRight, AreRight}
 use Rattle.kk_match.specs.Decided.{TestsAt, Leads, by_edge, and_on, TestOnce}
 use Rattle.kk_match.specs.Turned.{turn_node, turned}
 use Rattle.kk_match.proofs.Places.{get_left, get_same}
-use Rattle.kk_match.proofs.Running.{Stands, TurnedAt, turned_at, was_target, WasTarget, stands_later, as_long}
+use Rattle.kk_match.proofs.NodeRuns.{Stands, TurnedAt, turned_at, was_target, WasTarget, stands_later, as_long}
 
 -- no part stands at a position
 abbrev NoneAt : List ℕ → List Part → Type 0

@@ -6,7 +6,7 @@ use Rattle.kk_core.specs.declared.decisions.Edge.{Edge}
 use Rattle.kk_core.specs.CaseLengths.{tests_length}
 use Rattle.kk_core.specs.Decisions.{NodeTree, chooses, tests, targets}
 use Rattle.kk_match.specs.Graphs.{weight, lines_from, HasTests, HasMoreTests}
-use Rattle.kk_match.specs.Growing.{IsGraphOf}
+use Rattle.kk_match.specs.GraphGrowth.{IsGraphOf}
 use Rattle.kk_match.specs.InTurn.{with_rows}
 use Rattle.kk_match.specs.Turned.{turned}
 

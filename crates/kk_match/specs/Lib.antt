@@ -1,7 +1,7 @@
 pub mod Built
 pub mod Decided
 pub mod Graphs
-pub mod Growing
+pub mod GraphGrowth
 pub mod InTurn
 pub mod Outcomes
 pub mod Parts

@@ -11,7 +11,7 @@ use Rattle.kk_match.specs.declared.state.Line.{Line}
 use Rattle.kk_match.specs.declared.state.State.{State}
 use Rattle.kk_match.specs.Parts.{Part, types_of}
 use Rattle.kk_match.specs.Graphs.{LineTree, StateTree}
-use Rattle.kk_match.specs.Growing.{GraphTree}
+use Rattle.kk_match.specs.GraphGrowth.{GraphTree}
 
 abbrev pub part_of : Question → Part
 part_of question = record { at = question.at.items; asked = question.asked }

@@ -1,12 +1,12 @@
 ghost use Rattle.std.specs.Prelude.{◌≡◌, ◌<◌, ◌≤◌, ◌-◌, true, List, [], length, map, option_map, count_by, IfOk};
 ghost use Rattle.kk_core.specs.CaseLengths.{tests_length};
 ghost use Rattle.kk_core.specs.Cases.{IsLean};
-ghost use Rattle.kk_core.specs.Choosing.{Decides};
+ghost use Rattle.kk_core.specs.RowChoice.{Decides};
 ghost use Rattle.kk_core.specs.Decisions.{node_tree, AreOrderly};
 ghost use Rattle.kk_core.specs.Kinds.{AsksTyped};
 ghost use Rattle.kk_match.specs.Decided.{IsFormed, IsBrieflyFormed, is_test, most_tests_length, brief_length, rows_in_turn};
 ghost use Rattle.kk_match.specs.Graphs.{lines_of};
-ghost use Rattle.kk_match.specs.Growing.{IsGraph};
+ghost use Rattle.kk_match.specs.GraphGrowth.{IsGraph};
 ghost use Rattle.kk_match.specs.Parts.{types_of, parts_of, AreTypeNumbers, TellTypes};
 ghost use Rattle.kk_match.specs.Turned.{turned};
 ghost use Rattle.kk_match.specs.Views.{part_of, line_tree, state_tree, types_in, patterns_in, nodes_in};

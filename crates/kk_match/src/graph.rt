@@ -3,7 +3,7 @@ ghost use Rattle.kk_core.specs.Decisions.{node_tree};
 ghost use Rattle.kk_match.specs.Built.{IsRight};
 ghost use Rattle.kk_match.specs.Decided.{is_test};
 ghost use Rattle.kk_match.specs.Graphs.{test_of, after};
-ghost use Rattle.kk_match.specs.Growing.{AreApart, IsBuilt, IsNumbered, IsMade, HasEdges, HasOther, IsPut};
+ghost use Rattle.kk_match.specs.GraphGrowth.{AreApart, IsBuilt, IsNumbered, IsMade, HasEdges, HasOther, IsPut};
 ghost use Rattle.kk_match.specs.Outcomes.{IsOutcome, with_lines};
 ghost use Rattle.kk_match.specs.Views.{part_of, state_tree, graph_tree, types_given};
 

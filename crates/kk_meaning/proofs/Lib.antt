@@ -1,11 +1,11 @@
-pub mod Asked
-pub mod Changed
+pub mod TurnSteps
+pub mod NewestFrame
 pub mod Environments
 pub mod FreeVariables
-pub mod Listed
+pub mod FrameOrder
 pub mod Lists
 pub mod Marks
 pub mod Patterns
-pub mod Popped
+pub mod FramePops
 pub mod Results
-pub mod Stepped
+pub mod ValueTurns

@@ -11,8 +11,8 @@ use Rattle.kk_syntax.specs.OfType.{fields_with, fields_of}
 use Rattle.kk_syntax.specs.Programs.{ConstructorTree, ProgramTree, no_constructor, constructor_in}
 use Rattle.kk_syntax.specs.Types.{TypeTree, TypeTrees, types_of}
 use Rattle.kk_mono.specs.Instances.{GroundConstructorTree, FirstSights, none_left, again, new_one, makers_from, makers, ground_constructors, of_same_type}
-use Rattle.kk_mono.proofs.Distinct.{sights_apart}
-use Rattle.kk_mono.proofs.Sights.{Parted, sights_part}
+use Rattle.kk_mono.proofs.Pigeonhole.{sights_apart}
+use Rattle.kk_mono.proofs.FirstSights.{Parted, sights_part}
 
 -- ---- the makers of a type
 

@@ -10,7 +10,7 @@ use Rattle.kk_syntax.specs.Shapes.{is_among}
 use Rattle.kk_core.specs.Codes.{FunctionCode, ProgramCode}
 use Rattle.kk_norm.specs.Normalized.{IsCoreOf, AreCoresOf, IsCoreForm}
 use Rattle.kk_counted.specs.Spending.{at_positions, numbers_from}
-use Rattle.kk_counted.proofs.Counting as Counting
+use Rattle.kk_counted.proofs.CountChanges as Counting
 use Rattle.kk_insert.specs.Insertion.{lent_of}
 use Rattle.kk_insert.specs.Promise.{TailsLendOn}
 use Rattle.kk_insert.proofs.Sets.{among_first, among_next, in_either, no_both}

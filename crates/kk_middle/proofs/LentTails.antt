@@ -27,7 +27,7 @@ use Rattle.kk_insert.specs.Insertion.{lent_in, lent_in_arms}
 use Rattle.kk_insert.specs.Promise.{LendsTails, AllLendTails}
 use Rattle.kk_insert.proofs.Sets.{Part, in_front, in_back, in_either, no_both, among_first, among_next}
 use Rattle.kk_middle.specs.LentNames.{AreOthers, Bound, to_bound, AreApart, KeepsLent, KeepLent}
-use Rattle.kk_middle.proofs.Passing.{part_then, grows, grow_arms, Lent, Passes, passes, pass_all, opened_passes}
+use Rattle.kk_middle.proofs.CodePrefixes.{part_then, grows, grow_arms, Lent, Passes, passes, pass_all, opened_passes}
 
 -- ---- names
 

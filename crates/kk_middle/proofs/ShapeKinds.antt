@@ -3,7 +3,7 @@ use Rattle.std.proofs.Common.{◌≡◌, ℕ, List}
 use Rattle.std.specs.Prelude.{slice_get}
 use Rattle.kk_source.specs.Live.{value_of}
 use Rattle.kk_source.specs.State.{Environment}
-use Rattle.kk_core.proofs.TakenKinds.{tests_alike}
+use Rattle.kk_core.proofs.ValueKinds.{tests_alike}
 use Rattle.kk_counted.specs.CountedCodes.{Counted, give, tail_call, case, compute, inside, read, open_cell, if_unique, dup, drop}
 use Rattle.kk_counted.specs.CountedStates.{CountedJoin, CountedControl, running, stopped, stuck}
 use Rattle.kk_counted.specs.Heaps.{Heap, forwards}

@@ -17,8 +17,8 @@ use Rattle.kk_insert.specs.Meaning.{EndsClean}
 use Rattle.kk_dropspec.specs.SameRuns.{AreSameAfter}
 use Rattle.kk_dropspec.specs.Specialised.{special_program, special_setting}
 use Rattle.kk_middle.specs.Meaning.{KeepsMeaning}
-use Rattle.kk_middle.proofs.Agreeing.{even_weights, agree_alike, told_above, told_below}
-use Rattle.kk_middle.proofs.Marked.{special_fits, special_goes, special_clean}
+use Rattle.kk_middle.proofs.MachineAgreement.{even_weights, agree_alike, told_above, told_below}
+use Rattle.kk_middle.proofs.MarkedCode.{special_fits, special_goes, special_clean}
 
 -- the laws on drop specialisation and on code that spends what it owns
 abbrev pub KeepsSpent : Type 0

@@ -10,9 +10,9 @@ use Rattle.kk_counted.specs.Marks.{CellMarks, marks_of, IsMarked, AreMarked}
 use Rattle.kk_insert.specs.MarkTables.{marks_of_core}
 use Rattle.kk_insert.specs.Shapes.{cells_told, cells_in, ConstructorFacts, facts_of}
 use Rattle.kk_dropspec.specs.Specialised.{special_function, special_program}
-use Rattle.kk_dropspec.proofs.Lowered.{special_marked}
+use Rattle.kk_dropspec.proofs.Lowerability.{special_marked}
 use Rattle.kk_fuse.specs.Fused.{fused_function, fused_program}
-use Rattle.kk_fuse.proofs.Lowered.{fused_marked}
+use Rattle.kk_fuse.proofs.Lowerability.{fused_marked}
 
 module _ (change : CountedFunction → CountedFunction) where
   -- a function that a pass makes is that of one that is there

@@ -17,11 +17,11 @@ use Rattle.kk_mono.specs.Grounds.{AreGiven}
 use Rattle.kk_core.specs.CellTypes.{TellsCells}
 use Rattle.kk_core.specs.declared.form.Core.{Core}
 use Rattle.kk_core.specs.declared.shape.ConstructorShape.{ConstructorShape}
-use Rattle.kk_counted.proofs.Counting as Counting
+use Rattle.kk_counted.proofs.CountChanges as Counting
 use Rattle.kk_insert.specs.Shapes.{facts_of}
 use Rattle.kk_middle.specs.ShapeKinds.{tag_of}
-use Rattle.kk_middle.proofs.Apart.{items, types, tree, Makes, makes, one_number, tag_there, tag_is}
-use Rattle.kk_middle.proofs.Consistent.{tag_counts}
+use Rattle.kk_middle.proofs.ConstructorTags.{items, types, tree, Makes, makes, one_number, tag_there, tag_is}
+use Rattle.kk_middle.proofs.ConstructorConsistency.{tag_counts}
 
 -- ---- small tags
 

@@ -18,7 +18,7 @@ use Rattle.kk_counted.specs.declared.counted.Counted.{Counted}
 use Rattle.kk_counted.specs.declared.shape.InstanceShape.{InstanceShape}
 use Rattle.kk_counted.specs.Int32.{AllHaveInt32}
 use Rattle.kk_counted.specs.Programs.{function_of, program_of}
-use Rattle.kk_counted.specs.Shaping.{positions_in}
+use Rattle.kk_counted.specs.InstancePositions.{positions_in}
 use Rattle.kk_counted.specs.TokenedForms.{tokened_program}
 use Rattle.kk_counted.specs.declared.tokened.Tokened.{Tokened}
 use Rattle.kk_insert.specs.Insertion.{inserted}

@@ -12,10 +12,10 @@ use Rattle.kk_syntax.specs.declared.program.Fun.{Fun}
 use Rattle.kk_syntax.specs.declared.program.Program.{Program}
 use Rattle.kk_syntax.specs.Programs.{ConstructorTree, FunctionTree, ProgramTree, constructor_tree, function_tree, program_tree}
 use Rattle.kk_syntax.specs.Types.{type_tree}
-use Rattle.kk_mono.specs.declared.quantity.Quantity.{Quantity}
+use Rattle.kk_mono.specs.declared.declarations.Quantity.{Quantity}
 use Rattle.kk_mono.specs.Declarations.{place_of_type, quantities_of_constructor, quantity_of_function, declared_quantities, is_over, if_over, sooner, first_over, DeclarationsAs}
 use Rattle.kk_mono.specs.Siblings.{members}
-use Rattle.kk_mono.proofs.Grounded.{members_count}
+use Rattle.kk_mono.proofs.GroundConstructors.{members_count}
 
 -- ---- the first one in the text
 

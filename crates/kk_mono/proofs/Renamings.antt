@@ -12,7 +12,7 @@ use Rattle.kk_syntax.specs.Typing.{Choice, constructing, calling, holding, put_c
 use Rattle.kk_mono.specs.Counts.{AreTooMany}
 use Rattle.kk_mono.specs.Instances.{InstanceTree, main_instance, called_at, called_in, calls, IsInstance, main_is, called_is, FirstSights, AreInstances}
 use Rattle.kk_mono.proofs.Callees.{CallsAre, typing_calls}
-use Rattle.kk_mono.proofs.Sights.{only_one}
+use Rattle.kk_mono.proofs.FirstSights.{only_one}
 
 -- types that are renamed and back are the same, with `()` in place of what remains open
 module _ (count : ℕ) (s back : ℕ → TypeTree) (fixed : Fixes count s) (back_fixed : Fixes count back) (ts : List TypeTree) (few : length ts ≤ count) where

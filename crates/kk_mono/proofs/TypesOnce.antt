@@ -7,7 +7,7 @@ use Rattle.kk_syntax.specs.GroundTypes.{is_declared, AreNumbered}
 use Rattle.kk_syntax.specs.Programs.{ConstructorTree}
 use Rattle.kk_syntax.specs.Types.{type_at}
 use Rattle.kk_syntax.proofs.GroundTypes.{all_apart}
-use Rattle.kk_mono.specs.Building.{IsMadeOf}
+use Rattle.kk_mono.specs.BuiltInstances.{IsMadeOf}
 use Rattle.kk_mono.specs.declared.types.Types.{Types}
 use Rattle.kk_mono.specs.KeyTrees.{KeyTree}
 use Rattle.kk_mono.specs.Views.{types_in}

@@ -6,7 +6,7 @@ use Rattle.kk_syntax.specs.declared.program.Form.TheVariants.{Construct, Call}
 use Rattle.kk_syntax.specs.Patterns.{Pattern, anything, variable as pattern_variable, exactly, constructor, Patterns, no_part, part}
 use Rattle.kk_syntax.specs.Shapes.{Replaces, replaced, replaced_all, replaced_rows}
 use Rattle.kk_syntax.specs.Trees.{Tree, Trees, Rows, RowTree, row_parts, pattern_of_row, body_of_row, StatementTree}
-use Rattle.kk_mono.specs.declared.labels.Labels.{Labels}
+use Rattle.kk_mono.specs.declared.body.Labels.{Labels}
 use Rattle.kk_mono.specs.Instances.{called_by, calls, calls_of_all, calls_of_rows, built_by, tested, tested_all, constructors_in, constructors_in_all, constructors_in_rows}
 
 -- functions and constructors that are named, each in the order of the text

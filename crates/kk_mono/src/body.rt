@@ -1,11 +1,12 @@
-ghost use Rattle.std.specs.Prelude.{◌≡◌, map, IfOk, OnOk};
+ghost use Rattle.std.specs.Prelude.{◌≡◌, map, IfOk, OnOk, [], drop, slice_index_or};
 ghost use Rattle.kk_syntax.specs.Trees.{expr_tree, row_tree, statement_tree};
-ghost use Rattle.kk_mono.specs.Labels.{left_in, behind, names, labelled, names_of_each, labelled_each, row_names, labelled_row, statement_names, labelled_statement};
+ghost use Rattle.kk_mono.specs.Labels.{left_in, behind, names, labelled, names_of_each, labelled_each, row_names, labelled_row};
+ghost use Rattle.kk_mono.specs.Labels.{statement_names, labelled_statement, labelled_form, names_of_form, only_constructor};
+ghost use Rattle.kk_mono.specs.Labels.{names_of_pattern, labelled_pattern};
+ghost use Rattle.kk_syntax.specs.Patterns.{pattern_tree};
 
-use crate::labels::Labels;
-use crate::pattern::labelled_pattern;
 use kk_base::NoMemory;
-use kk_syntax::{Expr, Row, Statement};
+use kk_syntax::{Expr, Form, Pat, Row, Statement};
 use std::alloc::Global;
 
 /// A copy of an expression whose calls name the instances that they call, and whose constructions and patterns name ground
@@ -94,6 +95,114 @@ fn labelled_statements(
             binder: statement.binder,
             value: labelled(alloc, labels, &statement.value)?,
         })?;
+    }
+    Ok(copies)
+}
+
+/// Numbers of instances, which stand for the functions that a body calls, and of ground constructors, which stand for the
+/// constructors that it builds and matches with, each in the order of the text.
+#[derive(Debug, Drop)]
+pub struct Labels {
+    functions: Vec<u32>,
+    constructors: Vec<u32>,
+    /// How many of them have been used.
+    next_function: usize,
+    next_constructor: usize,
+}
+
+impl Labels {
+    /// None has been used.
+    pub fn new(functions: Vec<u32>, constructors: Vec<u32>) -> Labels
+        ensures { left_in result ≡ record { functions = functions.items; constructors = constructors.items } }
+    {
+        Labels {
+            functions,
+            constructors,
+            next_function: 0,
+            next_constructor: 0,
+        }
+    }
+
+    /// The next label for a function; this function where none is left.
+    fn function(&mut self, function: u32) -> u32
+        ensures value { result ≡ slice_index_or (left_in self.old).functions 0 function }
+        ensures rest { (left_in self.new).functions ≡ drop 1 (left_in self.old).functions }
+        ensures others { (left_in self.new).constructors ≡ (left_in self.old).constructors }
+    {
+        match self.functions.get(self.next_function) {
+            Some(label) => {
+                self.next_function += 1;
+                *label
+            }
+            None => function,
+        }
+    }
+
+    /// The next label for a constructor; this constructor where none is left.
+    pub fn constructor(&mut self, constructor: u32) -> u32
+        ensures value { result ≡ slice_index_or (left_in self.old).constructors 0 constructor }
+        ensures rest { left_in self.new ≡ behind (left_in self.old) (only_constructor constructor) }
+    {
+        match self.constructors.get(self.next_constructor) {
+            Some(label) => {
+                self.next_constructor += 1;
+                *label
+            }
+            None => constructor,
+        }
+    }
+
+    /// A form, where a call and a construction take the next label.
+    pub fn form(&mut self, form: Form) -> Form
+        ensures value { result ≡ labelled_form (left_in self.old) form }
+        ensures rest { left_in self.new ≡ behind (left_in self.old) (names_of_form form) }
+    {
+        match form {
+            Form::Call(function) => Form::Call(self.function(function)),
+            Form::Construct(constructor) => Form::Construct(self.constructor(constructor)),
+            Form::Number(_)
+            | Form::Unit
+            | Form::ReadByte
+            | Form::PrintText(_, _)
+            | Form::Unary(_)
+            | Form::Binary(_)
+            | Form::Print(_) => form,
+        }
+    }
+}
+
+/// A copy of a pattern whose constructors are ground ones. The recursion is as deep as the pattern.
+#[cycle(labelled_pattern)]
+pub fn labelled_pattern(alloc: Global, labels: &mut Labels, pattern: &Pat) -> Result<Pat, NoMemory>
+    ensures tree { IfOk result (λ copy. pattern_tree copy ≡ labelled_pattern (left_in labels.old) (pattern_tree pattern.now)) }
+    ensures rest { OnOk result (left_in labels.new ≡ behind (left_in labels.old) (names_of_pattern (pattern_tree pattern.now))) }
+{
+    match pattern {
+        Pat::Wildcard => Ok(Pat::Wildcard),
+        Pat::Variable(of) => Ok(Pat::Variable(*of)),
+        Pat::Number(value) => Ok(Pat::Number(*value)),
+        Pat::Constructor(by, parts) => {
+            let by = labels.constructor(*by);
+            let parts = labelled_patterns(alloc, labels, parts)?;
+            Ok(Pat::Constructor(by, parts))
+        }
+    }
+}
+
+#[cycle(labelled_pattern)]
+fn labelled_patterns(
+    alloc: Global,
+    labels: &mut Labels,
+    patterns: &[Pat],
+) -> Result<Vec<Pat>, NoMemory>
+    ensures trees { IfOk result (λ copies. map pattern_tree copies.items
+        ≡ labelled_each names_of_pattern labelled_pattern (left_in labels.old) (map pattern_tree patterns.now)) }
+    ensures rest { OnOk result (left_in labels.new
+        ≡ behind (left_in labels.old) (names_of_each names_of_pattern (map pattern_tree patterns.now))) }
+{
+    let mut copies = Vec::new(alloc);
+    for pattern in patterns {
+        copies.push(labelled_pattern(alloc, labels, pattern)?)?;
     }
     Ok(copies)
 }

@@ -2,15 +2,14 @@ ghost use Rattle.std.specs.Prelude.{◌≡◌, ◌==◌, ◌<◌, ◌≤◌, cou
 ghost use Rattle.std.specs.List.{AllZip};
 ghost use Rattle.kk_base.specs.Limits.{greatest_of};
 ghost use Rattle.kk_syntax.specs.Programs.{function_tree, constructor_tree, program_tree};
-ghost use Rattle.kk_mono.specs.Building.{ArePlaces, IsBuiltOf, AreBuilt, IsMadeAs, IsMadeOf, IsBuilt};
+ghost use Rattle.kk_mono.specs.BuiltInstances.{ArePlaces, IsBuiltOf, AreBuilt, IsMadeAs, IsMadeOf, IsBuilt};
 ghost use Rattle.kk_mono.specs.KeyTrees.{KeyTree, key_tree, keys_in};
 ghost use Rattle.kk_mono.specs.Tables.{Grows};
-ghost use Rattle.kk_mono.specs.Told.{PassesNone};
+ghost use Rattle.kk_mono.specs.PassedLimits.{PassesNone};
 ghost use Rattle.kk_mono.specs.Views.{types_in};
 
-use crate::body::labelled;
+use crate::body::{Labels, labelled};
 use crate::keys::{Key, Keys};
-use crate::labels::Labels;
 use crate::numbers::numbers_of_written;
 use crate::search::{Found, Looked};
 use crate::types::Types;

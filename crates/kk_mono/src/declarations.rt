@@ -1,10 +1,10 @@
 ghost use Rattle.std.specs.Prelude.{◌≡◌, map, flat_map, slice_get};
 ghost use Rattle.kk_base.specs.Exactly.{IsOnly};
 ghost use Rattle.kk_syntax.specs.Programs.{function_tree, program_tree};
-ghost use Rattle.kk_mono.specs.Declarations.{DeclarationsAs, first_over, place_of_type, quantities_of_constructor, quantity_of_function};
+ghost use Rattle.kk_mono.specs.Declarations.{DeclarationsAs, first_over, place_of_type, quantities_of_constructor};
+ghost use Rattle.kk_mono.specs.Declarations.{quantity_of_function, if_over, sooner};
 
 use crate::build::count_of_type;
-use crate::quantity::{Quantity, sooner};
 use kk_base::{Limit, LimitKind};
 use kk_syntax::{Fun, Program, TypeDecl};
 
@@ -67,5 +67,43 @@ fn place_of_type(types: &[TypeDecl], number: u32) -> u32
     match types.get(number as usize) {
         Some(declaration) => declaration.at,
         None => 0,
+    }
+}
+
+/// A quantity of a declaration that has a limit, and the byte at which the text names what has it.
+#[derive(Clone, Copy, Debug, PartialEq, Eq)]
+pub struct Quantity {
+    pub at: u32,
+    pub kind: LimitKind,
+    pub count: u64,
+}
+
+impl Quantity {
+    /// The quantity, if it passes its greatest number.
+    pub fn if_over(self) -> Option<Quantity>
+        ensures { result ≡ if_over self }
+    {
+        if self.count > self.kind.greatest() {
+            Some(self)
+        } else {
+            None
+        }
+    }
+}
+
+/// Of two, the one that the text has first; the first one if they are at one byte.
+pub fn sooner(one: Option<Quantity>, other: Option<Quantity>) -> Option<Quantity>
+    ensures { result ≡ sooner one other }
+{
+    match (one, other) {
+        (Some(first), Some(second)) => {
+            if second.at < first.at {
+                Some(second)
+            } else {
+                Some(first)
+            }
+        }
+        (None, last) => last,
+        (first, None) => first,
     }
 }

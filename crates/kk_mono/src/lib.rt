@@ -3,20 +3,14 @@
 
 mod body;
 mod build;
-mod constructors;
 mod declarations;
 mod error;
 mod keys;
-mod labels;
-mod limits;
 mod numbers;
-mod pattern;
 mod program;
-mod quantity;
 mod search;
 mod types;
 
 pub use declarations::check_declarations;
 pub use error::MonoError;
-pub use limits::each_program_is_counted;
-pub use program::instances;
+pub use program::{each_program_is_counted, instances};

@@ -2,13 +2,12 @@ ghost use Rattle.std.specs.Prelude.{◌≡◌, ◌+◌, ◌<◌, length, map, Al
 ghost use Rattle.kk_syntax.specs.Programs.{constructor_tree};
 ghost use Rattle.kk_syntax.specs.TypedPrograms.{typing_of};
 ghost use Rattle.kk_mono.specs.KeyTrees.{keys_in};
-ghost use Rattle.kk_mono.specs.Looking.{Looks, Uses};
-ghost use Rattle.kk_mono.specs.Searching.{AreConstructionsBelow, IsComplete, known_in, IsSearching, HasSearched};
+ghost use Rattle.kk_mono.specs.InstanceUses.{Looks, Uses};
+ghost use Rattle.kk_mono.specs.InstanceSearch.{AreConstructionsBelow, IsComplete, known_in, IsSearching, HasSearched};
 ghost use Rattle.kk_mono.specs.Siblings.{HaveSiblings};
 ghost use Rattle.kk_mono.specs.Views.{types_in};
 
-use crate::constructors::{constructors_of_bool, numbers_of_constructed};
-use crate::keys::{Keys, numbers_of_called};
+use crate::keys::{Keys, constructors_of_bool, numbers_of_called, numbers_of_constructed};
 use crate::numbers::{number_of_written, numbers_of_nodes, numbers_of_written, taken_at};
 use crate::types::Types;
 use kk_base::{LimitKind, NoMemory};

@@ -17,7 +17,7 @@ use Rattle.kk_names.specs.Faults.{fault_at, faults_in, faults_in_all, use_faults
 use Rattle.kk_names.specs.Methods.{known_of, State, before_of, state_of, grown, noting, behind_all, meant_at, meant_all_at, newest_first, Notes, Resolves, ResolvesAll}
 use Rattle.kk_names.specs.Scopes.{Scope, number_in, names_in, Before, past, past_all}
 use Rattle.kk_names.specs.Tables.{Known, meaning_in}
-use Rattle.kk_names.proofs.Growing.{grown_twice, before_is, state_is}
+use Rattle.kk_names.proofs.ResolverStates.{grown_twice, before_is, state_is}
 use Rattle.kk_names.proofs.Tables.{is_seen}
 
 -- ---- how far the loop over arguments has come

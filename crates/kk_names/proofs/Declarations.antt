@@ -16,7 +16,7 @@ use Rattle.kk_names.specs.Names.{before_body, with_texts, with_all_texts, functi
 use Rattle.kk_names.specs.Scopes.{Scope, binding, with_variable, past, number_in, names_in, with_parameters, parameter_names}
 use Rattle.kk_names.specs.Tables.{Known}
 use Rattle.kk_names.specs.TypeNames.{type_meant, signature_variables}
-use Rattle.kk_names.proofs.Growing.{first_more, before_is}
+use Rattle.kk_names.proofs.ResolverStates.{first_more, before_is}
 use Rattle.kk_names.proofs.Tables.{newest_more, is_seen}
 
 -- ---- parameters

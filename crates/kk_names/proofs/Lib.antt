@@ -1,19 +1,19 @@
 pub mod Arguments
 pub mod Constructors
 pub mod Declarations
-pub mod Declaring
+pub mod DeclaredNames
 pub mod Depths
 mod Examples
-pub mod Firsts
-pub mod Growing
+pub mod FirstFaults
+pub mod ResolverStates
 pub mod Mains
 pub mod Nodes
 pub mod Patterns
-pub mod Resolving
+pub mod NameResolution
 pub mod Rows
 pub mod Statements
 pub mod Tables
 pub mod Texts
-pub mod TypesDeclared
-pub mod TypesMeant
-pub mod Written
+pub mod DeclaredTypes
+pub mod TypeMeanings
+pub mod WrittenForms

@@ -19,9 +19,9 @@ use Rattle.kk_names.specs.Faults.{error_of, faults_of}
 use Rattle.kk_names.specs.Methods.{parts_of, first_with, main_among, AnswersMain, IsNoMain, IsOtherMain}
 use Rattle.kk_names.specs.Names.{program_types, bool_constructors, constructors_of, program_constructors, functions_of, functions_meant, with_all_texts, Parts, parts_meant, main_of, program_of, IsMainShaped, MakesProgram, LacksMain, HasOtherMain, first_fault, no_main, main_shape, ResolvesAs, AnswersNames, KeepsNodes}
 use Rattle.kk_names.specs.Tables.{Known, known_in}
-use Rattle.kk_names.proofs.Firsts.{first_is_kept}
+use Rattle.kk_names.proofs.FirstFaults.{first_is_kept}
 use Rattle.kk_names.proofs.Nodes.{keeps_nodes}
-use Rattle.kk_names.proofs.Resolving.{only_outcome}
+use Rattle.kk_names.proofs.NameResolution.{only_outcome}
 
 -- ---- the parts of a program
 

@@ -18,7 +18,7 @@ use Rattle.kk_names.specs.Methods.{first_with, newest_first, faults_if, Notes, R
 use Rattle.kk_names.specs.Scopes.{Scope, binding, names_in, number_in, with_variable, with_pattern}
 use Rattle.kk_names.specs.Scopes.{with_parts, pattern_names, parts_names, Before, past_pattern, past_parts}
 use Rattle.kk_names.specs.Tables.{Known, meaning_in}
-use Rattle.kk_names.proofs.Growing.{grown_twice, state_is}
+use Rattle.kk_names.proofs.ResolverStates.{grown_twice, state_is}
 use Rattle.kk_names.proofs.Tables.{is_seen}
 
 -- the names of the variables of a pattern

@@ -14,7 +14,7 @@ use Rattle.kk_names.specs.Faults.{pattern_faults, faults_in, faults_in_rows}
 use Rattle.kk_names.specs.Methods.{known_of, State, before_of, state_of, grown, first_with, newest_before}
 use Rattle.kk_names.specs.Methods.{newest_first, behind, meant_at, Resolves, ResolvesPattern, ResolvesRow, ResolvesRows}
 use Rattle.kk_names.specs.Scopes.{Scope, names_in, in_row, with_pattern, pattern_names, past_pattern, past, past_rows}
-use Rattle.kk_names.proofs.Growing.{first_more, grown_twice, state_is}
+use Rattle.kk_names.proofs.ResolverStates.{first_more, grown_twice, state_is}
 use Rattle.kk_names.proofs.Patterns.{names_with_pattern}
 
 -- ---- how far the loop over rows has come

@@ -15,7 +15,7 @@ use Rattle.kk_names.specs.Expressions.{meant}
 use Rattle.kk_names.specs.Faults.{faults_in}
 use Rattle.kk_names.specs.Methods.{known_of, State, before_of, state_of, behind, meant_at, newest_first, first_with, KeepsScope, Binds, Resolves, ResolvesStatement, ResolvesStatements}
 use Rattle.kk_names.specs.Scopes.{Scope, binding, names_in, with_binder, binder_names, binder_of, with_variable, past_binder, past}
-use Rattle.kk_names.proofs.Growing.{first_more, state_is}
+use Rattle.kk_names.proofs.ResolverStates.{first_more, state_is}
 use Rattle.kk_names.proofs.Tables.{newest_more}
 
 pub names_with : (binder : SurfaceBinder) (next : ℕ) (scope : Scope) → names_in (with_binder binder next scope) ≡ binder_names binder (names_in scope)

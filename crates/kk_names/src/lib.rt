@@ -1,19 +1,15 @@
 //! From the tree of a text to its program: each name has its one meaning.
 #![tactic(auto)]
 
-mod builtin;
 mod declaration;
 mod expression;
 mod fault;
-mod function;
 mod pattern;
 mod program;
 mod resolver;
 mod scope;
-mod signature;
 mod table;
 mod types;
-mod variables;
 
 pub use program::{
     each_tree_is_resolved, resolve, resolved_programs_have_main,

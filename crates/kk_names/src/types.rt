@@ -1,21 +1,25 @@
-ghost use Rattle.std.specs.Prelude.{◌≡◌, [], ◌∷◌, ◌++◌, map, length, IfOk};
+//! The types of a program by their names: those that are there before, and those that it declares.
+
+ghost use Rattle.std.specs.Prelude.{◌≡◌, [], ◌∷◌, ◌++◌, map, length, IfOk, codes};
 ghost use Rattle.kk_syntax.specs.Programs.{constructor_tree};
 ghost use Rattle.kk_syntax.specs.Surface.{written_constructor, written_declaration, written_parameter};
-ghost use Rattle.kk_syntax.specs.declared.tree.Declaration.TheVariants as OfDeclaration;
 ghost use Rattle.kk_names.specs.Faults.{second_names, parameter_faults, field_faults, faults_in_type, faults_in_types};
 ghost use Rattle.kk_names.specs.Methods.{known_of, Notes, NotesInside};
 ghost use Rattle.kk_names.specs.Names.{bool_type, bool_constructors, types_of, constructor_of, cases_of, constructors_of};
+ghost use Rattle.kk_names.specs.Names.{bool_constructor};
 ghost use Rattle.kk_names.specs.Tables.{names_of};
+ghost use Rattle.kk_syntax.specs.declared.tree.Declaration.TheVariants as OfDeclaration;
 
-use crate::builtin;
 use crate::declaration::behind;
 use crate::fault::FaultKind;
 use crate::resolver::Resolver;
-use crate::variables::place_of;
+use crate::scope::place_of;
 use kk_base::{Name, NoMemory};
 use kk_syntax::{
-    Constructor, ConstructorDeclaration, Declaration, Identifier, TypeDecl, TypeDeclaration,
+    Constructor, ConstructorDeclaration, Declaration, Identifier, Program, TypeDecl,
+    TypeDeclaration,
 };
+use std::alloc::Global;
 
 /// The types of a text and their constructors, with those that are built in.
 #[derive(Drop)]
@@ -32,8 +36,8 @@ impl Resolver {
             ≡ bool_constructors ++ constructors_of (known_of self.old) 1 (map written_declaration declarations.now)) }
         ensures notes { IfOk result (λ _. NotesInside (faults_in_types (known_of self.old) (map written_declaration declarations.now)) self.old self.new) }
     {
-        let mut types = builtin::types(self.alloc)?;
-        let mut constructors = builtin::constructors(self.alloc)?;
+        let mut types = types_built_in(self.alloc)?;
+        let mut constructors = constructors_built_in(self.alloc)?;
         for declaration in declarations {
             if let Declaration::Type(declared) = declaration {
                 self.declared_type(declared, &mut types, &mut constructors)?;
@@ -151,4 +155,45 @@ fn number_of(count: usize) -> Result<u32, NoMemory>
         return Err(NoMemory);
     }
     Ok(count as u32)
+}
+
+/// The types that are built in: `bool`.
+pub fn types_built_in(alloc: Global) -> Result<Vec<TypeDecl>, NoMemory>
+    ensures { IfOk result (λ types. types.items ≡ bool_type ∷ []) }
+{
+    let name = Name::new(String::from_str(alloc, "bool")?);
+    let mut types = Vec::new(alloc);
+    types.push(TypeDecl {
+        name,
+        at: 0,
+        variables: 0,
+        first_constructor: Program::FALSE,
+        constructor_count: 2,
+    })?;
+    Ok(types)
+}
+
+/// The constructors that are built in: `False` and `True`.
+pub fn constructors_built_in(alloc: Global) -> Result<Vec<Constructor>, NoMemory>
+    ensures { IfOk result (λ constructors. map constructor_tree constructors.items ≡ bool_constructors) }
+{
+    let negative = constructor(alloc, "False", 0)?;
+    let positive = constructor(alloc, "True", 1)?;
+    let mut constructors = Vec::new(alloc);
+    constructors.push(negative)?;
+    constructors.push(positive)?;
+    Ok(constructors)
+}
+
+fn constructor(alloc: Global, name: &str, tag: u32) -> Result<Constructor, NoMemory>
+    ensures { IfOk result (λ constructor. constructor_tree constructor ≡ bool_constructor name.now tag) }
+{
+    let name = Name::new(String::from_str(alloc, name)?);
+    Ok(Constructor {
+        name,
+        at: 0,
+        of_type: Program::BOOL,
+        tag,
+        fields: Vec::new(alloc),
+    })
 }

@@ -15,7 +15,7 @@ use Rattle.kk_syntax.specs.OfType.{same_type, fields_of, fields_with}
 use Rattle.kk_syntax.specs.Programs.{ConstructorTree, FunctionTree}
 use Rattle.kk_syntax.specs.Types.{TypeTree, int32, unit_type, type_variable, named, type_at}
 use Rattle.kk_syntax.proofs.GroundTypes.{types_length}
-use Rattle.kk_syntax.proofs.SameTypes.{all_same_itself}
+use Rattle.kk_syntax.proofs.TypeEquality.{all_same_itself}
 use Rattle.kk_core.specs.CellTypes.{has_any, makes_cells, has_cells, made_type, TellsCells}
 use Rattle.kk_core.specs.declared.form.Core.{Core}
 use Rattle.kk_core.specs.declared.form.CoreFunction.{CoreFunction}

@@ -5,15 +5,15 @@ use Rattle.kk_syntax.specs.Patterns.{Pattern}
 use Rattle.kk_syntax.specs.Programs.{ConstructorTree}
 use Rattle.kk_core.specs.CaseLengths.{tests_length}
 use Rattle.kk_core.specs.Cases.{IsLean}
-use Rattle.kk_core.specs.Choosing.{Decides}
+use Rattle.kk_core.specs.RowChoice.{Decides}
 use Rattle.kk_core.specs.declared.decisions.Decisions.{Decisions}
 use Rattle.kk_core.specs.Decisions.{node_tree, AreOrderly}
 use Rattle.kk_core.specs.Kinds.{AsksTyped}
 use Rattle.kk_match.specs.Decided.{is_test, brief_length, IsBrieflyFormed}
 use Rattle.kk_match.specs.Views.{nodes_in}
-use Rattle.kk_match.proofs.Brief.{briefly_few}
+use Rattle.kk_match.proofs.RowLengths.{briefly_few}
 use Rattle.kk_match.specs.Parts.{AreTypeNumbers, TellTypes}
-use Rattle.kk_norm.specs.Deciding.{AreDecisions}
+use Rattle.kk_norm.specs.MatchDecisions.{AreDecisions}
 
 pub are_decisions : {E : Type 0} (constructors : List ConstructorTree) (types : List ℕ) (given patterns : List Pattern) (rows : ℕ)
     (result : Result Decisions E)

@@ -19,7 +19,7 @@ use Rattle.kk_norm.specs.Normalized.{Then, final, next, size, atom, after, after
 use Rattle.kk_norm.proofs.Bounds.{Bounds, OpensAtMost}
 use Rattle.kk_norm.proofs.Openings.{core_at}
 use Rattle.kk_norm.proofs.Variables.{Stands, value_here, same_below_bound}
-use Rattle.kk_norm.proofs.Waits.{Goal, nowhere, returns, goes_on, goal_of, Fresh, Waits, waits_move, waits_nowhere, due, due_small, due_returns}
+use Rattle.kk_norm.proofs.FrameRelation.{Goal, nowhere, returns, goes_on, goal_of, Fresh, Waits, waits_move, waits_nowhere, due, due_small, due_returns}
 
 abbrev pub source_at : Control → List Frame → Store → List ℕ → State
 source_at control frames store input =

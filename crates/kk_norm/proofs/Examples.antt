@@ -9,7 +9,7 @@ use Rattle.kk_syntax.specs.Programs.{ConstructorTree}
 use Rattle.kk_syntax.specs.Shapes.{is_among}
 use Rattle.kk_syntax.specs.Trees.{Tree, variable, apply, match, no_tree, tree, no_row, row, row_parts}
 use Rattle.kk_source.specs.State.{Value, Cell}
-use Rattle.kk_core.specs.Choosing.{Decides, matches}
+use Rattle.kk_core.specs.RowChoice.{Decides, matches}
 use Rattle.kk_core.specs.Codes.{Code, give, case, compute, use_of, unpack, Arms, no_arm, arm}
 use Rattle.kk_core.specs.Decisions.{NodeTree, chooses, tests, targets, row_chosen, AreOrderly}
 use Rattle.kk_core.specs.Edges.{edges_from}
@@ -17,11 +17,11 @@ use Rattle.kk_core.specs.Looks.{looks_from}
 use Rattle.kk_match.specs.Built.{no_state, one_more}
 use Rattle.kk_match.specs.Decided.{TestsAt, TestOnce, most_tests, IsBrieflyFormed}
 use Rattle.kk_match.specs.Graphs.{StateTree, test_of, lines_from, HasTests, IsReached, at_start, by_answer, by_another}
-use Rattle.kk_match.specs.Growing.{IsGraphOf}
+use Rattle.kk_match.specs.GraphGrowth.{IsGraphOf}
 use Rattle.kk_core.specs.declared.decisions.Answer.TheVariants.{Constructor, Number}
 use Rattle.kk_match.specs.Parts.{Part, has_several, AreTypeNumbers, TellTypes}
 use Rattle.kk_match.specs.Turned.{turned}
-use Rattle.kk_norm.specs.Deciding.{AreDecisions}
+use Rattle.kk_norm.specs.MatchDecisions.{AreDecisions}
 use Rattle.kk_norm.specs.Normalized.{final, IsCode}
 use Rattle.kk_norm.specs.OpenedCells.{openings}
 

@@ -14,7 +14,7 @@ use Rattle.kk_norm.specs.Names.{Names, name_of, named}
 use Rattle.kk_norm.specs.Normalized.{Then, final, next, size, size_rows, atom, atoms, after, within, joined, finish}
 use Rattle.kk_norm.proofs.Bounds.{Bounds}
 use Rattle.kk_norm.proofs.Variables.{or_else, Stands, AllBelow, among_left, among_right, among_split, among_head, among_without, left_over, first_among, later_among, not_alone, another}
-use Rattle.kk_norm.proofs.Waits.{Goal, nowhere, returns, goes_on, goal_of, Fresh, fresh_top, Waits}
+use Rattle.kk_norm.proofs.FrameRelation.{Goal, nowhere, returns, goes_on, goal_of, Fresh, fresh_top, Waits}
 use Rattle.kk_norm.proofs.NeededVariables.{IsNameOf, NeededAfter, NeededThen, needed_within, joined_needs, joined_needs_all, out_of_branch, into_branch, form_needs, form_needs_all, after_form, form_after, awaited_name, name_awaited, choice_needs, case_needs, Needs, arms_keep, end_is, after_end, only, only_all, only_rows, kept, kept_all, named_needed, named_needed_all, named_needed_rows}
 
 -- ---- what is needed where a value goes

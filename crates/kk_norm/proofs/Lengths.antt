@@ -13,11 +13,11 @@ use Rattle.kk_core.specs.CaseLengths.{tests_length, cases_length, arms_cases_len
 use Rattle.kk_core.specs.Decisions.{NodeTree}
 use Rattle.kk_core.specs.Sizes.{most_nodes}
 use Rattle.kk_core.specs.Truths.{truth_case}
-use Rattle.kk_norm.specs.Deciding.{AreDecisions}
+use Rattle.kk_norm.specs.MatchDecisions.{AreDecisions}
 use Rattle.kk_norm.specs.Names.{Names, name_of, named}
 use Rattle.kk_norm.specs.Normal.{AreWithin, all_nodes}
 use Rattle.kk_norm.specs.Normalized.{part_count, pattern_size, Then, final, next, size, size_all, size_rows, atom, atoms, after, after_use, within, joined, finish, finish_call, opened, opened_all, pattern_names, patterns_in, IsCode, AreCodes, AreArms, AreCoresOf}
-use Rattle.kk_norm.proofs.FormByForm.{tree_some}
+use Rattle.kk_norm.proofs.FormInduction.{tree_some}
 
 -- ---- what comes after
 

@@ -22,7 +22,7 @@ use Rattle.kk_core.specs.Codes.{Code, case, Arms}
 use Rattle.kk_core.specs.CoreMachine.{arm_at, case_step}
 use Rattle.kk_core.specs.CoreStates.{CoreSetting, Join, CallFrame, CoreState}
 use Rattle.kk_core.specs.Decisions.{NodeTree, chosen}
-use Rattle.kk_core.specs.Choosing.{first_row}
+use Rattle.kk_core.specs.RowChoice.{first_row}
 use Rattle.kk_norm.specs.OpenedCells.{openings}
 use Rattle.kk_norm.specs.Meaning.{openings_if, openings_of_rows}
 use Rattle.kk_norm.specs.Names.{Names}
@@ -32,9 +32,9 @@ use Rattle.kk_norm.proofs.Delivery as Delivery
 use Rattle.kk_norm.proofs.Delivery.{source_at, AtTree, Related}
 use Rattle.kk_norm.proofs.Openings as Openings
 use Rattle.kk_norm.proofs.Openings.{core_at}
-use Rattle.kk_norm.proofs.Picking.{Picked, picks}
+use Rattle.kk_norm.proofs.RowChoice.{Picked, picks}
 use Rattle.kk_norm.proofs.Simulation.{goal_final}
-use Rattle.kk_norm.proofs.Waits.{Goal, goes_on, goal_of, Fresh, fresh_less, Waits, waits_move}
+use Rattle.kk_norm.proofs.FrameRelation.{Goal, goes_on, goal_of, Fresh, fresh_less, Waits, waits_move}
 
 -- a value is of a type that the patterns of some rows are of, and one of them matches
 pub record RowFound (constructors : List ConstructorTree) (of : Rows) (store : Store) (v : Value) : Type 0 where

@@ -26,7 +26,7 @@ use Rattle.kk_core.specs.Truths.{truth_case}
 use Rattle.kk_core.specs.CoreMachine.{core_machine}
 use Rattle.kk_core.specs.CoreStates.{CoreSetting, core_first_state}
 use Rattle.kk_core.specs.Decisions.{NodeTree, chooses, tests}
-use Rattle.kk_norm.specs.Deciding.{AreDecisions}
+use Rattle.kk_norm.specs.MatchDecisions.{AreDecisions}
 use Rattle.kk_norm.specs.Meaning.{core_setting_of}
 use Rattle.kk_norm.specs.Normalized.{final, size, IsCode}
 

@@ -29,7 +29,8 @@ use Rattle.kk_norm.specs.Names.{Names}
 use Rattle.kk_norm.specs.Normalized.{Then, final, next, size, atom, after, within, joined, finish, finish_call, IsCode}
 use Rattle.kk_norm.specs.Meaning.{core_setting_of}
 use Rattle.kk_norm.proofs.Variables.{Stands, stands_left, stands_right, stands_later}
-use Rattle.kk_norm.proofs.Waits.{Goal, returns, goes_on, goal_of, Fresh, fresh_less, Waits, waits_move, waits_nowhere, calls_are}
+use Rattle.kk_norm.proofs.FrameRelation.{Goal, returns, goes_on, goal_of, Fresh, fresh_less, Waits, waits_move, waits_nowhere}
+use Rattle.kk_norm.proofs.FrameRelation.{calls_are}
 use Rattle.kk_norm.proofs.Bounds.{Bounds, OpensAtMost}
 use Rattle.kk_norm.proofs.Functions.{IsGood, AreGood}
 use Rattle.kk_norm.proofs.Openings.{core_at}

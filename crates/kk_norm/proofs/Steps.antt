@@ -20,7 +20,7 @@ use Rattle.kk_norm.specs.Names.{Names, name_of, named}
 use Rattle.kk_norm.specs.Normalized.{Then, next, size, size_all, size_rows, atom, atoms, within, joined, finish, IsCode, AreCodes}
 use Rattle.kk_norm.specs.Meaning.{weighed_store_machine, core_setting_of, openings_at, openings_by_frames, openings_of_rows}
 use Rattle.kk_norm.proofs.Variables.{alone_among, Stands, stands_left, stands_right, stands_later, stands_bound, all_below_more, all_below_one_more, values_one_more}
-use Rattle.kk_norm.proofs.Waits.{Goal, nowhere, returns, goes_on, goal_of, Fresh, fresh_less, Waits, waits_move, due}
+use Rattle.kk_norm.proofs.FrameRelation.{Goal, nowhere, returns, goes_on, goal_of, Fresh, fresh_less, Waits, waits_move, due}
 use Rattle.kk_syntax.proofs.Elements.{each_parts}
 use Rattle.kk_norm.proofs.Bounds.{Bounds, OpensAtMost, gathers_openings, of_parts, of_first, of_match}
 use Rattle.kk_norm.proofs.Functions.{AreGood}

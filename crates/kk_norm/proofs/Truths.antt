@@ -12,8 +12,8 @@ use Rattle.kk_core.specs.declared.decisions.Answer.TheVariants.{Constructor}
 use Rattle.kk_core.specs.Decisions.{is_answer, answer_of}
 use Rattle.kk_core.specs.Kinds.{AreAlike, TestsFrom, MakeOneType, field_count, AsksTyped}
 use Rattle.kk_core.specs.Truths.{truth_patterns, truth_decisions}
-use Rattle.kk_match.proofs.Made.{made_answers}
-use Rattle.kk_match.proofs.Shown.{shows_its}
+use Rattle.kk_match.proofs.ConstructorValues.{made_answers}
+use Rattle.kk_match.proofs.PositionValues.{shows_its}
 
 -- what a value of the type of `False` shows is a constructor of that type
 shown_alike : (constructors : List ConstructorTree) (store : Store) (t : TypeTree) (us : List TypeTree) (w : Value) (found : Answer)

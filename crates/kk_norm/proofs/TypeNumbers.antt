@@ -11,7 +11,7 @@ use Rattle.kk_syntax.specs.GroundTypes.{is_declared}
 use Rattle.kk_syntax.specs.OfType.{same_type, same_types, field_types, fields_of, fields_with}
 use Rattle.kk_syntax.specs.Programs.{ConstructorTree}
 use Rattle.kk_syntax.specs.Types.{TypeTree, TypeTrees, int32, unit_type, type_variable, named, type_at}
-use Rattle.kk_syntax.proofs.SameTypes.{all_same_only, same_itself, all_same_itself}
+use Rattle.kk_syntax.proofs.TypeEquality.{all_same_only, same_itself, all_same_itself}
 use Rattle.kk_match.specs.Parts.{types_of, AreOfOne, AreTypeNumbers, TellTypes}
 
 -- a type has one number in a table in which none stands twice

@@ -1,5 +1,5 @@
 pub mod CellTables
-pub mod Deciding
+pub mod MatchDecisions
 pub mod MatchRows
 pub mod Meaning
 pub mod Names

@@ -11,7 +11,7 @@ use Rattle.kk_syntax.specs.Shapes.{variable_of}
 use Rattle.kk_core.specs.Codes.{Code, give, tail_call, case, compute, use_of, unpack, inside, Arms, no_arm, arm, FunctionCode, ProgramCode}
 use Rattle.kk_core.specs.Decisions.{NodeTree}
 use Rattle.kk_core.specs.Truths.{truth_case}
-use Rattle.kk_norm.specs.Deciding.{AreDecisions}
+use Rattle.kk_norm.specs.MatchDecisions.{AreDecisions}
 use Rattle.kk_norm.specs.Names.{Names, name_of, named}
 
 -- ---- how many numbers are taken

@@ -8,7 +8,7 @@ use Rattle.kk_core.specs.Decisions.{NodeTree}
 use Rattle.kk_core.specs.Truths.{truth_case}
 use Rattle.kk_norm.specs.declared.naming.Named.{Named}
 use Rattle.kk_norm.specs.declared.writer.Writer.{Writer}
-use Rattle.kk_norm.specs.Deciding.{AreDecisions}
+use Rattle.kk_norm.specs.MatchDecisions.{AreDecisions}
 use Rattle.kk_norm.specs.Names.{Names}
 use Rattle.kk_norm.specs.Normalized.{part_count, pattern_size, parts_size, Then, final, next, size, size_all, size_rows, atom, atoms, numbers, opened, opened_all, pattern_names, parts_names, patterns_in, IsCode, AreCodes, AreArms}
 

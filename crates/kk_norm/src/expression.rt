@@ -4,7 +4,7 @@ ghost use Rattle.kk_syntax.specs.GroundPrograms.{ground_program};
 ghost use Rattle.kk_syntax.specs.Trees.{Tree, expr_tree, trees_of, row_tree, rows_of, statement_tree, block_of};
 ghost use Rattle.kk_core.specs.Codes.{block_code, last_code, arm_code, arms_of};
 ghost use Rattle.kk_core.specs.Decisions.{node_tree};
-ghost use Rattle.kk_norm.specs.Deciding.{AreDecisions};
+ghost use Rattle.kk_norm.specs.MatchDecisions.{AreDecisions};
 ghost use Rattle.kk_norm.specs.MatchRows.{MatchesHaveRows, AllMatchesHaveRows, IsSomeRow, BodiesHaveRows};
 ghost use Rattle.kk_norm.specs.Normalized.{size, size_all, size_rows, pattern_size, patterns_in};
 ghost use Rattle.kk_norm.specs.Written.{WritesValue, WritesValues, WritesStatements, KeepsNames, WritesEnd, WritesChoice, WritesCase, WritesArms, WritesArm, WritesBlock};

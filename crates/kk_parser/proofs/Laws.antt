@@ -7,11 +7,11 @@ use Rattle.kk_parser.specs.Phrases.{program, rule}
 use Rattle.kk_parser.specs.Spells.{Marked, tokens_of}
 use Rattle.kk_parser.specs.Reading.{ReadingFails, too_deep}
 use Rattle.kk_parser.specs.Parses.{SpellsProgram, BeginsProgram, AtMost, HasTree, GoesOn, IsUnexpected, IsTooDeep, OneProgram}
-use Rattle.kk_parser.proofs.Complete.{Within, all_within, one_within, Opens}
-use Rattle.kk_parser.proofs.FewNodes.{tokens_of-length}
-use Rattle.kk_parser.proofs.Functional.{never_both, same_fails}
-use Rattle.kk_parser.proofs.Local.{one_next, fails_alike}
-use Rattle.kk_parser.proofs.Whole.{tokens_of-append, turned_tokens, program_read, tree_found, one_program}
+use Rattle.kk_parser.proofs.Completeness.{Within, all_within, one_within, Opens}
+use Rattle.kk_parser.proofs.NodeBounds.{tokens_of-length}
+use Rattle.kk_parser.proofs.Determinism.{never_both, same_fails}
+use Rattle.kk_parser.proofs.Locality.{one_next, fails_alike}
+use Rattle.kk_parser.proofs.ProgramOutcome.{tokens_of-append, turned_tokens, program_read, tree_found, one_program}
 use Rattle.kk_parser.specs.Depths.{most_levels}
 
 -- marked tokens, cut behind some of the tokens alone

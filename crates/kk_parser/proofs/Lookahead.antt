@@ -10,8 +10,8 @@ use Rattle.kk_parser.specs.Phrases.{Nonterminal, program, decl, con, param, effe
 use Rattle.kk_parser.specs.Forms.{form, form_grammar}
 use Rattle.kk_parser.specs.Spells.{Marked, tokens_of, Spells, by_token, by_opener, by_both, by_first, by_second, by_none, by_more, by_absence, by_presence, by_level, by_rule, by_no_more, by_each, by_nothing, by_something, by_quoted, by_unquoted}
 use Rattle.kk_parser.specs.Reading.{first, nullable, behind, is_quoted, quoted}
-use Rattle.kk_parser.proofs.Apart.{is_at-one, cond_parts, apart, apart-is_at, within, within-is_at, is_at-end}
-use Rattle.kk_parser.proofs.Begins.{Begins, begins, is_at-front, is_at-back}
+use Rattle.kk_parser.proofs.ClassDisjointness.{is_at-one, cond_parts, apart, apart-is_at, within, within-is_at, is_at-end}
+use Rattle.kk_parser.proofs.FirstTokens.{Begins, begins, is_at-front, is_at-back}
 use Rattle.kk_parser.proofs.Tables.{nullable-production, follow_of, end_of}
 
 -- one of these classes is next, or where `end` is so the end

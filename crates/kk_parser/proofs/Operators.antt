@@ -9,8 +9,8 @@ use Rattle.kk_parser.specs.Kinds.{symbol}
 use Rattle.kk_parser.specs.Phrases.{Phrase, PhraseValue, opener, either}
 use Rattle.kk_parser.specs.Reading.{first, Finds, finds_first, finds_second, Failure, ReadingFails, fails_first, fails_second}
 use Rattle.kk_parser.specs.Methods.{ReadsIfNext, Deepens}
-use Rattle.kk_parser.proofs.Apart.{apart, apart-is_at}
-use Rattle.kk_parser.proofs.Begins.{is_at-front, is_at-back}
+use Rattle.kk_parser.proofs.ClassDisjointness.{apart, apart-is_at}
+use Rattle.kk_parser.proofs.FirstTokens.{is_at-front, is_at-back}
 use Rattle.kk_parser.proofs.Steps.{said_next, opener_read, deepen_failed, passed_on, gives_up_if_next}
 use Rattle.kk_parser.specs.Depths.{most_levels}
 

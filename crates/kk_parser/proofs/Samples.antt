@@ -14,7 +14,7 @@ use Rattle.kk_parser.specs.Kinds.{Kind, keyword, symbol, name_in, constructor, w
 use Rattle.kk_parser.specs.Phrases.{Nonterminal, program, decl, con, param, effect, eff, type, result_type, expr, block, stmt, if_, match_, row, pat, or, and, cmp, add, mul, un, post, atom, say, args, Phrase, token, opener, ◌▸◌, either, many, optional, level, rule, each, perhaps, quoted_or, PhraseValue}
 use Rattle.kk_parser.specs.Forms.{form, form_meaning, form_grammar}
 use Rattle.kk_parser.specs.Spells.{Marked, tokens_of, Spells, by_token, by_opener, by_both, by_first, by_second, by_none, by_absence, by_level, by_rule, by_no_more, by_nothing, by_unquoted}
-use Rattle.kk_parser.proofs.Apart.{is_at-one, same_name_class-self, apart, apart-is_at, within, within-is_at, not_at}
+use Rattle.kk_parser.proofs.ClassDisjointness.{is_at-one, same_name_class-self, apart, apart-is_at, within, within-is_at, not_at}
 
 -- the claimed classes: a phrase that can go on with such a token does
 abbrev pub claimed : List Class

@@ -18,7 +18,7 @@ use Rattle.kk_parser.specs.Kinds.{Kind, keyword, symbol, name_in, is_name_in, Sa
 use Rattle.kk_parser.specs.Phrases.{Nonterminal, Phrase, token, opener, ◌▸◌, either, many, rule, PhraseValue}
 use Rattle.kk_parser.specs.Forms.{form, form_meaning, items}
 use Rattle.kk_parser.specs.Reading.{first, Finds, finds_token, finds_opener, Failure, unexpected, too_deep, ReadingFails, fails_deep, finds_first, finds_second, finds_none, finds_more, finds_both, finds_rule, fails_rule, fails_front, fails_behind, fails_first, fails_second, fails_more}
-use Rattle.kk_parser.proofs.Apart.{next_says_class}
+use Rattle.kk_parser.proofs.ClassDisjointness.{next_says_class}
 use Rattle.kk_parser.specs.Methods.{behind, Read, FailedBy, ReadsPhrase, ReadsFor, ReadsAs, ReadsItems, ReadsIfNext, Deepens, Makes}
 use Rattle.kk_parser.specs.Depths.{most_levels}
 

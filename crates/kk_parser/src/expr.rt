@@ -1,12 +1,17 @@
-ghost use Rattle.std.specs.Prelude.{◌≡◌, ◌+◌, ◌≤◌, [], ◌∷◌, map, length, IfSome, IfOk, OnOk};
+ghost use Rattle.std.specs.Prelude.{◌≡◌, ◌+◌, ◌≤◌, [], ◌∷◌, map, length, IfSome, IfOk, OnOk, IsSome};
 ghost use Rattle.kk_syntax.specs.Surface.{written_expr, unit as OfUnit, construct as OfConstruct, writtens_of};
 ghost use Rattle.kk_parser.specs.Classes.{is_at};
 ghost use Rattle.kk_parser.specs.Depths.{IsNoDeeper, AreNoDeeper};
-ghost use Rattle.kk_parser.specs.Forms.{branches, branches_of, in_brackets, inside, spoken as OfSpoken, spoken_of, printed as OfPrinted, printed_of};
+ghost use Rattle.kk_parser.specs.Forms.{branches, branches_of, in_brackets, inside, spoken as OfSpoken, spoken_of};
+ghost use Rattle.kk_parser.specs.Forms.{printed as OfPrinted, printed_of};
 ghost use Rattle.kk_parser.specs.Grammar.{arguments_of, arguments_given, bracketed, if_of, named_of, print_form, no_arguments};
+ghost use Rattle.kk_parser.specs.Grammar.{comparison, comparison_of, sum_operator, sum_operator_of, product_operator};
+ghost use Rattle.kk_parser.specs.Grammar.{product_operator_of, unary_operator, unary_operator_of};
 ghost use Rattle.kk_parser.specs.Kinds.{constructor, name_but_print};
-ghost use Rattle.kk_parser.specs.Methods.{ReadsPhrase, ReadsFor, ReadsAs};
-ghost use Rattle.kk_parser.specs.Phrases.{token, optional, ◌▸◌, rule, expr as OfExpr, if_ as OfIf, or as OfOr, and as OfAnd, cmp as OfCmp, add as OfAdd, mul as OfMul, un as OfUn, post as OfPost, atom as OfAtom, args as OfArgs};
+ghost use Rattle.kk_parser.specs.Methods.{ReadsPhrase, ReadsFor, ReadsAs, ReadsIfNext};
+ghost use Rattle.kk_parser.specs.Phrases.{token, optional, ◌▸◌, rule, expr as OfExpr, if_ as OfIf, or as OfOr, and as OfAnd};
+ghost use Rattle.kk_parser.specs.Phrases.{cmp as OfCmp, add as OfAdd, mul as OfMul, un as OfUn, post as OfPost, atom as OfAtom};
+ghost use Rattle.kk_parser.specs.Phrases.{args as OfArgs};
 ghost use Rattle.kk_parser.specs.Reading.{expr_first, is_quoted};
 ghost use Rattle.kk_parser.specs.Views.{arguments_view, boxed_expr};
 
@@ -17,7 +22,7 @@ use crate::made::{
 };
 use crate::name::Names;
 use crate::parser::Parser;
-use kk_syntax::{Keyword, SurfaceExpr, Symbol, Token};
+use kk_syntax::{BinaryOperator, Keyword, SurfaceExpr, Symbol, Token, UnaryOperator};
 
 impl<'a> Parser<'a> {
     /// `expr = block | if | match | or`: the levels end that it opens.
@@ -391,5 +396,95 @@ impl<'a> Parser<'a> {
             },
             None => false,
         }
+    }
+}
+
+impl<'a> Parser<'a> {
+    /// `"==" | "!=" | "<" | "<=" | ">" | ">="`, where one is next. It opens a level.
+    pub fn comparison(&mut self) -> Result<Option<BinaryOperator>, Fault>
+        ensures reads { ReadsIfNext comparison comparison_of result self.old self.new }
+        ensures left { length self.new.rest.now ≤ length self.old.rest.now }
+        ensures passed { IfOk result (λ found. IsSome found → length self.new.rest.now + 1 ≡ length self.old.rest.now) }
+    {
+        if self.is_at(Symbol::EqualEqual) {
+            self.deepen()?;
+            return Ok(Some(BinaryOperator::Equal));
+        }
+        if self.is_at(Symbol::NotEqual) {
+            self.deepen()?;
+            return Ok(Some(BinaryOperator::NotEqual));
+        }
+        if self.is_at(Symbol::Less) {
+            self.deepen()?;
+            return Ok(Some(BinaryOperator::Less));
+        }
+        if self.is_at(Symbol::LessEqual) {
+            self.deepen()?;
+            return Ok(Some(BinaryOperator::LessEqual));
+        }
+        if self.is_at(Symbol::Greater) {
+            self.deepen()?;
+            return Ok(Some(BinaryOperator::Greater));
+        }
+        if self.is_at(Symbol::GreaterEqual) {
+            self.deepen()?;
+            return Ok(Some(BinaryOperator::GreaterEqual));
+        }
+        Ok(None)
+    }
+
+    /// `"+" | "-"`, where one is next. It opens a level.
+    pub fn sum_operator(&mut self) -> Result<Option<BinaryOperator>, Fault>
+        ensures reads { ReadsIfNext sum_operator sum_operator_of result self.old self.new }
+        ensures left { length self.new.rest.now ≤ length self.old.rest.now }
+        ensures passed { IfOk result (λ found. IsSome found → length self.new.rest.now + 1 ≡ length self.old.rest.now) }
+    {
+        if self.is_at(Symbol::Plus) {
+            self.deepen()?;
+            return Ok(Some(BinaryOperator::Add));
+        }
+        if self.is_at(Symbol::Minus) {
+            self.deepen()?;
+            return Ok(Some(BinaryOperator::Subtract));
+        }
+        Ok(None)
+    }
+
+    /// `"*" | "/" | "%"`, where one is next. It opens a level.
+    pub fn product_operator(&mut self) -> Result<Option<BinaryOperator>, Fault>
+        ensures reads { ReadsIfNext product_operator product_operator_of result self.old self.new }
+        ensures left { length self.new.rest.now ≤ length self.old.rest.now }
+        ensures passed { IfOk result (λ found. IsSome found → length self.new.rest.now + 1 ≡ length self.old.rest.now) }
+    {
+        if self.is_at(Symbol::Star) {
+            self.deepen()?;
+            return Ok(Some(BinaryOperator::Multiply));
+        }
+        if self.is_at(Symbol::Slash) {
+            self.deepen()?;
+            return Ok(Some(BinaryOperator::Divide));
+        }
+        if self.is_at(Symbol::Percent) {
+            self.deepen()?;
+            return Ok(Some(BinaryOperator::Remainder));
+        }
+        Ok(None)
+    }
+
+    /// `"!" | "~"`, where one is next. It opens a level.
+    pub fn unary_operator(&mut self) -> Result<Option<UnaryOperator>, Fault>
+        ensures reads { ReadsIfNext unary_operator unary_operator_of result self.old self.new }
+        ensures left { length self.new.rest.now ≤ length self.old.rest.now }
+        ensures passed { IfOk result (λ found. IsSome found → length self.new.rest.now + 1 ≡ length self.old.rest.now) }
+    {
+        if self.is_at(Symbol::Exclamation) {
+            self.deepen()?;
+            return Ok(Some(UnaryOperator::Not));
+        }
+        if self.is_at(Symbol::Tilde) {
+            self.deepen()?;
+            return Ok(Some(UnaryOperator::Negate));
+        }
+        Ok(None)
     }
 }

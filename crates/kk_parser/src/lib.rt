@@ -8,9 +8,7 @@ mod fault;
 mod made;
 mod matching;
 mod name;
-mod operator;
 mod parser;
 mod program;
-mod result;
 
 pub use program::{each_list_is_parsed, parse};

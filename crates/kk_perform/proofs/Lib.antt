@@ -1,5 +1,5 @@
 mod Benches
-mod Complete
+mod FaultAbsence
 mod ImageRuns
 mod Rows
 mod SourceRuns

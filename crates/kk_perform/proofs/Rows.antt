@@ -23,7 +23,7 @@ use Rattle.kk_answer.specs.declared.answer.RunEnd.{RunEnd}
 use Rattle.kk_answer.specs.declared.answer.RunEnd.TheVariants as OfRun
 use Rattle.kk_perform.specs.Answers.{HasText, HasRequestedText, HasImage, IsImageOfFile, Answers, usage, no_memory, unread, refused, checked, built, unwritten, ran, measured, bad_image, simulated, evaluated, cut_short, tells_statistics}
 use Rattle.kk_base.specs.declared.error.NoMemory.{NoMemory as OutOfMemory}
-use Rattle.kk_eval.specs.Evaluating.{HasRun}
+use Rattle.kk_eval.specs.EvaluationStates.{HasRun}
 use Rattle.kk_perform.specs.Internal.{answer_of_refusal, answer_of_condition, builds, HasStopped, AnswersRun, without_statistics, with_statistics}
 use Rattle.kk_perform.specs.ImageRuns.{IsMeasured}
 use Rattle.kk_command.specs.Requests.{Request, check, build, run, sim, eval, bench, file_of}

@@ -10,7 +10,7 @@ ghost use Rattle.kk_syntax.specs.Programs.{program_tree};
 ghost use Rattle.rv_sim.specs.Devices.{ending_at};
 ghost use Rattle.rv_sim.specs.declared.halt.Halt.TheVariants.{Exit};
 ghost use Rattle.kk_perform.specs.Answers.{Answers, BeginsFile, HasText, HasImage, IsImageOfFile, tells_statistics};
-ghost use Rattle.kk_eval.specs.Evaluating.{HasRun};
+ghost use Rattle.kk_eval.specs.EvaluationStates.{HasRun};
 ghost use Rattle.kk_perform.specs.Internal.{answer_of_refusal, answer_of_condition, builds, AnswersRun, HasStopped};
 ghost use Rattle.kk_command.specs.Requests.{Request, check, build, run, sim, eval, file_of};
 ghost use Rattle.kk_command.specs.Commands.{request_read};

@@ -8,7 +8,7 @@ use Rattle.kk_counted.specs.CountedCodes.{CountedFunction, case, compute, inside
 use Rattle.kk_counted.specs.KeptFields.{KnownFields, forget_slot, forget_variable, forget_variables, known_opened}
 use Rattle.kk_counted.specs.TokenSpending.{SpendsTokens, SpendAllTokens, AreTokensSpent}
 use Rattle.kk_counted.specs.TokenedCodes.{Tokened, TokenedArms, TokenedFunction, TokenedProgram}
-use Rattle.kk_reuse.proofs.Each.{each_made}
+use Rattle.kk_reuse.proofs.MappedLists.{each_made}
 use Rattle.kk_respec.specs.Respecialised.{respec, respec_arms, respecialised_function, respecialised_program}
 
 -- ---- the bare form

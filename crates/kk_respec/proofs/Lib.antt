@@ -1,8 +1,8 @@
 pub mod Forms
 mod Measures
 mod Pairs
-mod Lowering
-mod LeavingAll
-pub mod Knowing
-pub mod Writing
+mod Lowerability
+mod AllKnown
+pub mod KnownTokens
+pub mod StepMarks
 mod Examples

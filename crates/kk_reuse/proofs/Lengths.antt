@@ -15,7 +15,7 @@ use Rattle.kk_counted.specs.TokenLowerable.{most_slots}
 use Rattle.kk_counted.specs.TokenedCodes.{Tokened}
 use Rattle.kk_reuse.specs.Following.{may_make, kept, taken}
 use Rattle.kk_reuse.specs.Pairing.{frees, holds, unholds, nulls, moves_up, filled_up, settled, left_by, paired_form, paired, paired_arms, paired_function, paired_program}
-use Rattle.kk_reuse.proofs.Rooms.{kept_few, taken_few, leaves_few, slots_many}
+use Rattle.kk_reuse.proofs.TokenRoom.{kept_few, taken_few, leaves_few, slots_many}
 
 -- ---- forms that only tokens have, in front of a code
 

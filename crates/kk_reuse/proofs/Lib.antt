@@ -1,14 +1,14 @@
-pub mod Each
-pub mod Bare
+pub mod MappedLists
+pub mod BareForm
 mod Examples
-pub mod Spends
+pub mod TokenSpending
 pub mod Pairs
 pub mod Programs
-pub mod Rooms
+pub mod TokenRoom
 mod Lengths
-mod Leaving
-mod Lowering
-pub mod Ahead
+mod LeftFields
+mod Lowerability
+pub mod LaterForms
 pub mod Walks
 pub mod Steps
-pub mod Writing
+pub mod WrittenSteps

@@ -9,9 +9,9 @@ use Rattle.kk_counted.specs.BareForms.{bare}
 use Rattle.kk_reuse.specs.Following.{makes_cell, may_make, kept, taken, leaves, arms_leave}
 use Rattle.kk_reuse.specs.Pairing.{slots_below, frees, holds, unholds, nulls, moves_up, filled_up, settled, left_by, paired_form, paired, paired_arms, paired_function, paired_program}
 use Rattle.kk_reuse.specs.Paired.{IsTimely, Without, Renamed, IsPaired, ArePaired, AllPaired}
-use Rattle.kk_reuse.proofs.Bare.{bare_frees, bare_unholds, bare_settled, bare_paired}
-use Rattle.kk_reuse.proofs.Each.{each_made}
-use Rattle.kk_reuse.proofs.Spends.{function_leaves_none}
+use Rattle.kk_reuse.proofs.BareForm.{bare_frees, bare_unholds, bare_settled, bare_paired}
+use Rattle.kk_reuse.proofs.MappedLists.{each_made}
+use Rattle.kk_reuse.proofs.TokenSpending.{function_leaves_none}
 
 -- tokens are there only where a cell may be made
 abbrev IsKept : Bool → Counted → ℕ → Type 0

@@ -5,7 +5,7 @@ use Rattle.kk_counted.specs.CountedCodes.{CountedFunction, CountedProgram}
 use Rattle.kk_counted.specs.CountedStates.{CountedSetting}
 use Rattle.kk_counted.specs.TokenStates.{bare_setting}
 use Rattle.kk_reuse.specs.Pairing.{paired_function, paired_program, paired_setting}
-use Rattle.kk_reuse.proofs.Bare.{bare_paired}
+use Rattle.kk_reuse.proofs.BareForm.{bare_paired}
 
 functions_bare : (functions : List CountedFunction) → map bare_function (map paired_function functions) ≡ functions
 functions_bare [] = refl

@@ -12,7 +12,7 @@ use Rattle.kk_counted.specs.CountedForms.{plug, arms_of, block_code, last_code, 
 use Rattle.kk_counted.proofs.FormViews.{block_is}
 use Rattle.kk_reuse.specs.Following.{may_make, kept, leaves, arms_leave}
 use Rattle.kk_reuse.specs.PairedForms.{moves_may_make, left_behind}
-use Rattle.kk_reuse.proofs.Ahead.{leaves_kept, leaves_put, may_make_plug}
+use Rattle.kk_reuse.proofs.LaterForms.{leaves_kept, leaves_put, may_make_plug}
 
 pub one_dropped : {A : Type 0} (xs : List A) (i : ℕ) (item : A) → i < length xs → item ≡ get_or xs i item
     → drop i xs ≡ item ∷ drop (i + 1) xs

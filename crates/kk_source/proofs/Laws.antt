@@ -13,10 +13,10 @@ use Rattle.kk_source.specs.Step.{step_of}
 use Rattle.kk_source.specs.SourceAfter.{ending_of, store_machine, source_machine, first_state, After, source_after, HasRoom}
 use Rattle.kk_source.specs.Sound.{Sound}
 use Rattle.kk_source.proofs.Live.{live_reached, reached_live}
-use Rattle.kk_source.proofs.Kept.{run_keeps}
-use Rattle.kk_source.proofs.Sound.{step_sound, start_sound}
-use Rattle.kk_source.proofs.Roomier.{goes_further}
-use Rattle.kk_source.proofs.TakenInput.{same_taken}
+use Rattle.kk_source.proofs.RunInvariants.{run_keeps}
+use Rattle.kk_source.proofs.StateSoundness.{step_sound, start_sound}
+use Rattle.kk_source.proofs.RoomMonotonicity.{goes_further}
+use Rattle.kk_source.proofs.InputDependence.{same_taken}
 
 -- a machine of which less is seen comes to the same states
 state-mapped : {S E F W V : Type 0} (events : E → List F) (seen : W → V) (machine : Machine S E W) (n : ℕ) (s : S) → state (mapped events seen machine) n s ≡ state machine n s

@@ -1,18 +1,18 @@
 pub mod Bindings
 pub mod Builder
 mod Examples
-pub mod Kept
+pub mod RunInvariants
 pub mod Laws
 pub mod Live
 pub mod Matching
-pub mod NeverFull
+pub mod ResourceBounds
 pub mod Operators
-pub mod Roomier
-pub mod Safe
+pub mod RoomMonotonicity
+pub mod TypeSafety
 pub mod SafeRuns
 pub mod Settings
-pub mod Sound
-pub mod TakenInput
+pub mod StateSoundness
+pub mod InputDependence
 mod TypedExamples
 pub mod Values
 pub mod WithoutLimits

@@ -11,9 +11,9 @@ use Rattle.kk_source.specs.SourceAfter.{ending_of, store_machine, first_state}
 use Rattle.kk_source.specs.State.{Setting, start}
 use Rattle.kk_source.specs.Step.{step_of}
 use Rattle.kk_source.proofs.Bindings.{known_none}
-use Rattle.kk_source.proofs.Kept.{run_keeps}
+use Rattle.kk_source.proofs.RunInvariants.{run_keeps}
 use Rattle.kk_source.proofs.Operators.{function_there}
-use Rattle.kk_source.proofs.Safe.{IsStateTyped, state_fits, step_safe}
+use Rattle.kk_source.proofs.TypeSafety.{IsStateTyped, state_fits, step_safe}
 
 module _ (setting : Setting) (typed : IsGroundTyped setting.program) where
   main_typed : HasType (table_of setting.program) [] (body_of setting.program setting.program.main) unit_type

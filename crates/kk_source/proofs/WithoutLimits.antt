@@ -6,7 +6,7 @@ use Rattle.kk_base.proofs.Machines.{trace_grows, ending_stays, trace_stays}
 use Rattle.kk_source.specs.State.{Setting, ended}
 use Rattle.kk_source.specs.SourceAfter.{source_machine, first_state, After, source_after, unlimited_after, HasRoom}
 use Rattle.kk_source.proofs.Laws.{seen_ending, longer_trace, same_with_room}
-use Rattle.kk_source.proofs.NeverFull.{has_room}
+use Rattle.kk_source.proofs.ResourceBounds.{has_room}
 
 -- as many steps as are more than cells, depth and steps
 abbrev enough : Setting → ℕ → ℕ

@@ -5,7 +5,7 @@ use Rattle.kk_syntax.specs.declared.ground.GroundType.{GroundType}
 use Rattle.kk_syntax.specs.GroundTypes.{ground_type, ground_types_behind, ground_types}
 use Rattle.kk_syntax.specs.OfType.{same_type}
 use Rattle.kk_syntax.specs.Types.{TypeTree}
-use Rattle.kk_syntax.proofs.SameTypes.{same_only}
+use Rattle.kk_syntax.proofs.TypeEquality.{same_only}
 
 pub behind_length : (earlier : List TypeTree) (nodes : List GroundType)
     → length (ground_types_behind earlier nodes) ≡ length earlier + length nodes

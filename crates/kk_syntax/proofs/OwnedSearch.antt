@@ -6,7 +6,7 @@ use Rattle.std.proofs.lemmas.Bool.{both_ways, cases_Bool}
 use Rattle.std.proofs.lemmas.List.Elements.{All-nil, All-cons, All-head, All-tail, All-weaker}
 use Rattle.std.proofs.lemmas.List.Sums.{sum_by-set}
 use Rattle.std.proofs.lemmas.Option.{none-some, same_Some}
-use Rattle.kk_syntax.proofs.MoreOwned.{uses_grows, handed_less, below_less}
+use Rattle.kk_syntax.proofs.RuleMonotonicity.{uses_grows, handed_less, below_less}
 use Rattle.kk_syntax.proofs.PositionTables.{owned_told, lent_told, lent_row, told_row, grown_told, grown_within, start_told, start_within}
 use Rattle.kk_syntax.proofs.TailCalls.{handed_is}
 use Rattle.kk_syntax.specs.declared.positions.Ownership.{Ownership}

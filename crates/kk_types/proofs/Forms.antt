@@ -9,15 +9,15 @@ use Rattle.kk_syntax.specs.Types.{TypeTree}
 use Rattle.kk_syntax.specs.Typing.{Choice, bool, form_scheme, chosen_at, InTurn, Holds, IsTypedBy, AreTypedBy, AreRowsTypedBy}
 use Rattle.kk_unify.specs.Graphs.{Assignment}
 use Rattle.kk_types.specs.declared.instance.Instance.{Instance}
-use Rattle.kk_types.specs.declared.scope.Bound.{Bound}
+use Rattle.kk_types.specs.declared.walk.Bound.{Bound}
 use Rattle.kk_types.specs.declared.walk.Walk.{Walk}
 use Rattle.kk_types.specs.Claims.{typed_as, both, expression_at, expressions_at, rows_at}
 use Rattle.kk_types.specs.Steps.{nodes_of, size_of, Goes, Walked, Made, Opened, Instantiates}
 use Rattle.kk_types.specs.Walks.{holding_at, AreBoundBelow, scope_at, Claim, Refused, IsOf}
-use Rattle.kk_types.proofs.Going.{still_inside, still_bound, refused_after, goes_on, goes_first, goes_made, walked_behind}
+use Rattle.kk_types.proofs.WalkComposition.{still_inside, still_bound, refused_after, goes_on, goes_first, goes_made, walked_behind}
 use Rattle.kk_types.proofs.Locals.{scoped_of, node_of, both_of, expression_of, expressions_of, rows_of_claim}
-use Rattle.kk_types.proofs.Refining.{bound_more, first_refused, holds_leads}
-use Rattle.kk_types.proofs.Using.{unused, was_given, not_given}
+use Rattle.kk_types.proofs.ClaimComposition.{bound_more, first_refused, holds_leads}
+use Rattle.kk_types.proofs.SchemeWalk.{unused, was_given, not_given}
 
 -- a node is taken for a type that is chosen
 pub goes_opened : (a b : Walk) (node : ℕ) (V : Assignment → TypeTree → List Choice → Type 0) → Opened a b node → ((t : TypeTree) → IsOf (size_of a) (λ r. V r t)) → Goes a b (λ r. Holds (V r)) (λ r. V r (r node))

@@ -14,9 +14,9 @@ use Rattle.kk_types.specs.declared.instance.Instance.{Instance}
 use Rattle.kk_types.specs.declared.walk.Walk.{Walk}
 use Rattle.kk_types.specs.Steps.{nodes_of, Instantiates}
 use Rattle.kk_types.specs.Walks.{Taking, taking_of, takings_of, choices_at, AreBelow, IsTakenBelow, AreTakenBelow, Builds, BuildsEach, Opens}
-use Rattle.kk_types.proofs.Adding.{adds_builds}
-use Rattle.kk_types.proofs.Building.{at_nodes, types_put, put_each_of, builds_same}
-use Rattle.kk_types.proofs.Refining.{agree_on, types_agree, below_more}
+use Rattle.kk_types.proofs.NewNodes.{adds_builds}
+use Rattle.kk_types.proofs.TypeNodes.{at_nodes, types_put, put_each_of, builds_same}
+use Rattle.kk_types.proofs.ClaimComposition.{agree_on, types_agree, below_more}
 
 -- the first variables are the types that are put in their place
 variables_put : (n : ℕ) (ts : List TypeTree) → n ≤ length ts → map (put (type_at ts)) (variables_below n) ≡ take n ts

@@ -5,10 +5,10 @@ use Rattle.kk_syntax.specs.Trees.{Tree, Trees, Rows}
 use Rattle.kk_syntax.specs.Types.{TypeTree}
 use Rattle.kk_syntax.specs.Typing.{Choice, Scope, IsTypedBy, AreTypedBy, AreRowsTypedBy}
 use Rattle.kk_unify.specs.Graphs.{Assignment}
-use Rattle.kk_types.specs.declared.scope.Bound.{Bound}
+use Rattle.kk_types.specs.declared.walk.Bound.{Bound}
 use Rattle.kk_types.specs.Claims.{both, expression_at, expressions_at, rows_at}
 use Rattle.kk_types.specs.Walks.{AreBelow, AreBoundBelow, scope_at, Claim, IsOf}
-use Rattle.kk_types.proofs.Refining.{types_agree, scope_agrees}
+use Rattle.kk_types.proofs.ClaimComposition.{types_agree, scope_agrees}
 
 module _ (size : ℕ) where
   -- of a scope of nodes that are there

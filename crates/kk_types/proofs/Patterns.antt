@@ -11,12 +11,12 @@ use Rattle.kk_syntax.specs.Typing.{Scope, with_bound}
 use Rattle.kk_syntax.proofs.PatternViews.{wildcard_tree, number_tree}
 use Rattle.kk_unify.specs.Graphs.{NodeTree}
 use Rattle.kk_unify.specs.GraphOf.{variables_of}
-use Rattle.kk_types.specs.declared.scope.Bound.{Bound}
+use Rattle.kk_types.specs.declared.walk.Bound.{Bound}
 use Rattle.kk_types.specs.declared.walk.Walk.{Walk}
 use Rattle.kk_types.specs.Steps.{nodes_of, size_of, Opened, BindsEach}
 use Rattle.kk_types.specs.Walks.{holding_at, takings_of, AreBoundBelow, scope_at, Opens}
-use Rattle.kk_types.proofs.Adding.{opens_none}
-use Rattle.kk_types.proofs.Refining.{head_of, agree_on, types_agree, below_more, bound_more}
+use Rattle.kk_types.proofs.NewNodes.{opens_none}
+use Rattle.kk_types.proofs.ClaimComposition.{head_of, agree_on, types_agree, below_more, bound_more}
 use Rattle.kk_types.proofs.Scopes.{scope_more}
 
 -- `_` and a number bind nothing

@@ -13,14 +13,14 @@ use Rattle.kk_syntax.specs.Typing.{Choice, Scope, holding, with_bound, Binds, In
 use Rattle.kk_syntax.proofs.Views.{row_tree_is}
 use Rattle.kk_unify.specs.Graphs.{NodeTree, Assignment}
 use Rattle.kk_unify.specs.GraphOf.{variables_of}
-use Rattle.kk_types.specs.declared.scope.Bound.{Bound}
+use Rattle.kk_types.specs.declared.walk.Bound.{Bound}
 use Rattle.kk_types.specs.declared.walk.Walk.{Walk}
 use Rattle.kk_types.specs.Claims.{both, expression_at, rows_at, pattern_at}
 use Rattle.kk_types.specs.Steps.{nodes_of, size_of, Goes, Walked, BindsEach}
 use Rattle.kk_types.specs.Walks.{Taking, holding_at, takings_of, choices_at, AreBelow, IsTakenBelow, AreTakenBelow, AreBoundBelow, scope_at, Claim, Leads, Done, Refused, IsOf, Opens}
-use Rattle.kk_types.proofs.Going.{still_inside, still_bound, takes_then, refused_after, goes_on, goes_first}
+use Rattle.kk_types.proofs.WalkComposition.{still_inside, still_bound, takes_then, refused_after, goes_on, goes_first}
 use Rattle.kk_types.proofs.Locals.{node_of, both_of, expression_of, rows_of_claim}
-use Rattle.kk_types.proofs.Refining.{head_of, tail_of, scope_agrees, Chooses, opens_leads, then_leads, refused_behind, first_refused}
+use Rattle.kk_types.proofs.ClaimComposition.{head_of, tail_of, scope_agrees, Chooses, opens_leads, then_leads, refused_behind, first_refused}
 
 -- what is taken for variables
 taken_below : (size : ℕ) (numbers : List ℕ) → AreBelow size numbers → AreTakenBelow size (map holding_at numbers)

@@ -5,9 +5,9 @@ use Rattle.std.proofs.lemmas.List.{map-append, reverse-append}
 use Rattle.std.proofs.lemmas.List.Elements.{All-append, All-nil, All-cons}
 use Rattle.kk_syntax.specs.Typing.{type_in}
 use Rattle.kk_unify.specs.Graphs.{Assignment}
-use Rattle.kk_types.specs.declared.scope.Bound.{Bound}
+use Rattle.kk_types.specs.declared.walk.Bound.{Bound}
 use Rattle.kk_types.specs.Walks.{AreBoundBelow, variable_at, scope_at}
-use Rattle.kk_types.proofs.Refining.{head_of, tail_of}
+use Rattle.kk_types.proofs.ClaimComposition.{head_of, tail_of}
 
 reverse_map : {X Y : Type 0} (f : X → Y) (xs : List X) → reverse (map f xs) ≡ map f (reverse xs)
 reverse_map f [] = refl

@@ -7,7 +7,7 @@ use Rattle.kk_syntax.specs.Programs.{ProgramTree}
 use Rattle.kk_syntax.specs.Trees.{Tree, Trees, Rows}
 use Rattle.kk_syntax.specs.Types.{TypeTree}
 use Rattle.kk_syntax.specs.Typing.{type_in, InTurn, IsPatternTyped, ArePatternsTyped, IsTypedBy, AreTypedBy, AreRowsTypedBy}
-use Rattle.kk_types.specs.declared.scope.Bound.{Bound}
+use Rattle.kk_types.specs.declared.walk.Bound.{Bound}
 use Rattle.kk_unify.specs.Graphs.{Assignment}
 use Rattle.kk_types.specs.Walks.{Claim, scope_at}
 

@@ -5,7 +5,7 @@ use Rattle.kk_syntax.specs.declared.typed.Taken.TheVariants as OfTaken
 use Rattle.kk_syntax.specs.Types.{TypeTree, put, type_at}
 use Rattle.kk_syntax.specs.Typing.{Choice, constructing, calling, holding, TypedVariable, Scope, Scheme}
 use Rattle.kk_unify.specs.Graphs.{NodeTree, Assignment, Obeys}
-use Rattle.kk_types.specs.declared.scope.Bound.{Bound}
+use Rattle.kk_types.specs.declared.walk.Bound.{Bound}
 
 -- what is taken at a place of a body, by the numbers of nodes: for the type variables of a constructor or of a function
 -- that is used there; or for the type of a statement's value, of a scrutinee, or of a variable of a pattern

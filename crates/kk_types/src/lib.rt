@@ -5,13 +5,10 @@
 mod build;
 mod error;
 mod expression;
-mod function;
 mod instance;
-mod number;
 mod pattern;
 mod program;
 mod rows;
-mod scope;
 mod walk;
 
 pub use error::TypeError;

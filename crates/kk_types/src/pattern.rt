@@ -4,8 +4,7 @@ ghost use Rattle.kk_syntax.specs.Programs.{program_tree};
 ghost use Rattle.kk_syntax.specs.Shapes.{bound};
 ghost use Rattle.kk_types.specs.Walks.{AreBelow, AreBoundBelow};
 
-use crate::scope::Bound;
-use crate::walk::Walk;
+use crate::walk::{Bound, Walk};
 use kk_base::NoMemory;
 use kk_syntax::{Pat, Program, TypeNode};
 

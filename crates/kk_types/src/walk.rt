@@ -1,8 +1,7 @@
-ghost use Rattle.std.specs.Prelude.{◌≡◌, ◌<◌, ◌++◌, IfOk, OnOk};
+ghost use Rattle.std.specs.Prelude.{◌≡◌, ◌<◌, ◌++◌, IfOk, OnOk, ◌==◌, find, reverse};
 ghost use Rattle.kk_syntax.specs.Typing.{bool};
 ghost use Rattle.kk_types.specs.Walks.{AreBoundBelow};
 
-use crate::scope::{Bound, newest};
 use kk_base::NoMemory;
 use kk_syntax::{Binder, Program, Taken, TypeNode};
 use kk_unify::Graph;
@@ -87,4 +86,22 @@ impl Walk {
         self.taken.push(Taken::Value(node))?;
         Ok(node)
     }
+}
+
+/// A variable that is bound, and the node of its type.
+#[derive(Clone, Copy)]
+pub struct Bound {
+    pub variable: u32,
+    pub node: u32,
+}
+
+/// The newest variable of this number in a scope, if there is one. The newest of all stands last.
+pub fn newest(scope: &[Bound], variable: u32) -> Option<Bound>
+    ensures { result ≡ find (λ bound. bound.variable == variable) (reverse scope.now) }
+{
+    scope
+        .iter()
+        .rev()
+        .copied()
+        .find(|bound| bound.variable == variable)
 }

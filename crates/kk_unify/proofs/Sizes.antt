@@ -3,9 +3,9 @@ use Rattle.std.proofs.Common.{◌≡◌, ◌<◌, ◌≤◌, ◌+◌, ◌-◌, �
 use Rattle.std.proofs.lemmas.Bool.{le-ltb, lt-ltb}
 use Rattle.kk_syntax.specs.Types.{type_variable, named, types_of, put, put_each}
 use Rattle.kk_unify.specs.Graphs.{NodeTree, any_node, same_node, int32_node, unit_node, variable_node, named_node, Assignment, Holds, IsNodeFormed, filled}
-use Rattle.kk_unify.specs.Joining.{IsHead}
-use Rattle.kk_unify.specs.Walking.{size, sizes, arguments_of, made_type}
-use Rattle.kk_unify.proofs.Obeying.{map_agree}
+use Rattle.kk_unify.specs.Unification.{IsHead}
+use Rattle.kk_unify.specs.GraphWalk.{size, sizes, arguments_of, made_type}
+use Rattle.kk_unify.proofs.GraphAssignments.{map_agree}
 
 -- an argument is smaller
 sizes_of : (r : Assignment) (xs : List ℕ) (k : ℕ) → k < length xs → size (r (get_or xs k 0)) ≤ sizes (types_of (map r xs))

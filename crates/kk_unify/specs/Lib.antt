@@ -1,8 +1,8 @@
 pub mod GraphOf
 pub mod Graphs
-pub mod Joining
+pub mod Unification
 pub mod Locality
 pub mod NodesOf
 pub mod Solutions
 pub mod WalkOf
-pub mod Walking
+pub mod GraphWalk

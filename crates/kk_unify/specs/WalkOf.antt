@@ -10,9 +10,9 @@ use Rattle.kk_unify.specs.declared.walk.Walk.{Walk}
 use Rattle.kk_unify.specs.declared.walk.Rooted.{Rooted}
 use Rattle.kk_unify.specs.Graphs.{NodeTree}
 use Rattle.kk_unify.specs.NodesOf.{node_trees}
-use Rattle.kk_unify.specs.Joining.{node_at}
+use Rattle.kk_unify.specs.Unification.{node_at}
 use Rattle.kk_unify.specs.Solutions.{NamesEarlier}
-use Rattle.kk_unify.specs.Walking.{root_at, IsRooted, arguments_of, mark_at, work_of, made_type, IsReady, IsOn}
+use Rattle.kk_unify.specs.GraphWalk.{root_at, IsRooted, arguments_of, mark_at, work_of, made_type, IsReady, IsOn}
 
 abbrev pub graph_in : Rooted → List NodeTree
 graph_in rooted = node_trees rooted.nodes.now

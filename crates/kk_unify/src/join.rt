@@ -2,7 +2,7 @@ ghost use Rattle.std.specs.Prelude.{◌≡◌, ◌<◌, ◌+◌, ◌≤◌, ◌+
 ghost use Rattle.std.specs.List.{zip};
 ghost use Rattle.kk_unify.specs.NodesOf.{node_tree, node_trees};
 ghost use Rattle.kk_unify.specs.Graphs.{Joins, Clashes};
-ghost use Rattle.kk_unify.specs.Joining.{IsLinked, KeepsFormed, Finds, Steps, IsHead, node_at, heads_agree, merged, met};
+ghost use Rattle.kk_unify.specs.Unification.{IsLinked, KeepsFormed, Finds, Steps, IsHead, node_at, heads_agree, merged, met};
 
 use crate::node::Node;
 use kk_base::NoMemory;

@@ -6,7 +6,6 @@ mod graph;
 mod join;
 mod law;
 mod node;
-mod roots;
 mod solve;
 mod walk;
 

@@ -4,8 +4,7 @@ ghost use Rattle.kk_unify.specs.Graphs.{IsFormed, NoneObeys};
 ghost use Rattle.kk_unify.specs.Solutions.{Solves};
 ghost use Rattle.kk_unify.specs.WalkOf.{graph_in, IsRootedIn};
 
-use crate::node::Node;
-use crate::roots::roots;
+use crate::node::{Node, roots};
 use crate::walk::{Rooted, Walk};
 use kk_base::NoMemory;
 use kk_syntax::TypeNode;

@@ -3,9 +3,9 @@ ghost use Rattle.kk_syntax.specs.Types.{TypeTree, type_at};
 ghost use Rattle.kk_syntax.specs.TypedPrograms.{type_of_node};
 ghost use Rattle.kk_unify.specs.Graphs.{NoneObeys};
 ghost use Rattle.kk_unify.specs.NodesOf.{node_tree};
-ghost use Rattle.kk_unify.specs.Joining.{IsHead, node_at};
+ghost use Rattle.kk_unify.specs.Unification.{IsHead, node_at};
 ghost use Rattle.kk_unify.specs.Solutions.{NamesEarlier};
-ghost use Rattle.kk_unify.specs.Walking.{root_at, mark_at, made_type, arguments_of, KeepsNumbers};
+ghost use Rattle.kk_unify.specs.GraphWalk.{root_at, mark_at, made_type, arguments_of, KeepsNumbers};
 
 use crate::node::Node;
 use kk_base::NoMemory;

@@ -4,17 +4,17 @@ use Rattle.std.specs.Prelude.{◌==◌, if◌then◌else◌}
 use mathlib.Core.Path.{fun_ext}
 use Rattle.std.proofs.lemmas.Bool.{cases_eq}
 use Rattle.cell_heap.specs.Cells.{Body, Cell, free, counted, Heap as SeenHeap, changed, chosen, references}
-use Rattle.cell_heap.specs.GivingUp.{GivesUp, all_given, constant as odd_given, lowered, last}
+use Rattle.cell_heap.specs.DropMeaning.{GivesUp, all_given, constant as odd_given, lowered, last}
 use Rattle.cell_heap.specs.Blocks.{Block, own, fields_of, seen}
 use Rattle.cell_heap.proofs.Frames.{changed-by}
-use Rattle.cell_heap.proofs.Choosing.{chosen-none, chosen-set, chosen-clear}
+use Rattle.cell_heap.proofs.FieldMasks.{chosen-none, chosen-set, chosen-clear}
 use Rattle.kk_source.specs.State.{Value, integer, unit, constant, place}
 use Rattle.kk_counted.specs.Heaps.{Held, Heap, held_at, count_in, count_at, set_count, fields_if_held, one_if_counted, busy, fields_held, give_up}
 use Rattle.kk_counted.specs.Cost.{turns_taken}
-use Rattle.kk_counted.proofs.Counting.{count_set, count_top, count_below}
+use Rattle.kk_counted.proofs.CountChanges.{count_set, count_top, count_below}
 use Rattle.rv_cells.specs.Layout.{Layout, mask_of, word_in, words_in, FitsField, FitFields}
-use Rattle.rv_cells.specs.Follows.{Owner, nobody, cell_of, in_hand, kept_aside}
-use Rattle.rv_cells.proofs.Held.{some-is, held_set, held_other, counted_held, held_fields}
+use Rattle.rv_cells.specs.CountedCells.{Owner, nobody, cell_of, in_hand, kept_aside}
+use Rattle.rv_cells.proofs.NameContents.{some-is, held_set, held_other, counted_held, held_fields}
 
 -- ---- values and the references that are given up for them
 

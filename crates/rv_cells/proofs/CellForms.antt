@@ -38,7 +38,7 @@ use Rattle.rv_isa.specs.declared.routine.Routine.TheVariants.{Take, Drop}
 use Rattle.rv_isa.specs.AsmCode.{Line}
 use Rattle.rv_isa.specs.WellFormed.{most_values, IsSpent, IsLineFormed}
 use Rattle.rv_lower.specs.Lines.{sets, copies_to, acts}
-use Rattle.rv_lower.proofs.Formed.{
+use Rattle.rv_lower.proofs.WellFormedness.{
   Each,
   Readable,
   formed_more,

@@ -36,13 +36,13 @@ use Rattle.rv_lower.proofs.Words.{same_word, at_most_follows}
 use Rattle.rv_cells.specs.Layout.{Layout, word_in, FitsField}
 use Rattle.rv_cells.specs.declared.compare.Branching.{Branching}
 use Rattle.rv_cells.specs.CellLines.{drop_lines}
-use Rattle.rv_cells.specs.Comparing.{branch_unless, branch_of, arms_name_behind, IsTested}
+use Rattle.rv_cells.specs.ComparisonBranch.{branch_unless, branch_of, arms_name_behind, IsTested}
 use Rattle.rv_cells.specs.declared.standing.Standing.{Standing}
 use Rattle.rv_cells.specs.CountedLines.{Setting}
 use Rattle.rv_cells.specs.TokenedLines.{HasSlots, Keeps, AskLines, OwnLines, LinesBehind, CodeLines, ArmsLines}
-use Rattle.rv_cells.proofs.Bound.{below_among}
+use Rattle.rv_cells.proofs.BoundVariables.{below_among}
 use Rattle.rv_cells.proofs.FormPlaces.{Tree, tree, StandsAt, arms_in, tree_behind, tree_in, stands_behind}
-use Rattle.rv_cells.proofs.Held.{some-is}
+use Rattle.rv_cells.proofs.NameContents.{some-is}
 use Rattle.rv_cells.proofs.TokenLineCosts.{forms}
 use Rattle.rv_cells.proofs.Values.{HasValues, value_other}
 

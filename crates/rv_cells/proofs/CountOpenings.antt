@@ -12,7 +12,7 @@ use Rattle.kk_counted.specs.Heaps.{Held, Heap, count_in, count_at, set_count, du
 use Rattle.kk_counted.specs.CountedMachine.{Named, used_values, other_values}
 use Rattle.kk_counted.specs.Keeping.{values_of}
 use Rattle.kk_counted.specs.Spending.{AreApart}
-use Rattle.kk_counted.proofs.Counting.{set_length, count_set, kept_weight, freed_weight}
+use Rattle.kk_counted.proofs.CountChanges.{set_length, count_set, kept_weight, freed_weight}
 use Rattle.kk_counted.proofs.Variables.{field_past}
 use Rattle.rv_isa.specs.declared.asm.Action.TheVariants.{Label, Jump, Branch}
 use Rattle.rv_isa.specs.declared.asm.Condition.TheVariants.{NotEqual}
@@ -26,16 +26,16 @@ use Rattle.cell_heap.specs.Blocks.{Cells, own, with_block, with_word}
 use Rattle.rv_world.specs.World.{World, with_cells}
 use Rattle.rv_lower.specs.Lines.{computes, sets, acts}
 use Rattle.rv_cells.specs.Layout.{word_in, words_in, header_of}
-use Rattle.rv_cells.specs.Follows.{AreFrom, Owner, cell_of, in_hand, IsCellOf, with_owner, is_aside}
+use Rattle.rv_cells.specs.CountedCells.{AreFrom, Owner, cell_of, in_hand, IsCellOf, with_owner, is_aside}
 use Rattle.rv_cells.specs.CellLines.{CountLines, dups_lines, drops_lines}
-use Rattle.rv_cells.proofs.Held.{some-is, held_other, held_count}
+use Rattle.rv_cells.proofs.NameContents.{some-is, held_other, held_count}
 use Rattle.rv_cells.proofs.Owners.{chosen_same, chosen_other}
 use Rattle.rv_cells.proofs.Words.{load_own, store_own, cell_named, recount, opened_unique}
 use Rattle.rv_cells.proofs.Cascades.{busy_set}
-use Rattle.rv_lower.proofs.Performing.{put_same, put_other}
+use Rattle.rv_lower.proofs.FormEffects.{put_same, put_other}
 use Rattle.rv_cells.proofs.Values.{HasValues, has_temporary, MadeBy, named_made}
 use Rattle.rv_cells.proofs.Runs.{turn_of, Runs, runs_then}
-use Rattle.rv_cells.proofs.Acting.{put_in, load_runs, sets_runs, store_runs, addi_runs, label_runs, jump_runs, falls_runs, branch_runs}
+use Rattle.rv_cells.proofs.CellActions.{put_in, load_runs, sets_runs, store_runs, addi_runs, label_runs, jump_runs, falls_runs, branch_runs}
 use Rattle.rv_cells.proofs.Spots.{AreSmall, Spot, Known, Here, Did, saved}
 use Rattle.rv_cells.proofs.LineCosts.{most_moves, row_cost}
 use Rattle.rv_cells.proofs.Rows.{with_fields, IsReading, read_did, dups_did, drops_did}

@@ -10,9 +10,9 @@ use Rattle.cell_heap.proofs.Sums.{occurs-same, occurs-other, occurs-by}
 use Rattle.kk_source.specs.State.{Value, integer, unit, constant, place}
 use Rattle.kk_counted.specs.Heaps.{Heap, count_at, set_count, more, dup_value}
 use Rattle.rv_cells.specs.Layout.{Layout, word_in, FitsField}
-use Rattle.rv_cells.specs.Follows.{Owner, nobody, cell_of, in_hand, kept_aside, HasChain, Follows}
+use Rattle.rv_cells.specs.CountedCells.{Owner, nobody, cell_of, in_hand, kept_aside, HasChain, Follows}
 use Rattle.rv_cells.specs.Steps.{Dupped, PutAside, TakenBack, Released}
-use Rattle.rv_cells.proofs.Held.{held_count}
+use Rattle.rv_cells.proofs.NameContents.{held_count}
 use Rattle.rv_cells.proofs.Owners.{chosen_by, chosen_same, chosen_other, own-unused, kept-unused, put_owner, chain_over}
 use Rattle.rv_cells.proofs.Words.{load_own, store_own, cell_named, hand_owned, aside_owned, kept_names, recount}
 

@@ -8,23 +8,23 @@ use Rattle.std.proofs.lemmas.Bool.Decides.{nat_tests}
 use Rattle.cell_heap.specs.Cells.{Cell, no_cell, free, waiting, counted, Heap as SeenHeap, changed, references, chosen, occurs}
 use Rattle.cell_heap.specs.Pool.{Pool, IsCell, places}
 use Rattle.cell_heap.specs.Counts.{credit}
-use Rattle.cell_heap.specs.GivingUp.{GivesUp}
+use Rattle.cell_heap.specs.DropMeaning.{GivesUp}
 use Rattle.cell_heap.specs.Turns.{Turns, ended, passed, lower, waits_now, opened, Work}
 use Rattle.cell_heap.specs.Blocks.{Block, no_block, unused, own, kept, Cells, with_word, known_then, known_from, fields_of, seen, seen_cells, merged, merged_cells}
 use Rattle.cell_heap.proofs.Sums.{occurs-cells, occurs-same, occurs-other, occurs-by}
 use Rattle.cell_heap.proofs.Frames.{changed-by}
-use Rattle.cell_heap.proofs.Counting.{IsListed}
-use Rattle.cell_heap.proofs.GivingUp.{GivesUp-paid}
-use Rattle.cell_heap.proofs.InTurns.{given_in_turns, turns_computed_first}
+use Rattle.cell_heap.proofs.CountChanges.{IsListed}
+use Rattle.cell_heap.proofs.DropMeaning.{GivesUp-paid}
+use Rattle.cell_heap.proofs.RoutineTurns.{given_in_turns, turns_computed_first}
 use Rattle.cell_heap.proofs.Blocks.{seen-by, seen-not_free}
 use Rattle.kk_source.specs.State.{Value, integer, unit, constant, place}
 use Rattle.kk_counted.specs.Heaps.{Held, Heap, count_at, busy, weight, drop_value}
 use Rattle.kk_counted.specs.Cost.{drop_turns}
 use Rattle.kk_counted.proofs.Cost.{drop_cost}
 use Rattle.rv_cells.specs.Layout.{Layout, IsNarrow, mask_of, header_of, word_in, words_in, FitsField, FitFields}
-use Rattle.rv_cells.specs.Follows.{AreFrom, IsBlockOf, Owner, nobody, cell_of, in_hand, kept_aside, IsCellOf, BlockOf, HasChain, Follows, still_count, still}
+use Rattle.rv_cells.specs.CountedCells.{AreFrom, IsBlockOf, Owner, nobody, cell_of, in_hand, kept_aside, IsCellOf, BlockOf, HasChain, Follows, still_count, still}
 use Rattle.rv_cells.specs.Steps.{Dropped, IsPaid}
-use Rattle.rv_cells.proofs.Held.{held_count, held_fields}
+use Rattle.rv_cells.proofs.NameContents.{held_count, held_fields}
 use Rattle.rv_cells.proofs.Owners.{chosen_by}
 use Rattle.rv_cells.proofs.Requests.{is_cell, free_is}
 use Rattle.rv_cells.proofs.Words.{from_later, cell_owned, cell_named}

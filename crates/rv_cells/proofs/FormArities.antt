@@ -21,7 +21,7 @@ use Rattle.rv_isa.specs.declared.asm.Action.TheVariants.{Jump}
 use Rattle.rv_lower.specs.Lines.{acts, copies_to, sets, choice_of, copies, PrintLines}
 use Rattle.rv_lower.specs.Lowered.{Goal}
 use Rattle.rv_cells.specs.declared.compare.Branching.{Branching}
-use Rattle.rv_cells.specs.Comparing.{branch_of}
+use Rattle.rv_cells.specs.ComparisonBranch.{branch_of}
 use Rattle.rv_cells.specs.CountedLines.{Setting}
 use Rattle.rv_cells.specs.TokenedLines.{OwnLines, LinesBehind}
 use Rattle.rv_cells.proofs.FormPlaces.{Parts, no_part, part, entry_lines, parts_behind}

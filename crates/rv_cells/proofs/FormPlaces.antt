@@ -16,7 +16,7 @@ use Rattle.rv_lower.specs.Lines.{sets, copies_to, acts}
 use Rattle.rv_lower.specs.Lowered.{Goal, joins}
 use Rattle.rv_cells.specs.CellLines.{dup_lines, drop_lines, drops_lines, TokenUniqueLines}
 use Rattle.rv_cells.specs.declared.compare.Branching.{Branching}
-use Rattle.rv_cells.specs.Comparing.{branch_of}
+use Rattle.rv_cells.specs.ComparisonBranch.{branch_of}
 use Rattle.rv_cells.specs.CountedLines.{Setting}
 use Rattle.rv_cells.specs.TokenedLines.{IsFillOf, LinesBehind, CodeLines, ArmsLines}
 

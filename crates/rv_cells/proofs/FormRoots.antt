@@ -21,7 +21,7 @@ use Rattle.rv_cells.specs.TokenedMeaning.{IsTokenedLowered}
 use Rattle.rv_cells.proofs.FormArities.{lead, fit_arities}
 use Rattle.rv_cells.proofs.FormPlaces.{Tree, tree, no_part, own_of, lines_before, tree_in}
 use Rattle.rv_cells.proofs.FormsApart.{IsOrderly, tree_orderly, own_line, leads_within, line_there, one_way}
-use Rattle.rv_cells.proofs.Held.{some-is}
+use Rattle.rv_cells.proofs.NameContents.{some-is}
 use Rattle.rv_cells.proofs.OwnLines.{lines_at, found_from, among_found, way_there}
 use Rattle.rv_cells.proofs.TokenFormedFunctions.{bare_at}
 

@@ -22,8 +22,8 @@ use Rattle.rv_isa.specs.Primitives.{go}
 use Rattle.cell_runtime.specs.Prints.{put_of}
 use Rattle.rv_world.specs.World.{World}
 use Rattle.rv_lower.proofs.Words.{same_word, signed_fits, truth_word}
-use Rattle.rv_lower.proofs.Following.{IsWordOf, turn_at}
-use Rattle.rv_lower.proofs.Performing as Performing
+use Rattle.rv_lower.proofs.WordValues.{IsWordOf, turn_at}
+use Rattle.rv_lower.proofs.FormEffects as Performing
 use Rattle.rv_lower.proofs.Runs.{Target as NumberTarget}
 use Rattle.rv_cells.specs.Layout.{Layout, word_in, FitsField}
 use Rattle.rv_cells.specs.Fitting.{IsInt32}

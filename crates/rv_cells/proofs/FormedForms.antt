@@ -9,7 +9,7 @@ use Rattle.rv_isa.specs.declared.asm.Operation.TheVariants as Op
 use Rattle.rv_isa.specs.AsmCode.{Line}
 use Rattle.rv_lower.specs.Lines.{sets, FormLines}
 use Rattle.rv_lower.specs.Lowered.{Goal}
-use Rattle.rv_lower.proofs.Formed.{Readable, HasRoom, to_variable}
+use Rattle.rv_lower.proofs.WellFormedness.{Readable, HasRoom, to_variable}
 use Rattle.rv_lower.proofs.Operations.{Leads, HasArguments, form_serves, call_lines}
 use Rattle.rv_lower.proofs.Codes.{Fits}
 use Rattle.rv_cells.specs.Layout.{header_of}

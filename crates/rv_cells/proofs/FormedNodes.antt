@@ -9,7 +9,7 @@ use Rattle.kk_core.specs.declared.decisions.Edge.{Edge}
 use Rattle.rv_isa.specs.declared.asm.Action.TheVariants.{Label}
 use Rattle.rv_isa.specs.AsmCode.{Line}
 use Rattle.rv_lower.specs.Lines.{acts}
-use Rattle.rv_lower.proofs.Formed.{Readable, Good, HasRoom}
+use Rattle.rv_lower.proofs.WellFormedness.{Readable, Good, HasRoom}
 use Rattle.rv_lower.proofs.AbsentLabels.{HasNo, has_no_append, found_here, alive_at_here, other_label}
 use Rattle.rv_lower.proofs.Codes.{good_label}
 use Rattle.rv_cells.specs.Layout.{Layout}

@@ -5,7 +5,7 @@ use Rattle.kk_counted.specs.Lowerable.{AreBelow, bound_list}
 use Rattle.kk_syntax.specs.Shapes.{is_among as is_bound}
 use Rattle.rv_isa.specs.AsmCode.{Line}
 use Rattle.rv_lower.specs.Lowered.{Goal}
-use Rattle.rv_lower.proofs.Formed.{HasRoom, IsWithin, within_more}
+use Rattle.rv_lower.proofs.WellFormedness.{HasRoom, IsWithin, within_more}
 use Rattle.rv_lower.proofs.Codes.{Fits, fits_weaker}
 use Rattle.rv_cells.proofs.CellForms.{room_list}
 

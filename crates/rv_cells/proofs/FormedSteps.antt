@@ -9,7 +9,7 @@ use Rattle.rv_isa.specs.declared.routine.Routine.TheVariants.{Drop}
 use Rattle.rv_isa.specs.AsmCode.{Line}
 use Rattle.rv_lower.specs.Lines.{copies_to, acts}
 use Rattle.rv_lower.specs.Lowered.{Goal}
-use Rattle.rv_lower.proofs.Formed.{AllBound, Readable, Good, HasRoom}
+use Rattle.rv_lower.proofs.WellFormedness.{AllBound, Readable, Good, HasRoom}
 use Rattle.rv_lower.proofs.AbsentLabels.{has_no_append}
 use Rattle.rv_lower.proofs.Operations.{Leads}
 use Rattle.rv_lower.proofs.Codes.{Fits}

@@ -13,8 +13,8 @@ use Rattle.rv_isa.specs.declared.asm.ImmediateOperation.TheVariants.{Andi}
 use Rattle.rv_isa.specs.AsmCode.{Line}
 use Rattle.rv_isa.specs.AsmMachine.{is_label}
 use Rattle.rv_lower.specs.Lines.{computes, sets, acts}
-use Rattle.rv_lower.proofs.Formed.{Readable, Good, HasRoom, weaker}
-use Rattle.rv_lower.proofs.Formed.{good_computes, readable_small, readable_more, to_temporary}
+use Rattle.rv_lower.proofs.WellFormedness.{Readable, Good, HasRoom, weaker}
+use Rattle.rv_lower.proofs.WellFormedness.{good_computes, readable_small, readable_more, to_temporary}
 use Rattle.rv_lower.proofs.AbsentLabels.{HasNo, has_no_append}
 use Rattle.rv_lower.proofs.Codes.{good_alone, StandsAhead, stands_past, good_branch}
 use Rattle.rv_cells.specs.Layout.{Layout}

@@ -15,8 +15,8 @@ use Rattle.rv_isa.specs.Frames.{is_among as is_out}
 use Rattle.rv_isa.specs.WellFormed.{is_written, is_alive, is_alive_at}
 use Rattle.rv_lower.specs.Lines.{computes, sets, copies_to, acts}
 use Rattle.rv_lower.specs.Lowered.{Goal}
-use Rattle.rv_lower.proofs.Formed.{Readable, readable_within, AreFormed, Good, HasRoom, room_more, weaker, good_computes, to_variable}
-use Rattle.rv_lower.proofs.Formed.{good_hands, readable_small, readable_more, none_some}
+use Rattle.rv_lower.proofs.WellFormedness.{Readable, readable_within, AreFormed, Good, HasRoom, room_more, weaker, good_computes, to_variable}
+use Rattle.rv_lower.proofs.WellFormedness.{good_hands, readable_small, readable_more, none_some}
 use Rattle.rv_lower.proofs.AbsentLabels.{HasNo, has_no_append, found_past, found_here, alive_at_past, alive_at_here, other_label}
 use Rattle.rv_lower.proofs.Operations.{Leads, leads_then, leads_weaker, next_temporary, only_bound}
 use Rattle.rv_lower.proofs.Codes.{Ahead, Fits, StandsAhead, stands_past, good_alone, good_label, goal_up}

@@ -9,7 +9,7 @@ use Rattle.kk_counted.specs.Heaps.{Heap}
 use Rattle.rv_world.specs.World.{World, with_cells}
 use Rattle.rv_lower.specs.Lines.{acts}
 use Rattle.rv_cells.specs.Layout.{Layout}
-use Rattle.rv_cells.specs.Follows.{Owner, in_hand, kept_aside, Follows, with_owner}
+use Rattle.rv_cells.specs.CountedCells.{Owner, in_hand, kept_aside, Follows, with_owner}
 use Rattle.rv_cells.specs.CellLines.{hold_lines, unhold_lines}
 use Rattle.rv_cells.proofs.Owners.{chosen_other}
 use Rattle.rv_cells.proofs.Counts.{put_aside, taken_back}

@@ -10,11 +10,11 @@ use Rattle.rv_isa.specs.Primitives.{or_stuck, by_token}
 use Rattle.cell_heap.specs.Blocks.{Cells, request}
 use Rattle.cell_heap.specs.Blocks as OfBlocks
 use Rattle.rv_world.specs.World.{World, with_cells, takes_cell, on_cells}
-use Rattle.rv_lower.proofs.Performing.{reads_one}
+use Rattle.rv_lower.proofs.FormEffects.{reads_one}
 use Rattle.rv_lower.specs.Lines.{acts}
 use Rattle.rv_cells.proofs.Runs.{Target, left_at, turn_of, Runs, line_runs, silent}
 use Rattle.rv_cells.proofs.LineCosts.{most_moves}
-use Rattle.rv_cells.proofs.Acting.{put_in}
+use Rattle.rv_cells.proofs.CellActions.{put_in}
 
 -- a frame with these held values
 abbrev pub holding_now : List ℕ → Frame Line → Frame Line

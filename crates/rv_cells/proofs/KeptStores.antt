@@ -4,19 +4,19 @@ use Rattle.std.specs.Prelude.{if◌then◌else◌}
 use Rattle.kk_syntax.specs.Shapes.{is_among}
 use Rattle.kk_source.specs.State.{Value}
 use Rattle.kk_counted.specs.Heaps.{Heap}
-use Rattle.kk_counted.proofs.KnownKept.{AreKeptFields}
+use Rattle.kk_counted.proofs.KeptFields.{AreKeptFields}
 use Rattle.rv_isa.specs.AsmCode.{Line}
 use Rattle.rv_isa.specs.Frames.{Frame}
 use Rattle.cell_heap.specs.Blocks.{Cells, own, with_block, with_word}
 use Rattle.rv_world.specs.World.{World, with_cells}
 use Rattle.rv_lower.proofs.Calls.{HaveWords}
 use Rattle.rv_cells.specs.Layout.{Layout, word_in, words_in}
-use Rattle.rv_cells.specs.Follows.{AreFrom, Owner}
+use Rattle.rv_cells.specs.CountedCells.{AreFrom, Owner}
 use Rattle.rv_cells.specs.CellLines.{StoresIf, SomeStores, is_kept}
 use Rattle.rv_cells.proofs.Owners.{chosen_same, chosen_other}
 use Rattle.rv_cells.proofs.LineCosts.{most_moves, row_cost}
 use Rattle.rv_cells.proofs.Runs.{Target, turn_of, Runs, runs_none, runs_then}
-use Rattle.rv_cells.proofs.Constructing.{Hands, stored, store_hand}
+use Rattle.rv_cells.proofs.ConstructionLines.{Hands, stored, store_hand}
 
 -- ---- values at positions
 

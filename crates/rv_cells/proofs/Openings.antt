@@ -14,7 +14,7 @@ use Rattle.kk_counted.specs.Lowerable.{bound_list}
 use Rattle.rv_isa.specs.AsmCode.{Line}
 use Rattle.rv_isa.specs.Frames.{Frame}
 use Rattle.cell_heap.specs.Blocks.{Cells}
-use Rattle.rv_cells.specs.Follows.{Owner}
+use Rattle.rv_cells.specs.CountedCells.{Owner}
 use Rattle.rv_cells.proofs.Values.{value_same}
 use Rattle.rv_cells.proofs.Spots.{Spot, Known, with_heap}
 use Rattle.rv_cells.proofs.Rows.{with_fields}

@@ -6,7 +6,7 @@ use Rattle.cell_heap.specs.Pool.{Pool}
 use Rattle.cell_heap.specs.Blocks.{Block, unused, own, kept, Cells, with_block}
 use Rattle.kk_counted.specs.Heaps.{Held, Heap, held_at, count_at}
 use Rattle.rv_cells.specs.Layout.{Layout, words_in}
-use Rattle.rv_cells.specs.Follows.{AreFrom, Owner, nobody, cell_of, in_hand, kept_aside, IsCellOf, BlockOf, HasChain, Follows, with_owner}
+use Rattle.rv_cells.specs.CountedCells.{AreFrom, Owner, nobody, cell_of, in_hand, kept_aside, IsCellOf, BlockOf, HasChain, Follows, with_owner}
 
 -- ---- functions with another value at one number
 

@@ -7,7 +7,7 @@ use Rattle.rv_isa.specs.WellFormed.{AreLinesFormed, AreWellFormed}
 use Rattle.cell_heap.specs.Pool.{Pool, IsCell}
 use Rattle.cell_heap.specs.Blocks.{Cells, unused}
 use Rattle.rv_cells.specs.Layout.{Layout}
-use Rattle.rv_cells.specs.Follows.{Owner, nobody, cell_of, in_hand, kept_aside, BlockOf, Follows, is_aside, NoneAside}
+use Rattle.rv_cells.specs.CountedCells.{Owner, nobody, cell_of, in_hand, kept_aside, BlockOf, Follows, is_aside, NoneAside}
 use Rattle.rv_cells.specs.Meaning.{AreFree}
 
 -- ---- cells

@@ -8,13 +8,14 @@ use Rattle.cell_heap.specs.Counts.{total}
 use Rattle.cell_heap.specs.Pool.{Pool, IsCell, places, end_of}
 use Rattle.cell_heap.specs.Blocks.{no_block, unused, own, kept, Cells, nothing, takes, request}
 use Rattle.cell_heap.proofs.Sums.{occurs-cells, occurs-same, occurs-other, occurs-first, occurs-later, occurs-by}
-use Rattle.cell_heap.proofs.Counted.{length-cells_from, total-at_most, cells_from-member}
+use Rattle.cell_heap.proofs.DistinctCells.{length-cells_from, total-at_most, cells_from-member}
 use Rattle.kk_counted.specs.Heaps.{Heap, count_at, busy}
 use Rattle.rv_cells.specs.Layout.{Layout}
-use Rattle.rv_cells.specs.Follows.{Owner, nobody, cell_of, in_hand, kept_aside, BlockOf, HasChain, Follows, with_owner, set_aside}
+use Rattle.rv_cells.specs.CountedCells.{Owner, nobody, cell_of, in_hand, kept_aside, BlockOf, HasChain, Follows, with_owner}
+use Rattle.rv_cells.specs.CountedCells.{set_aside}
 use Rattle.rv_cells.specs.Steps.{Served, ServedByHeld}
 use Rattle.rv_cells.proofs.Owners.{chosen_by, chosen_same, chosen_other, own-unused, kept-unused, put_owner, chain_over}
-use Rattle.rv_cells.proofs.Rooms.{used, used-most, used_busy}
+use Rattle.rv_cells.proofs.UsedCells.{used, used-most, used_busy}
 
 -- ---- sums of ones
 

@@ -13,22 +13,22 @@ use Rattle.kk_counted.specs.Heaps.{Held, Heap, count_in, count_at, set_count, mo
 use Rattle.kk_counted.specs.CountedMachine.{Named, cell_named}
 use Rattle.kk_counted.specs.Keeping.{values_of}
 use Rattle.kk_counted.specs.Spending.{AllAmong}
-use Rattle.kk_counted.proofs.Counting.{count_set}
+use Rattle.kk_counted.proofs.CountChanges.{count_set}
 use Rattle.kk_counted.specs.Lowerable.{bound_list, AreBelow}
 use Rattle.rv_isa.specs.AsmCode.{Line}
 use Rattle.rv_isa.specs.Frames.{Frame}
 use Rattle.cell_heap.specs.Blocks.{Cells, own}
 use Rattle.rv_world.specs.World.{World}
 use Rattle.rv_cells.specs.Layout.{Layout, word_in, words_in, FitFields}
-use Rattle.rv_cells.specs.Follows.{AreFrom, Owner}
+use Rattle.rv_cells.specs.CountedCells.{AreFrom, Owner}
 use Rattle.rv_cells.specs.CellLines.{AllLoads, ReadLines, dup_lines, drop_lines, dups_lines, drops_lines}
-use Rattle.rv_cells.proofs.Held.{some-is, held_within, held_other, held_count, held_fields}
+use Rattle.rv_cells.proofs.NameContents.{some-is, held_within, held_other, held_count, held_fields}
 use Rattle.rv_cells.proofs.Words.{all_within_more, load_own, cell_named as cell_of_name}
-use Rattle.rv_lower.proofs.Performing.{put_other}
+use Rattle.rv_lower.proofs.FormEffects.{put_other}
 use Rattle.rv_cells.proofs.Values.{put_list, among_none, has_list, named_made, list_grown, list_spared}
 use Rattle.rv_cells.proofs.Drops.{fits_length}
 use Rattle.rv_cells.proofs.Runs.{Target, turn_of, Runs, runs_none, runs_then}
-use Rattle.rv_cells.proofs.Acting.{put_in, load_runs}
+use Rattle.rv_cells.proofs.CellActions.{put_in, load_runs}
 use Rattle.rv_cells.proofs.Spots.{Spot, Known, Here, Did, did_none, did_then, with_heap, AreSmall, Changed, dup_did, drop_did}
 
 pub then_some : {A B : Type 0} (o : Option A) (f : A → Option B) (b : B) → and_then o f ≡ Some b → (a : A) × (o ≡ Some a)

@@ -4,7 +4,7 @@ use Rattle.kk_syntax.specs.Shapes.{is_among}
 use Rattle.kk_source.specs.State.{Value, integer, unit, constant, place, Environment}
 use Rattle.kk_source.specs.Live.{value_of}
 use Rattle.kk_counted.specs.Heaps.{Heap, count_at, set_count, more, busy, weight, dup_value, drop_value, give_up, fields_held}
-use Rattle.kk_counted.proofs.Counting.{set_length}
+use Rattle.kk_counted.proofs.CountChanges.{set_length}
 use Rattle.kk_counted.proofs.Cost.{dup_weight}
 use Rattle.std.specs.Prelude.{if◌then◌else◌}
 use Rattle.rv_isa.specs.declared.asm.Action.TheVariants.{Compute, Routine as Calls}
@@ -16,16 +16,16 @@ use Rattle.rv_isa.specs.Frames.{Frame}
 use Rattle.cell_heap.specs.Blocks.{Cells, merged_cells}
 use Rattle.rv_world.specs.World.{World, with_cells}
 use Rattle.rv_cells.specs.Layout.{Layout, IsNarrow, word_in, FitsField}
-use Rattle.rv_cells.specs.Follows.{Owner, nobody, cell_of, in_hand, kept_aside, Follows, still, still_count, is_aside}
+use Rattle.rv_cells.specs.CountedCells.{Owner, nobody, cell_of, in_hand, kept_aside, Follows, still, still_count, is_aside}
 use Rattle.rv_cells.specs.CellLines.{dup_lines, drop_lines}
-use Rattle.rv_cells.proofs.Held.{some-is}
-use Rattle.rv_lower.proofs.Performing.{put_same, put_other}
+use Rattle.rv_cells.proofs.NameContents.{some-is}
+use Rattle.rv_lower.proofs.FormEffects.{put_same, put_other}
 use Rattle.rv_cells.proofs.Values.{HasValues, has_temporary}
 use Rattle.rv_cells.proofs.Cascades.{busy_set}
 use Rattle.rv_cells.proofs.Counts.{dupped}
 use Rattle.rv_cells.proofs.Drops.{drops, drop_paid}
 use Rattle.rv_cells.proofs.Runs.{Target, turn_of, Runs, runs_none, runs_then}
-use Rattle.rv_cells.proofs.Acting.{put_in, copy_runs, dup_runs, drop_runs}
+use Rattle.rv_cells.proofs.CellActions.{put_in, copy_runs, dup_runs, drop_runs}
 use Rattle.rv_cells.proofs.LineCosts.{most_moves}
 
 pub record Spot : Type 0 where

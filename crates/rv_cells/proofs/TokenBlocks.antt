@@ -10,7 +10,7 @@ use Rattle.kk_counted.specs.TokenMachine.{token_code_step}
 use Rattle.kk_counted.specs.TokenStates.{TokenJoin, TokenFrame, TokenState}
 use Rattle.kk_counted.specs.TokenedCodes.{Tokened}
 use Rattle.kk_counted.specs.Tokens.{Slot, is_token, Tokens, is_linked}
-use Rattle.kk_counted.proofs.Chaining.{frames_many}
+use Rattle.kk_counted.proofs.TokenChain.{frames_many}
 use Rattle.kk_counted.proofs.TokenForms.{Has, is_null, has_cell, unspent_has}
 use Rattle.rv_isa.specs.declared.asm.Action.TheVariants.{Label, Branch}
 use Rattle.rv_isa.specs.declared.asm.Condition.TheVariants.{Equal}
@@ -21,9 +21,9 @@ use Rattle.cell_heap.specs.Pool.{Pool, IsCell}
 use Rattle.rv_lower.specs.Lines.{acts}
 use Rattle.rv_lower.proofs.Orders.{split_at}
 use Rattle.rv_cells.specs.Layout.{Layout}
-use Rattle.rv_cells.specs.Follows.{Owner, Follows}
+use Rattle.rv_cells.specs.CountedCells.{Owner, Follows}
 use Rattle.rv_cells.proofs.FormPlaces.{stands_behind, stands_behind_three}
-use Rattle.rv_cells.proofs.Acting.{label_runs, falls_one_runs, branch_one_runs}
+use Rattle.rv_cells.proofs.CellActions.{label_runs, falls_one_runs, branch_one_runs}
 use Rattle.rv_cells.proofs.FormWords.{has_same}
 use Rattle.rv_cells.proofs.LineCosts.{most_moves}
 use Rattle.rv_cells.proofs.Runs.{turn_of, Runs, runs_then}
@@ -31,8 +31,8 @@ use Rattle.rv_cells.proofs.Spots.{Spot, saved}
 use Rattle.rv_cells.proofs.Words.{hand_owned, aside_owned}
 use Rattle.rv_cells.proofs.TokenFrames.{slots_moved}
 use Rattle.rv_cells.proofs.TokenLineCosts.{forms}
-use Rattle.rv_cells.proofs.TokenStanding.{SlotIs, IsTokenCell, token_words, Lowering, target, setting, upper, Placed, At, IsFitFrom, by_lines, finds, Follows_step}
-use Rattle.rv_cells.proofs.TokenLanding.{token_at, machine_at, CodeSteps, seen_action, does_by, kept_quiet}
+use Rattle.rv_cells.proofs.TokenRelation.{SlotIs, IsTokenCell, token_words, Lowering, target, setting, upper, Placed, At, IsFitFrom, by_lines, finds, Follows_step}
+use Rattle.rv_cells.proofs.TokenContinuations.{token_at, machine_at, CodeSteps, seen_action, does_by, kept_quiet}
 
 -- the cell of a token, whether it is held or in hand
 pub token_cell : {pool : Pool} {layout : Layout} {address : ℕ → ℕ} {owners : ℕ → Owner} {heap : Heap} {cells : Cells}

@@ -5,13 +5,14 @@ use Rattle.cell_heap.specs.Pool.{Pool, IsCell}
 use Rattle.cell_heap.specs.Blocks.{Cells}
 use Rattle.kk_counted.specs.Heaps.{Heap}
 use Rattle.kk_counted.specs.Tokens.{Mark, plain, token_of, one_if_token, Link, Tokens, is_linked, marked, marks_with}
-use Rattle.kk_counted.proofs.Pooling.{mark_here, mark_there, marked_with, plain_is_none}
+use Rattle.kk_counted.proofs.SlotMarks.{mark_here, mark_there, marked_with, plain_is_none}
 use Rattle.rv_cells.specs.Layout.{Layout}
-use Rattle.rv_cells.specs.Follows.{Owner, nobody, cell_of, in_hand, kept_aside, Follows, with_owner, is_aside, set_aside, NoneAside}
+use Rattle.rv_cells.specs.CountedCells.{Owner, nobody, cell_of, in_hand, kept_aside, Follows, with_owner, is_aside, set_aside}
+use Rattle.rv_cells.specs.CountedCells.{NoneAside}
 use Rattle.rv_cells.proofs.Owners.{chosen_same, chosen_other}
-use Rattle.rv_cells.proofs.Rooms.{same_aside, aside_with, one_aside}
+use Rattle.rv_cells.proofs.UsedCells.{same_aside, aside_with, one_aside}
 use Rattle.rv_cells.proofs.Words.{hand_owned, aside_owned}
-use Rattle.rv_cells.proofs.TokenStanding.{IsTokenCell, token_words, HaveTokenCells}
+use Rattle.rv_cells.proofs.TokenRelation.{IsTokenCell, token_words, HaveTokenCells}
 
 pub token_aside : (linked : Bool) (ws : List ℕ) (owner : Owner) → IsTokenCell linked ws owner → is_aside owner ≡ true
 token_aside true ws owner is = ap is_aside is.1

@@ -29,7 +29,7 @@ use Rattle.rv_lower.proofs.Functions.{from_to_length}
 use Rattle.rv_world.specs.Operations.{all_bytes}
 use Rattle.rv_cells.specs.CellLines.{dup_lines, drop_lines}
 use Rattle.rv_cells.specs.declared.compare.Branching.{Branching}
-use Rattle.rv_cells.specs.Comparing.{branch_of}
+use Rattle.rv_cells.specs.ComparisonBranch.{branch_of}
 use Rattle.rv_cells.specs.CountedLines.{Setting, ways_of}
 use Rattle.rv_cells.specs.Layout.{Layout, IsNarrow, header_of}
 use Rattle.rv_cells.specs.Tables.{table_of, layout_in}

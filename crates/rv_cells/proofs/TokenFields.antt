@@ -7,15 +7,15 @@ use Rattle.kk_counted.specs.Heaps.{Held, Heap, dup_value, drop_value, fields_hel
 use Rattle.kk_counted.specs.References.{cells_of}
 use Rattle.kk_counted.specs.CountedMachine.{Named, cell_named}
 use Rattle.kk_counted.proofs.SoundSteps.{NamedCell, OnNamed, named_cell}
-use Rattle.kk_counted.proofs.Easing.{EasedTo, eased_dup, eased_drop}
-use Rattle.kk_counted.proofs.Reaching.{same_fields}
-use Rattle.kk_counted.proofs.Counting.{fields_below}
+use Rattle.kk_counted.proofs.HeapChanges.{EasedTo, eased_dup, eased_drop}
+use Rattle.kk_counted.proofs.Reachability.{same_fields}
+use Rattle.kk_counted.proofs.CountChanges.{fields_below}
 use Rattle.cell_heap.specs.Blocks.{past_links}
 use Rattle.rv_cells.specs.Layout.{Layout, words_in}
-use Rattle.rv_cells.specs.Follows.{AreFrom, assign}
-use Rattle.rv_cells.proofs.Held.{some-is}
+use Rattle.rv_cells.specs.CountedCells.{AreFrom, assign}
+use Rattle.rv_cells.proofs.NameContents.{some-is}
 use Rattle.rv_cells.proofs.Words.{words_older, all_within_more}
-use Rattle.rv_cells.proofs.TokenStanding.{token_words}
+use Rattle.rv_cells.proofs.TokenRelation.{token_words}
 
 -- words from a field on stay known where links are not
 pub past_from : (words : ℕ → Option ℕ) (i : ℕ) (ws : List ℕ) → 2 ≤ i → AreFrom words i ws → AreFrom (past_links words) i ws

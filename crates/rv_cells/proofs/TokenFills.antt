@@ -13,9 +13,9 @@ use Rattle.kk_counted.specs.TokenRuns.{AllLead}
 use Rattle.kk_counted.specs.TokenStates.{TokenJoin, TokenFrame, TokenConfiguration}
 use Rattle.kk_counted.specs.TokenedCodes.{Tokened}
 use Rattle.kk_counted.specs.Tokens.{spent, token, Mark, plain, token_of, one_if_token, Tokens, is_linked, by_token, marked, blanked, released, has_room, request}
-use Rattle.kk_counted.proofs.Chaining.{equal_one, frames_many, not_linked}
-use Rattle.kk_counted.proofs.KnownKept.{kept_left}
-use Rattle.kk_counted.proofs.Pooling.{slot_here, slot_there, mark_there, by_cell}
+use Rattle.kk_counted.proofs.TokenChain.{equal_one, frames_many, not_linked}
+use Rattle.kk_counted.proofs.KeptFields.{kept_left}
+use Rattle.kk_counted.proofs.SlotMarks.{slot_here, slot_there, mark_there, by_cell}
 use Rattle.rv_isa.specs.declared.asm.Action.TheVariants.{Branch, Jump, Routine as Calls}
 use Rattle.rv_isa.specs.declared.asm.Condition.TheVariants.{NotEqual}
 use Rattle.rv_isa.specs.declared.routine.Routine.TheVariants.{Take}
@@ -24,29 +24,29 @@ use Rattle.rv_isa.specs.Frames.{Frame}
 use Rattle.rv_lower.specs.Lines.{copies_to, acts}
 use Rattle.rv_lower.proofs.Labels.{found_label}
 use Rattle.rv_cells.specs.Layout.{FitFields, words_in, header_of}
-use Rattle.rv_cells.specs.Follows.{cell_of, is_aside, with_owner, assign}
+use Rattle.rv_cells.specs.CountedCells.{cell_of, is_aside, with_owner, assign}
 use Rattle.rv_cells.specs.CellLines.{hold_lines, unhold_lines}
-use Rattle.rv_cells.proofs.Bound.{within_itself, within_one, all_among, apart_above}
-use Rattle.rv_cells.proofs.Constructing.{IsMaking, made_spot}
-use Rattle.rv_cells.proofs.Filling.{fill_cost, from_label, whole_lines, tests_cell, fills_from}
+use Rattle.rv_cells.proofs.BoundVariables.{within_itself, within_one, all_among, apart_above}
+use Rattle.rv_cells.proofs.ConstructionLines.{IsMaking, made_spot}
+use Rattle.rv_cells.proofs.FillLines.{fill_cost, from_label, whole_lines, tests_cell, fills_from}
 use Rattle.rv_cells.proofs.KeptStores.{kept_words}
 use Rattle.rv_cells.proofs.LineCosts.{most_moves}
 use Rattle.rv_cells.proofs.Owners.{chosen_same, chosen_other}
-use Rattle.rv_cells.proofs.Acting.{put_in, copy_runs, jump_runs}
+use Rattle.rv_cells.proofs.CellActions.{put_in, copy_runs, jump_runs}
 use Rattle.rv_cells.proofs.Runs.{turn_of, Runs, runs_then}
 use Rattle.rv_cells.proofs.Spots.{Spot, Here}
 use Rattle.rv_cells.proofs.Values.{has_cell, among_by}
 use Rattle.rv_cells.proofs.Words.{hand_owned}
 use Rattle.rv_cells.specs.TokenedLines.{values_of_slots, header_stands, count_stands}
-use Rattle.rv_cells.proofs.TokenStands.{none_stands, standing_words}
+use Rattle.rv_cells.proofs.TokenContents.{none_stands, standing_words}
 use Rattle.rv_cells.proofs.WordStores.{HasWords}
 use Rattle.rv_cells.proofs.TokenCells.{cell_goes}
-use Rattle.rv_cells.proofs.TokenEntering.{arguments_fit}
+use Rattle.rv_cells.proofs.TokenCalls.{arguments_fit}
 use Rattle.rv_cells.proofs.TokenFields.{grown_words}
 use Rattle.rv_cells.proofs.TokenFrames.{slots_moved, all_carried, all_wait_at}
 use Rattle.rv_cells.proofs.TokenLineCosts.{forms}
-use Rattle.rv_cells.proofs.TokenLanding.{lands_leads, token_at, machine_at, seen_action, silent_builds, goes_from, kept_after}
-use Rattle.rv_cells.proofs.TokenStanding.{SlotIs, IsTokenCell, token_words, finds, held_values, Lowering, target, setting, upper, known_of, At, IsFitFrom, Follows_step}
+use Rattle.rv_cells.proofs.TokenContinuations.{lands_leads, token_at, machine_at, seen_action, silent_builds, goes_from, kept_after}
+use Rattle.rv_cells.proofs.TokenRelation.{SlotIs, IsTokenCell, token_words, finds, held_values, Lowering, target, setting, upper, known_of, At, IsFitFrom, Follows_step}
 use Rattle.rv_cells.proofs.TokenUniques.{slots_set, another, row_times}
 
 abbrev takes_into : ℕ → Line

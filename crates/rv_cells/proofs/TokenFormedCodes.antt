@@ -31,7 +31,7 @@ use Rattle.rv_isa.specs.AsmCode.{Line}
 use Rattle.rv_isa.specs.WellFormed.{most_values, may_give}
 use Rattle.rv_lower.specs.Lines.{Texts, computes, copies_to, sets, acts}
 use Rattle.rv_lower.specs.Lowered.{Goal, joins, goal_lines, tail_lines}
-use Rattle.rv_lower.proofs.Formed.{Each, Readable, HasRoom, IsWithin, within_more, room_more, to_variable}
+use Rattle.rv_lower.proofs.WellFormedness.{Each, Readable, HasRoom, IsWithin, within_more, room_more, to_variable}
 use Rattle.rv_cells.specs.declared.standing.Standing.{Standing}
 use Rattle.rv_lower.proofs.Operations.{Leads}
 use Rattle.rv_lower.proofs.Codes.{Fits, fits_weaker, fits_give, fits_tail_call, fits_inside, fits_split}
@@ -39,12 +39,12 @@ use Rattle.rv_cells.specs.Layout.{Layout, header_of}
 use Rattle.rv_cells.specs.CellLines.{drop_lines}
 use Rattle.rv_cells.specs.CountedLines.{Setting, ComputeLines}
 use Rattle.rv_cells.specs.declared.compare.Branching.{Branching}
-use Rattle.rv_cells.specs.Comparing.{branch_of, IsTested, MayJoin}
+use Rattle.rv_cells.specs.ComparisonBranch.{branch_of, IsTested, MayJoin}
 use Rattle.rv_cells.specs.TokenedLines.{values_of_slots, HasSlots, HaveSlots, header_stands, count_stands, OwnLines, IsFillOf, MayFill}
 use Rattle.rv_cells.specs.TokenedLines.{OpeningLines, LinesBehind, CodeLines, ArmsLines}
 use Rattle.rv_cells.proofs.AskedForms.{Asks, ask_either}
 use Rattle.rv_cells.proofs.CellForms.{effect, kept_list, bound_later}
-use Rattle.rv_cells.proofs.Bound.{within_one}
+use Rattle.rv_cells.proofs.BoundVariables.{within_one}
 use Rattle.rv_cells.proofs.Comparisons.{either_left, compared_by, reads_both, plain_part, plain_own}
 use Rattle.rv_cells.proofs.FormPlaces.{fill_there}
 use Rattle.rv_cells.proofs.FormedCases.{some_arm, ArmsFit, arms_none, arms_more, fits_case, fits_branch}
@@ -52,7 +52,7 @@ use Rattle.rv_cells.proofs.FormedForms.{fits_form}
 use Rattle.rv_cells.proofs.FormedOrders.{behind, listed_within, front_within, room_front}
 use Rattle.rv_cells.proofs.FormedSteps.{all_bound, fits_step, fits_dup, fits_drop_if, fits_read}
 use Rattle.rv_cells.proofs.FormedUniques.{fits_token_unique}
-use Rattle.rv_cells.proofs.Naming.{HasUses, HaveUses, first_spared, arms_use_behind, arms_numbered_fewer}
+use Rattle.rv_cells.proofs.UnnamedVariables.{HasUses, HaveUses, first_spared, arms_use_behind, arms_numbered_fewer}
 use Rattle.rv_cells.proofs.TokenFormedFills.{fits_fill}
 use Rattle.rv_cells.proofs.TokenFormedHeld.{FitsHeld, held_fits, fits_held, held_weaker, fits_hold, fits_unhold, fits_held_call}
 use Rattle.rv_cells.proofs.TokenFormedSlots.{read_below, variable_there, slot_there, read_within, room_read, values_there}

@@ -14,8 +14,8 @@ use Rattle.rv_isa.specs.AsmCode.{Line}
 use Rattle.rv_isa.specs.WellFormed.{most_values}
 use Rattle.rv_lower.specs.Lines.{copies_to, acts}
 use Rattle.rv_lower.specs.Lowered.{Goal}
-use Rattle.rv_lower.proofs.Formed.{Each, Readable, Good, HasRoom, room_more, to_variable}
-use Rattle.rv_lower.proofs.Formed.{readable_small, readable_bound}
+use Rattle.rv_lower.proofs.WellFormedness.{Each, Readable, Good, HasRoom, room_more, to_variable}
+use Rattle.rv_lower.proofs.WellFormedness.{readable_small, readable_bound}
 use Rattle.rv_lower.proofs.AbsentLabels.{HasNo, has_no_append, other_label}
 use Rattle.rv_lower.proofs.Operations.{Leads}
 use Rattle.rv_lower.proofs.Codes.{Ahead, Fits, good_label, goal_up, stands_past, stands_here, good_branch}

@@ -22,7 +22,7 @@ use Rattle.rv_isa.specs.Frames.{is_among}
 use Rattle.rv_isa.specs.WellFormed.{most_values, AreDistinct, IsWellFormed, AreWellFormed}
 use Rattle.rv_lower.specs.Lines.{Texts}
 use Rattle.rv_lower.specs.Lowered.{returns, from_to}
-use Rattle.rv_lower.proofs.Formed.{Readable, Good, HasRoom, all_each}
+use Rattle.rv_lower.proofs.WellFormedness.{Readable, Good, HasRoom, all_each}
 use Rattle.rv_lower.proofs.Codes.{Fits}
 use Rattle.rv_lower.proofs.Functions.{among_from_to, from_to_distinct, from_to_length, from_to_each}
 use Rattle.rv_lower.proofs.Operations.{only_bound}
@@ -31,8 +31,8 @@ use Rattle.rv_cells.specs.Tables.{table_of, layout_in}
 use Rattle.rv_cells.specs.TokenedLines.{IsFunctionOf}
 use Rattle.rv_cells.specs.TokenedLowered.{IsTokenedForm}
 use Rattle.rv_cells.specs.TokenedMeaning.{IsTokenedLowered}
-use Rattle.rv_cells.proofs.Naming.{uses_marked}
-use Rattle.rv_cells.proofs.Calling.{among_numbers}
+use Rattle.rv_cells.proofs.UnnamedVariables.{uses_marked}
+use Rattle.rv_cells.proofs.CallLines.{among_numbers}
 use Rattle.rv_cells.proofs.TokenFormedCodes.{code_fits}
 use Rattle.rv_cells.proofs.TokenFormedHeld.{fits_held}
 use Rattle.rv_cells.proofs.TokenFormedSlots.{read_below, read_within, room_read}

@@ -16,12 +16,13 @@ use Rattle.rv_isa.specs.AsmCode.{Line}
 use Rattle.rv_isa.specs.Frames.{is_among}
 use Rattle.rv_isa.specs.WellFormed.{is_written, is_alive, is_alive_behind, most_values, AreLabelsAhead, most_args, hands_over}
 use Rattle.rv_isa.specs.WellFormed.{IsLineFormed, AreLinesFormed, AreTokensHeld}
-use Rattle.rv_isa.proofs.TokensHeld.{held_from, held_to, held_over}
+use Rattle.rv_isa.proofs.HeldTokens.{held_from, held_to, held_over}
 use Rattle.rv_lower.specs.Lines.{acts, copies_to, copies, temporaries}
 use Rattle.rv_lower.specs.Lowered.{Goal}
-use Rattle.rv_lower.proofs.Formed.{AllBound, Each, Readable, IsWithin, readable_within}
-use Rattle.rv_lower.proofs.Formed.{Good, HasRoom, alive_line, none_some, some_same, computes_formed}
-use Rattle.rv_lower.proofs.Formed.{readable_small, temporary_left, variable_left, hands_formed, hands_alive, temporaries_above}
+use Rattle.rv_lower.proofs.WellFormedness.{AllBound, Each, Readable, IsWithin, readable_within}
+use Rattle.rv_lower.proofs.WellFormedness.{Good, HasRoom, alive_line, none_some, some_same, computes_formed}
+use Rattle.rv_lower.proofs.WellFormedness.{readable_small, temporary_left, variable_left, hands_formed, hands_alive}
+use Rattle.rv_lower.proofs.WellFormedness.{temporaries_above}
 use Rattle.rv_lower.proofs.AbsentLabels.{HasNo, has_no_append}
 use Rattle.rv_lower.proofs.Operations.{only_bound, copied}
 use Rattle.rv_lower.proofs.Codes.{Ahead, Fits}

@@ -9,7 +9,7 @@ use Rattle.kk_core.specs.Sizes.{AreBound}
 use Rattle.kk_counted.specs.Lowerable.{AreBelow}
 use Rattle.kk_counted.specs.Spending.{AreApart}
 use Rattle.rv_isa.specs.WellFormed.{most_values}
-use Rattle.rv_lower.proofs.Formed.{HasRoom, IsWithin}
+use Rattle.rv_lower.proofs.WellFormedness.{HasRoom, IsWithin}
 use Rattle.rv_cells.specs.TokenedLines.{values_of_slots}
 
 module _ (variables : ℕ) where

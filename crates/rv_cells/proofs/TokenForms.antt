@@ -7,13 +7,13 @@ use Rattle.rv_isa.specs.AsmCode.{Line}
 use Rattle.rv_isa.specs.Frames.{Frame}
 use Rattle.rv_world.specs.World.{with_cells}
 use Rattle.rv_lower.specs.Lines.{sets, copies_to, acts}
-use Rattle.rv_lower.proofs.Performing.{put_other}
-use Rattle.rv_cells.specs.Follows.{nobody, in_hand, with_owner}
+use Rattle.rv_lower.proofs.FormEffects.{put_other}
+use Rattle.rv_cells.specs.CountedCells.{nobody, in_hand, with_owner}
 use Rattle.cell_heap.specs.Blocks.{Cells}
 use Rattle.rv_cells.proofs.Counts.{released}
 use Rattle.rv_cells.proofs.Words.{hand_owned}
 use Rattle.rv_cells.proofs.Runs.{turn_of, Runs}
-use Rattle.rv_cells.proofs.Acting.{put_in, sets_runs, copy_runs, free_runs, free_null_runs}
+use Rattle.rv_cells.proofs.CellActions.{put_in, sets_runs, copy_runs, free_runs, free_null_runs}
 use Rattle.rv_cells.proofs.Spots.{Spot, Known, Here}
 use Rattle.rv_cells.proofs.LineCosts.{most_moves}
 use Rattle.rv_cells.proofs.Values.{among_none, has_other}

@@ -7,12 +7,12 @@ use Rattle.kk_counted.specs.Spending.{AreApart}
 use Rattle.kk_counted.specs.TokenKeeping.{links_of}
 use Rattle.kk_counted.specs.TokenStates.{TokenFrame}
 use Rattle.kk_counted.specs.Tokens.{Slot, spent, null, token, is_unspent, is_token, Link, first_token}
-use Rattle.kk_counted.proofs.Chaining.{EqualBelow, token_is}
+use Rattle.kk_counted.proofs.TokenChain.{EqualBelow, token_is}
 use Rattle.rv_isa.specs.AsmCode.{Line}
 use Rattle.rv_isa.specs.Frames.{Frame, put}
-use Rattle.rv_lower.proofs.Performing.{put_same, put_other}
+use Rattle.rv_lower.proofs.FormEffects.{put_same, put_other}
 use Rattle.rv_cells.proofs.Values.{Carries}
-use Rattle.rv_cells.proofs.TokenStanding.{SlotIs, HaveSlotValues, held_values, Lowering, HasFrame, Waits, AllWait}
+use Rattle.rv_cells.proofs.TokenRelation.{SlotIs, HaveSlotValues, held_values, Lowering, HasFrame, Waits, AllWait}
 
 -- ---- one frame
 

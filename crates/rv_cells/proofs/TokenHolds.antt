@@ -8,8 +8,8 @@ use Rattle.kk_counted.specs.TokenMachine.{token_code_step, at_code, to_tokens}
 use Rattle.kk_counted.specs.TokenStates.{TokenJoin, TokenFrame}
 use Rattle.kk_counted.specs.TokenedCodes.{Tokened}
 use Rattle.kk_counted.specs.Tokens.{Slot, token, is_token, Link, Tokens, is_linked, hold_link, unlinked, with_chain, unheld, held as holds_slot}
-use Rattle.kk_counted.proofs.Chaining.{frames_many, not_linked}
-use Rattle.kk_counted.proofs.Pooling.{by_null, by_cell}
+use Rattle.kk_counted.proofs.TokenChain.{frames_many, not_linked}
+use Rattle.kk_counted.proofs.SlotMarks.{by_null, by_cell}
 use Rattle.kk_counted.proofs.TokenForms.{Has, is_null, has_cell, unspent_has}
 use Rattle.rv_isa.specs.declared.asm.Action.TheVariants.{Hold, Unhold}
 use Rattle.rv_isa.specs.AsmCode.{Line}
@@ -18,7 +18,7 @@ use Rattle.cell_heap.specs.Blocks.{past_links}
 use Rattle.kk_counted.specs.Spending.{AreApart}
 use Rattle.rv_world.specs.World.{with_cells}
 use Rattle.rv_lower.specs.Lines.{acts}
-use Rattle.rv_cells.specs.Follows.{in_hand, kept_aside, with_owner}
+use Rattle.rv_cells.specs.CountedCells.{in_hand, kept_aside, with_owner}
 use Rattle.rv_cells.proofs.Counts.{put_aside, taken_back}
 use Rattle.rv_cells.proofs.Words.{hand_owned, aside_owned}
 use Rattle.rv_cells.proofs.HeldTokens.{holding_now, hold_runs, hold_null_runs, unhold_runs, unhold_null_runs}
@@ -26,9 +26,9 @@ use Rattle.rv_cells.proofs.Runs.{turn_of}
 use Rattle.rv_cells.proofs.Spots.{Spot}
 use Rattle.rv_cells.proofs.TokenCells.{cell_turns}
 use Rattle.rv_cells.proofs.TokenFields.{past_from}
-use Rattle.rv_cells.proofs.TokenStanding.{SlotIs, IsTokenCell, token_words, HaveSlotValues, held_values, Lowering, AllWait, target, setting, At, Follows_step}
-use Rattle.rv_cells.proofs.TokenStands.{nothing_stands}
-use Rattle.rv_cells.proofs.TokenLanding.{token_at, machine_at, CodeSteps, kept_quiet, ActsOnTokens, acts_on_tokens}
+use Rattle.rv_cells.proofs.TokenRelation.{SlotIs, IsTokenCell, token_words, HaveSlotValues, held_values, Lowering, AllWait, target, setting, At, Follows_step}
+use Rattle.rv_cells.proofs.TokenContents.{nothing_stands}
+use Rattle.rv_cells.proofs.TokenContinuations.{token_at, machine_at, CodeSteps, kept_quiet, ActsOnTokens, acts_on_tokens}
 
 -- a slot that is not among the held ones has a value that is not held
 held_out : (slots : ℕ → Slot) (variables y : ℕ) (ys : List ℕ) → is_among ys y ≡ false

@@ -22,16 +22,16 @@ use Rattle.rv_lower.specs.declared.lowering.Lowering.{Lowering}
 use Rattle.rv_lower.specs.Lines.{copies_to, acts}
 use Rattle.rv_lower.specs.Lowered.{Goal}
 use Rattle.rv_lower.specs.Written.{texts_written, Wrote, Grows}
-use Rattle.rv_lower.proofs.Grown.{grows_of, grows_then, grows_more, later_texts}
+use Rattle.rv_lower.proofs.CodeGrowth.{grows_of, grows_then, grows_more, later_texts}
 use Rattle.rv_cells.specs.declared.decide.Targets.{Targets}
 use Rattle.rv_cells.specs.CountedLines.{Setting}
-use Rattle.rv_cells.specs.Comparing.{IsTested, AreNoLines, IsBranchBetween}
+use Rattle.rv_cells.specs.ComparisonBranch.{IsTested, AreNoLines, IsBranchBetween}
 use Rattle.rv_cells.specs.declared.compare.Branching.{Branching}
 use Rattle.rv_cells.specs.TokenedLines.{OwnLines, LinesBehind, CodeLines, ArmsLines}
 use Rattle.rv_cells.specs.TokenedWritten.{WroteTokened, WroteBehind, WroteTokenedArms, WroteTokenedSteps}
 use Rattle.rv_cells.specs.Written.{Facts, setting_in, TookTargets}
 use Rattle.rv_cells.proofs.Comparisons.{drops_before}
-use Rattle.rv_cells.proofs.TokenGrown.{code_same, arms_same, plug_more, count_of_arms, took_none}
+use Rattle.rv_cells.proofs.TokenCodeGrowth.{code_same, arms_same, plug_more, count_of_arms, took_none}
 
 -- the lines of the case are those of both
 joins_move : (setting : Setting) (variables : ℕ) (goal : Goal) (low high : ℕ) (lines : List Line) (move : TokenedMove)

@@ -22,7 +22,7 @@ use Rattle.kk_counted.specs.TokenKeeping.{FillsAlways, token_after}
 use Rattle.kk_counted.specs.TokenMachine.{token_machine}
 use Rattle.kk_counted.specs.TokenStates.{TokenControl, TokenState, token_first_state, token_end_at, bare_control, bare_setting}
 use Rattle.kk_counted.specs.TokenedCodes.{TokenedFunction, TokenedProgram}
-use Rattle.kk_counted.proofs.KnownKept.{keeps_always}
+use Rattle.kk_counted.proofs.KeptFields.{keeps_always}
 use Rattle.kk_counted.proofs.KnownRuns.{known_may_be_left}
 use Rattle.kk_counted.proofs.TokenRoom.{costs_within, states_kept}
 use Rattle.rv_isa.specs.Processor.{Ending, exited}
@@ -38,8 +38,8 @@ use Rattle.rv_cells.specs.TokenedMeaning.{roomy_outside, IsTokenedLowered, Token
 use Rattle.rv_cells.proofs.FormRoots.{lowered_once}
 use Rattle.rv_cells.proofs.Programs.{all_free, lines_formed}
 use Rattle.rv_cells.proofs.TokenLineCosts.{forms}
-use Rattle.rv_cells.proofs.TokenStanding.{Lowering, setting, upper, lower, pace, Passing, HasEnded, MayStandFor, IsFitWith, IsFitFrom, Related}
-use Rattle.rv_cells.proofs.TokenSimulating.{simulates, starts}
+use Rattle.rv_cells.proofs.TokenRelation.{Lowering, setting, upper, lower, pace, Passing, HasEnded, MayStandFor, IsFitWith, IsFitFrom, Related}
+use Rattle.rv_cells.proofs.TokenSimulation.{simulates, starts}
 
 -- ---- machines
 

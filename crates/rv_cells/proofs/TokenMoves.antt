@@ -8,24 +8,25 @@ use Rattle.kk_counted.specs.TokenMachine.{token_code_step, at_code, to_tokens}
 use Rattle.kk_counted.specs.TokenStates.{TokenJoin, TokenFrame}
 use Rattle.kk_counted.specs.TokenedCodes.{Tokened}
 use Rattle.kk_counted.specs.Tokens.{Slot, spent, null, token, Mark, plain, token_of, one_if_token, Tokens, is_linked, slots_with, marks_with, marked, blanked, released, gained, moved}
-use Rattle.kk_counted.proofs.Chaining.{equal_one, frames_many, not_linked}
-use Rattle.kk_counted.proofs.Pooling.{slot_here, slot_there, by_null, by_cell, mark_here, mark_there, marked_with}
+use Rattle.kk_counted.proofs.TokenChain.{equal_one, frames_many, not_linked}
+use Rattle.kk_counted.proofs.SlotMarks.{slot_here, slot_there, by_null, by_cell, mark_here, mark_there, marked_with}
 use Rattle.kk_counted.proofs.TokenForms.{Has, is_null, has_cell, unspent_has}
 use Rattle.cell_heap.specs.Pool.{Pool}
 use Rattle.rv_isa.specs.AsmCode.{Line}
 use Rattle.rv_isa.specs.Frames.{Frame}
 use Rattle.rv_lower.specs.Lines.{copies_to}
-use Rattle.rv_cells.specs.Follows.{Owner}
-use Rattle.rv_cells.proofs.Acting.{put_in}
+use Rattle.rv_cells.specs.CountedCells.{Owner}
+use Rattle.rv_cells.proofs.CellActions.{put_in}
 use Rattle.rv_cells.specs.Layout.{Layout}
 use Rattle.rv_cells.proofs.Runs.{turn_of}
 use Rattle.rv_cells.proofs.Spots.{Spot, Here}
 use Rattle.rv_cells.proofs.TokenForms.{moves_token}
 use Rattle.rv_cells.proofs.TokenFrames.{none_behind, slots_put, all_wait_at}
 use Rattle.rv_cells.proofs.TokenLineCosts.{forms}
-use Rattle.rv_cells.proofs.TokenStanding.{SlotIs, IsTokenCell, token_words, HaveTokenCells, HaveSlotValues, held_values, Lowering, AllWait, setting, known_of, At, IsFitFrom, Follows_step}
-use Rattle.rv_cells.proofs.TokenStands.{nothing_stands}
-use Rattle.rv_cells.proofs.TokenLanding.{lands_leads, token_at, machine_at, CodeSteps, kept_quiet, ActsOnTokens, acts_on_tokens}
+use Rattle.rv_cells.proofs.TokenRelation.{SlotIs, IsTokenCell, token_words, HaveTokenCells, HaveSlotValues, held_values, Lowering, AllWait, setting, known_of, At, IsFitFrom, Follows_step}
+use Rattle.rv_cells.proofs.TokenContents.{nothing_stands}
+use Rattle.rv_cells.proofs.TokenContinuations.{lands_leads, token_at, machine_at, CodeSteps, kept_quiet, ActsOnTokens}
+use Rattle.rv_cells.proofs.TokenContinuations.{acts_on_tokens}
 use Rattle.rv_cells.proofs.TokenUniques.{slots_set, another}
 
 -- the cell of a token becomes that of another slot, which is linked where the first one is

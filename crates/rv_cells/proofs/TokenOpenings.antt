@@ -13,12 +13,12 @@ use Rattle.rv_isa.specs.Frames.{Frame, put, found}
 use Rattle.cell_heap.specs.Blocks.{Cells}
 use Rattle.rv_world.specs.World.{World, with_cells}
 use Rattle.rv_lower.specs.Lines.{sets, copies_to, acts}
-use Rattle.rv_lower.proofs.Performing.{put_same, put_other}
+use Rattle.rv_lower.proofs.FormEffects.{put_same, put_other}
 use Rattle.rv_cells.specs.Layout.{words_in, header_of}
-use Rattle.rv_cells.specs.Follows.{AreFrom, Owner, in_hand, is_aside}
+use Rattle.rv_cells.specs.CountedCells.{AreFrom, Owner, in_hand, is_aside}
 use Rattle.rv_cells.specs.CellLines.{token_ends, TokenUniqueLines}
 use Rattle.rv_cells.proofs.Runs.{turn_of, Runs, runs_none, runs_then}
-use Rattle.rv_cells.proofs.Acting.{put_in, sets_runs, copy_runs}
+use Rattle.rv_cells.proofs.CellActions.{put_in, sets_runs, copy_runs}
 use Rattle.rv_cells.proofs.Spots.{AreSmall, Spot, Known, Here, saved}
 use Rattle.rv_cells.proofs.LineCosts.{most_moves, row_cost}
 use Rattle.rv_cells.proofs.Values.{among_none, has_other, list_grown}

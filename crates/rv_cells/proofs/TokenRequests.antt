@@ -1,4 +1,4 @@
--- How a request for a cell is served, by what frames hold: which of the cases of lines it is (Filling, FillingHeld).
+-- How a request for a cell is served, by what frames hold: which of the cases of lines it is (FillLines, HeldFillLines).
 use Rattle.std.proofs.Common.{◌≡◌, ◌≢◌, ℕ, ◌+◌, ◌<◌, ◌≤◌, ◌==◌, Bool, true, false, List, [], ◌∷◌, length, Option, nat_le, refl, sym, ◌∙◌, ap, arith}
 use Rattle.std.specs.Prelude.{if◌then◌else◌}
 use Rattle.std.proofs.lemmas.Bool.Decides.{nat_tests}
@@ -7,10 +7,10 @@ use Rattle.kk_counted.specs.Heaps.{Heap, busy}
 use Rattle.kk_counted.specs.Spending.{AreApart}
 use Rattle.kk_counted.specs.TokenKeeping.{chain_of}
 use Rattle.kk_counted.specs.Tokens.{Slot, spent, null, token, is_unspent, is_token, Link, Tokens, marked, released, first_token, taken, Room, has_room, no_room, from_link, from_chain, from_tokens, request}
-use Rattle.kk_counted.proofs.Chaining.{AllApart, chain_top}
+use Rattle.kk_counted.proofs.TokenChain.{AllApart, chain_top}
 use Rattle.rv_cells.proofs.HeldRows.{live, live_null, live_cell}
 use Rattle.rv_cells.specs.TokenedLines.{values_of_slots}
-use Rattle.rv_cells.proofs.TokenStanding.{SlotIs, HaveSlotValues, held_values}
+use Rattle.rv_cells.proofs.TokenRelation.{SlotIs, HaveSlotValues, held_values}
 use Rattle.rv_cells.proofs.TokenFrames.{First, one, none, first_of}
 
 -- the live values of unspent slots are those of their tokens

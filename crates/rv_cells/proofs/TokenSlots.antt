@@ -7,8 +7,8 @@ use Rattle.kk_counted.specs.TokenMachine.{token_code_step, at_code, to_tokens}
 use Rattle.kk_counted.specs.TokenStates.{TokenJoin, TokenFrame}
 use Rattle.kk_counted.specs.TokenedCodes.{Tokened}
 use Rattle.kk_counted.specs.Tokens.{spent, null, token, token_of, Tokens, is_linked, blanked, released, freed}
-use Rattle.kk_counted.proofs.Chaining.{equal_one, frames_many, not_linked}
-use Rattle.kk_counted.proofs.Pooling.{slot_here, slot_there, by_null, by_cell}
+use Rattle.kk_counted.proofs.TokenChain.{equal_one, frames_many, not_linked}
+use Rattle.kk_counted.proofs.SlotMarks.{slot_here, slot_there, by_null, by_cell}
 use Rattle.kk_counted.proofs.TokenForms.{Has, is_null, has_cell, unspent_has}
 use Rattle.rv_isa.specs.declared.asm.Action.TheVariants.{Compute}
 use Rattle.rv_isa.specs.declared.asm.Operation.TheVariants as Op
@@ -16,8 +16,8 @@ use Rattle.rv_isa.specs.AsmCode.{Line}
 use Rattle.rv_isa.specs.Frames.{Frame}
 use Rattle.rv_lower.specs.Lines.{sets, acts}
 use Rattle.rv_world.specs.World.{with_cells}
-use Rattle.rv_cells.specs.Follows.{nobody, is_aside, with_owner}
-use Rattle.rv_cells.proofs.Acting.{put_in}
+use Rattle.rv_cells.specs.CountedCells.{nobody, is_aside, with_owner}
+use Rattle.rv_cells.proofs.CellActions.{put_in}
 use Rattle.rv_cells.proofs.Owners.{chosen_same, chosen_other}
 use Rattle.rv_cells.proofs.Runs.{turn_of}
 use Rattle.rv_cells.proofs.Spots.{Spot, Here}
@@ -25,9 +25,10 @@ use Rattle.rv_cells.proofs.TokenForms.{nulls_token, frees_token, frees_null}
 use Rattle.rv_cells.proofs.Words.{hand_owned}
 use Rattle.rv_cells.proofs.TokenCells.{cell_goes}
 use Rattle.rv_cells.proofs.TokenFrames.{none_behind, slots_put, all_wait_at}
-use Rattle.rv_cells.proofs.TokenStanding.{SlotIs, IsTokenCell, token_words, held_values, Lowering, setting, known_of, At, Follows_step}
-use Rattle.rv_cells.proofs.TokenStands.{stand_set}
-use Rattle.rv_cells.proofs.TokenLanding.{lands_leads, token_at, machine_at, CodeSteps, kept_quiet, ActsOnTokens, acts_on_tokens}
+use Rattle.rv_cells.proofs.TokenRelation.{SlotIs, IsTokenCell, token_words, held_values, Lowering, setting, known_of, At, Follows_step}
+use Rattle.rv_cells.proofs.TokenContents.{stand_set}
+use Rattle.rv_cells.proofs.TokenContinuations.{lands_leads, token_at, machine_at, CodeSteps, kept_quiet, ActsOnTokens}
+use Rattle.rv_cells.proofs.TokenContinuations.{acts_on_tokens}
 use Rattle.rv_cells.proofs.TokenUniques.{slots_set, another}
 
 -- a mark tells its slot

@@ -24,11 +24,11 @@ use Rattle.kk_counted.specs.TokenStates.{TokenJoin, TokenFrame, TokenConfigurati
 use Rattle.kk_counted.specs.BareForms.{bare}
 use Rattle.kk_counted.specs.TokenedCodes.{Tokened}
 use Rattle.kk_counted.specs.Tokens.{Slot, spent, null, token, is_unspent, Mark, plain, token_of, Tokens, is_linked, slots_with, opened_tokens, blanked, gained, marked}
-use Rattle.kk_counted.proofs.Chaining.{EqualBelow, equal_one, frames_many, not_linked}
-use Rattle.kk_counted.proofs.Counting.{counted_within, count_set, count_other}
-use Rattle.kk_counted.proofs.Easing.{EasedTo, eased_unique}
+use Rattle.kk_counted.proofs.TokenChain.{EqualBelow, equal_one, frames_many, not_linked}
+use Rattle.kk_counted.proofs.CountChanges.{counted_within, count_set, count_other}
+use Rattle.kk_counted.proofs.HeapChanges.{EasedTo, eased_unique}
 use Rattle.kk_counted.proofs.OwnedOpenings.{opens_by_count}
-use Rattle.kk_counted.proofs.Pooling.{slot_here, slot_there}
+use Rattle.kk_counted.proofs.SlotMarks.{slot_here, slot_there}
 use Rattle.kk_counted.proofs.Variables.{fields_part}
 use Rattle.rv_isa.specs.declared.asm.Action.TheVariants.{Label, Branch}
 use Rattle.rv_isa.specs.declared.asm.Condition.TheVariants.{NotEqual}
@@ -38,11 +38,11 @@ use Rattle.cell_heap.specs.Blocks.{Cells}
 use Rattle.rv_lower.specs.Lines.{sets, copies_to, acts}
 use Rattle.rv_cells.specs.CellLines.{drops_lines, token_ends, TokenUniqueLines}
 use Rattle.rv_cells.specs.Layout.{words_in, header_of}
-use Rattle.rv_cells.specs.Follows.{AreFrom, Owner, cell_of, in_hand, is_aside}
+use Rattle.rv_cells.specs.CountedCells.{AreFrom, Owner, cell_of, in_hand, is_aside}
 use Rattle.rv_cells.specs.TokenedLines.{CodeLines, HasSlots, IsOf, Keeps, MayFill}
-use Rattle.rv_cells.proofs.Held.{some-is}
-use Rattle.rv_cells.proofs.Bound.{AreWithin, marks_are}
-use Rattle.rv_cells.proofs.Rooms.{named_cell}
+use Rattle.rv_cells.proofs.NameContents.{some-is}
+use Rattle.rv_cells.proofs.BoundVariables.{AreWithin, marks_are}
+use Rattle.rv_cells.proofs.UsedCells.{named_cell}
 use Rattle.rv_cells.proofs.Rows.{then_some, IsReading}
 use Rattle.rv_cells.proofs.CountOpenings.{others_of}
 use Rattle.rv_cells.proofs.FormPlaces.{tree, no_part, tree_in, Next, stands_behind, entry_lines, entry_passed, lines_before_entry, behind_entry, entry_is_part, fill_there}
@@ -56,11 +56,11 @@ use Rattle.rv_cells.proofs.TokenCells.{token_aside, cells_stay, cell_comes}
 use Rattle.rv_cells.proofs.TokenFields.{recounted_words, eased_cells, cell_is, named_fields}
 use Rattle.rv_cells.proofs.TokenFrames.{none_behind, all_wait_at}
 use Rattle.rv_cells.proofs.TokenLineCosts.{forms}
-use Rattle.rv_cells.proofs.TokenStanding.{SlotIs, IsTokenCell, token_words, HaveSlotValues, HaveTokenCells, StandsIn, AllStand, finds, held_values}
-use Rattle.rv_cells.proofs.TokenStanding.{Lowering, target, setting, upper, lines_setting, known_of, Shape, AllWait, At, IsFitFrom, Follows_step, by_near}
-use Rattle.rv_cells.proofs.TokenStands.{stand_set, opened_stands}
-use Rattle.rv_cells.proofs.TokenLanding.{lands_leads, token_at, machine_at, CodeSteps, seen_action, silent_goes, does_by, GoesTo, GoesOn, stands_on, goes_on}
-use Rattle.rv_cells.proofs.TokenLanding.{kept_after}
+use Rattle.rv_cells.proofs.TokenRelation.{SlotIs, IsTokenCell, token_words, HaveSlotValues, HaveTokenCells, StandsIn, AllStand, finds, held_values}
+use Rattle.rv_cells.proofs.TokenRelation.{Lowering, target, setting, upper, lines_setting, known_of, Shape, AllWait, At, IsFitFrom, Follows_step, by_near}
+use Rattle.rv_cells.proofs.TokenContents.{stand_set, opened_stands}
+use Rattle.rv_cells.proofs.TokenContinuations.{lands_leads, token_at, machine_at, CodeSteps, seen_action, silent_goes, does_by, GoesTo, GoesOn, stands_on, goes_on}
+use Rattle.rv_cells.proofs.TokenContinuations.{kept_after}
 
 -- a slot is given another token, of which a frame has the value, and the values of the other unspent slots are the same
 pub slots_set : {address : ℕ → ℕ} {slots others : ℕ → Slot} {variables count : ℕ} {values after : ℕ → Option ℕ}

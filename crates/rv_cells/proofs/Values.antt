@@ -12,9 +12,9 @@ use Rattle.kk_counted.specs.Heaps.{Held, Heap, held_at, if_counted}
 use Rattle.kk_counted.specs.CountedMachine.{Named, cell_named, if_made_by}
 use Rattle.kk_counted.specs.Lowerable.{AreBelow, bound_list}
 use Rattle.rv_isa.specs.Frames.{put}
-use Rattle.rv_lower.proofs.Performing.{put_same, put_other}
+use Rattle.rv_lower.proofs.FormEffects.{put_same, put_other}
 use Rattle.rv_cells.specs.Layout.{Layout, word_in, words_in, FitsField, FitFields}
-use Rattle.rv_cells.specs.Follows.{assign}
+use Rattle.rv_cells.specs.CountedCells.{assign}
 use Rattle.rv_cells.proofs.Words.{value_older, within_more}
 
 -- Each bound variable is below the temporaries, and has the word of its value; it is of a type with cells or not as its value

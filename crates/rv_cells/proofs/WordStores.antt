@@ -11,12 +11,12 @@ use Rattle.cell_heap.specs.Blocks.{Cells, own, with_block, with_word}
 use Rattle.rv_world.specs.World.{World, with_cells}
 use Rattle.rv_lower.specs.Lines.{sets}
 use Rattle.rv_lower.proofs.Calls.{HaveWords}
-use Rattle.rv_lower.proofs.Performing.{put_same, put_other}
+use Rattle.rv_lower.proofs.FormEffects.{put_same, put_other}
 use Rattle.rv_cells.specs.Layout.{Layout}
-use Rattle.rv_cells.specs.Follows.{AreFrom, Owner}
+use Rattle.rv_cells.specs.CountedCells.{AreFrom, Owner}
 use Rattle.rv_cells.specs.CellLines.{SetIf, SomeWords, is_kept}
-use Rattle.rv_cells.proofs.Acting.{put_in, sets_runs}
-use Rattle.rv_cells.proofs.Constructing.{Hands, stored, store_hand}
+use Rattle.rv_cells.proofs.CellActions.{put_in, sets_runs}
+use Rattle.rv_cells.proofs.ConstructionLines.{Hands, stored, store_hand}
 use Rattle.rv_cells.proofs.KeptStores.{picked, word_if, word_other, with_some, AreSome, some_below, some_later, some_written}
 use Rattle.rv_cells.proofs.KeptStores.{all_written, some_run}
 use Rattle.rv_cells.proofs.LineCosts.{most_moves, row_cost}

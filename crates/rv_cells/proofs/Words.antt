@@ -8,10 +8,10 @@ use Rattle.cell_heap.specs.Blocks.{own, kept, Cells, with_block, with_word, inde
 use Rattle.kk_source.specs.State.{Value, integer, unit, constant, place, Cell}
 use Rattle.kk_source.specs.Sound.{Within, AllWithin}
 use Rattle.kk_counted.specs.Heaps.{Held, Heap, count_in, count_at, set_count, fields_held}
-use Rattle.kk_counted.proofs.Counting.{count_set}
+use Rattle.kk_counted.proofs.CountChanges.{count_set}
 use Rattle.rv_cells.specs.Layout.{Layout, word_in, words_in}
-use Rattle.rv_cells.specs.Follows.{AreFrom, IsBlockOf, Owner, cell_of, in_hand, kept_aside, IsCellOf, BlockOf, Follows, with_owner, assign}
-use Rattle.rv_cells.proofs.Held.{held_new, held_older, held_within, held_set, held_other, held_fields}
+use Rattle.rv_cells.specs.CountedCells.{AreFrom, IsBlockOf, Owner, cell_of, in_hand, kept_aside, IsCellOf, BlockOf, Follows, with_owner, assign}
+use Rattle.rv_cells.proofs.NameContents.{held_new, held_older, held_within, held_set, held_other, held_fields}
 use Rattle.rv_cells.proofs.Owners.{chosen_by, chosen_same, chosen_other, own-unused, own-words, Stays, put_owner, chain_over}
 
 -- ---- a word of a block

@@ -1,9 +1,9 @@
 pub mod Layout
-pub mod Follows
+pub mod CountedCells
 pub mod Steps
 pub mod CellLines
 pub mod CountedLines
-pub mod Comparing
+pub mod ComparisonBranch
 pub mod TokenedLines
 pub mod Standings
 pub mod Written

@@ -7,7 +7,7 @@ use Rattle.kk_source.specs.State.{Value}
 use Rattle.kk_counted.specs.Heaps.{Heap, busy, weight}
 use Rattle.kk_counted.specs.Cost.{drop_turns}
 use Rattle.rv_cells.specs.Layout.{Layout, word_in}
-use Rattle.rv_cells.specs.Follows.{Owner, nobody, in_hand, kept_aside, Follows, with_owner, still}
+use Rattle.rv_cells.specs.CountedCells.{Owner, nobody, in_hand, kept_aside, Follows, with_owner, still}
 
 -- a request is served by a free cell, which is in hand then
 pub record Served (pool : Pool) (layout : Layout) (address : ℕ → ℕ) (owners : ℕ → Owner) (heap : Heap) (cells : Cells)

@@ -22,7 +22,7 @@ use Rattle.rv_cells.specs.declared.standing.Standing.{Standing}
 use Rattle.rv_cells.specs.declared.standing.Standing.TheVariants.{Nothing, Count, Cell}
 use Rattle.rv_cells.specs.Layout.{Layout, header_of}
 use Rattle.rv_cells.specs.declared.compare.Branching.{Branching}
-use Rattle.rv_cells.specs.Comparing.{branch_of, MayJoin}
+use Rattle.rv_cells.specs.ComparisonBranch.{branch_of, MayJoin}
 use Rattle.rv_cells.specs.CellLines.{FillLines, ReadLines, TokenUniqueLines, dup_lines, drop_lines}
 use Rattle.rv_cells.specs.CountedLines.{Setting, ComputeLines, ways_of, NodesLines}
 

@@ -14,7 +14,7 @@ use Rattle.rv_lower.specs.Lines.{acts}
 use Rattle.rv_lower.specs.declared.lowering.Lowering.{Lowering}
 use Rattle.rv_lower.specs.Lowered.{Goal}
 use Rattle.rv_lower.specs.Written.{texts_written, Grows}
-use Rattle.rv_cells.specs.declared.known.Known.{Known}
+use Rattle.rv_cells.specs.declared.standing.Known.{Known}
 use Rattle.rv_cells.specs.CellLines.{StoresIf, ConstructLines, FillLines, hold_lines, unhold_lines}
 use Rattle.rv_cells.specs.declared.compare.Branching.{Branching}
 use Rattle.rv_cells.specs.TokenedLines.{AskLines, LinesBehind, CodeLines, ArmsLines}

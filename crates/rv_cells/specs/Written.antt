@@ -12,7 +12,7 @@ use Rattle.rv_isa.specs.AsmCode.{Line}
 use Rattle.rv_lower.specs.declared.lowering.Lowering.{Lowering}
 use Rattle.rv_lower.specs.Lines.{computes, sets, acts}
 use Rattle.rv_lower.specs.Written.{lines_written, texts_written, texts_of, Grows}
-use Rattle.rv_cells.specs.declared.known.Known.{Known}
+use Rattle.rv_cells.specs.declared.standing.Known.{Known}
 use Rattle.rv_cells.specs.declared.standing.Standing.{Standing}
 use Rattle.rv_cells.specs.declared.decide.Targets.{Targets}
 use Rattle.rv_cells.specs.declared.decide.CaseWays.{CaseWays}

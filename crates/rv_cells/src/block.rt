@@ -5,7 +5,7 @@ ghost use Rattle.rv_cells.specs.Written.{facts_of, TookLabels, TookTargets, Wrot
 
 use crate::cells::write_construction;
 use crate::decide::Targets;
-use crate::known::Known;
+use crate::standing::Known;
 use kk_base::NoMemory;
 use kk_core::Decisions;
 use kk_syntax::Form;

@@ -8,7 +8,7 @@ ghost use Rattle.rv_cells.specs.CellLines.{SomeStores, SetIf, SomeWords, is_kept
 ghost use Rattle.rv_cells.specs.TokenedWritten.{variables_known, StoreLines, PushedStore, is_left};
 ghost use Rattle.rv_cells.specs.Written.{holds_known, TestsCount, LowersCount, WroteOpening};
 
-use crate::known::Known;
+use crate::standing::Known;
 use kk_base::NoMemory;
 use rv_isa::{Action, Condition, Immediate, ImmediateOperation, Operation, Routine};
 use rv_lower::{Lowering, Reads, Short, act, copy, next, set, unary, write_label};

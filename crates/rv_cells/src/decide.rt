@@ -9,7 +9,7 @@ ghost use Rattle.rv_cells.specs.CountedLines.{OddLines, DecideLines, IsWithoutLa
 ghost use Rattle.rv_cells.specs.Written.{layout_known, ways_known, number_shown, LoadsTag};
 
 use crate::cells::load;
-use crate::known::Known;
+use crate::standing::Known;
 use kk_base::NoMemory;
 use kk_core::{Answer, Edge, Node};
 use rv_isa::{Action, Condition, Immediate, ImmediateOperation, Operation};
@@ -65,7 +65,7 @@ impl CaseWays<'_> {
     }
 
     /// The label that comes behind the lines of a node: that of the next test, or else that of the first arm.
-    #[tactic(auto, using(crate::proofs::Written::later_label))]
+    #[tactic(auto, using(crate::proofs::WrittenLines::later_label))]
     fn behind(&self, node: u32) -> Result<u32, NoMemory>
         ensures { IfOk result (λ label. label ≡ (ways_known self.now).behind node) }
     {

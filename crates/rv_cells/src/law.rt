@@ -23,7 +23,7 @@ ghost use Rattle.kk_syntax.specs.PositionsOf.{PositionTable};
 ghost use Rattle.kk_counted.specs.Marks.{CellMarks, field_marks, AreMarked};
 ghost use Rattle.kk_counted.specs.Heaps.{Heap, count_at, set_count, fields_held, busy, dup_value, drop_value};
 ghost use Rattle.rv_cells.specs.Layout.{Layout, IsNarrow, FitsField};
-ghost use Rattle.rv_cells.specs.Follows.{IsBlockOf, Owner, nobody, cell_of, in_hand, kept_aside, Follows, with_owner, assign, set_aside};
+ghost use Rattle.rv_cells.specs.CountedCells.{IsBlockOf, Owner, nobody, cell_of, in_hand, kept_aside, Follows, with_owner, assign, set_aside};
 ghost use Rattle.rv_isa.specs.AsmCode.{Lines};
 ghost use Rattle.kk_counted.specs.CountedCosts.{roomy_cost};
 ghost use Rattle.kk_counted.specs.TokenCosts.{HasRoom};

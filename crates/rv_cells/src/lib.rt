@@ -7,16 +7,12 @@ mod block;
 mod cells;
 mod compare;
 mod decide;
-mod known;
 mod law;
 mod mark;
-mod names;
 mod standing;
 mod token_block;
 mod token_cells;
-mod token_mark;
 mod token_program;
-mod token_slots;
 
 pub use law::{
     cells_are_counted_or_set_aside, cells_in_hand_are_counted, cells_in_hand_are_held,

@@ -8,7 +8,7 @@ ghost use Rattle.kk_counted.specs.TokenedForms.{tokened_move};
 ghost use Rattle.rv_lower.specs.Written.{goal_of};
 ghost use Rattle.rv_cells.specs.TokenedWritten.{variables_known, IfOpens, IfFills};
 ghost use Rattle.rv_cells.specs.TokenedWritten.{WroteTokened, WroteBehind, WroteTokenedArms, WroteTokenedSteps};
-ghost use Rattle.rv_cells.specs.Comparing.{AreNoLines};
+ghost use Rattle.rv_cells.specs.ComparisonBranch.{AreNoLines};
 ghost use Rattle.rv_cells.specs.TokenedLines.{MayFill};
 ghost use Rattle.rv_cells.specs.Written.{facts_of, holds_known};
 
@@ -16,8 +16,7 @@ use crate::block::take_targets;
 use crate::cells::{Filling, write_drop, write_dup, write_opening, write_reading};
 use crate::compare::{Branching, branch_between, write_branch};
 use crate::decide::{CaseWays, write_nodes};
-use crate::known::Known;
-use crate::standing::{has_count, has_header};
+use crate::standing::{Known, has_count, has_header};
 use crate::token_cells::{
     with_first, write_asking, write_fill, write_freed, write_hold, write_move, write_null,
     write_token_test, write_unhold,

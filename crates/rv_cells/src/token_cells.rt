@@ -12,7 +12,7 @@ ghost use Rattle.rv_cells.specs.Written.{facts_of};
 
 use crate::block::write_form;
 use crate::cells::{Filling, write_words};
-use crate::known::Known;
+use crate::standing::Known;
 use kk_base::NoMemory;
 use kk_syntax::Form;
 use rv_isa::{Action, Condition, Operation, Routine};

@@ -6,7 +6,7 @@ pub mod Bits
 pub mod Bytes
 pub mod Cases
 pub mod Copies
-pub mod Fits
+pub mod WordEffects
 pub mod Instructions
 pub mod Memory
 pub mod Parts
@@ -16,8 +16,8 @@ pub mod Products
 pub mod Reading
 pub mod Registers
 pub mod Runs
-pub mod Same
+pub mod RangeEquality
 pub mod Standing
 pub mod Steps
 pub mod Calls
-pub mod TokensHeld
+pub mod HeldTokens

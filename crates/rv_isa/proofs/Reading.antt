@@ -14,7 +14,7 @@ use Rattle.rv_isa.specs.Field.{field}
 use Rattle.rv_isa.specs.Format.{IsR, IsI, IsShift, IsS, IsB, IsU, IsJ, IsOrdering}
 use Rattle.rv_isa.specs.Table.{IsWord}
 use Rattle.rv_isa.specs.Read.{rd_at, rs1_at, rs2_at, shamt_at, i_immediate, s_immediate, b_immediate, u_immediate, j_immediate, branch_of, load_of, store_of, immediate_operation_of, shift_of, base_operation_of, multiplication_of, operation_of, read}
-use Rattle.rv_isa.proofs.Same.{same_register, same_shamt, same_immediate, same_branch_offset, same_jump_offset, same_upper_immediate}
+use Rattle.rv_isa.proofs.RangeEquality.{same_register, same_shamt, same_immediate, same_branch_offset, same_jump_offset, same_upper_immediate}
 use Rattle.rv_isa.proofs.Parts.{extended_12, extended_13, extended_21, upper_20, field-extended_12, field-extended_13, field-extended_21, field-upper_20, pieces_s, pieces_b, pieces_j, from_pieces_s, from_pieces_b, from_pieces_j}
 
 -- ---- an instruction's word reads as the instruction

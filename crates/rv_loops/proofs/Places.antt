@@ -14,7 +14,7 @@ use Rattle.rv_isa.specs.PlacedMachine.{is_label_line}
 use Rattle.rv_loops.specs.Rotation.{Loop, AreStraight, calls, is_call_of, test, mark, goes_on}
 use Rattle.rv_loops.specs.Rotation.{leaves}
 use Rattle.rv_loops.specs.Rotation.{rotated_lines, IsRotated, AreRotated}
-use Rattle.rv_loops.proofs.Knowing.{same_some}
+use Rattle.rv_loops.proofs.MachineKnowledge.{same_some}
 use Rattle.rv_loops.specs.Relation.{IsAtSame}
 
 -- ---- labels

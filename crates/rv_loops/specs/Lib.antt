@@ -1,4 +1,4 @@
 pub mod Rotation
 pub mod Relation
 pub mod Heads
-pub mod LinesReached
+pub mod RotatedLines

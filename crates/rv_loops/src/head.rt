@@ -1,6 +1,6 @@
 // The head of a loop: its lines up to the test.
 
-ghost use Rattle.std.specs.Prelude.{◌≡◌, [], false, None, IfOk, IfSome, map};
+ghost use Rattle.std.specs.Prelude.{◌≡◌, [], false, None, IfOk, IfSome, map, ◌++◌, OnOk};
 ghost use Rattle.rv_isa.specs.declared.asm.Action.TheVariants.{Branch};
 ghost use Rattle.rv_isa.specs.Frames.{found};
 ghost use Rattle.rv_isa.specs.PlacedCode.{does, placed_line_of};
@@ -8,7 +8,6 @@ ghost use Rattle.rv_isa.specs.PlacedMachine.{is_label_line};
 ghost use Rattle.rv_loops.specs.Rotation.{is_straight_action, is_straight, calls, is_call_of, test, goes_on};
 ghost use Rattle.rv_loops.specs.Heads.{loop_of, Begins};
 
-use crate::copying::{copy_of, copy_of_listed, copy_of_operands};
 use kk_base::NoMemory;
 use rv_isa::{Action, Condition, Item, Listed, Operand, Operation};
 use std::alloc::Global;
@@ -151,4 +150,55 @@ impl Head {
     {
         self.branch(alloc, self.condition.opposite(), AGAIN)
     }
+}
+
+pub fn copy_of_listed(alloc: Global, alive: &[Listed]) -> Result<Vec<Listed>, NoMemory>
+    ensures { IfOk result (λ copy. copy.items ≡ alive.now) }
+{
+    match Vec::from_slice(alloc, alive) {
+        Ok(copy) => Ok(copy),
+        Err(_) => Err(NoMemory),
+    }
+}
+
+pub fn copy_of_operands(alloc: Global, operands: &[Operand]) -> Result<Vec<Operand>, NoMemory>
+    ensures { IfOk result (λ copy. copy.items ≡ operands.now) }
+{
+    match Vec::from_slice(alloc, operands) {
+        Ok(copy) => Ok(copy),
+        Err(_) => Err(NoMemory),
+    }
+}
+
+pub fn copy_of(alloc: Global, item: &Item) -> Result<Item, NoMemory>
+    ensures { IfOk result (λ copy. placed_line_of copy ≡ placed_line_of item.now) }
+{
+    match item {
+        Item::Does {
+            alive,
+            action,
+            args,
+            into,
+        } => Ok(Item::Does {
+            alive: copy_of_listed(alloc, alive)?,
+            action: *action,
+            args: copy_of_operands(alloc, args)?,
+            into: *into,
+        }),
+        Item::Moves { alive, value, way } => Ok(Item::Moves {
+            alive: copy_of_listed(alloc, alive)?,
+            value: *value,
+            way: *way,
+        }),
+    }
+}
+
+/// Adds copies of lines to code.
+pub fn add_copies(alloc: Global, code: &mut Vec<Item>, items: &[Item]) -> Result<(), NoMemory>
+    ensures { OnOk result (map placed_line_of code.new.items ≡ map placed_line_of code.old.items ++ map placed_line_of items.now) }
+{
+    for item in items {
+        code.push(copy_of(alloc, item)?)?;
+    }
+    Ok(())
 }

@@ -7,7 +7,7 @@ ghost use Rattle.rv_isa.specs.PlacedCode.{PlacedLines};
 ghost use Rattle.rv_isa.specs.PlacedMachine.{PlacedState, placed_machine, placed_start};
 ghost use Rattle.rv_isa.specs.Primitives.{Primitives, go};
 ghost use Rattle.rv_loops.specs.Rotation.{HasOpposites, ComputesAlone, AreRotated};
-ghost use Rattle.rv_loops.specs.LinesReached.{rotated_line_of};
+ghost use Rattle.rv_loops.specs.RotatedLines.{rotated_line_of};
 ghost use Rattle.rv_loops.specs.Relation.{NeverStuck, Related, IsNotStuck};
 
 /// What the machine of placed code leaves open: operations, conditions and routines over what it shares. The opposite of a

@@ -1,7 +1,6 @@
 //! Loops whose test stands at their end: the placed form of a program, in another one that does the same with fewer jumps.
 #![tactic(auto)]
 
-mod copying;
 mod head;
 mod keeps;
 mod rotating;

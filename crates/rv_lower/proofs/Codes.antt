@@ -12,11 +12,11 @@ use Rattle.rv_isa.specs.declared.asm.Condition.{Condition}
 use Rattle.rv_isa.specs.declared.asm.Operation.TheVariants as Op
 use Rattle.rv_isa.specs.AsmCode.{Line}
 use Rattle.rv_isa.specs.WellFormed.{is_alive, is_alive_at, most_values, IsSpent, AreLabelsAhead, is_alive_behind}
-use Rattle.rv_isa.proofs.TokensHeld.{HoldsNone}
+use Rattle.rv_isa.proofs.HeldTokens.{HoldsNone}
 use Rattle.rv_lower.specs.Lines.{acts, copies, temporaries}
 use Rattle.rv_lower.specs.Lowered.{Goal, returns, joins, goal_lines}
-use Rattle.rv_lower.proofs.Formed.{Each, all_each, AllBound, none_some, Readable, IsWithin, within_more, readable_within}
-use Rattle.rv_lower.proofs.Formed.{AreFormed, formed_more, Good, HasRoom, weaker, alive_line, to_variable, good_hands, readable_small}
+use Rattle.rv_lower.proofs.WellFormedness.{Each, all_each, AllBound, none_some, Readable, IsWithin, within_more, readable_within}
+use Rattle.rv_lower.proofs.WellFormedness.{AreFormed, formed_more, Good, HasRoom, weaker, alive_line, to_variable, good_hands, readable_small}
 use Rattle.rv_lower.proofs.AbsentLabels.{HasNo, has_no_append, found_none, found_past, found_here, alive_at_past, alive_at_here, other_label}
 use Rattle.rv_lower.proofs.Labels.{found_label}
 use Rattle.rv_lower.proofs.Operations.{Leads, copied, only_bound}

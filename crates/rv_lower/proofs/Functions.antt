@@ -4,7 +4,7 @@ use Rattle.std.proofs.lemmas.Bool.{or_left, or_right, eq-eqb, ne_eqb, cases_eq}
 use Rattle.rv_isa.specs.Frames.{is_among}
 use Rattle.rv_isa.specs.WellFormed.{AreDistinct}
 use Rattle.rv_lower.specs.Lowered.{from_to}
-use Rattle.rv_lower.proofs.Formed.{Each}
+use Rattle.rv_lower.proofs.WellFormedness.{Each}
 
 pub among_from_to : (at n v : ℕ) → at ≤ v → v < at + n → is_among v (from_to at n) ≡ true
 among_from_to at zero v le less = absurd (omega (arith, le, less))

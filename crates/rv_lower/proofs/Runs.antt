@@ -18,7 +18,7 @@ use Rattle.cell_heap.specs.Pool.{Pool}
 use Rattle.rv_world.specs.Operations.{Constants, computed}
 use Rattle.rv_world.specs.World.{World, primitives, computed_in}
 use Rattle.rv_lower.specs.Lines.{computes}
-use Rattle.rv_lower.proofs.Following.{Function, frame_at, turn_at}
+use Rattle.rv_lower.proofs.WordValues.{Function, frame_at, turn_at}
 
 -- The most that a line weighs that computes a word: that of two words has five moves and one instruction.
 abbrev pub word_cost : ℕ

@@ -3,9 +3,9 @@ use Rattle.std.specs.Prelude.{◌≡◌, ℕ, ◌+◌, ◌*◌, ◌≤◌, List,
 use Rattle.kk_syntax.specs.declared.program.Form.{Form}
 use Rattle.rv_isa.specs.AsmCode.{Line, line_of}
 use Rattle.rv_world.specs.Operations.{all_bytes}
-use Rattle.rv_lower.specs.declared.line.Reads.{Reads}
-use Rattle.rv_lower.specs.declared.line.Reads.TheVariants.{Nothing, One, Two}
-use Rattle.rv_lower.specs.declared.line.Short.{Short}
+use Rattle.rv_lower.specs.declared.lowering.Reads.{Reads}
+use Rattle.rv_lower.specs.declared.lowering.Reads.TheVariants.{Nothing, One, Two}
+use Rattle.rv_lower.specs.declared.lowering.Short.{Short}
 use Rattle.rv_lower.specs.declared.lowering.Lowering.{Lowering}
 use Rattle.rv_lower.specs.Lines.{Texts, FormLines, PrintLines}
 use Rattle.rv_lower.specs.declared.block.Goal.{Goal as CodeGoal}

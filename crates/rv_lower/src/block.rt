@@ -6,8 +6,7 @@ ghost use Rattle.rv_lower.specs.Lines.{acts};
 ghost use Rattle.rv_lower.specs.Lowered.{goal_lines, tail_lines};
 ghost use Rattle.rv_lower.specs.Written.{goal_of, Wrote};
 
-use crate::line::{Reads, act, copy};
-use crate::lowering::Lowering;
+use crate::lowering::{Lowering, Reads, act, copy};
 use kk_base::NoMemory;
 use rv_isa::Action;
 

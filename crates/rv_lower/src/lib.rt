@@ -2,12 +2,8 @@
 #![tactic(auto)]
 
 mod block;
-mod line;
 mod lowering;
 mod operation;
-mod program;
 
 pub use block::{Goal, write_label, write_tail_call, write_value};
-pub use line::{Reads, Short, act, constant, copy, set, unary};
-pub use lowering::{Lowering, next};
-pub use program::parameters;
+pub use lowering::{Lowering, Reads, Short, act, constant, copy, next, parameters, set, unary};

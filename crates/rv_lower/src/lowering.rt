@@ -1,12 +1,14 @@
 // The assembler code of a function as it is written.
 
 ghost use Rattle.std.specs.Prelude.{◌≡◌, ◌+◌, [], ◌∷◌, map, OnOk, IfOk, length};
-ghost use Rattle.rv_lower.specs.Lines.{copies, temporaries};
-ghost use Rattle.rv_lower.specs.Written.{short_line, Wrote, AddedText, TookLabel};
+ghost use Rattle.rv_lower.specs.Lines.{copies, temporaries, computes, sets, copies_to, registers, acts};
+ghost use Rattle.rv_lower.specs.Written.{short_line, Wrote, AddedText, TookLabel, read_list};
+ghost use Rattle.rv_isa.specs.declared.asm.Action.TheVariants.{Compute};
+ghost use Rattle.rv_isa.specs.declared.asm.Operation.TheVariants.{Register};
+ghost use Rattle.rv_lower.specs.Lowered.{from_to};
 
-use crate::line::{Reads, Short, copy};
 use kk_base::{NoMemory, Text};
-use rv_isa::{Action, Statement};
+use rv_isa::{Action, Operation, RegisterOperation, Statement};
 use std::alloc::Global;
 
 /// The code of a function as it is written, at its end.
@@ -114,4 +116,89 @@ pub fn next(number: u32) -> Result<u32, NoMemory>
         Some(next) => Ok(next),
         None => Err(NoMemory),
     }
+}
+
+/// The values that a line reads.
+#[derive(Clone, Copy, Debug)]
+pub enum Reads {
+    Nothing,
+    One(u32),
+    Two(u32, u32),
+}
+
+/// A line that reads at most two values.
+#[derive(Clone, Copy, Debug)]
+pub struct Short {
+    pub action: Action,
+    pub reads: Reads,
+    pub into: Option<u32>,
+}
+
+/// An operation on no value.
+pub fn constant(operation: Operation, into: u32) -> Short
+    ensures { short_line result ≡ computes operation [] into }
+{
+    Short {
+        action: Action::Compute(operation),
+        reads: Reads::Nothing,
+        into: Some(into),
+    }
+}
+
+/// An operation on one value.
+pub fn unary(operation: Operation, value: u32, into: u32) -> Short
+    ensures { short_line result ≡ computes operation (value ∷ []) into }
+{
+    Short {
+        action: Action::Compute(operation),
+        reads: Reads::One(value),
+        into: Some(into),
+    }
+}
+
+/// An operation on two values.
+pub fn binary(operation: RegisterOperation, first: u32, second: u32, into: u32) -> Short
+    ensures { short_line result ≡ registers into first second (Register operation) }
+{
+    Short {
+        action: Action::Compute(Operation::Register(operation)),
+        reads: Reads::Two(first, second),
+        into: Some(into),
+    }
+}
+
+/// A constant word.
+pub fn set(word: u32, into: u32) -> Short
+    ensures { short_line result ≡ sets word into }
+{
+    constant(Operation::Li(word), into)
+}
+
+/// A copy.
+pub fn copy(from: u32, into: u32) -> Short
+    ensures { short_line result ≡ copies_to from into }
+{
+    unary(Operation::Mv, from, into)
+}
+
+/// An action without a value.
+pub fn act(action: Action, reads: Reads) -> Short
+    ensures { short_line result ≡ acts action (read_list reads) }
+{
+    Short {
+        action,
+        reads,
+        into: None,
+    }
+}
+
+/// The values that a function's caller passes: the first ones.
+pub fn parameters(alloc: Global, count: u32) -> Result<Vec<u32>, NoMemory>
+    ensures { IfOk result (λ params. params.items ≡ from_to 0 count) }
+{
+    let mut params = Vec::new(alloc);
+    for value in 0..count {
+        params.push(value)?;
+    }
+    Ok(params)
 }

@@ -12,8 +12,7 @@ ghost use Rattle.rv_isa.specs.Frames.{only_of};
 ghost use Rattle.rv_lower.specs.Lines.{choice_of, constant_word, registers, Compares, ComparesWithOne, ComparesNot, BinaryLines, AppliedLines};
 ghost use Rattle.rv_lower.specs.Written.{pair_of, short_line, Wrote, WroteLines, WrotePrint, WroteForm};
 
-use crate::line::{Reads, Short, act, binary, constant, copy, set, unary};
-use crate::lowering::Lowering;
+use crate::lowering::{Lowering, Reads, Short, act, binary, constant, copy, set, unary};
 use kk_base::{NoMemory, Text};
 use kk_syntax::{BinaryOperator, Form, PrintForm, StringLiteral, UnaryOperator};
 use rv_isa::{

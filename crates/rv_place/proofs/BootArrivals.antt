@@ -22,7 +22,7 @@ use Rattle.rv_isa.proofs.ProcessorMachines.{state-run}
 use Rattle.rv_isa.proofs.Runs.{Leads-run}
 use Rattle.cell_heap.specs.Pool.{Pool}
 use Rattle.cell_runtime.specs.Lines.{words_of}
-use Rattle.cell_runtime.specs.declared.start.TheConstants.{TEXT_WORDS}
+use Rattle.cell_runtime.specs.declared.process.TheConstants.{TEXT_WORDS}
 use Rattle.rv_world.specs.World.{World, first_world, primitives}
 use Rattle.rv_place.specs.declared.words.Words.{Words}
 use Rattle.rv_place.specs.Addresses.{words_of_lines, forms_of, entry_words}
@@ -30,7 +30,8 @@ use Rattle.rv_place.specs.LineAddresses.{line_address}
 use Rattle.rv_place.specs.Lines.{Map}
 use Rattle.rv_place.specs.Texts.{pool_in, constants_of, map_of}
 use Rattle.rv_place.specs.Images.{first_processor, parts_of, code_in, IsPlacedImage}
-use Rattle.rv_place.specs.Running.{most_lines, IsIn, StackAt, links_of, Running, HasCells, StandsFor, NeverStuck, Related, Passing}
+use Rattle.rv_place.specs.ProcessorStates.{most_lines, IsIn, StackAt, links_of, Running, HasCells, StandsFor, NeverStuck, Related}
+use Rattle.rv_place.specs.ProcessorStates.{Passing}
 use Rattle.rv_place.proofs.LineRanges.{words_split, address_of, line_alone, line_behind, line_within}
 use Rattle.rv_place.proofs.BootAgreements.{silent_instructions}
 use Rattle.rv_place.proofs.BootGround.{stop_address}

@@ -13,7 +13,7 @@ use Rattle.rv_isa.specs.Standing.{Code}
 use Rattle.rv_isa.proofs.Memory.{bytes_at-with_number_apart}
 use Rattle.cell_heap.specs.Pool.{Pool}
 use Rattle.cell_heap.specs.Blocks.{unused_cells}
-use Rattle.cell_heap.specs.Known.{HoldsCells}
+use Rattle.cell_heap.specs.ProgramMemory.{HoldsCells}
 use Rattle.cell_heap.proofs.Frames.{SameInside, SameInside-store}
 use Rattle.cell_heap.proofs.Blocks.{outside-holds}
 use Rattle.rv_world.specs.World.{World, first_world}
@@ -22,15 +22,15 @@ use Rattle.rv_place.specs.Addresses.{takes_frame, words_of_shift, words_to_frame
 use Rattle.rv_place.specs.Lines.{Map, EntersAt, PassesAt, BeginsAt, FunctionAt}
 use Rattle.rv_place.specs.declared.reach.Reach.{Reach}
 use Rattle.rv_place.specs.Grounds.{stack_end, constant_bytes, Ground, Rests}
-use Rattle.rv_place.specs.Running.{AllPlain, most_lines, IsIn, FramesAt, way_back, StackAt, Running}
-use Rattle.rv_place.proofs.RunningInside.{Walks, walks_done}
-use Rattle.rv_place.proofs.RunningFree.{behind_misses}
-use Rattle.rv_place.proofs.RunningExecuting.{Goes}
-use Rattle.rv_place.proofs.RunningRows.{Shifts, bare_sp, entry_takes, bare_passes}
-use Rattle.rv_place.proofs.RunningFrames.{frames_pushed, runs_as}
-use Rattle.rv_place.proofs.RunningLinks.{roots_done, cells_done}
-use Rattle.rv_place.proofs.RunningLines.{bare_near, plain_found, few_found, entered_in, shift_most}
-use Rattle.rv_place.proofs.Shifting.{to_frame_most}
+use Rattle.rv_place.specs.ProcessorStates.{AllPlain, most_lines, IsIn, FramesAt, way_back, StackAt, Running}
+use Rattle.rv_place.proofs.PassedInstructions.{Walks, walks_done}
+use Rattle.rv_place.proofs.OccupiedWords.{behind_misses}
+use Rattle.rv_place.proofs.InstructionExecution.{Goes}
+use Rattle.rv_place.proofs.InstructionRows.{Shifts, bare_sp, entry_takes, bare_passes}
+use Rattle.rv_place.proofs.FrameMemory.{frames_pushed, runs_as}
+use Rattle.rv_place.proofs.HeldTokenLinks.{roots_done, cells_done}
+use Rattle.rv_place.proofs.CodeLines.{bare_near, plain_found, few_found, entered_in, shift_most}
+use Rattle.rv_place.proofs.PointerShifts.{to_frame_most}
 
 frames_word : (depth frame : ℕ) → frame % 4 ≡ 0 → depth * frame % 4 ≡ 0
 frames_word zero frame word = rw (zero-mul frame) refl

@@ -18,7 +18,7 @@ use Rattle.rv_place.specs.Bytes.{IsTextOf}
 use Rattle.rv_place.specs.Images.{loaded_image, first_processor, code_in}
 use Rattle.rv_place.specs.Grounds.{constant_bytes, Rests}
 use Rattle.rv_place.proofs.BootBytes.{HoldsBytes, held-front, held-back, bytes_at-held, reads-held, length-words}
-use Rattle.rv_place.proofs.BootLoaded.{two_parts, image-text, text-fetched, memory-loaded, memory-stored, stored-behind}
+use Rattle.rv_place.proofs.BootMemory.{two_parts, image-text, text-fetched, memory-loaded, memory-stored, stored-behind}
 use Rattle.rv_place.proofs.BootSizes.{memory_behind, words_most}
 use Rattle.rv_place.proofs.BootGround.{HasRoom}
 

@@ -16,11 +16,11 @@ use Rattle.rv_isa.specs.Standing.{Code, code_of}
 use Rattle.rv_isa.proofs.Standing.{Has-front, Has-get, code_of-Has, code_of-place}
 use Rattle.cell_runtime.specs.Layouts.{below_pointer, layout_of}
 use Rattle.cell_runtime.specs.Lines.{words_of}
-use Rattle.cell_runtime.proofs.Reaching.{below_most}
+use Rattle.cell_runtime.proofs.AddressReach.{below_most}
 use Rattle.cell_runtime.specs.Texts.{IsRuntime, runtime_labels, IsText}
 use Rattle.kk_base.specs.Sizes.{greatest_cells, greatest_depth}
-use Rattle.cell_runtime.specs.declared.start.TheConstants.{TEXT_WORDS}
-use Rattle.cell_runtime.specs.declared.stop.Ending.TheVariants as ending
+use Rattle.cell_runtime.specs.declared.process.TheConstants.{TEXT_WORDS}
+use Rattle.cell_runtime.specs.declared.process.Ending.TheVariants as ending
 use Rattle.cell_runtime.specs.Prints.{buffer_bytes, IsPrintInt, IsPrintText, IsReadByte}
 use Rattle.cell_runtime.specs.Stops.{IsStop}
 use Rattle.cell_runtime.specs.Takes.{IsTake}
@@ -31,9 +31,9 @@ use Rattle.rv_place.specs.Addresses.{jump_words, words_of_functions, IsBehind, f
 use Rattle.rv_place.specs.declared.reach.Reach.TheVariants.{Near}
 use Rattle.rv_place.specs.Texts.{ArePlaceable, most_text_words, most_constant_bytes, text_bytes, memory_of, pool_in, map_of, ArePlacedWords}
 use Rattle.rv_place.specs.Grounds.{HasRoutine, Ground}
-use Rattle.rv_place.proofs.BootLoaded.{two_parts, text-loaded, memory-loaded, memory-stored, stored-behind}
+use Rattle.rv_place.proofs.BootMemory.{two_parts, text-loaded, memory-loaded, memory-stored, stored-behind}
 use Rattle.rv_place.proofs.BootSizes.{memory_behind, memory_page, stack_most, words_most, bytes_most, memory_most}
-use Rattle.rv_place.proofs.Shifting.{bias_below}
+use Rattle.rv_place.proofs.PointerShifts.{bias_below}
 
 -- the stop behind the start, where main comes back to
 abbrev pub stop_address : ℕ

@@ -24,21 +24,21 @@ use Rattle.cell_runtime.specs.Texts.{pool_of}
 use Rattle.cell_heap.specs.Blocks.{unused_cells, view_of}
 use Rattle.cell_heap.proofs.FreeCells.{free_list-lists}
 use Rattle.rv_isa.proofs.ProcessorMachines.{state-run}
-use Rattle.cell_heap.specs.Known.{HoldsCells}
+use Rattle.cell_heap.specs.ProgramMemory.{HoldsCells}
 use Rattle.cell_runtime.proofs.Blocks.{start_holds}
 use Rattle.rv_world.specs.World.{World, first_world, primitives}
 use Rattle.rv_place.specs.declared.words.Words.{Words}
 use Rattle.rv_place.specs.Addresses.{jump_words, takes_frame, words_of_functions, frame_size, frame_bias, entries_from}
 use Rattle.rv_place.specs.declared.reach.Reach.{Reach}
 use Rattle.rv_place.specs.declared.reach.Reach.TheVariants.{Near}
-use Rattle.rv_place.proofs.Shifting.{bias_below}
+use Rattle.rv_place.proofs.PointerShifts.{bias_below}
 use Rattle.rv_place.specs.Lines.{FunctionAt}
 use Rattle.rv_place.specs.Texts.{text_bytes, memory_of, pool_in, constants_of, map_of, jumps_of}
 use Rattle.rv_place.specs.Images.{first_processor, parts_of, code_in, main_entry, outside_lines, IsPlacedImage, EndsWithCells}
 use Rattle.rv_place.specs.Grounds.{stack_end, constant_bytes, Ground, Rests}
-use Rattle.rv_place.specs.Running.{NeverStuck, Related, Passing}
-use Rattle.rv_place.proofs.RunningInside.{walks_then, stands_part, start_walks}
-use Rattle.rv_place.proofs.RunningLines.{function_found}
+use Rattle.rv_place.specs.ProcessorStates.{NeverStuck, Related, Passing}
+use Rattle.rv_place.proofs.PassedInstructions.{walks_then, stands_part, start_walks}
+use Rattle.rv_place.proofs.CodeLines.{function_found}
 use Rattle.rv_place.proofs.BootAgreements.{agree_after_instructions}
 use Rattle.rv_place.proofs.BootSizes.{text_size}
 use Rattle.rv_place.proofs.BootGround.{stop_address, HasRoom, own_code, own-part, own-inside, has-room, runtime-stands, has-ground}

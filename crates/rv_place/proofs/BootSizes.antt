@@ -15,9 +15,9 @@ use Rattle.rv_place.specs.declared.words.Words.{Words}
 use Rattle.rv_place.specs.Addresses.{is_silent, words_of_action, words_of_line, words_of_lines, words_of_functions, forms_of, words_of_shift}
 use Rattle.rv_place.specs.declared.reach.Forms.{Forms}
 use Rattle.rv_place.specs.declared.reach.Reach.{Reach}
-use Rattle.rv_place.proofs.RunningLines.{jump_most, shift_most, branch_most}
-use Rattle.rv_place.proofs.RunningMoves.{operation_weighs}
-use Rattle.rv_place.proofs.Shifting.{to_frame_most}
+use Rattle.rv_place.proofs.CodeLines.{jump_most, shift_most, branch_most}
+use Rattle.rv_place.proofs.MoveSimulation.{operation_weighs}
+use Rattle.rv_place.proofs.PointerShifts.{to_frame_most}
 use Rattle.rv_place.specs.Texts.{ArePlaceable, most_text_words, most_constant_bytes, text_words, text_bytes, memory_of, ArePlacedWords, jumps_of}
 use Rattle.rv_place.specs.Bytes.{IsTextOf}
 

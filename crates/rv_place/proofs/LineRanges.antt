@@ -19,8 +19,8 @@ use Rattle.rv_place.specs.LineAddresses.{address_in, line_address}
 use Rattle.rv_place.specs.Lines.{Map, FunctionsAt}
 use Rattle.rv_place.specs.declared.reach.Forms.{Forms}
 use Rattle.rv_place.specs.declared.reach.Reach.{Reach}
-use Rattle.rv_place.proofs.RunningLines.{jump_some, branch_some, function_found}
-use Rattle.rv_place.proofs.RunningMoves.{operation_weighs}
+use Rattle.rv_place.proofs.CodeLines.{jump_some, branch_some, function_found}
+use Rattle.rv_place.proofs.MoveSimulation.{operation_weighs}
 
 -- ---- the lines of a function
 

@@ -35,7 +35,7 @@ use Rattle.rv_place.specs.declared.labels.Labels.{Labels}
 use Rattle.rv_place.specs.declared.reach.Reach.{Reach}
 use Rattle.rv_place.specs.declared.reach.Reach.TheVariants.{Near, Far, Wide}
 use Rattle.rv_place.specs.declared.reach.Forms.{Forms}
-use Rattle.rv_place.specs.declared.symbols.Symbols.{Symbols}
+use Rattle.rv_place.specs.declared.chart.Symbols.{Symbols}
 
 -- so many instructions, which are code of a kind wherever they stand: by the code and the address of the first one
 pub record Spelled (words : ℕ) (Kind : Code → ℕ → Type 0) (is : List Instr) : Type 0 where

@@ -10,8 +10,8 @@ use Rattle.rv_isa.specs.PlacedCode.{PlacedLines}
 use Rattle.rv_isa.specs.Bytes.{Apart, bytes_at}
 use Rattle.rv_isa.specs.Processor.{Processor, can_load, can_store}
 use Rattle.rv_isa.specs.Standing.{Code, Stands}
-use Rattle.cell_runtime.specs.declared.start.TheConstants.{TEXT_WORDS}
-use Rattle.cell_runtime.specs.declared.stop.Ending.TheVariants as ending
+use Rattle.cell_runtime.specs.declared.process.TheConstants.{TEXT_WORDS}
+use Rattle.cell_runtime.specs.declared.process.Ending.TheVariants as ending
 use Rattle.cell_runtime.specs.Prints.{buffer_bytes, IsPrintInt, IsPrintText, IsReadByte}
 use Rattle.cell_runtime.specs.Stops.{IsStop}
 use Rattle.cell_runtime.specs.Takes.{IsTake}

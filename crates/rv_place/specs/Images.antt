@@ -10,7 +10,7 @@ use Rattle.rv_isa.specs.Processor.{Processor, Ending, Progress, start, bare}
 use Rattle.rv_isa.specs.ProcessorMachine.{ended}
 use Rattle.rv_isa.specs.FreeCells.{free_list}
 use Rattle.rv_isa.specs.Standing.{Code, code_of}
-use Rattle.cell_runtime.specs.declared.start.TheConstants.{TEXT_WORDS}
+use Rattle.cell_runtime.specs.declared.process.TheConstants.{TEXT_WORDS}
 use Rattle.cell_heap.specs.Pool.{Pool}
 use Rattle.cell_heap.specs.Blocks.{seen_cells}
 use Rattle.cell_heap.specs.FreeCells.{ListsFree}
@@ -20,7 +20,7 @@ use Rattle.rv_place.specs.declared.words.Words.{Words}
 use Rattle.rv_place.specs.Addresses.{frame_size}
 use Rattle.rv_place.specs.Texts.{ArePlaceable, ArePlacedWords}
 use Rattle.rv_place.specs.Bytes.{IsTextOf}
-use Rattle.rv_place.specs.Running.{AllPlain, HasCells}
+use Rattle.rv_place.specs.ProcessorStates.{AllPlain, HasCells}
 
 -- the memory that a text is loaded to, with so many bytes behind it
 abbrev pub loaded_image : List ℕ → ℕ → List Part

@@ -22,8 +22,8 @@ use Rattle.rv_isa.specs.Arithmetic.{sum_word}
 use Rattle.rv_isa.specs.Opposites.{opposite}
 use Rattle.rv_isa.specs.Standing.{Code, Has}
 use Rattle.rv_world.specs.Operations.{Constants, address_in}
-use Rattle.rv_place.specs.declared.constant.WordForm.{WordForm}
-use Rattle.rv_place.specs.declared.constant.WordForm.TheVariants.{Short, Upper, Both}
+use Rattle.rv_place.specs.declared.reach.WordForm.{WordForm}
+use Rattle.rv_place.specs.declared.reach.WordForm.TheVariants.{Short, Upper, Both}
 use Rattle.rv_place.specs.declared.reach.Reach.{Reach}
 use Rattle.rv_place.specs.declared.reach.Reach.TheVariants.{Near, Far, Wide}
 

@@ -6,6 +6,6 @@ pub mod LineAddresses
 pub mod Texts
 pub mod Bytes
 pub mod Grounds
-pub mod Running
+pub mod ProcessorStates
 pub mod Images
 pub mod Emitted

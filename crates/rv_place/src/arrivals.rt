@@ -11,12 +11,12 @@ ghost use Rattle.rv_isa.specs.Primitives.{go};
 ghost use Rattle.rv_isa.specs.Processor.{Processor, goes};
 ghost use Rattle.rv_isa.specs.ProcessorMachine.{processor_machine};
 ghost use Rattle.elf_image.specs.Program.{text_start};
-ghost use Rattle.cell_runtime.specs.declared.start.TheConstants.{TEXT_WORDS};
+ghost use Rattle.cell_runtime.specs.declared.process.TheConstants.{TEXT_WORDS};
 ghost use Rattle.rv_world.specs.World.{World, first_world, primitives};
 ghost use Rattle.rv_place.specs.declared.words.Words.{Words};
 ghost use Rattle.rv_place.specs.Images.{first_processor, IsPlacedImage};
 ghost use Rattle.rv_place.specs.LineAddresses.{line_address};
-ghost use Rattle.rv_place.specs.Running.{HasCells, NeverStuck};
+ghost use Rattle.rv_place.specs.ProcessorStates.{HasCells, NeverStuck};
 ghost use Rattle.rv_place.specs.Texts.{pool_in, constants_of, map_of};
 
 /// The image of a placed text comes to the lines of its program.

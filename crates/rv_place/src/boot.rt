@@ -12,11 +12,11 @@ ghost use Rattle.rv_isa.specs.PlacedMachine.{placed_machine, placed_start};
 ghost use Rattle.rv_isa.specs.Processor.{Ending, goes};
 ghost use Rattle.rv_isa.specs.ProcessorMachine.{processor_machine};
 ghost use Rattle.elf_image.specs.Program.{text_start};
-ghost use Rattle.cell_runtime.specs.declared.start.TheConstants.{TEXT_WORDS};
+ghost use Rattle.cell_runtime.specs.declared.process.TheConstants.{TEXT_WORDS};
 ghost use Rattle.rv_world.specs.World.{World, first_world, primitives};
 ghost use Rattle.rv_place.specs.declared.words.Words.{Words};
 ghost use Rattle.rv_place.specs.Images.{first_processor, outside_lines, IsPlacedImage, EndsWithCells};
-ghost use Rattle.rv_place.specs.Running.{NeverStuck};
+ghost use Rattle.rv_place.specs.ProcessorStates.{NeverStuck};
 ghost use Rattle.rv_place.specs.Texts.{pool_in, constants_of, map_of};
 
 /// The image of a placed text does what the machine of the placed form does from `main` on: each trace of one is a prefix

@@ -14,8 +14,7 @@ ghost use Rattle.rv_place.specs.Lines.{IsFromPointer, ShiftsStack, GoesBack, Fin
 ghost use Rattle.rv_place.specs.Emitted.{Grew, AreNear, JumpReaches, BranchReaches, TakesFrame, LeavesFrame, ReturnBy, EntryBy, MoveBy};
 
 use crate::chart::Chart;
-use crate::constant::WordForm;
-use crate::reach::{Forms, Reach};
+use crate::reach::{Forms, Reach, WordForm};
 use kk_base::NoMemory;
 use rv_isa::sizes::REACH_DOWN;
 use rv_isa::{

@@ -10,7 +10,7 @@ ghost use Rattle.cell_heap.specs.Pool.{Pool};
 ghost use Rattle.rv_world.specs.World.{primitives};
 ghost use Rattle.rv_place.specs.Lines.{Map};
 ghost use Rattle.rv_place.specs.Grounds.{Ground};
-ghost use Rattle.rv_place.specs.Running.{AllPlain, most_lines, Related, Passing};
+ghost use Rattle.rv_place.specs.ProcessorStates.{AllPlain, most_lines, Related, Passing};
 
 /// Placed code means, as instructions, what its machine says.
 ///

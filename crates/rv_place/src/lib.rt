@@ -3,10 +3,8 @@
 
 mod arrivals;
 mod boot;
-mod bytes;
 mod cells;
 mod chart;
-mod constant;
 mod emit;
 mod labels;
 mod law;
@@ -14,7 +12,6 @@ mod lines;
 mod operations;
 mod reach;
 mod sizes;
-mod symbols;
 mod text;
 mod words;
 

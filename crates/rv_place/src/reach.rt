@@ -1,8 +1,9 @@
 // How far jumps and branches lead, and how large frames are.
 
 ghost use Rattle.std.specs.Prelude.{◌≡◌, ◌≤◌};
-ghost use Rattle.rv_place.specs.Instructions.{words_of_jump, words_of_branch};
-ghost use Rattle.rv_place.specs.Addresses.{entry_words, test_words, frame_bias, reach_of, words_of_return, words_of_shift, words_to_frame};
+ghost use Rattle.rv_place.specs.Instructions.{words_of_jump, words_of_branch, form_of, words_of_form};
+ghost use Rattle.rv_place.specs.Addresses.{entry_words, test_words, frame_bias, reach_of, words_of_return, words_of_shift};
+ghost use Rattle.rv_place.specs.Addresses.{words_to_frame};
 
 use rv_isa::sizes::REACH_DOWN;
 
@@ -120,6 +121,43 @@ impl Forms {
         match self.branches {
             Reach::Near => 1,
             Reach::Far | Reach::Wide => 1 + self.jumps.words_of_jump(),
+        }
+    }
+}
+
+/// How a word comes to a register.
+#[derive(Clone, Copy, PartialEq, Eq, Debug)]
+pub enum WordForm {
+    /// By an addition to zero: the word is an immediate.
+    Short,
+    /// By its upper bits alone: its lower 12 bits are zero.
+    Upper,
+    /// By its upper bits and an addition.
+    Both,
+}
+
+impl WordForm {
+    /// The form of a word: the shortest that makes it.
+    pub fn of(word: u32) -> WordForm
+        ensures { result ≡ form_of word }
+    {
+        if word.wrapping_add(0x800) < 0x1000 {
+            WordForm::Short
+        } else if word % 0x1000 == 0 {
+            WordForm::Upper
+        } else {
+            WordForm::Both
+        }
+    }
+
+    /// How many instructions it is.
+    pub fn words(self) -> u32
+        ensures words { result ≡ words_of_form self }
+        ensures few { result ≤ 2 }
+    {
+        match self {
+            WordForm::Short | WordForm::Upper => 1,
+            WordForm::Both => 2,
         }
     }
 }

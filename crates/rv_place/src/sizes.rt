@@ -12,9 +12,8 @@ ghost use Rattle.rv_isa.specs.LinePlaces.{is_copy};
 ghost use Rattle.rv_place.specs.Addresses.{operation_links, action_links, has_slot, needs_frame, takes_frame, is_same_register, stands_there, goes_home, is_silent, words_of_action, words_of_line, words_of_lines, words_of_function, words_of_functions, forms_of, slots_of_place, slots_of_operands, slots_of_line, slots_of_lines, slots_of_functions, frame_size, most_frame_slots};
 ghost use Rattle.rv_place.specs.Texts.{most_text_length, most_functions, most_runtime_words, most_constant_bytes};
 
-use crate::constant::WordForm;
-use crate::reach::{Forms, Reach};
-use crate::symbols::words_of_native;
+use crate::chart::words_of_native;
+use crate::reach::{Forms, Reach, WordForm};
 use kk_base::Text;
 use rv_isa::{
     Action, Item, Native, Operand, Operation, Place, Placed, PlacedFunction, Register, Way,

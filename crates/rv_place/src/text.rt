@@ -12,7 +12,7 @@ ghost use Rattle.cell_runtime.specs.Texts.{greatest_reach};
 ghost use Rattle.rv_place.specs.Texts.{ArePlaceable, ArePlacedWords, most_text_length, most_functions, most_runtime_words, most_text_words, most_constant_bytes, greatest_address, jumps_of, text_words, memory_of, map_of};
 ghost use Rattle.rv_place.specs.Emitted.{Charts, NativeGrew, addresses_from};
 
-use crate::chart::Chart;
+use crate::chart::{Chart, Symbols};
 use crate::emit::{emit, emit_load};
 use crate::lines::emit_functions;
 use crate::reach::Reach;
@@ -20,7 +20,6 @@ use crate::sizes::{
     JUMP_WORDS, bytes_of_constants, frame_bytes, takes_frame, words_of_function,
     words_of_functions, words_of_natives,
 };
-use crate::symbols::Symbols;
 use crate::words::Words;
 use elf_image::{PAGE_SIZE, TEXT_START};
 use kk_base::{NoMemory, Text};

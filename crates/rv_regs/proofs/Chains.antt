@@ -13,7 +13,7 @@ use Rattle.rv_isa.specs.PlacedMachine.{read_at, number_of}
 use Rattle.rv_regs.specs.Listings.{listed_as, marks, is_read_in}
 use Rattle.rv_regs.specs.Conditions.{AtBoth, StaysHeld, Apart}
 use Rattle.rv_regs.specs.Relation.{Holds, HeldAs, IsSlotOf, WaitsFor}
-use Rattle.rv_regs.proofs.Placing.{listed_has, read_other, put_same, put_other, one_place, on_copy_then}
+use Rattle.rv_regs.proofs.ValueListings.{listed_has, read_other, put_same, put_other, one_place, on_copy_then}
 
 -- the listing of a held token
 abbrev pub token : ℕ → ℕ → Listed

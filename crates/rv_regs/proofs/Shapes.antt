@@ -24,8 +24,8 @@ use Rattle.rv_regs.specs.Relation.{leading, first_args, stores_behind, FewMoves}
 use Rattle.rv_regs.specs.Shape.{IsBelow, IsResultBelow, AllSlotsBelow, IsModest}
 use Rattle.rv_regs.proofs.Lists.{all_made, each_among}
 use Rattle.rv_regs.proofs.Aliveness.{alive_small}
-use Rattle.rv_regs.proofs.InRegisters.{AreAmong, params_among}
-use Rattle.rv_regs.proofs.Acting.{result_of, most_registers, pending_among, args_alive}
+use Rattle.rv_regs.proofs.RegisterPlaces.{AreAmong, params_among}
+use Rattle.rv_regs.proofs.OperandPlaces.{result_of, most_registers, pending_among, args_alive}
 
 -- ---- how many
 

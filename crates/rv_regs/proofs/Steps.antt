@@ -17,7 +17,7 @@ use Rattle.rv_isa.specs.PlacedMachine.{PlacedTurn, is_label_line, read_at, passe
 use Rattle.rv_regs.specs.Listings.{first_alive, listed_as}
 use Rattle.rv_regs.specs.Conditions.{value_of, without_moves, AtBoth, StandsAt, IsAtPlace, IsPassed, AllFit, IsPlacing, ArePlacings}
 use Rattle.rv_regs.specs.Relation.{Holds, HeldAs, Stands, StandsFor}
-use Rattle.rv_regs.proofs.Placing.{listed_has, put_same, put_other, at_one, stands_has}
+use Rattle.rv_regs.proofs.ValueListings.{listed_has, put_same, put_other, at_one, stands_has}
 use Rattle.rv_regs.proofs.Tokens.{apart_first}
 
 -- a turn on a value that is there in one machine, and then in the other

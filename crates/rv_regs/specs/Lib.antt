@@ -10,4 +10,4 @@ pub mod Shape
 pub mod Tables
 pub mod Backwards
 pub mod Walks
-pub mod LinesReached
+pub mod StatementLines

@@ -4,11 +4,15 @@ ghost use Rattle.std.specs.Prelude.{◌≡◌, ◌≢◌, ◌⊎◌, ◌↔◌, 
 ghost use Rattle.std.specs.List.{AllByRecursion};
 ghost use Rattle.rv_isa.specs.declared.placed.Place.{Place};
 ghost use Rattle.rv_regs.specs.Listings.{one_if, both_of, listed_as, with_copy, spoils_by, marks};
-ghost use Rattle.rv_regs.specs.Conditions.{OnCopy, AtBoth, IsNew, HasCopyIn, IsCopied, IsAtCopy, StaysListed, IsClearOf, IsSafe, IsKept};
+ghost use Rattle.rv_regs.specs.Conditions.{OnCopy, AtBoth, IsNew, HasCopyIn, IsCopied, IsAtCopy, StaysListed, IsClearOf, IsSafe};
+ghost use Rattle.rv_regs.specs.Conditions.{IsKept, IsNeeded, IsListedIn, IsHandedOut, WriteIsHandedOut, IsInSlot, StaysHeld};
 ghost use Rattle.rv_regs.specs.Views.{point_of};
+ghost use Rattle.rv_isa.specs.declared.placed.Listed.{Listed};
 
-use crate::actions::{same_listing, same_place};
-use crate::places::{is_copy_at, is_read, listing};
+use crate::conventions::{may_have_value, may_set};
+use crate::places::{
+    is_copy_at, is_listed, is_read, is_written, listing, same_listing, same_place,
+};
 use rv_isa::{Action, Listed, Operand, Place, Register};
 
 /// Whether the action may change the register of this number, besides giving its value. A move is no action.
@@ -201,4 +205,131 @@ pub fn keeps_all(
 {
     next.iter()
         .all(|listed| is_kept(alive, reads, write, action, *listed))
+}
+
+fn is_listed_in(value: u32, behind: Option<&[Listed]>, at_label: Option<&[Listed]>) -> bool
+    ensures { IsTrue result ↔ IsListedIn (both_of (point_of behind.entry) (point_of at_label.entry)) value }
+{
+    behind.is_some_and(|next| is_listed(next, value))
+        || at_label.is_some_and(|next| is_listed(next, value))
+}
+
+fn is_needed(
+    reads: &[Operand],
+    write: Option<Operand>,
+    behind: Option<&[Listed]>,
+    at_label: Option<&[Listed]>,
+    listed: Listed,
+) -> bool
+    ensures { IsTrue result ↔ IsNeeded reads.now write (both_of (point_of behind.entry) (point_of at_label.entry)) listed }
+{
+    is_read(reads, listed.value)
+        || !is_written(write, listed.value) && is_listed_in(listed.value, behind, at_label)
+}
+
+/// Whether all that is listed is needed: read, or listed where the line goes on and not written.
+pub fn all_needed(
+    alive: &[Listed],
+    reads: &[Operand],
+    write: Option<Operand>,
+    behind: Option<&[Listed]>,
+    at_label: Option<&[Listed]>,
+) -> bool
+    ensures { IsTrue result ↔ All (IsNeeded reads.now write (both_of (point_of behind.entry) (point_of at_label.entry))) alive.now }
+{
+    alive.iter().all(|listed| is_needed(reads, write, behind, at_label, *listed))
+}
+
+fn is_allowed(place: Place) -> bool
+    ensures { IsTrue result ↔ IsHandedOut place }
+{
+    match place {
+        Place::Register(register) => may_have_value(register.number),
+        Place::Slot(_) => true,
+    }
+}
+
+fn is_copy_allowed(copy: Option<Register>) -> bool
+    ensures { IsTrue result ↔ OnCopy IsHandedOut copy }
+{
+    match copy {
+        Some(register) => may_have_value(register.number),
+        None => true,
+    }
+}
+
+/// Whether the registers that are listed are ones that values may have.
+pub fn all_allowed(alive: &[Listed]) -> bool
+    ensures { IsTrue result ↔ All (AtBoth IsHandedOut) alive.now }
+{
+    alive.iter().all(|listed| is_allowed(listed.place) && is_copy_allowed(listed.copy))
+}
+
+/// Whether a register that is written is one that values may have, and one that the action, or the move, may write.
+pub fn write_allowed(action: Option<Action>, write: Option<Operand>) -> bool
+    ensures { IsTrue result ↔ WriteIsHandedOut action write }
+{
+    match write {
+        Some(into) => is_allowed(into.place) && may_set(action, into.place),
+        None => true,
+    }
+}
+
+fn is_in_slot(place: Place) -> bool
+    ensures { IsTrue result ↔ IsInSlot place }
+{
+    match place {
+        Place::Register(_) => false,
+        Place::Slot(_) => true,
+    }
+}
+
+fn is_listing_of(next: &[Listed], value: u32, listed: Listed) -> bool
+    ensures { IsTrue result ↔ (listed_as value next.now ≡ Some listed) }
+{
+    match listing(next, value) {
+        Some(other) => same_listing(other, listed),
+        None => false,
+    }
+}
+
+fn is_listed_at_each(
+    value: u32,
+    listed: Listed,
+    behind: Option<&[Listed]>,
+    at_label: Option<&[Listed]>,
+) -> bool
+    ensures { IsTrue result ↔ AllByRecursion (λ next. listed_as value next ≡ Some listed) (both_of (point_of behind.entry) (point_of at_label.entry)) }
+{
+    behind.is_none_or(|next| is_listing_of(next, value, listed))
+        && at_label.is_none_or(|next| is_listing_of(next, value, listed))
+}
+
+fn stays_held(
+    reads: &[Operand],
+    action: Option<Action>,
+    behind: Option<&[Listed]>,
+    at_label: Option<&[Listed]>,
+    listed: Listed,
+) -> bool
+    ensures { IsTrue result ↔ StaysHeld (marks action reads.now) (both_of (point_of behind.entry) (point_of at_label.entry)) listed }
+{
+    let after = marking(action, reads, listed);
+    !after.held
+        || is_in_slot(listed.place)
+            && listed.copy.is_none()
+            && is_listed_at_each(listed.value, after, behind, at_label)
+}
+
+/// Whether what is held behind the line stands in a slot, without a copy, and stays there, held, where the line goes on.
+pub fn all_stay_held(
+    alive: &[Listed],
+    reads: &[Operand],
+    action: Option<Action>,
+    behind: Option<&[Listed]>,
+    at_label: Option<&[Listed]>,
+) -> bool
+    ensures { IsTrue result ↔ All (StaysHeld (marks action reads.now) (both_of (point_of behind.entry) (point_of at_label.entry))) alive.now }
+{
+    alive.iter().all(|listed| stays_held(reads, action, behind, at_label, *listed))
 }

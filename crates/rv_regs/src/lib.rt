@@ -2,19 +2,15 @@
 //! means what the code means.
 #![tactic(auto)]
 
-mod actions;
 mod assigning;
 mod checking;
 mod conventions;
 mod joins;
 mod keeping;
 mod keeps;
-mod lines;
 mod liveness;
 mod local;
 mod modest;
-mod moving;
-mod needs;
 mod places;
 mod plans;
 mod reached;

@@ -1,9 +1,10 @@
 // The code of a function whose values stay in registers as long as they can.
 
-use crate::joins::{go_to, join, kept_register, take_state};
+use crate::joins::{
+    Walk, go_to, join, kept_register, put_away, put_copy, put_store, spare_register, take_state,
+};
 use crate::keeping::may_spoil;
 use crate::liveness::{copy_of, is_one_of};
-use crate::moving::{Walk, put_away, put_copy, put_store, spare_register};
 use crate::places::listing;
 use crate::plans::{Care, Due, Plan, Plans, goes_on, plans_of, spoils_many};
 use crate::state::{

@@ -12,7 +12,7 @@ ghost use Rattle.rv_isa.specs.WellFormed.{most_values};
 ghost use Rattle.rv_regs.specs.Relation.{stores_behind, FunctionFewMoves};
 ghost use Rattle.rv_regs.specs.Shape.{IsBelow, IsResultBelow, HasSlotsBelow, AllSlotsBelow, IsModest};
 
-use crate::lines::{from, to};
+use crate::checking::{from, to};
 use rv_isa::sizes::MOST_VALUES;
 use rv_isa::{
     Action, AsmFunction, Item, Listed, Operand, Operation, Place, PlacedFunction, Statement,

@@ -10,7 +10,7 @@ ghost use Rattle.rv_isa.specs.PlacedMachine.{PlacedState, placed_machine, placed
 ghost use Rattle.rv_isa.specs.LinePlaces.{AsmIsAt, PlacedIsAt, AsmHasLine, PlacedHasLine, AsmHasOwnLine, PlacedHasOwnLine};
 ghost use Rattle.rv_regs.specs.Valid.{IsValid};
 ghost use Rattle.rv_regs.specs.Relation.{NeverStuck};
-ghost use Rattle.rv_regs.specs.LinesReached.{line_of};
+ghost use Rattle.rv_regs.specs.StatementLines.{line_of};
 
 use crate::keeps::Execution;
 

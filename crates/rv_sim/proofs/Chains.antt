@@ -6,7 +6,7 @@ use Rattle.rv_isa.specs.Bytes.{number_at}
 use Rattle.rv_isa.specs.Processor.{Processor, bare, value, lies_in_part}
 use Rattle.rv_isa.specs.declared.environment.TheConstants.{CELL_SIZE}
 use Rattle.rv_isa.specs.FreeCells.{chain, free_chain, cells_from, border_size, border, free_cells}
-use Rattle.rv_sim.proofs.Stepping.{lies_in_part-bare, some_if, some_if_is, none_if}
+use Rattle.rv_sim.proofs.InstructionSteps.{lies_in_part-bare, some_if, some_if_is, none_if}
 
 module _ (parts : List Part) (memory : ℕ → ℕ) where
   chain-suc : (n at : ℕ) → at ≢ 0 → lies_in_part parts at 4 ≡ true → length (chain (map bare parts) memory (suc n) at) ≡ suc (length (chain (map bare parts) memory n (number_at memory at 4)))

@@ -1,4 +1,4 @@
--- What follows from the contract of a run alone. That several runs are one run is `HasRun-then`, of Running.
+-- What follows from the contract of a run alone. That several runs are one run is `HasRun-then`, of RunComposition.
 use Rattle.std.proofs.Common.{◌≡◌, ◌≢◌, ℕ, ◌-◌, List, [], ◌++◌, false, Option, Some, None, option_map, refl, sym, ap, subst, ◌∙◌, append-nil}
 use Rattle.kk_base.specs.Memory.{Part}
 use Rattle.kk_base.specs.Source.{SourceState}
@@ -11,7 +11,7 @@ use Rattle.rv_sim.specs.Simulation.{Simulation, progress_of}
 use Rattle.rv_sim.specs.declared.halt.Halt.{Halt}
 use Rattle.rv_sim.specs.declared.halt.Halt.TheVariants.{Exit, StepsSpent, Trap, InputFault, OutputFault}
 use Rattle.rv_sim.specs.Devices.{halt_of, ending_at, is_fault, length_of, GivesContent, DeviceFails, HasRun}
-use Rattle.rv_sim.proofs.Running.{HasRun-stays}
+use Rattle.rv_sim.proofs.RunComposition.{HasRun-stays}
 
 told : (answer : Halt) → ending_at answer ≢ going → answer ≡ halt_of (ending_at answer)
 told (Exit n) ended = refl

@@ -8,7 +8,7 @@ use Rattle.rv_isa.specs.Processor.{bare, lies_in_part}
 use Rattle.rv_isa.specs.Bytes.{bytes_at, with_bytes}
 use Rattle.rv_isa.proofs.Bytes.{with_bytes-inside, with_bytes-below, with_bytes-above}
 use Rattle.std.proofs.lemmas.List.Edits.{length-between, get_or-between}
-use Rattle.rv_sim.proofs.Stepping.{lies_in_part-bare}
+use Rattle.rv_sim.proofs.InstructionSteps.{lies_in_part-bare}
 use Rattle.rv_sim.proofs.Puts.{index-put_below, index-put_inside, index-put_above}
 use Rattle.rv_sim.specs.Areas.{AreApart}
 

@@ -15,7 +15,7 @@ use Rattle.rv_sim.specs.declared.halt.Halt.{Halt}
 use Rattle.rv_sim.specs.declared.halt.Halt.TheVariants.{Exit, StepsSpent, Trap, InputFault, OutputFault}
 use Rattle.rv_sim.specs.Devices.{halt_of, ending_at, is_fault, ExecutesWithin, length_of, GivesEvents, DeviceFails, HasRun}
 use Rattle.rv_sim.proofs.Events.{GivesEvents-none, held-none}
-use Rattle.rv_sim.proofs.Running.{ComesTo-same, halt_of-ending, halt_of-no_fault, fails-none}
+use Rattle.rv_sim.proofs.RunComposition.{ComesTo-same, halt_of-ending, halt_of-no_fault, fails-none}
 
 executes-one : (e : Ending) (n m : ℕ) → m ≡ n + counted e → ExecutesWithin (halt_of e) 1 n m
 executes-one going n m is = omega arith

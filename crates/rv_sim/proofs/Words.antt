@@ -3,7 +3,7 @@ use Rattle.std.proofs.Common.{◌≡◌, ℕ, ◌%◌, ◌==◌, ◌&&◌, List,
 use Rattle.kk_base.specs.Memory.{Part, covers}
 use Rattle.rv_isa.specs.Processor.{can_load, lies_in_part}
 use Rattle.rv_isa.proofs.Cases.{and-right}
-use Rattle.rv_sim.proofs.Finding.{list_any-weaker}
+use Rattle.rv_sim.proofs.AreaSearch.{list_any-weaker}
 
 -- what may be loaded lies in one part
 load-lies : (parts : List Part) (at count : ℕ) → can_load parts at count ≡ true → lies_in_part parts at count ≡ true

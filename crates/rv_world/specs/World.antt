@@ -13,7 +13,7 @@ use Rattle.cell_heap.specs.Pool.{Pool}
 use Rattle.cell_heap.specs.Turns.{Work}
 use Rattle.cell_heap.specs.Blocks.{Cells, unused_cells, load, store, dup, release, request, drop_cells, merged_cells}
 use Rattle.cell_heap.specs.Blocks as OfBlocks
-use Rattle.cell_runtime.specs.declared.stop.Ending.TheVariants as OfEnding
+use Rattle.cell_runtime.specs.declared.process.Ending.TheVariants as OfEnding
 use Rattle.cell_runtime.specs.Prints.{int_piece, int_count, put_of}
 use Rattle.cell_runtime.specs.Stops.{number_of}
 use Rattle.rv_world.specs.Operations.{Constants, computed, holds, bytes_at}

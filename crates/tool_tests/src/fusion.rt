@@ -4,7 +4,7 @@ ghost use Rattle.std.specs.Prelude.{◌≡◌, ◌∷◌, [], true, IfOk};
 ghost use Rattle.kk_syntax.specs.declared.positions.Ownership.TheVariants.{Owned};
 ghost use Rattle.kk_counted.specs.Emissions.{state};
 ghost use Rattle.kk_counted.specs.Programs.{IsFunctionOf};
-ghost use Rattle.kk_counted.specs.Shaping.{positions_in};
+ghost use Rattle.kk_counted.specs.InstancePositions.{positions_in};
 
 use kk_base::NoMemory;
 use kk_core::ConstructorShape;

@@ -1,6 +1,6 @@
 use Rattle.kk_counted.specs.TokenedForms.{tokened_program}
 use Rattle.rv_isa.specs.AsmCode.{asm_functions, asm_constants}
-use Rattle.kk_back.proofs.Imaging.{placeable_of, is_program, has_memory, image_is, own_is}
+use Rattle.kk_back.proofs.ImageMeaning.{placeable_of, is_program, has_memory, image_is, own_is}
 use Rattle.kk_back.proofs.image.Goals as goal
 
 pub assembled-requires-clause-placeable : goal.assembled-requires-clause-placeable

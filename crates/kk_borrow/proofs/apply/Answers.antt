@@ -2,7 +2,7 @@ use Rattle.std.proofs.Common.{Result, Ok, Err, OnOk, inl, inr, refl, sym}
 use Rattle.std.proofs.lemmas.Result.{on_ok_weaker}
 use Rattle.kk_borrow.specs.Standings.{ownerships, waitings}
 use Rattle.kk_borrow.proofs.Steps.{at_lent, read_owned, read_unknown, read_known, read_concluded, lent_there, waits_follow, waits_less}
-use Rattle.kk_borrow.proofs.Waiting.{nothing_left}
+use Rattle.kk_borrow.proofs.WaitLists.{nothing_left}
 use Rattle.kk_borrow.proofs.apply.Goals as goal
 
 both_ok : {T E : Type 0} (P Q : Type 0) (r : Result T E) → OnOk r P → OnOk r Q → OnOk r (P × Q)

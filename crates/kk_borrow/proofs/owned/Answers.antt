@@ -10,7 +10,7 @@ use Rattle.kk_borrow.specs.Rules.{rule_tree, rule_trees}
 use Rattle.kk_borrow.specs.Standings.{ownerships, waitings, none_waiting}
 use Rattle.kk_borrow.proofs.Rows.{idle}
 use Rattle.kk_borrow.proofs.Search.{Searches, start, next, end}
-use Rattle.kk_borrow.proofs.Waiting.{nothing_left}
+use Rattle.kk_borrow.proofs.WaitLists.{nothing_left}
 use Rattle.kk_borrow.proofs.owned.Goals as goal
 
 pub apply-init : goal.apply-init

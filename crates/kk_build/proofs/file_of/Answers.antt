@@ -10,10 +10,10 @@ use Rattle.kk_middle.specs.Meaning.{store_steps}
 use Rattle.kk_middle.specs.TokenLowerings.{token_room, TokensCanBeLowered}
 use Rattle.kk_source.specs.Settings.{setting_of}
 use Rattle.kk_back.specs.Images.{IsRunnable, IsImageOf, IsImageOfTokened}
-use Rattle.kk_build.proofs.Building.{file_agrees, file_leaves, file_is_bounded}
-use Rattle.kk_build.proofs.Loading.{touches_as_loaded}
+use Rattle.kk_build.proofs.FileAgreement.{file_agrees, file_leaves, file_is_bounded}
+use Rattle.kk_build.proofs.FileRuns.{touches_as_loaded}
 use Rattle.kk_build.proofs.Nodes.{instances_have_no_more, program_has_some}
-use Rattle.kk_build.proofs.Runnable.{runnable}
+use Rattle.kk_build.proofs.ImageConditions.{runnable}
 use Rattle.kk_build.proofs.file_of.Goals as goal
 
 pub image-requires-clause-runnable : goal.image-requires-clause-runnable

@@ -4,7 +4,7 @@ use Rattle.rv_isa.specs.declared.asm.Operation.TheVariants.{Register}
 use Rattle.rv_isa.specs.declared.asm.RegisterOperation.TheVariants.{Add}
 use Rattle.rv_isa.specs.AsmCode.{Lines, asm_functions}
 use Rattle.rv_isa.specs.WellFormed.{IsWellFormed, AreWellFormed}
-use Rattle.rv_isa.proofs.TokensHeld.{none_held}
+use Rattle.rv_isa.proofs.HeldTokens.{none_held}
 use Rattle.back_tests.proofs.slots.sum_of_two.Goals as goal
 
 abbrev sum : Lines

@@ -2,8 +2,8 @@ use Rattle.cell_heap.specs.Pool.{places}
 use Rattle.cell_heap.specs.Counts.{credit}
 use Rattle.std.proofs.Common.{◌+◌, [], ◌∷◌}
 use Rattle.cell_heap.specs.Blocks.{seen_cells}
-use Rattle.cell_heap.proofs.InTurns.{turns_taken_first}
-use Rattle.cell_heap.proofs.Dropping.{drop-holds}
+use Rattle.cell_heap.proofs.RoutineTurns.{turns_taken_first}
+use Rattle.cell_heap.proofs.MemoryAfterDrop.{drop-holds}
 use Rattle.cell_heap.proofs.laws.drops_keep_blocks.Goals as goal
 
 pub returns : goal.returns

@@ -1,6 +1,6 @@
 use Rattle.cell_heap.specs.Pool.{places}
 use Rattle.cell_heap.proofs.Borders.{IsPlaced-listed}
-use Rattle.cell_heap.proofs.GivingUp.{GivesUp-paid}
+use Rattle.cell_heap.proofs.DropMeaning.{GivesUp-paid}
 use Rattle.cell_heap.proofs.laws.giving_up_is_paid.Goals as goal
 
 pub returns : goal.returns

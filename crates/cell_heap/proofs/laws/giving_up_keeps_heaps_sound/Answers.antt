@@ -1,4 +1,4 @@
-use Rattle.cell_heap.proofs.Sound.{sound-kept}
+use Rattle.cell_heap.proofs.SoundHeaps.{sound-kept}
 use Rattle.cell_heap.proofs.laws.giving_up_keeps_heaps_sound.Goals as goal
 
 pub returns : goal.returns

@@ -1,4 +1,4 @@
-use Rattle.cell_heap.proofs.InTurns.{turns_computed_first, turns_taken_first}
+use Rattle.cell_heap.proofs.RoutineTurns.{turns_computed_first, turns_taken_first}
 use Rattle.cell_heap.proofs.laws.turns_are_computed.Goals as goal
 
 pub returns : goal.returns

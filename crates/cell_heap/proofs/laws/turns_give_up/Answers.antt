@@ -1,4 +1,4 @@
-use Rattle.cell_heap.proofs.InTurns.{given_in_turns, turns_give_up}
+use Rattle.cell_heap.proofs.RoutineTurns.{given_in_turns, turns_give_up}
 use Rattle.cell_heap.proofs.laws.turns_give_up.Goals as goal
 
 pub returns : goal.returns

@@ -5,10 +5,10 @@ use Rattle.cell_heap.specs.Pool.{end_of}
 use Rattle.cell_runtime.specs.Layouts.{layout_of}
 use Rattle.cell_runtime.specs.Starts.{IsStart, IsStartOf}
 use Rattle.cell_runtime.specs.Texts.{pool_of, greatest_reach}
-use Rattle.cell_runtime.proofs.Reaching.{reach_is_small}
+use Rattle.cell_runtime.proofs.AddressReach.{reach_is_small}
 use Rattle.cell_runtime.proofs.Spelling.{Composes, composes_none, composes_then, composes_within}
 use Rattle.cell_runtime.proofs.runtime.text.Goals as goal
-use Rattle.cell_runtime.specs.declared.start.TheConstants.{TEXT_WORDS}
+use Rattle.cell_runtime.specs.declared.process.TheConstants.{TEXT_WORDS}
 
 pub returns : goal.returns
 returns c =

@@ -1,4 +1,4 @@
-use Rattle.elf_image.proofs.Gathered.{apart_goes_on, apart_ends}
+use Rattle.elf_image.proofs.SegmentLists.{apart_goes_on, apart_ends}
 use Rattle.elf_image.proofs.segments.are_apart.Goals as goal
 
 pub returns-then-overlaps_any : goal.returns-then-overlaps_any

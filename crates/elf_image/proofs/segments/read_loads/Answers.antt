@@ -1,6 +1,6 @@
 use Rattle.std.proofs.Common.{length, ap, sym, ◌∙◌, arith}
 use Rattle.std.proofs.lemmas.List.{length-drop}
-use Rattle.elf_image.proofs.Gathered.{behind-header, gathered, passed_over}
+use Rattle.elf_image.proofs.SegmentLists.{behind-header, gathered, passed_over}
 use Rattle.elf_image.proofs.segments.read_loads.Goals as goal
 use Rattle.elf_image.proofs.segments.read_loads.Goals.{then-is_load+in_ok-push, else-is_load}
 

@@ -1,6 +1,6 @@
 use Rattle.std.proofs.Common.{rules, List, get_or, ap, ◌∙◌}
 use Rattle.elf_image.specs.declared.part.Part.{Part}
-use Rattle.elf_image.proofs.Written.{written, reads_again}
+use Rattle.elf_image.proofs.ProgramFile.{written, reads_again}
 use Rattle.elf_image.proofs.writing.write.Goals as goal
 
 pub returns-clause-written : goal.returns-clause-written

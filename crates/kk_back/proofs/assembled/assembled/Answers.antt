@@ -7,9 +7,9 @@ use Rattle.elf_image.specs.Program.{greatest_text, memory_start, program_parts}
 use Rattle.cell_runtime.specs.Texts.{IsText}
 use Rattle.rv_place.specs.Addresses.{frame_size}
 use Rattle.kk_back.specs.Assembled.{IsAsmImage}
-use Rattle.kk_back.proofs.Assembling.{makes_of, placeable, frames_small, fits, image_made, same_some}
-use Rattle.kk_back.proofs.Looping.{slots_below}
-use Rattle.kk_back.proofs.Placeable.{slots_most}
+use Rattle.kk_back.proofs.ImageLayers.{makes_of, placeable, frames_small, fits, image_made, same_some}
+use Rattle.kk_back.proofs.RotatedCode.{slots_below}
+use Rattle.kk_back.proofs.FrameSizes.{slots_most}
 use Rattle.kk_back.proofs.assembled.assembled.Goals as goal
 
 pub assign-requires : goal.assign-requires

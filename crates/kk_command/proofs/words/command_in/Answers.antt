@@ -1,6 +1,6 @@
 use Rattle.std.proofs.Common.{map, string_bytes, ◌∙◌}
 use Rattle.clap.specs.Words.{kind_of}
-use Rattle.kk_command.proofs.TakenLines.{line_told, line_refused, unlike}
+use Rattle.kk_command.proofs.LineCommands.{line_told, line_refused, unlike}
 use Rattle.kk_command.proofs.words.command_in.Goals as goal
 
 pub returns : goal.returns

@@ -1,4 +1,4 @@
-use Rattle.kk_core.proofs.Asking.{has_kinds}
+use Rattle.kk_core.proofs.CodeDemands.{has_kinds}
 use Rattle.kk_core.proofs.law.typed_code_has_its_kinds.Goals as goal
 
 pub returns : goal.returns

@@ -1,4 +1,4 @@
-use Rattle.kk_counted.proofs.Marking.{start_fits, after_step, always_fit, value_fits, unmarked_fits}
+use Rattle.kk_counted.proofs.MarkPreservation.{start_fits, after_step, always_fit, value_fits, unmarked_fits}
 use Rattle.kk_counted.proofs.law.marked_code_keeps_its_marks.Goals as goal
 
 pub returns : goal.returns

@@ -1,6 +1,6 @@
-use Rattle.kk_counted.proofs.Placing.{pool_is, growth_places}
-use Rattle.kk_counted.proofs.Growing.{step_grows}
-use Rattle.kk_counted.proofs.PlacedRuns.{none_placed, runs_placed}
+use Rattle.kk_counted.proofs.NameAssignment.{pool_is, growth_places}
+use Rattle.kk_counted.proofs.NameGrowth.{step_grows}
+use Rattle.kk_counted.proofs.PoolRuns.{none_placed, runs_placed}
 use Rattle.kk_counted.proofs.law.names_have_cells_of_a_pool.Goals as goal
 
 pub returns : goal.returns

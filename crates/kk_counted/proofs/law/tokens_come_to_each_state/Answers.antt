@@ -1,4 +1,4 @@
-use Rattle.kk_counted.proofs.TokenSettling.{comes_to_each}
+use Rattle.kk_counted.proofs.TokenAlignment.{comes_to_each}
 use Rattle.kk_counted.proofs.law.tokens_come_to_each_state.Goals as goal
 
 pub returns : goal.returns

@@ -1,6 +1,6 @@
 use Rattle.std.proofs.Common.{ap, ◌∙◌}
 use Rattle.kk_counted.specs.Drafts.{chosen_of}
-use Rattle.kk_counted.proofs.Listing.{chosen_taken, chosen_left}
+use Rattle.kk_counted.proofs.PlaceLists.{chosen_taken, chosen_left}
 use Rattle.kk_counted.proofs.lists.chosen.Goals as goal
 use Rattle.kk_counted.proofs.lists.chosen.Goals.{then-rest-eq1+in_ok-push, else-rest-eq1}
 

@@ -1,7 +1,7 @@
 use Rattle.std.proofs.Common.{◌≡◌, ◌+◌, ◌∷◌, ◌++◌, [], map, length, ap, sym, ◌∙◌, arith, length-append}
 use Rattle.std.proofs.lemmas.List.{map-append}
 use Rattle.kk_counted.specs.Works.{items_of}
-use Rattle.kk_counted.proofs.Listing.{copies_more}
+use Rattle.kk_counted.proofs.PlaceLists.{copies_more}
 use Rattle.kk_counted.proofs.lists.copies.Goals as goal
 
 pub grow-preserved : goal.grow-preserved

@@ -1,5 +1,5 @@
 use Rattle.std.proofs.Common.{◌≡◌, ◌+◌, ◌∷◌, ◌++◌, [], length, ap, sym, ◌∙◌, arith, length-append}
-use Rattle.kk_counted.proofs.Listing.{numbers_more}
+use Rattle.kk_counted.proofs.PlaceLists.{numbers_more}
 use Rattle.kk_counted.specs.Spending.{numbers_from}
 use Rattle.kk_counted.proofs.lists.numbers.Goals as goal
 

@@ -1,7 +1,7 @@
 use Rattle.std.proofs.Common.{sym, ap, ◌∙◌, length}
 use Rattle.kk_counted.specs.Spending.{at_positions, numbers_from}
 use Rattle.kk_counted.specs.Works.{passes}
-use Rattle.kk_counted.proofs.Listing.{numbers_taken, numbers_left}
+use Rattle.kk_counted.proofs.PlaceLists.{numbers_taken, numbers_left}
 use Rattle.kk_counted.proofs.lists.parameters_passed.Goals as goal
 use Rattle.kk_counted.proofs.lists.parameters_passed.Goals.{then-passes+in_ok-push, else-passes}
 

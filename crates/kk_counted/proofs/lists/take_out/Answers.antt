@@ -1,6 +1,6 @@
 use Rattle.std.proofs.Common.{ap, sym, ◌∙◌, ◌<◌, ◌≤◌, length, arith}
 use Rattle.kk_counted.specs.Drafts.{minus}
-use Rattle.kk_counted.proofs.Listing.{minus_here, minus_none}
+use Rattle.kk_counted.proofs.PlaceLists.{minus_here, minus_none}
 use Rattle.kk_counted.proofs.lists.take_out.Goals as goal
 
 pub returns-then-index-variable-clause-items : goal.returns-then-index-variable-clause-items

@@ -1,7 +1,7 @@
 use Rattle.std.proofs.Common.{false, sym, ap, ◌∙◌, arith, vec_len, vec_capacity}
 use Rattle.kk_counted.specs.Works.{used_at, passes}
 use Rattle.kk_counted.specs.Drafts.{minus_all}
-use Rattle.kk_counted.proofs.Listing.{used_taken, used_left}
+use Rattle.kk_counted.proofs.PlaceLists.{used_taken, used_left}
 use Rattle.kk_counted.proofs.lists.take_used.Goals as goal
 use Rattle.kk_counted.proofs.lists.take_used.Goals.{then-passes, else-passes}
 

@@ -4,7 +4,7 @@ use Rattle.kk_syntax.specs.Outlines.{pattern_outline}
 use Rattle.kk_syntax.specs.Trees.{expr_tree}
 use Rattle.kk_syntax.specs.Matches.{matches}
 use Rattle.kk_cover.specs.Matches.{IsFirstMiss, AnswersAll}
-use Rattle.kk_cover.proofs.Walking.{functions_more, function_at, function_few}
+use Rattle.kk_cover.proofs.ExpressionMatches.{functions_more, function_at, function_few}
 use Rattle.kk_cover.proofs.covering.cover.Goals as goal
 
 pub loop-number-preserved : goal.loop-number-preserved

@@ -9,8 +9,8 @@ use Rattle.kk_cover.specs.Covered.{Answers}
 use Rattle.kk_syntax.specs.Outlines.{pattern_outline}
 use Rattle.kk_syntax.specs.Matches.{matches}
 use Rattle.kk_cover.specs.Matches.{match_rows, IsFirstMissed}
-use Rattle.kk_cover.proofs.FewRows.{Within, match_nodes}
-use Rattle.kk_cover.proofs.Walking.{first_at, covered_more, rows_within}
+use Rattle.kk_cover.proofs.RowBounds.{Within, match_nodes}
+use Rattle.kk_cover.proofs.ExpressionMatches.{first_at, covered_more, rows_within}
 use Rattle.kk_cover.proofs.covering.first.Goals as goal
 
 pub returns-in-Some : goal.returns-in-Some

@@ -5,7 +5,7 @@ use Rattle.kk_cover.specs.declared.problem.Head.{Head}
 use Rattle.kk_cover.specs.declared.problem.Head.TheVariants.{Free}
 use Rattle.kk_cover.specs.Narrowing.{anys}
 use Rattle.kk_cover.specs.Problems.{built, stacked}
-use Rattle.kk_cover.proofs.Small.{small_anys}
+use Rattle.kk_cover.proofs.NumberBounds.{small_anys}
 use Rattle.kk_cover.proofs.Stacks.{built_less, built_done, top_small}
 use Rattle.kk_cover.proofs.example.build.Goals as goal
 

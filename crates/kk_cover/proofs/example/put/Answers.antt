@@ -7,7 +7,7 @@ use Rattle.kk_cover.specs.Problems.{stacked}
 use Rattle.kk_syntax.specs.declared.program.Pat.TheVariants.{Number}
 use Rattle.kk_cover.specs.Narrowing.{front}
 use Rattle.kk_cover.proofs.Slots.{constructor_outline, number_outline, wildcard_outline}
-use Rattle.kk_cover.proofs.Small.{IsSmallHead, small_plug}
+use Rattle.kk_cover.proofs.NumberBounds.{IsSmallHead, small_plug}
 use Rattle.kk_cover.proofs.Stacks.{put_is}
 use Rattle.kk_cover.proofs.example.put.Goals.{in-Free, in-Number, in-Constructor+in_ok-take_parts-in-Constructor}
 use Rattle.kk_cover.proofs.example.put.Goals as goal

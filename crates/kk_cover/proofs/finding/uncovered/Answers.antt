@@ -8,9 +8,9 @@ use Rattle.kk_cover.specs.Covered.{row_outlines}
 use Rattle.kk_syntax.specs.Outlines.{pattern_outline}
 use Rattle.kk_cover.specs.Problems.{problem_view, row_view, Settled}
 use Rattle.kk_cover.specs.Turned.{Tells, Picks}
-use Rattle.kk_cover.proofs.FewRows.{settled_few, whole_few, picked_few}
-use Rattle.kk_cover.proofs.Fewer.{left, fewer, picked_less}
-use Rattle.kk_cover.proofs.Searching.{Going, sets_out, nothing_left, picks_next, picks_none, arrives}
+use Rattle.kk_cover.proofs.RowBounds.{settled_few, whole_few, picked_few}
+use Rattle.kk_cover.proofs.SearchTermination.{left, fewer, picked_less}
+use Rattle.kk_cover.proofs.CoverSearches.{Going, sets_out, nothing_left, picks_next, picks_none, arrives}
 use Rattle.kk_cover.proofs.finding.uncovered.Goals as goal
 
 pub search-init : goal.search-init

@@ -2,8 +2,8 @@ use Rattle.std.proofs.Common.{[], ◌∷◌}
 use Rattle.kk_syntax.specs.Programs.{program_tree}
 use Rattle.kk_cover.specs.Covered.{row_outlines}
 use Rattle.kk_cover.specs.Problems.{problem_view, IsFew}
-use Rattle.kk_cover.proofs.Fewer.{left}
-use Rattle.kk_cover.proofs.Searching.{Going}
+use Rattle.kk_cover.proofs.SearchTermination.{left}
+use Rattle.kk_cover.proofs.CoverSearches.{Going}
 use Rattle.kk_cover.proofs.finding.uncovered.Given as goal
 
 abbrev pub invariant-search : goal.invariant-search

@@ -5,7 +5,7 @@ use Rattle.std.proofs.lemmas.List.{length-map}
 use Rattle.kk_syntax.specs.Covered.{Each}
 use Rattle.kk_syntax.specs.Outlines.{Outlines}
 use Rattle.kk_cover.specs.Problems.{row_view, LacksNumber}
-use Rattle.kk_cover.proofs.Pigeons.{all_asked, one_more_asked}
+use Rattle.kk_cover.proofs.Pigeonhole.{all_asked, one_more_asked}
 use Rattle.kk_cover.proofs.rows.least_number.Goals as goal
 
 -- each number up to this one is asked for

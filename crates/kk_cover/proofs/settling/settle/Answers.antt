@@ -2,7 +2,7 @@ use Rattle.std.proofs.Common.{◌≡◌, ◌-◌, suc, map, arith, rules, FitsSi
 use Rattle.std.proofs.lemmas.Int.{to_z-of_z}
 use Rattle.kk_syntax.specs.Programs.{program_tree}
 use Rattle.kk_cover.specs.Problems.{problem_view}
-use Rattle.kk_cover.proofs.Pushing.{on_ok, free_settled, number_settled, made_settled}
+use Rattle.kk_cover.proofs.SubProblems.{on_ok, free_settled, number_settled, made_settled}
 use Rattle.kk_cover.proofs.settling.settle.Goals as goal
 
 pub returns-in-Nothing : goal.returns-in-Nothing

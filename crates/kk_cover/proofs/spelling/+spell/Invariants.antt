@@ -2,7 +2,7 @@ use Rattle.std.proofs.Common.{◌≡◌, ◌++◌, map, drop}
 use Rattle.std.specs.Prelude.{codes}
 use Rattle.kk_syntax.specs.Programs.{program_tree}
 use Rattle.kk_syntax.specs.Outlines.{outline_list, pattern_outline}
-use Rattle.kk_cover.specs.Spelled.{spelled_from}
+use Rattle.kk_cover.specs.ExampleSpelling.{spelled_from}
 use Rattle.kk_cover.proofs.spelling.+spell.Given as goal
 
 abbrev pub invariant-spell_parts-loop-part : goal.invariant-spell_parts-loop-part

@@ -7,10 +7,10 @@ use Rattle.kk_cover.specs.declared.problem.Problem.{Problem}
 use Rattle.kk_cover.specs.Problems.{OpenProblem, problem_view, row_view, IsFew, Settled}
 use Rattle.kk_cover.specs.Turned.{turned}
 use Rattle.kk_syntax.specs.Covered.{Each}
-use Rattle.kk_cover.proofs.FewRows.{settled_few, turned_few}
-use Rattle.kk_cover.proofs.Fewer.{left, fewer, left-turned}
-use Rattle.kk_cover.proofs.Keeping.{each_front, each_back}
-use Rattle.kk_cover.proofs.Searching.{Decided, turns, begins, goes_on, tells_open}
+use Rattle.kk_cover.proofs.RowBounds.{settled_few, turned_few}
+use Rattle.kk_cover.proofs.SearchTermination.{left, fewer, left-turned}
+use Rattle.kk_cover.proofs.KeptRows.{each_front, each_back}
+use Rattle.kk_cover.proofs.CoverSearches.{Decided, turns, begins, goes_on, tells_open}
 use Rattle.kk_cover.proofs.Stacks.{popped_view}
 use Rattle.kk_cover.proofs.turning.is_covered.Goals as goal
 

@@ -2,8 +2,8 @@ use Rattle.std.proofs.Common.{map}
 use Rattle.kk_syntax.specs.Programs.{program_tree}
 use Rattle.kk_syntax.specs.Covered.{Each}
 use Rattle.kk_cover.specs.Problems.{problem_view, IsFew}
-use Rattle.kk_cover.proofs.Fewer.{left}
-use Rattle.kk_cover.proofs.Searching.{Decided}
+use Rattle.kk_cover.proofs.SearchTermination.{left}
+use Rattle.kk_cover.proofs.CoverSearches.{Decided}
 use Rattle.kk_cover.proofs.turning.is_covered.Given as goal
 
 abbrev pub invariant-search : goal.invariant-search

@@ -3,7 +3,7 @@ use Rattle.kk_syntax.specs.Programs.{program_tree}
 use Rattle.kk_cover.specs.Problems.{OpenProblem, problem_view, IsFew}
 use Rattle.kk_cover.specs.Turned.{Tells}
 use Rattle.kk_syntax.specs.Covered.{Each}
-use Rattle.kk_cover.proofs.Keeping.{each_front, each_back}
+use Rattle.kk_cover.proofs.KeptRows.{each_front, each_back}
 use Rattle.kk_cover.proofs.Stacks.{popped_view}
 use Rattle.kk_cover.proofs.turning.last_open.Goals as goal
 

@@ -1,4 +1,4 @@
-use Rattle.kk_dropspec.proofs.Lowered.{special_marked, specials_are, special_spends}
+use Rattle.kk_dropspec.proofs.Lowerability.{special_marked, specials_are, special_spends}
 use Rattle.kk_dropspec.proofs.SpecialLengths.{special_short}
 use Rattle.kk_dropspec.proofs.law.specialised_code_can_be_lowered.Goals as goal
 

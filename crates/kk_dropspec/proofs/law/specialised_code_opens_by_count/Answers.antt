@@ -1,4 +1,4 @@
-use Rattle.kk_dropspec.proofs.Opens.{all_by_count}
+use Rattle.kk_dropspec.proofs.Openings.{all_by_count}
 use Rattle.kk_dropspec.proofs.law.specialised_code_opens_by_count.Goals as goal
 
 pub returns : goal.returns

@@ -2,12 +2,12 @@ use Rattle.std.proofs.Common.{ap, sym, subst, ◌∙◌}
 use Rattle.kk_counted.specs.CountedForms.{block_code}
 use Rattle.kk_counted.specs.Int32.{HasInt32}
 use Rattle.kk_counted.specs.Programs.{function_of}
-use Rattle.kk_counted.specs.Shaping.{positions_in}
+use Rattle.kk_counted.specs.InstancePositions.{positions_in}
 use Rattle.kk_counted.specs.declared.form.Block.{Block}
 use Rattle.kk_dropspec.specs.Specialised.{special, special_function}
 use Rattle.kk_dropspec.proofs.NumberForms.{functions_pushed, made_more, one_longer}
 use Rattle.kk_dropspec.proofs.ChangedFunctions.{function_made, next_is_function}
-use Rattle.kk_dropspec.proofs.Spends.{spends_parameters, special_has_arms}
+use Rattle.kk_dropspec.proofs.Spending.{spends_parameters, special_has_arms}
 use Rattle.kk_dropspec.proofs.special.run.Goals as goal
 
 pub add-requires : goal.add-requires

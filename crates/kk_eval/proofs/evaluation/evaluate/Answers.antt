@@ -1,6 +1,6 @@
 use Rattle.std.proofs.Common.{◌-◌, refl, ◌∙◌, arith, rules}
 use Rattle.std.proofs.lemmas.Result.{err_from_is_err_and}
-use Rattle.kk_eval.proofs.Evaluating.{gone_none, gone_on, gone_same, gone_ends, gone_stops}
+use Rattle.kk_eval.proofs.EvaluationSteps.{gone_none, gone_on, gone_same, gone_ends, gone_stops}
 use Rattle.kk_eval.proofs.evaluation.evaluate.Goals as goal
 
 pub loop-left-init : goal.loop-left-init

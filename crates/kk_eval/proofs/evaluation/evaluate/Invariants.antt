@@ -1,6 +1,6 @@
 use Rattle.std.proofs.Common.{◌≡◌, ◌≤◌, ◌-◌}
 use Rattle.kk_meaning.specs.Machines.{setting_of, configuration_of}
-use Rattle.kk_eval.specs.Evaluating.{HasGone}
+use Rattle.kk_eval.specs.EvaluationStates.{HasGone}
 use Rattle.kk_eval.proofs.evaluation.evaluate.Given as goal
 
 abbrev pub invariant-loop-left : goal.invariant-loop-left

@@ -2,7 +2,7 @@ use Rattle.std.proofs.Common.{[], ◌∷◌, refl}
 use Rattle.kk_base.specs.Trace.{input as taken, input_end}
 use Rattle.kk_meaning.specs.Machines.{setting_of, configuration_of}
 use Rattle.rv_sim.proofs.Events.{gives_byte, gives_end}
-use Rattle.kk_eval.proofs.Evaluating.{byte_leads, end_leads}
+use Rattle.kk_eval.proofs.EvaluationSteps.{byte_leads, end_leads}
 use Rattle.kk_eval.proofs.evaluation.read.Goals as goal
 
 pub returns-in-Byte-clause-read : goal.returns-in-Byte-clause-read

@@ -2,8 +2,8 @@ use Rattle.std.proofs.Common.{List, ℕ, refl, subst}
 use Rattle.std.proofs.lemmas.Result.{err_from_is_err_and}
 use Rattle.kk_meaning.specs.declared.turn.Turn.TheVariants.{Ended, HeapFull, StackFull}
 use Rattle.kk_answer.specs.declared.answer.RunEnd.TheVariants as OfRun
-use Rattle.kk_eval.specs.Evaluating.{HasPrinted}
-use Rattle.kk_eval.proofs.Evaluating.{turned_went, turned_end, turned_refused, turned_print, turned_wanted, retold}
+use Rattle.kk_eval.specs.EvaluationStates.{HasPrinted}
+use Rattle.kk_eval.proofs.EvaluationSteps.{turned_went, turned_end, turned_refused, turned_print, turned_wanted, retold}
 use Rattle.kk_eval.proofs.evaluation.turn.Goals as goal
 
 pub returns-in_err-step-clause-ran : goal.returns-in_err-step-clause-ran

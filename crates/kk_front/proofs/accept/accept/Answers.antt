@@ -11,8 +11,8 @@ use Rattle.kk_mono.specs.Declarations.{DeclarationsAs}
 use Rattle.kk_base.specs.declared.refusal.Refusal.{Refusal}
 use Rattle.kk_front.specs.Judgement.{ChecksTypes, ChecksCover, ChecksProgram}
 use Rattle.kk_front.specs.Outcome.{IsOutcome}
-use Rattle.kk_front.proofs.Checking.{checked_of}
-use Rattle.kk_front.proofs.Judging.{declarations_judged, types_judged, cover_judged, counts_judged, count_judged}
+use Rattle.kk_front.proofs.CheckedPrograms.{checked_of}
+use Rattle.kk_front.proofs.TextJudgements.{declarations_judged, types_judged, cover_judged, counts_judged, count_judged}
 use Rattle.kk_front.proofs.accept.accept.Goals as goal
 
 pub returns-in-Err-clause-err : goal.returns-in-Err-clause-err

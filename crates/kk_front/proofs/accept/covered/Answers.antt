@@ -6,7 +6,7 @@ use Rattle.kk_syntax.specs.Programs.{program_tree}
 use Rattle.kk_syntax.proofs.DeclaredTrees.{trees_declared}
 use Rattle.kk_front.specs.Judgement.{ChecksCover}
 use Rattle.kk_front.specs.Outcome.{IsOutcome}
-use Rattle.kk_front.proofs.Judging.{only_covered, only_missed_at}
+use Rattle.kk_front.proofs.TextJudgements.{only_covered, only_missed_at}
 use Rattle.kk_front.proofs.accept.covered.Goals as goal
 
 pub returns-in-Ok-clause-ok : goal.returns-in-Ok-clause-ok

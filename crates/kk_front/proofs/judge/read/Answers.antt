@@ -1,6 +1,6 @@
 use Rattle.std.proofs.Common.{arith}
 use Rattle.kk_syntax.specs.Surface.{written_tree}
-use Rattle.kk_front.proofs.Judging.{long_judged, unreadable_judged, misspelled_judged, unnamed_judged, accepted_judged, unchecked_judged, nodes_counted}
+use Rattle.kk_front.proofs.TextJudgements.{long_judged, unreadable_judged, misspelled_judged, unnamed_judged, accepted_judged, unchecked_judged, nodes_counted}
 use Rattle.kk_front.proofs.judge.read.Goals as goal
 
 pub returns-in-Err-clause-err : goal.returns-in-Err-clause-err

@@ -1,5 +1,5 @@
-use Rattle.kk_front.proofs.Accepting.{found}
-use Rattle.kk_front.proofs.Checking.{checked}
+use Rattle.kk_front.proofs.AcceptedPrograms.{found}
+use Rattle.kk_front.proofs.CheckedPrograms.{checked}
 use Rattle.kk_front.proofs.law.accepted_programs_are_typed.Goals as goal
 
 pub returns-clause-typed : goal.returns-clause-typed

@@ -1,5 +1,5 @@
 use Rattle.std.proofs.Common.{◌-◌, arith, sym, refl, ◌∙◌}
-use Rattle.kk_fuse.proofs.Searching.{passed_first, found_drop, found_none, passed_next, passed_all}
+use Rattle.kk_fuse.proofs.DropSearch.{passed_first, found_drop, found_none, passed_next, passed_all}
 use Rattle.kk_fuse.proofs.fuse.next_drop.Goals as goal
 
 pub back-init : goal.back-init

@@ -2,13 +2,13 @@ use Rattle.std.proofs.Common.{ap, sym, subst, ◌∙◌}
 use Rattle.kk_counted.specs.CountedForms.{block_code}
 use Rattle.kk_counted.specs.Int32.{HasInt32}
 use Rattle.kk_counted.specs.Programs.{function_of}
-use Rattle.kk_counted.specs.Shaping.{positions_in}
+use Rattle.kk_counted.specs.InstancePositions.{positions_in}
 use Rattle.kk_counted.specs.declared.form.Block.{Block}
 use Rattle.kk_fuse.specs.Fused.{fuse, fused_function}
 use Rattle.kk_dropspec.proofs.ChangedFunctions.{function_made, next_is_function}
 use Rattle.kk_dropspec.proofs.NumberForms.{functions_pushed, made_more, one_longer}
-use Rattle.kk_fuse.proofs.Lowered.{has_arms}
-use Rattle.kk_fuse.proofs.Spends.{spends_parameters}
+use Rattle.kk_fuse.proofs.Lowerability.{has_arms}
+use Rattle.kk_fuse.proofs.Spending.{spends_parameters}
 use Rattle.kk_fuse.proofs.fuse.run.Goals as goal
 
 pub add-requires : goal.add-requires

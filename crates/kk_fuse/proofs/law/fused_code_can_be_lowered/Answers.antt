@@ -1,4 +1,4 @@
-use Rattle.kk_fuse.proofs.Lowered.{fused_marked, fused_are, fused_spends}
+use Rattle.kk_fuse.proofs.Lowerability.{fused_marked, fused_are, fused_spends}
 use Rattle.kk_fuse.proofs.FusedLengths.{fused_short}
 use Rattle.kk_fuse.proofs.law.fused_code_can_be_lowered.Goals as goal
 

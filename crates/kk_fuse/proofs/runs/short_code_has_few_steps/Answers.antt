@@ -1,4 +1,4 @@
-use Rattle.kk_fuse.proofs.Short.{few_steps}
+use Rattle.kk_fuse.proofs.FormLimits.{few_steps}
 use Rattle.kk_fuse.proofs.runs.short_code_has_few_steps.Goals as goal
 
 pub returns : goal.returns

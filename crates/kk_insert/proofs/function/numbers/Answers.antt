@@ -1,6 +1,6 @@
 use Rattle.std.proofs.Common.{◌+◌, ◌∷◌, ◌++◌, [], arith, refl, sym, ap, ◌∙◌}
 use Rattle.kk_counted.specs.Spending.{numbers_from}
-use Rattle.kk_counted.proofs.Listing.{numbers_more}
+use Rattle.kk_counted.proofs.PlaceLists.{numbers_more}
 use Rattle.kk_insert.proofs.function.numbers.Goals as goal
 
 pub loop-number-preserved : goal.loop-number-preserved

@@ -1,4 +1,4 @@
-use Rattle.kk_insert.proofs.Simulating.{finds_as_many}
+use Rattle.kk_insert.proofs.Simulation.{finds_as_many}
 use Rattle.kk_insert.proofs.law.counted_cells_are_the_live_places.Goals as goal
 
 pub returns : goal.returns

@@ -1,4 +1,4 @@
-use Rattle.kk_insert.proofs.Lowering.{typed_can_be_lowered, spends_little}
+use Rattle.kk_insert.proofs.Lowerability.{typed_can_be_lowered, spends_little}
 use Rattle.kk_insert.proofs.law.inserted_code_can_be_lowered.Goals as goal
 
 pub returns : goal.returns

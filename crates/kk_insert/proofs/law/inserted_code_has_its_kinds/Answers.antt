@@ -1,5 +1,5 @@
 use Rattle.kk_core.specs.Kinds.{MakeOneType, field_count}
-use Rattle.kk_insert.proofs.Simulating.{has_shape, always_fits, keeps_kinds}
+use Rattle.kk_insert.proofs.Simulation.{has_shape, always_fits, keeps_kinds}
 use Rattle.kk_insert.proofs.law.inserted_code_has_its_kinds.Goals as goal
 
 pub returns : goal.returns

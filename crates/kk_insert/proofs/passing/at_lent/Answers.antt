@@ -1,7 +1,7 @@
 use Rattle.std.proofs.Common.{sym, ap, ◌∙◌}
 use Rattle.kk_syntax.specs.PositionsOf.{is_lent, positions_of}
 use Rattle.kk_counted.specs.Spending.{at_positions}
-use Rattle.kk_insert.proofs.Backwards.{position_taken, position_left}
+use Rattle.kk_insert.proofs.ListEnds.{position_taken, position_left}
 use Rattle.kk_insert.proofs.passing.at_lent.Goals as goal
 use Rattle.kk_insert.proofs.passing.at_lent.Goals.{then-is_lent+in_ok-push, else-is_lent}
 

@@ -1,7 +1,7 @@
 use Rattle.std.proofs.Common.{sym, ap, ◌∙◌, [], not}
 use Rattle.kk_syntax.specs.PositionsOf.{positions_of}
 use Rattle.kk_counted.specs.Spending.{at_positions, is_owned}
-use Rattle.kk_insert.proofs.Backwards.{position_taken, position_left}
+use Rattle.kk_insert.proofs.ListEnds.{position_taken, position_left}
 use Rattle.kk_insert.proofs.passing.at_owned.Goals as goal
 use Rattle.kk_insert.proofs.passing.at_owned.Goals.{then-not-is_lent+in_ok-push, else-not-is_lent}
 

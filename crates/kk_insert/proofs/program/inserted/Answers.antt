@@ -2,7 +2,7 @@ use Rattle.std.proofs.Common.{◌+◌, [], ◌∷◌, map, length, length-append
 use Rattle.kk_syntax.specs.PositionsOf.{positions_of}
 use Rattle.kk_core.specs.Codes.{function_code}
 use Rattle.kk_counted.specs.Programs.{function_of}
-use Rattle.kk_counted.specs.Shaping.{positions_in}
+use Rattle.kk_counted.specs.InstancePositions.{positions_in}
 use Rattle.kk_insert.specs.Insertion.{inserted_function}
 use Rattle.kk_insert.proofs.Instances.{functions_next, functions_added, next_function}
 use Rattle.kk_insert.proofs.program.inserted.Goals as goal

@@ -1,6 +1,6 @@
 use Rattle.std.proofs.Common.{map, ap, ◌∙◌}
 use Rattle.kk_insert.specs.Shapes.{facts_of}
-use Rattle.kk_insert.proofs.Consistent.{consistent}
+use Rattle.kk_insert.proofs.ConstructorConsistency.{consistent}
 use Rattle.kk_insert.proofs.program.run.Goals as goal
 
 pub new-shape-requires : goal.new-shape-requires

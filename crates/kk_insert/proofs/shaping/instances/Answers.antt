@@ -1,9 +1,9 @@
 use Rattle.std.proofs.Common.{◌<◌, length, arith, sym, ap, ◌∙◌}
 use Rattle.kk_core.specs.declared.form.CoreFunction.{CoreFunction}
 use Rattle.kk_counted.specs.declared.shape.InstanceShape.{InstanceShape}
-use Rattle.kk_counted.specs.Shaping.{passed_to}
+use Rattle.kk_counted.specs.InstancePositions.{passed_to}
 use Rattle.kk_insert.specs.Shapes.{cells_told, cells_in}
-use Rattle.kk_insert.proofs.Shaped.{take_next, map_next, grown, told_by, as_long, as_many_at}
+use Rattle.kk_insert.proofs.ProgramShape.{take_next, map_next, grown, told_by, as_long, as_many_at}
 use Rattle.kk_insert.proofs.shaping.instances.Goals as goal
 
 pub instance-requires : goal.instance-requires

@@ -2,7 +2,7 @@ use Rattle.std.proofs.Common.{◌≡◌, map, take}
 use Rattle.kk_syntax.specs.PositionsOf.{positions_of}
 use Rattle.kk_core.specs.declared.form.CoreFunction.{CoreFunction}
 use Rattle.kk_counted.specs.declared.shape.InstanceShape.{InstanceShape}
-use Rattle.kk_counted.specs.Shaping.{positions_in}
+use Rattle.kk_counted.specs.InstancePositions.{positions_in}
 use Rattle.kk_insert.specs.Shapes.{cells_told, cells_in}
 use Rattle.kk_insert.proofs.shaping.instances.Given as goal
 

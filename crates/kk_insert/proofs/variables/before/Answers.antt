@@ -1,6 +1,6 @@
 use Rattle.std.proofs.Common.{◌-◌, arith, sym, ap, ◌∙◌, get_or}
 use Rattle.kk_syntax.specs.Shapes.{is_among}
-use Rattle.kk_insert.proofs.Backwards.{before_there}
+use Rattle.kk_insert.proofs.ListEnds.{before_there}
 use Rattle.kk_insert.proofs.variables.before.Goals as goal
 
 pub back-preserved : goal.back-preserved

@@ -1,6 +1,6 @@
 use Rattle.std.proofs.Common.{◌-◌, arith, sym, ap, ◌∙◌, get_or}
 use Rattle.kk_syntax.specs.Shapes.{is_among}
-use Rattle.kk_insert.proofs.Backwards.{before_there, before_new, extra_there, extra_new}
+use Rattle.kk_insert.proofs.ListEnds.{before_there, before_new, extra_there, extra_new}
 use Rattle.kk_insert.proofs.variables.extra.Goals as goal
 
 pub back-preserved-in-Continue-branch-2 : goal.back-preserved-in-Continue-branch-2

@@ -1,4 +1,4 @@
-use Rattle.kk_lexer.proofs.Begins.{closed_begins, open_begins}
+use Rattle.kk_lexer.proofs.FirstBytes.{closed_begins, open_begins}
 use Rattle.kk_lexer.proofs.comments.comment.Goals as goal
 
 pub returns-in-Some : goal.returns-in-Some

@@ -1,5 +1,5 @@
 use Rattle.std.proofs.Common.{arith}
-use Rattle.kk_lexer.proofs.Begins.{line_begins, slash_begins}
+use Rattle.kk_lexer.proofs.FirstBytes.{line_begins, slash_begins}
 use Rattle.kk_lexer.proofs.comments.slash.Goals as goal
 use Rattle.kk_lexer.proofs.comments.slash.Goals.{then-text-gt1+else-text-eq47+else-text-eq42, else-text-gt1}
 

@@ -1,7 +1,7 @@
 use Rattle.std.proofs.Common.{◌≡◌, true, get_or, arith}
 use Rattle.std.proofs.lemmas.Bool.Decides.{nat_tests}
 use Rattle.kk_lexer.specs.Lexemes.{is_blank}
-use Rattle.kk_lexer.proofs.Begins.{blank_begins}
+use Rattle.kk_lexer.proofs.FirstBytes.{blank_begins}
 use Rattle.kk_lexer.proofs.lexeme.first_lexeme.Goals as goal
 
 pub returns-in-32 : goal.returns-in-32

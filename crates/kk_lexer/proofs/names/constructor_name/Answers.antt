@@ -1,6 +1,6 @@
 use Rattle.std.proofs.Common.{◌≡◌, take, ◌+◌, ◌∙◌, arith}
 use Rattle.std.specs.Prelude.{string_bytes}
-use Rattle.kk_lexer.proofs.Begins.{name_ascii, constructor_begins}
+use Rattle.kk_lexer.proofs.FirstBytes.{name_ascii, constructor_begins}
 use Rattle.kk_lexer.proofs.names.constructor_name.Goals as goal
 
 pub spelled-requires : goal.spelled-requires

@@ -1,7 +1,7 @@
 use Rattle.std.proofs.Common.{◌≡◌, take, ◌+◌, subst, arith}
 use Rattle.std.specs.Prelude.{string_bytes}
 use Rattle.kk_lexer.specs.FirstLexemes.{IsNameOrKeyword}
-use Rattle.kk_lexer.proofs.Begins.{name_ascii, name_begins}
+use Rattle.kk_lexer.proofs.FirstBytes.{name_ascii, name_begins}
 use Rattle.kk_lexer.proofs.names.name.Goals as goal
 
 pub spelled-requires : goal.spelled-requires

@@ -1,4 +1,4 @@
-use Rattle.kk_lexer.proofs.Begins.{wildcard_begins}
+use Rattle.kk_lexer.proofs.FirstBytes.{wildcard_begins}
 use Rattle.kk_lexer.proofs.names.wildcard.Goals as goal
 
 pub returns : goal.returns

@@ -1,6 +1,6 @@
 use Rattle.std.proofs.Common.{arith}
 use Rattle.std.proofs.lemmas.Int.{ints}
-use Rattle.kk_lexer.proofs.Begins.{negative_too_large, negative_fits}
+use Rattle.kk_lexer.proofs.FirstBytes.{negative_too_large, negative_fits}
 use Rattle.kk_lexer.proofs.numbers.negative_number.Goals as goal
 
 pub returns-then-value-gt-GREATEST_NEGATIVE : goal.returns-then-value-gt-GREATEST_NEGATIVE

@@ -1,6 +1,6 @@
 use Rattle.std.proofs.Common.{arith}
 use Rattle.std.proofs.lemmas.Int.{ints}
-use Rattle.kk_lexer.proofs.Begins.{number_too_large, number_fits}
+use Rattle.kk_lexer.proofs.FirstBytes.{number_too_large, number_fits}
 use Rattle.kk_lexer.proofs.numbers.number.Goals as goal
 
 pub returns-then-value-gt-GREATEST : goal.returns-then-value-gt-GREATEST

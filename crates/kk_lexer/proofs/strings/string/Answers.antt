@@ -1,6 +1,6 @@
 use Rattle.std.proofs.Common.{[], sym, subst, arith}
 use Rattle.kk_lexer.specs.Strings.{IsInside, empty}
-use Rattle.kk_lexer.proofs.Begins.{closed_string, open_string_, bad_string, answered}
+use Rattle.kk_lexer.proofs.FirstBytes.{closed_string, open_string_, bad_string, answered}
 use Rattle.kk_lexer.proofs.StringLemmas.{part_step}
 use Rattle.kk_lexer.proofs.strings.string.Goals as goal
 

@@ -1,5 +1,5 @@
 use Rattle.std.proofs.Common.{arith}
-use Rattle.kk_lexer.proofs.Begins.{arrow_begins, minus_begins}
+use Rattle.kk_lexer.proofs.FirstBytes.{arrow_begins, minus_begins}
 use Rattle.kk_lexer.proofs.symbols.dash.Goals as goal
 use Rattle.kk_lexer.proofs.symbols.dash.Goals.{then-text-gt1+else-signed+else-text-eq62, else-signed-via-then-signed+else-is_ascii_digit, else-signed-via-else-signed, else-text-gt1}
 

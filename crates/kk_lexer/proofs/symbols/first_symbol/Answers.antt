@@ -1,5 +1,5 @@
 use Rattle.std.proofs.Common.{arith}
-use Rattle.kk_lexer.proofs.Begins.{one_byte_symbol}
+use Rattle.kk_lexer.proofs.FirstBytes.{one_byte_symbol}
 use Rattle.kk_lexer.proofs.symbols.first_symbol.Goals as goal
 use Rattle.kk_lexer.proofs.symbols.first_symbol.Goals.{then-text-gt1+in_default, else-text-gt1}
 

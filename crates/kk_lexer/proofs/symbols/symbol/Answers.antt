@@ -1,4 +1,4 @@
-use Rattle.kk_lexer.proofs.Begins.{symbol_begins, bad_byte_begins}
+use Rattle.kk_lexer.proofs.FirstBytes.{symbol_begins, bad_byte_begins}
 use Rattle.kk_lexer.proofs.symbols.symbol.Goals as goal
 
 pub returns-in-Some : goal.returns-in-Some

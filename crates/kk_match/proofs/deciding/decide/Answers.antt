@@ -2,18 +2,18 @@ use Rattle.std.proofs.Common.{◌≡◌, ◌-◌, suc, length, map, option_map, 
 use Rattle.std.proofs.lemmas.List.{length-map}
 use Rattle.kk_syntax.specs.Patterns.{pattern_tree}
 use Rattle.kk_core.specs.Cases.{IsLean}
-use Rattle.kk_core.specs.Choosing.{Decides}
+use Rattle.kk_core.specs.RowChoice.{Decides}
 use Rattle.kk_core.specs.Decisions.{node_tree, AreOrderly}
 use Rattle.kk_match.specs.Decided.{most_tests}
 use Rattle.kk_match.specs.Graphs.{lines_of, lines_from, HasMoreTests}
-use Rattle.kk_match.specs.Growing.{IsGraph, IsGraphOf}
+use Rattle.kk_match.specs.GraphGrowth.{IsGraph, IsGraphOf}
 use Rattle.kk_match.specs.Parts.{types_of}
 use Rattle.kk_match.specs.Turned.{turned}
 use Rattle.kk_match.specs.Views.{part_of, state_tree}
-use Rattle.kk_match.proofs.Asking.{formed_asks}
-use Rattle.kk_match.proofs.Brief.{turns_formed}
-use Rattle.kk_match.proofs.Decided.{also, also_all, lines_same, graph_some, graph_orderly, graph_decides, graph_formed, formed_as, graph_lean}
-use Rattle.kk_match.proofs.Short.{formed_short}
+use Rattle.kk_match.proofs.TestAnswers.{formed_asks}
+use Rattle.kk_match.proofs.RowLengths.{turns_formed}
+use Rattle.kk_match.proofs.NodeDecisions.{also, also_all, lines_same, graph_some, graph_orderly, graph_decides, graph_formed, formed_as, graph_lean}
+use Rattle.kk_match.proofs.TestSizes.{formed_short}
 use Rattle.kk_match.proofs.deciding.decide.Goals as goal
 
 pub finished-requires : goal.finished-requires

@@ -4,8 +4,8 @@ use Rattle.kk_core.specs.CaseLengths.{tests_length}
 use Rattle.kk_core.specs.Decisions.{node_tree}
 use Rattle.kk_match.specs.Decided.{brief_length}
 use Rattle.kk_match.specs.Parts.{types_of}
-use Rattle.kk_match.proofs.Brief.{turns_brief, turns_briefly}
-use Rattle.kk_match.proofs.Decided.{also, also_all}
+use Rattle.kk_match.proofs.RowLengths.{turns_brief, turns_briefly}
+use Rattle.kk_match.proofs.NodeDecisions.{also, also_all}
 use Rattle.kk_match.proofs.deciding.decide_briefly.Goals as goal
 
 pub returns-else-length-most-clause-brief : goal.returns-else-length-most-clause-brief

@@ -1,8 +1,8 @@
 use Rattle.std.proofs.Common.{sym, subst}
-use Rattle.kk_match.specs.Growing.{IsBuilt, IsNumbered, IsOver}
+use Rattle.kk_match.specs.GraphGrowth.{IsBuilt, IsNumbered, IsOver}
 use Rattle.kk_match.specs.Parts.{types_of}
 use Rattle.kk_match.specs.Views.{state_tree, graph_tree}
-use Rattle.kk_match.proofs.Decided.{no_states, over_more}
+use Rattle.kk_match.proofs.NodeDecisions.{no_states, over_more}
 use Rattle.kk_match.proofs.deciding.graph.Goals as goal
 
 pub number-requires : goal.number-requires

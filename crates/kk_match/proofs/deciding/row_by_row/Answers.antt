@@ -7,9 +7,9 @@ use Rattle.kk_match.specs.InTurn.{with_rows}
 use Rattle.kk_match.specs.Parts.{types_of}
 use Rattle.kk_match.specs.Turned.{turned}
 use Rattle.kk_match.specs.Views.{part_of}
-use Rattle.kk_match.proofs.Asking.{turns_ask}
-use Rattle.kk_match.proofs.Brief.{turns_decide, turns_lean}
-use Rattle.kk_match.proofs.Decided.{also, lines_same, turn_some, turn_orderly}
+use Rattle.kk_match.proofs.TestAnswers.{turns_ask}
+use Rattle.kk_match.proofs.RowLengths.{turns_decide, turns_lean}
+use Rattle.kk_match.proofs.NodeDecisions.{also, lines_same, turn_some, turn_orderly}
 use Rattle.kk_match.proofs.deciding.row_by_row.Goals as goal
 
 pub finished-requires : goal.finished-requires

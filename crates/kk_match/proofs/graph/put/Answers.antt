@@ -1,7 +1,7 @@
 use Rattle.std.proofs.Common.{sym, subst, map}
-use Rattle.kk_match.specs.Growing.{IsPut}
+use Rattle.kk_match.specs.GraphGrowth.{IsPut}
 use Rattle.kk_match.specs.Views.{state_tree}
-use Rattle.kk_match.proofs.Keyed.{state_put}
+use Rattle.kk_match.proofs.StateEquality.{state_put}
 use Rattle.kk_match.proofs.graph.put.Goals as goal
 
 pub returns : goal.returns

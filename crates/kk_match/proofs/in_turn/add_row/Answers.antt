@@ -3,7 +3,7 @@ use Rattle.std.proofs.lemmas.List.{map-append}
 use Rattle.kk_core.specs.Decisions.{node_tree}
 use Rattle.kk_match.specs.InTurn.{with_parts, with_row}
 use Rattle.kk_match.specs.Views.{part_of, line_tree}
-use Rattle.kk_match.proofs.InTurn.{parts_push}
+use Rattle.kk_match.proofs.RowOrder.{parts_push}
 use Rattle.kk_match.proofs.in_turn.add_row.Goals as goal
 
 pub loop-question-preserved : goal.loop-question-preserved

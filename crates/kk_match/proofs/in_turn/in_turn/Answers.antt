@@ -3,7 +3,7 @@ use Rattle.std.proofs.lemmas.List.{map-append}
 use Rattle.kk_core.specs.Decisions.{node_tree}
 use Rattle.kk_match.specs.InTurn.{with_rows}
 use Rattle.kk_match.specs.Views.{line_tree, state_tree}
-use Rattle.kk_match.proofs.InTurn.{rows_push}
+use Rattle.kk_match.proofs.RowOrder.{rows_push}
 use Rattle.kk_match.proofs.in_turn.in_turn.Goals as goal
 
 pub loop-line-preserved : goal.loop-line-preserved

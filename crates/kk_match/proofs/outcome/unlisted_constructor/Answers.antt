@@ -4,7 +4,7 @@ use Rattle.kk_syntax.specs.declared.ground.GroundConstructor.{GroundConstructor}
 use Rattle.kk_core.specs.declared.decisions.Answer.TheVariants.{Constructor}
 use Rattle.kk_match.specs.Parts.{types_of, is_kind}
 use Rattle.kk_match.specs.Outcomes.{is_listed}
-use Rattle.kk_match.proofs.Counted.{unlisted_more, unlisted_here}
+use Rattle.kk_match.proofs.ConstructorTypes.{unlisted_more, unlisted_here}
 use Rattle.kk_match.proofs.outcome.unlisted_constructor.Goals as goal
 
 pub loop-place-preserved : goal.loop-place-preserved

@@ -3,7 +3,7 @@ use Rattle.std.specs.Prelude.{nat_lt}
 use Rattle.std.proofs.lemmas.Option.{slice_get-map}
 use Rattle.kk_syntax.specs.declared.ground.GroundConstructor.{GroundConstructor}
 use Rattle.kk_match.specs.Parts.{types_of, are_several}
-use Rattle.kk_match.proofs.Counted.{counted}
+use Rattle.kk_match.proofs.ConstructorTypes.{counted}
 use Rattle.kk_match.proofs.question.has_several.Goals as goal
 
 pub returns-in-Some : goal.returns-in-Some

@@ -2,7 +2,7 @@ use Rattle.std.proofs.Common.{◌≡◌, [], ◌∷◌, ◌++◌, map, ap, ◌�
 use Rattle.std.proofs.lemmas.List.{map-append}
 use Rattle.kk_core.specs.Decisions.{node_tree}
 use Rattle.kk_match.specs.Turned.{turned}
-use Rattle.kk_match.proofs.Decided.{turned_step}
+use Rattle.kk_match.proofs.NodeDecisions.{turned_step}
 use Rattle.kk_match.proofs.turned.turned.Goals as goal
 
 pub loop-node-preserved : goal.loop-node-preserved

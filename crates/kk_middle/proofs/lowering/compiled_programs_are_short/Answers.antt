@@ -9,7 +9,7 @@ use Rattle.kk_counted.specs.Lengths.{AreShort}
 use Rattle.kk_insert.specs.Insertion.{inserted}
 use Rattle.kk_dropspec.specs.Specialised.{special_function}
 use Rattle.kk_middle.specs.Compiled.{instance_positions}
-use Rattle.kk_middle.proofs.FewFields.{ground_has_few}
+use Rattle.kk_middle.proofs.FieldBounds.{ground_has_few}
 use Rattle.kk_norm.proofs.Within.{instances_are_within}
 use Rattle.kk_middle.proofs.lowering.compiled_programs_are_short.Goals as goal
 

@@ -16,8 +16,8 @@ use Rattle.kk_dropspec.specs.Specialised.{special_function, special_program}
 use Rattle.kk_fuse.specs.Fused.{fused_function}
 use Rattle.kk_middle.specs.Compiled.{instance_positions}
 use Rattle.kk_middle.specs.Lowerings.{marks_in}
-use Rattle.kk_middle.proofs.Compiling.{all_have_rows}
-use Rattle.kk_middle.proofs.FewFields.{ground_has_few, few_marked, functions_few}
+use Rattle.kk_middle.proofs.InsertionConditions.{all_have_rows}
+use Rattle.kk_middle.proofs.FieldBounds.{ground_has_few, few_marked, functions_few}
 use Rattle.kk_middle.proofs.Programs.{compiled_program}
 use Rattle.kk_middle.proofs.SpecialMarks.{shape_tells}
 use Rattle.kk_middle.proofs.Tags.{small_tags, first_tag, second_tag}

@@ -24,8 +24,8 @@ use Rattle.kk_fuse.specs.FusedRuns.{HasFewSteps, IsFusedRun}
 use Rattle.kk_middle.specs.Compiled.{instance_positions}
 use Rattle.kk_middle.specs.Meaning.{counted_setting}
 use Rattle.kk_middle.specs.ShapeKinds.{many_fields, AreToldApart, HasKindsByShape}
-use Rattle.kk_middle.proofs.Apart.{told_apart, as_many}
-use Rattle.kk_middle.proofs.FewFields.{ground_has_few}
+use Rattle.kk_middle.proofs.ConstructorTags.{told_apart, as_many}
+use Rattle.kk_middle.proofs.FieldBounds.{ground_has_few}
 use Rattle.kk_middle.proofs.Programs.{compiled_program}
 use Rattle.kk_middle.proofs.ShapeKinds.{control_kinds}
 use Rattle.kk_middle.proofs.Special.{fits_too}

@@ -29,7 +29,7 @@ use Rattle.kk_counted.specs.Lengths.{most_length}
 use Rattle.kk_counted.specs.MarkKeeping.{numbers_in}
 use Rattle.kk_counted.specs.Marks.{AreMarked}
 use Rattle.kk_counted.specs.Spending.{IsSpent}
-use Rattle.kk_counted.proofs.Marking.{always_fit, unmarked_fits}
+use Rattle.kk_counted.proofs.MarkPreservation.{always_fit, unmarked_fits}
 use Rattle.kk_insert.specs.Insertion.{inserted}
 use Rattle.kk_insert.specs.MarkTables.{marks_of_types}
 use Rattle.kk_insert.specs.Meaning as Insert
@@ -43,9 +43,9 @@ use Rattle.kk_middle.specs.Meaning.{counted_setting, inserted_steps, store_steps
 use Rattle.kk_instances.proofs.Meaning.{typed as ground_typed, same_trace, same_end}
 use Rattle.kk_middle.proofs.Programs.{compiled_program}
 use Rattle.kk_middle.proofs.Special.{special_keeps}
-use Rattle.kk_middle.proofs.Fused.{fused_keeps}
-use Rattle.kk_middle.proofs.FewFields.{ground_has_few}
-use Rattle.kk_middle.proofs.Marked.{control_fits}
+use Rattle.kk_middle.proofs.FusedPrograms.{fused_keeps}
+use Rattle.kk_middle.proofs.FieldBounds.{ground_has_few}
+use Rattle.kk_middle.proofs.MarkedCode.{control_fits}
 use Rattle.kk_middle.proofs.meaning.compiled_programs_keep_meaning.Goals as goal
 
 pub returns : goal.returns

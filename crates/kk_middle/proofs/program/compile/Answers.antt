@@ -8,7 +8,7 @@ use Rattle.kk_syntax.specs.TypedPrograms.{typings_of}
 use Rattle.kk_mono.specs.Grounds.{instances_of}
 use Rattle.kk_instances.specs.Meaning.{positions_in}
 use Rattle.kk_core.specs.Codes.{ProgramCode, core_code}
-use Rattle.kk_counted.specs.Shaping as Shaping
+use Rattle.kk_counted.specs.InstancePositions as Shaping
 use Rattle.kk_counted.specs.declared.shape.Shape.{Shape}
 use Rattle.kk_counted.specs.declared.shape.InstanceShape.{InstanceShape}
 use Rattle.kk_insert.specs.Insertion.{inserted}
@@ -17,7 +17,7 @@ use Rattle.kk_insert.specs.Shapes.{cells_in, facts_of}
 use Rattle.kk_dropspec.specs.Specialised.{special_function}
 use Rattle.kk_fuse.specs.Fused.{fused_function}
 use Rattle.kk_respec.specs.Respecialised.{respecialised_program}
-use Rattle.kk_middle.proofs.Compiling.{tells_parameters, tells_as_many, all_have_rows}
+use Rattle.kk_middle.proofs.InsertionConditions.{tells_parameters, tells_as_many, all_have_rows}
 use Rattle.kk_middle.proofs.program.compile.Goals as goal
 
 pub normal-requires : goal.normal-requires

@@ -13,7 +13,7 @@ use Rattle.kk_reuse.specs.Paired.{AllPaired}
 use Rattle.kk_reuse.specs.Pairing.{paired_program}
 use Rattle.kk_respec.specs.Respecialised.{respecialised_program}
 use Rattle.kk_middle.specs.TokenLowerings.{tokened_of, token_room}
-use Rattle.kk_middle.proofs.FewNodes.{few_opened}
+use Rattle.kk_middle.proofs.NodeBounds.{few_opened}
 use Rattle.kk_middle.proofs.tokens.compiled_tokens_can_be_lowered.Goals as goal
 
 pub returns : goal.returns

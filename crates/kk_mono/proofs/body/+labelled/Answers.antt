@@ -2,7 +2,7 @@ use Rattle.std.proofs.Common.{ap}
 use Rattle.kk_syntax.specs.Trees.{expr_tree, row_tree, statement_tree}
 use Rattle.kk_syntax.proofs.Views.{branch_is}
 use Rattle.kk_mono.specs.Labels.{left_in, names, labelled, row_names, labelled_row, statement_names, labelled_statement}
-use Rattle.kk_mono.proofs.Labelled.{each_more, apply_labelled, three_labelled, match_labelled, block_copied, row_copied, statement_copied}
+use Rattle.kk_mono.proofs.CopyLabels.{each_more, apply_labelled, three_labelled, match_labelled, block_copied, row_copied, statement_copied}
 use Rattle.kk_mono.proofs.body.+labelled.Goals as goal
 
 pub labelled-returns-in_ok-arguments-in-Apply-clause-tree : goal.labelled-returns-in_ok-arguments-in-Apply-clause-tree

@@ -1,5 +1,5 @@
 use Rattle.kk_mono.specs.KeyTrees.{key_tree, keys_in}
-use Rattle.kk_mono.proofs.Built.{built_more}
+use Rattle.kk_mono.proofs.BuiltInstances.{built_more}
 use Rattle.kk_mono.proofs.build.all_instances.Goals as goal
 
 pub loop-seen-preserved : goal.loop-seen-preserved

@@ -1,4 +1,4 @@
-use Rattle.kk_mono.specs.Building.{AreBuilt}
+use Rattle.kk_mono.specs.BuiltInstances.{AreBuilt}
 use Rattle.kk_mono.specs.KeyTrees.{keys_in}
 use Rattle.kk_mono.proofs.build.all_instances.Given as goal
 

@@ -3,10 +3,10 @@ use Rattle.std.specs.List.{AllZip}
 use Rattle.kk_syntax.specs.declared.ground.GroundType.{GroundType}
 use Rattle.kk_syntax.specs.GroundTypes.{AreNumbered}
 use Rattle.kk_syntax.specs.Programs.{constructor_tree}
-use Rattle.kk_mono.specs.Building.{IsMadeOf}
+use Rattle.kk_mono.specs.BuiltInstances.{IsMadeOf}
 use Rattle.kk_mono.specs.KeyTrees.{keys_in}
 use Rattle.kk_mono.specs.Views.{types_in}
-use Rattle.kk_mono.proofs.Limited.{are_within}
+use Rattle.kk_mono.proofs.ProgramLimits.{are_within}
 use Rattle.kk_mono.proofs.TypesOnce.{are_numbered}
 use Rattle.kk_mono.proofs.build.ground.Goals as goal
 

@@ -3,7 +3,7 @@ use Rattle.kk_syntax.specs.Programs.{constructor_tree}
 use Rattle.kk_syntax.specs.Types.{type_tree}
 use Rattle.kk_mono.specs.KeyTrees.{key_tree}
 use Rattle.kk_mono.specs.Views.{types_in}
-use Rattle.kk_mono.proofs.Grounded.{made_from}
+use Rattle.kk_mono.proofs.GroundConstructors.{made_from}
 use Rattle.kk_mono.proofs.build.ground_constructor.Goals as goal
 
 pub returns-clause-is : goal.returns-clause-is

@@ -3,9 +3,9 @@ use Rattle.std.proofs.lemmas.Option.{slice_get_within, get_or_from_slice_get}
 use Rattle.kk_syntax.specs.Programs.{constructor_tree}
 use Rattle.kk_mono.specs.KeyTrees.{KeyTree, key_tree, keys_in}
 use Rattle.kk_mono.specs.Views.{types_in}
-use Rattle.kk_mono.proofs.Grounded.{made_of, made_more}
-use Rattle.kk_mono.proofs.Keyed.{IsKeyWithin}
-use Rattle.kk_mono.proofs.Numbered.{grows_on, within_grown}
+use Rattle.kk_mono.proofs.GroundConstructors.{made_of, made_more}
+use Rattle.kk_mono.proofs.SearchKeys.{IsKeyWithin}
+use Rattle.kk_mono.proofs.TypeNumbers.{grows_on, within_grown}
 use Rattle.kk_mono.proofs.build.ground_constructors.Goals as goal
 
 pub ground_constructor-requires : goal.ground_constructor-requires

@@ -1,7 +1,7 @@
 use Rattle.std.proofs.Common.{map, take}
 use Rattle.std.specs.List.{AllZip}
 use Rattle.kk_syntax.specs.Programs.{constructor_tree}
-use Rattle.kk_mono.specs.Building.{IsMadeOf}
+use Rattle.kk_mono.specs.BuiltInstances.{IsMadeOf}
 use Rattle.kk_mono.specs.KeyTrees.{keys_in}
 use Rattle.kk_mono.specs.Tables.{Grows}
 use Rattle.kk_mono.specs.Views.{types_in}

@@ -1,7 +1,7 @@
 use Rattle.std.proofs.Common.{length, get_or, take, refl, sym, ap, ◌∙◌, arith}
 use Rattle.std.proofs.lemmas.List.{length_push}
 use Rattle.kk_syntax.specs.declared.program.Constructor.{Constructor}
-use Rattle.kk_mono.proofs.Grounded.{place_more}
+use Rattle.kk_mono.proofs.GroundConstructors.{place_more}
 use Rattle.kk_mono.proofs.build.places_of.Goals as goal
 
 pub loop-number-preserved : goal.loop-number-preserved

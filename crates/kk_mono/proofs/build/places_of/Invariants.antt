@@ -1,6 +1,6 @@
 use Rattle.std.proofs.Common.{◌≡◌, length, map}
 use Rattle.kk_syntax.specs.Programs.{constructor_tree}
-use Rattle.kk_mono.specs.Building.{ArePlaces}
+use Rattle.kk_mono.specs.BuiltInstances.{ArePlaces}
 use Rattle.kk_mono.proofs.build.places_of.Given as goal
 
 abbrev pub invariant-loop-number : goal.invariant-loop-number

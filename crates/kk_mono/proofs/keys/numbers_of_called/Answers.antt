@@ -1,5 +1,5 @@
 use Rattle.kk_mono.specs.KeyTrees.{keys_in}
-use Rattle.kk_mono.proofs.Keyed.{calling_begins, call_pushed, no_call_pushed}
+use Rattle.kk_mono.proofs.SearchKeys.{calling_begins, call_pushed, no_call_pushed}
 use Rattle.kk_mono.proofs.keys.numbers_of_called.Goals as goal
 
 pub loop-choice-init : goal.loop-choice-init

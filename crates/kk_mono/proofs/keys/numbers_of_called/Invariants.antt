@@ -1,6 +1,6 @@
 use Rattle.std.proofs.Common.{take}
 use Rattle.kk_mono.specs.KeyTrees.{keys_in, keys_called}
-use Rattle.kk_mono.proofs.Keyed.{Calling}
+use Rattle.kk_mono.proofs.SearchKeys.{Calling}
 use Rattle.kk_mono.proofs.keys.numbers_of_called.Given as goal
 
 abbrev pub invariant-loop-choice : goal.invariant-loop-choice

@@ -2,7 +2,7 @@ use Rattle.std.proofs.Common.{◌≡◌, ◌<◌, length, map, sym, ap, ◌∙�
 use Rattle.std.specs.Prelude.{IfOk}
 use Rattle.kk_syntax.specs.Types.{TypeTree, type_tree, put, type_at}
 use Rattle.kk_mono.specs.Views.{types_in}
-use Rattle.kk_mono.proofs.Numbered.{place_within, place_type, unit_of, some_of, grows_on, types_stay, unit_written, variable_written, named_written, written_more}
+use Rattle.kk_mono.proofs.TypeNumbers.{place_within, place_type, unit_of, some_of, grows_on, types_stay, unit_written, variable_written, named_written, written_more}
 use Rattle.kk_mono.proofs.numbers.+written.Goals as goal
 
 pub number_of_written-returns-in-Unit-clause-within : goal.number_of_written-returns-in-Unit-clause-within

@@ -3,7 +3,7 @@ use Rattle.std.specs.Prelude.{IfOk}
 use Rattle.kk_syntax.specs.Types.{TypeTree, type_at}
 use Rattle.kk_mono.specs.Places.{node_at}
 use Rattle.kk_mono.specs.Views.{types_in}
-use Rattle.kk_mono.proofs.Numbered.{place_within, place_type, places_within, unit_of, some_of, named_node}
+use Rattle.kk_mono.proofs.TypeNumbers.{place_within, place_type, places_within, unit_of, some_of, named_node}
 use Rattle.kk_mono.proofs.numbers.number_of_node.Goals as goal
 
 pub number-requires-in-Named : goal.number-requires-in-Named

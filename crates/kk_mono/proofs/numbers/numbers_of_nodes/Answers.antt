@@ -2,7 +2,7 @@ use Rattle.std.proofs.Common.{◌≡◌, map, ap, ◌∙◌}
 use Rattle.kk_syntax.specs.Types.{type_at}
 use Rattle.kk_mono.specs.Places.{node_at}
 use Rattle.kk_mono.specs.Views.{types_in}
-use Rattle.kk_mono.proofs.Numbered.{grows_on, types_stay, node_more}
+use Rattle.kk_mono.proofs.TypeNumbers.{grows_on, types_stay, node_more}
 use Rattle.kk_mono.proofs.numbers.numbers_of_nodes.Goals as goal
 
 pub loop-node-preserved : goal.loop-node-preserved

@@ -1,5 +1,5 @@
-use Rattle.kk_mono.proofs.Answered.{answered}
-use Rattle.kk_mono.proofs.Complete.{complete_of}
+use Rattle.kk_mono.proofs.SearchAnswer.{answered}
+use Rattle.kk_mono.proofs.ProgramCompleteness.{complete_of}
 use Rattle.kk_mono.proofs.program.instances.Goals as goal
 
 pub instances_as_typed-requires-clause-complete : goal.instances_as_typed-requires-clause-complete

@@ -1,9 +1,9 @@
 use Rattle.std.proofs.Common.{map, ap, ◌∙◌, inl, inr, arith}
 use Rattle.kk_syntax.specs.Programs.{function_tree}
 use Rattle.kk_syntax.specs.Shapes.{greatest_of}
-use Rattle.kk_mono.proofs.Answered.{keys_below}
-use Rattle.kk_mono.proofs.Limited.{all_few, greatest_few}
-use Rattle.kk_mono.proofs.Told.{nodes_told, none_large}
+use Rattle.kk_mono.proofs.SearchAnswer.{keys_below}
+use Rattle.kk_mono.proofs.ProgramLimits.{all_few, greatest_few}
+use Rattle.kk_mono.proofs.CountAnswers.{nodes_told, none_large}
 use Rattle.kk_mono.proofs.program.instances_as_typed.Goals as goal
 
 pub returns-in-Err : goal.returns-in-Err

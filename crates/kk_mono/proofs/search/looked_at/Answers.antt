@@ -1,9 +1,9 @@
 use Rattle.std.proofs.Common.{◌<◌, length, map, All, refl, sym, subst}
 use Rattle.kk_syntax.specs.TypedPrograms.{choice_of, node_types}
 use Rattle.kk_mono.specs.KeyTrees.{KeyTree, keys_in, keys_constructed}
-use Rattle.kk_mono.specs.Searching.{AreConstructionsBelow}
+use Rattle.kk_mono.specs.InstanceSearch.{AreConstructionsBelow}
 use Rattle.kk_mono.specs.Views.{types_in}
-use Rattle.kk_mono.proofs.Looks.{looks_from, uses_from, constructed_below}
+use Rattle.kk_mono.proofs.InstanceUses.{looks_from, uses_from, constructed_below}
 use Rattle.kk_mono.proofs.search.looked_at.Goals as goal
 
 pub returns-clause-looks : goal.returns-clause-looks

@@ -4,7 +4,7 @@ use Rattle.kk_syntax.specs.Programs.{constructor_tree}
 use Rattle.kk_mono.specs.KeyTrees.{keys_in, viewed}
 use Rattle.kk_mono.specs.Siblings.{keys_of}
 use Rattle.kk_mono.specs.Views.{types_in}
-use Rattle.kk_mono.proofs.Looks.{searching_starts}
+use Rattle.kk_mono.proofs.InstanceUses.{searching_starts}
 use Rattle.kk_mono.proofs.search.search.Goals as goal
 use Rattle.kk_mono.proofs.search.search.Goals.{then-loop-found-test+else-len-greatest, else-loop-found-test}
 

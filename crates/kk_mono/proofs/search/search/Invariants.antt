@@ -1,5 +1,5 @@
 use Rattle.std.proofs.Common.{◌-◌, length}
-use Rattle.kk_mono.specs.Searching.{IsSearching}
+use Rattle.kk_mono.specs.InstanceSearch.{IsSearching}
 use Rattle.kk_mono.proofs.search.search.Given as goal
 
 abbrev pub invariant-loop-found : goal.invariant-loop-found

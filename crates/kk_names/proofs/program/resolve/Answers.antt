@@ -6,7 +6,7 @@ use Rattle.kk_syntax.specs.Surface.{written_declaration}
 use Rattle.kk_names.specs.Faults.{faults_of}
 use Rattle.kk_names.specs.Methods.{first_with, parts_of}
 use Rattle.kk_names.specs.Names.{parts_meant, KeepsDepth}
-use Rattle.kk_names.proofs.Firsts.{none_is_kept}
+use Rattle.kk_names.proofs.FirstFaults.{none_is_kept}
 use Rattle.kk_names.proofs.Mains.{fault_answers, main_answers, main_keeps}
 use Rattle.kk_names.proofs.program.resolve.Goals as goal
 

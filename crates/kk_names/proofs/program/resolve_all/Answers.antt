@@ -2,7 +2,7 @@ use Rattle.std.proofs.Common.{map, ◌∙◌}
 use Rattle.kk_syntax.specs.Programs.{constructor_tree, function_tree}
 use Rattle.kk_syntax.specs.Surface.{written_declaration}
 use Rattle.kk_names.specs.Methods.{known_of}
-use Rattle.kk_names.proofs.Declaring.{all_known, no_texts, all_noted}
+use Rattle.kk_names.proofs.DeclaredNames.{all_known, no_texts, all_noted}
 use Rattle.kk_names.proofs.Mains.{parts_are}
 use Rattle.kk_names.proofs.program.resolve_all.Goals as goal
 

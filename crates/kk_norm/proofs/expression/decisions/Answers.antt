@@ -7,7 +7,7 @@ use Rattle.kk_match.specs.Parts.{types_of, AreTypeNumbers, TellTypes}
 use Rattle.kk_norm.specs.Normalized.{patterns_in}
 use Rattle.kk_norm.proofs.Decisions.{are_decisions}
 use Rattle.kk_norm.proofs.TypeNumbers.{are_type_numbers, numbers_tell}
-use Rattle.kk_norm.proofs.WritingMatches.{patterns_are, all_pushed}
+use Rattle.kk_norm.proofs.MatchLoop.{patterns_are, all_pushed}
 use Rattle.kk_norm.proofs.expression.decisions.Goals as goal
 
 pub returns : goal.returns

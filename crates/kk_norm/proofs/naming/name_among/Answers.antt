@@ -3,7 +3,7 @@ use Rattle.std.proofs.lemmas.List.{take_more}
 use Rattle.kk_norm.specs.declared.naming.Named.{Named}
 use Rattle.kk_norm.specs.Names.{name_of}
 use Rattle.kk_norm.specs.Written.{names_of}
-use Rattle.kk_norm.proofs.Writing.{name_here, name_elsewhere}
+use Rattle.kk_norm.proofs.WriterSteps.{name_here, name_elsewhere}
 use Rattle.kk_norm.proofs.naming.name_among.Goals as goal
 use Rattle.kk_norm.proofs.naming.name_among.Goals.{then-named-variable, else-named-variable}
 

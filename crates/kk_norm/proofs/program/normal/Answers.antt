@@ -6,10 +6,10 @@ use Rattle.kk_core.specs.Codes.{function_code}
 use Rattle.kk_norm.specs.CellTables.{AreShapesOf, TellCells}
 use Rattle.kk_norm.specs.Normalized.{IsCoreForm}
 use Rattle.kk_norm.proofs.CellTables.{tells_cells}
-use Rattle.kk_norm.proofs.CoreTypedPrograms.{core_form_typed}
-use Rattle.kk_norm.proofs.FormByForm.{are_whole, are_lean}
+use Rattle.kk_norm.proofs.ProgramTyping.{core_form_typed}
+use Rattle.kk_norm.proofs.FormInduction.{are_whole, are_lean}
 use Rattle.kk_norm.proofs.Forms.{as_many, is_small}
-use Rattle.kk_norm.proofs.KeepingTyped.{typed_keeps_meaning, typed_costs_little}
+use Rattle.kk_norm.proofs.TypedPreservation.{typed_keeps_meaning, typed_costs_little}
 use Rattle.kk_norm.proofs.MatchRows.{functions_have_rows}
 use Rattle.kk_norm.proofs.Programs.{main_in_range}
 use Rattle.kk_norm.proofs.Within.{instances_are_within}

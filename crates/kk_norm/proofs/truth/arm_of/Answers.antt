@@ -2,7 +2,7 @@ use Rattle.std.proofs.Common.{map, ap, ◌∙◌}
 use Rattle.kk_syntax.specs.Patterns.{Pattern, constructor, patterns_of, pattern_tree}
 use Rattle.kk_syntax.proofs.PatternViews.{constructor_tree}
 use Rattle.kk_core.specs.Codes.{block_code}
-use Rattle.kk_norm.proofs.Writing.{arm_is}
+use Rattle.kk_norm.proofs.WriterSteps.{arm_is}
 use Rattle.kk_norm.proofs.truth.arm_of.Goals as goal
 
 pub returns : goal.returns

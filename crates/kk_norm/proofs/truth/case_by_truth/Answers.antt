@@ -1,5 +1,5 @@
 use Rattle.kk_core.specs.Codes.{block_code}
-use Rattle.kk_norm.proofs.Writing.{truth_code}
+use Rattle.kk_norm.proofs.WriterSteps.{truth_code}
 use Rattle.kk_norm.proofs.truth.case_by_truth.Goals as goal
 
 pub returns : goal.returns

@@ -1,4 +1,4 @@
-use Rattle.kk_parser.proofs.OneOutcome.{each_list_is_parsed}
+use Rattle.kk_parser.proofs.OutcomeUniqueness.{each_list_is_parsed}
 use Rattle.kk_parser.proofs.Laws.{program_law}
 use Rattle.kk_parser.proofs.Depths.{shallow}
 use Rattle.kk_parser.proofs.program.each_list_is_parsed.Goals as goal

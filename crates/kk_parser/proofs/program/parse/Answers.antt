@@ -6,10 +6,10 @@ use Rattle.kk_parser.specs.declared.parser.Parser.{Parser}
 use Rattle.kk_parser.specs.Phrases.{program, rule}
 use Rattle.kk_parser.specs.Reading.{Finds}
 use Rattle.kk_parser.proofs.Depths.{shallow}
-use Rattle.kk_parser.proofs.FewNodes.{few_nodes}
+use Rattle.kk_parser.proofs.NodeBounds.{few_nodes}
 use Rattle.kk_parser.proofs.MemoryDepths.{bodies_under}
-use Rattle.kk_parser.proofs.Whole.{has_tree}
-use Rattle.kk_parser.proofs.Told.{found_all, left_answered, fault_answered}
+use Rattle.kk_parser.proofs.ProgramOutcome.{has_tree}
+use Rattle.kk_parser.proofs.ProgramAnswers.{found_all, left_answered, fault_answered}
 use Rattle.kk_parser.proofs.program.parse.Goals.{In-Ok}
 use Rattle.kk_parser.proofs.program.parse.Goals as goal
 use Rattle.kk_parser.specs.Depths.{most_levels}

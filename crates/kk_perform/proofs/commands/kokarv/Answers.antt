@@ -1,4 +1,4 @@
-use Rattle.kk_perform.proofs.Complete.{no_fault}
+use Rattle.kk_perform.proofs.FaultAbsence.{no_fault}
 use Rattle.kk_perform.proofs.commands.kokarv.Goals as goal
 
 pub returns-clause-complete : goal.returns-clause-complete

@@ -4,8 +4,8 @@ use Rattle.kk_counted.specs.TokenedForms.{tokened_arms, tokened_code, tokened_la
 use Rattle.kk_respec.specs.KnownTokens.{known_of}
 use Rattle.kk_respec.specs.Respecialised.{respec}
 use Rattle.kk_respec.specs.RespecialisedForms.{respec_move}
-use Rattle.kk_reuse.proofs.Writing.{on_ok}
-use Rattle.kk_respec.proofs.Writing.{step_marked, block_marked, arms_marked}
+use Rattle.kk_reuse.proofs.WrittenSteps.{on_ok}
+use Rattle.kk_respec.proofs.StepMarks.{step_marked, block_marked, arms_marked}
 use Rattle.kk_respec.proofs.block.+mark_block.Goals as goal
 
 pub mark_block-loop-step-preserved : goal.mark_block-loop-step-preserved

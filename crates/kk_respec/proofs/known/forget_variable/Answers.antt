@@ -2,7 +2,7 @@ use Rattle.std.proofs.Common.{rules, not, map, ap, ◌∙◌}
 use Rattle.std.proofs.lemmas.Fn.{filter_same}
 use Rattle.kk_syntax.specs.Shapes.{is_among}
 use Rattle.kk_respec.specs.KnownTokens.{known_of}
-use Rattle.kk_respec.proofs.Knowing.{filtered_known}
+use Rattle.kk_respec.proofs.KnownTokens.{filtered_known}
 use Rattle.kk_respec.proofs.known.forget_variable.Goals as goal
 
 pub returns : goal.returns

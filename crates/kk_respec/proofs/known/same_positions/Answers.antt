@@ -1,4 +1,4 @@
-use Rattle.kk_respec.proofs.Knowing.{positions_found}
+use Rattle.kk_respec.proofs.KnownTokens.{positions_found}
 use Rattle.kk_respec.proofs.known.same_positions.Goals as goal
 
 pub returns : goal.returns

@@ -1,4 +1,4 @@
-use Rattle.kk_respec.proofs.Lowering.{program_lowerable}
+use Rattle.kk_respec.proofs.Lowerability.{program_lowerable}
 use Rattle.kk_respec.proofs.Measures.{program_short}
 use Rattle.kk_respec.proofs.law.respecialised_code_can_be_lowered.Goals as goal
 

@@ -5,7 +5,7 @@ use Rattle.kk_counted.specs.Keeping.{counted_after}
 use Rattle.kk_counted.specs.TokenRuns.{bare_weight}
 use Rattle.kk_respec.specs.Respecialised.{respecialised_setting}
 use Rattle.kk_respec.proofs.Forms.{program_bare, program_spends}
-use Rattle.kk_respec.proofs.Lowering.{program_leaves}
+use Rattle.kk_respec.proofs.Lowerability.{program_leaves}
 use Rattle.kk_respec.proofs.law.respecialised_code_runs_the_same.Goals as goal
 
 pub returns : goal.returns

@@ -1,4 +1,4 @@
-use Rattle.kk_reuse.proofs.Lowering.{program_low}
+use Rattle.kk_reuse.proofs.Lowerability.{program_low}
 use Rattle.kk_reuse.proofs.law.paired_code_can_be_lowered.Goals as goal
 
 pub returns : goal.returns

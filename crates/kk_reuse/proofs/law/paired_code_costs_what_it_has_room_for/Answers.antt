@@ -9,8 +9,8 @@ use Rattle.kk_counted.specs.TokenMachine.{token_machine}
 use Rattle.kk_counted.specs.TokenStates.{token_first_state}
 use Rattle.kk_reuse.specs.Pairing.{paired_setting}
 use Rattle.kk_reuse.proofs.Programs.{setting_bare}
-use Rattle.kk_reuse.proofs.Rooms.{program_has_room}
-use Rattle.kk_reuse.proofs.Spends.{program_spends}
+use Rattle.kk_reuse.proofs.TokenRoom.{program_has_room}
+use Rattle.kk_reuse.proofs.TokenSpending.{program_spends}
 use Rattle.kk_reuse.proofs.law.paired_code_costs_what_it_has_room_for.Goals as goal
 
 pub returns : goal.returns

@@ -5,7 +5,7 @@ use Rattle.kk_counted.specs.Keeping.{counted_after}
 use Rattle.kk_counted.specs.TokenRuns.{bare_weight}
 use Rattle.kk_reuse.specs.Pairing.{paired_setting}
 use Rattle.kk_reuse.proofs.Programs.{setting_bare}
-use Rattle.kk_reuse.proofs.Spends.{program_spends}
+use Rattle.kk_reuse.proofs.TokenSpending.{program_spends}
 use Rattle.kk_reuse.proofs.law.paired_code_runs_the_same.Goals as goal
 
 pub returns : goal.returns

@@ -3,7 +3,7 @@ use Rattle.kk_counted.specs.CountedForms.{block_code, last_code, step_move}
 use Rattle.kk_counted.specs.TokenedForms.{TokenedMove}
 use Rattle.kk_reuse.specs.PairedForms.{moves_may_make}
 use Rattle.kk_reuse.proofs.Steps.{arms_paired, arms_written}
-use Rattle.kk_reuse.proofs.Writing.{block_written, drop_written, dup_written, if_unique_written, inside_written, left_of_none, left_of_some, one_written, open_written, read_written, to_end}
+use Rattle.kk_reuse.proofs.WrittenSteps.{block_written, drop_written, dup_written, if_unique_written, inside_written, left_of_none, left_of_some, one_written, open_written, read_written, to_end}
 use Rattle.kk_reuse.proofs.pairing.+paired_block.Goals as goal
 use Rattle.kk_reuse.proofs.pairing.+paired_block.Goals.{paired_inside-then-makes+in_ok-left, paired_inside-else-makes}
 

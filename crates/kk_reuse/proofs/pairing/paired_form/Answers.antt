@@ -1,5 +1,5 @@
 use Rattle.std.proofs.Common.{◌-◌, arith, refl, ◌∙◌}
-use Rattle.kk_reuse.proofs.Writing.{call_written, fill_written, on_ok, to_end}
+use Rattle.kk_reuse.proofs.WrittenSteps.{call_written, fill_written, on_ok, to_end}
 use Rattle.kk_reuse.proofs.pairing.paired_form.Goals as goal
 
 pub returns-in_ok-push-in-Construct-len1-up : goal.returns-in_ok-push-in-Construct-len1-up

@@ -1,4 +1,4 @@
-use Rattle.kk_reuse.proofs.Writing.{let_written}
+use Rattle.kk_reuse.proofs.WrittenSteps.{let_written}
 use Rattle.kk_reuse.proofs.pairing.put_form.Goals as goal
 
 pub returns : goal.returns

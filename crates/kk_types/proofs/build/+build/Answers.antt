@@ -3,8 +3,8 @@ use Rattle.std.proofs.lemmas.List.{take_all}
 use Rattle.kk_syntax.specs.Types.{put, type_at, type_tree}
 use Rattle.kk_unify.specs.GraphOf.{graph_of, variables_of}
 use Rattle.kk_types.specs.Walks.{BuildsEach}
-use Rattle.kk_types.proofs.Adding.{builds_none}
-use Rattle.kk_types.proofs.Building.{int32_built, unit_built, past_built, variable_built, named_built, each_built}
+use Rattle.kk_types.proofs.NewNodes.{builds_none}
+use Rattle.kk_types.proofs.TypeNodes.{int32_built, unit_built, past_built, variable_built, named_built, each_built}
 use Rattle.kk_types.proofs.build.+build.Goals as goal
 
 pub build-returns-in-Int32-clause-builds : goal.build-returns-in-Int32-clause-builds

@@ -1,7 +1,7 @@
 use Rattle.std.proofs.Common.{◌≡◌, ◌+◌, refl, sym, ◌∙◌, subst, arith}
 use Rattle.kk_unify.specs.GraphOf.{graph_of, variables_of}
 use Rattle.kk_types.specs.Walks.{Opens}
-use Rattle.kk_types.proofs.Adding.{adds_opens, opens_none, opens_more}
+use Rattle.kk_types.proofs.NewNodes.{adds_opens, opens_none, opens_more}
 use Rattle.kk_types.proofs.build.opened.Goals as goal
 
 pub loop-init : goal.loop-init

@@ -6,7 +6,7 @@ use Rattle.kk_syntax.specs.Programs.{function_tree, program_tree}
 use Rattle.kk_syntax.specs.TypedPrograms.{typing_of}
 use Rattle.kk_syntax.specs.Typing.{TypesAs}
 use Rattle.kk_types.specs.Checks.{HasNodes}
-use Rattle.kk_types.proofs.Checking.{TypedSoFar, one_more, first_untyped, all_typed, all_principal, only_outcome, there}
+use Rattle.kk_types.proofs.ProgramOutcome.{TypedSoFar, one_more, first_untyped, all_typed, all_principal, only_outcome, there}
 use Rattle.kk_types.proofs.program.check.Goals as goal
 
 pub returns-in-None : goal.returns-in-None

@@ -2,7 +2,7 @@ use Rattle.std.proofs.Common.{map, All}
 use Rattle.kk_syntax.specs.Programs.{program_tree}
 use Rattle.kk_syntax.specs.TypedPrograms.{typing_of}
 use Rattle.kk_types.specs.Checks.{HasNodes}
-use Rattle.kk_types.proofs.Checking.{TypedSoFar}
+use Rattle.kk_types.proofs.ProgramOutcome.{TypedSoFar}
 use Rattle.kk_types.proofs.program.check.Given as goal
 
 abbrev pub invariant-loop-number : goal.invariant-loop-number

@@ -1,5 +1,5 @@
-use Rattle.kk_types.proofs.Checking.{program_is_checked, has_principal}
-use Rattle.kk_types.proofs.DecidedFunctions.{function_decided}
+use Rattle.kk_types.proofs.ProgramOutcome.{program_is_checked, has_principal}
+use Rattle.kk_types.proofs.PrincipalTypings.{function_decided}
 use Rattle.kk_types.proofs.program.each_program_is_checked.Goals as goal
 
 pub returns-clause-checked : goal.returns-clause-checked

@@ -1,6 +1,6 @@
 use Rattle.std.proofs.Common.{◌<◌, arith}
 use Rattle.kk_unify.specs.NodesOf.{node_trees}
-use Rattle.kk_unify.proofs.Finding.{next_earlier, next_leads, next_halved}
+use Rattle.kk_unify.proofs.HeadSearch.{next_earlier, next_leads, next_halved}
 use Rattle.kk_unify.proofs.join.find.Goals as goal
 
 pub bounds-in-Same : goal.bounds-in-Same

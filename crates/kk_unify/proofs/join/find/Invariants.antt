@@ -1,5 +1,5 @@
 use Rattle.kk_unify.specs.NodesOf.{node_trees}
-use Rattle.kk_unify.specs.Joining.{Leads}
+use Rattle.kk_unify.specs.Unification.{Leads}
 use Rattle.kk_unify.proofs.join.find.Given as goal
 
 abbrev pub invariant-loop-nodes : goal.invariant-loop-nodes

@@ -1,5 +1,5 @@
 use Rattle.kk_unify.specs.NodesOf.{node_trees}
-use Rattle.kk_unify.proofs.Pairing.{steps_on, on_true}
+use Rattle.kk_unify.proofs.NodePairs.{steps_on, on_true}
 use Rattle.kk_unify.proofs.join.join.Goals as goal
 
 pub loop-first-preserved : goal.loop-first-preserved

@@ -1,6 +1,6 @@
 use Rattle.std.proofs.Common.{◌+◌, [], length}
 use Rattle.kk_unify.specs.NodesOf.{node_trees}
-use Rattle.kk_unify.specs.Joining.{KeepsFormed, weight, Steps}
+use Rattle.kk_unify.specs.Unification.{KeepsFormed, weight, Steps}
 use Rattle.kk_unify.proofs.join.join.Given as goal
 
 abbrev pub invariant-loop-first : goal.invariant-loop-first

@@ -1,5 +1,5 @@
 use Rattle.kk_unify.specs.NodesOf.{node_trees}
-use Rattle.kk_unify.proofs.Pairing.{steps_found, pair_joined}
+use Rattle.kk_unify.proofs.NodePairs.{steps_found, pair_joined}
 use Rattle.kk_unify.proofs.join.join_pair.Goals as goal
 
 pub returns-then-first-second-clause-joined : goal.returns-then-first-second-clause-joined

@@ -1,4 +1,4 @@
-use Rattle.kk_unify.proofs.Linking.{link_formed, link_joined}
+use Rattle.kk_unify.proofs.NodeLinks.{link_formed, link_joined}
 use Rattle.kk_unify.proofs.join.link.Goals as goal
 
 pub returns-clause-formed : goal.returns-clause-formed

@@ -2,7 +2,7 @@ use Rattle.std.proofs.Common.{rules, ◌∙◌, ◌++◌, length, take, ap, sym}
 use Rattle.std.specs.List.{zip}
 use Rattle.std.proofs.lemmas.List.{length_push}
 use Rattle.std.proofs.lemmas.Slice.Zip.{zip_turn, zip_end}
-use Rattle.kk_unify.proofs.Joining.{paired_more, paired_all}
+use Rattle.kk_unify.proofs.Unification.{paired_more, paired_all}
 use Rattle.kk_unify.proofs.join.pair_up.Goals as goal
 
 pub loop-one-preserved : goal.loop-one-preserved

@@ -1,5 +1,5 @@
-use Rattle.kk_unify.proofs.DecidedGraphs.{each_graph_is_decided}
-use Rattle.kk_unify.proofs.DecidedJoins.{each_join_is_decided}
+use Rattle.kk_unify.proofs.GraphSolvability.{each_graph_is_decided}
+use Rattle.kk_unify.proofs.Unifiability.{each_join_is_decided}
 use Rattle.kk_unify.proofs.law.graphs_are_decided.Goals as goal
 
 pub returns-clause-joins : goal.returns-clause-joins

@@ -1,4 +1,4 @@
-use Rattle.kk_unify.proofs.Obeying.{obeying_is_local}
+use Rattle.kk_unify.proofs.GraphAssignments.{obeying_is_local}
 use Rattle.kk_unify.proofs.law.obeying_is_local.Goals as goal
 
 pub returns : goal.returns

@@ -1,5 +1,5 @@
 use Rattle.std.proofs.Common.{refl, arith}
-use Rattle.kk_unify.proofs.Solving.{root_place, all_solved}
+use Rattle.kk_unify.proofs.GraphSolution.{root_place, all_solved}
 use Rattle.kk_unify.proofs.solve.walk_all.Goals as goal
 
 pub visit-requires-clause-root : goal.visit-requires-clause-root

@@ -1,6 +1,6 @@
 use Rattle.std.proofs.Common.{◌≡◌, []}
 use Rattle.kk_unify.specs.WalkOf.{Stands}
-use Rattle.kk_unify.proofs.Solving.{NumbersSoFar}
+use Rattle.kk_unify.proofs.GraphSolution.{NumbersSoFar}
 use Rattle.kk_unify.proofs.solve.walk_all.Given as goal
 
 abbrev pub invariant-loop-root : goal.invariant-loop-root

@@ -1,6 +1,6 @@
 use Rattle.std.proofs.lemmas.Result.{on_ok_weaker}
 use Rattle.rv_cells.specs.Written.{facts_of}
-use Rattle.rv_cells.proofs.Grown.{value_of_form}
+use Rattle.rv_cells.proofs.WrittenNodes.{value_of_form}
 use Rattle.rv_cells.proofs.block.write_form.Goals as goal
 
 pub returns-in_default : goal.returns-in_default

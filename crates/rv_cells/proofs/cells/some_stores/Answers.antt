@@ -2,7 +2,7 @@ use Rattle.std.proofs.Common.{Bool, List, ◌+◌, take, map, get_or, arith, sym
 use Rattle.rv_isa.specs.AsmCode.{Line}
 use Rattle.rv_lower.specs.Written.{short_line}
 use Rattle.rv_cells.specs.CellLines.{StoresIf, SomeStores, is_kept}
-use Rattle.rv_cells.proofs.Written.{some_more}
+use Rattle.rv_cells.proofs.WrittenLines.{some_more}
 use Rattle.rv_cells.proofs.cells.some_stores.Goals as goal
 
 pub loop-field-preserved : goal.loop-field-preserved

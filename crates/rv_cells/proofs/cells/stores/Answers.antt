@@ -3,7 +3,7 @@ use Rattle.std.proofs.lemmas.List.{map-append}
 use Rattle.rv_isa.specs.AsmCode.{Line}
 use Rattle.rv_lower.specs.Written.{short_line}
 use Rattle.rv_cells.specs.CellLines.{AllStores}
-use Rattle.rv_cells.proofs.Written.{stores_more}
+use Rattle.rv_cells.proofs.WrittenLines.{stores_more}
 use Rattle.rv_cells.proofs.cells.stores.Goals as goal
 
 pub loop-field-preserved : goal.loop-field-preserved

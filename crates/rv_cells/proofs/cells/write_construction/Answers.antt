@@ -1,5 +1,5 @@
 use Rattle.std.proofs.lemmas.Result.{on_ok_weaker}
-use Rattle.rv_cells.proofs.Written.{construction_written}
+use Rattle.rv_cells.proofs.WrittenLines.{construction_written}
 use Rattle.rv_cells.proofs.cells.write_construction.Goals as goal
 
 pub returns : goal.returns

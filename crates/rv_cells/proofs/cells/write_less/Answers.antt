@@ -1,7 +1,7 @@
 use Rattle.std.proofs.Common.{[], ◌∷◌, map, refl}
 use Rattle.std.proofs.lemmas.Result.{on_ok_weaker}
 use Rattle.rv_lower.specs.Written.{short_line}
-use Rattle.rv_cells.proofs.Written.{three_same}
+use Rattle.rv_cells.proofs.WrittenLines.{three_same}
 use Rattle.rv_cells.proofs.cells.write_less.Goals as goal
 
 pub returns : goal.returns

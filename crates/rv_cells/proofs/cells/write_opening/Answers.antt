@@ -2,9 +2,9 @@ use Rattle.std.proofs.Common.{ℕ, List, map, subst, ap}
 use Rattle.std.proofs.lemmas.Result.{on_ok_weaker}
 use Rattle.rv_isa.specs.AsmCode.{Line}
 use Rattle.rv_lower.specs.Written.{short_line, Wrote}
-use Rattle.rv_lower.proofs.Written.{one_same}
+use Rattle.rv_lower.proofs.WrittenLines.{one_same}
 use Rattle.rv_cells.specs.Written.{holds_known, WroteOpening}
-use Rattle.rv_cells.proofs.Written.{opening_written}
+use Rattle.rv_cells.proofs.WrittenLines.{opening_written}
 use Rattle.rv_cells.proofs.cells.write_opening.Goals as goal
 
 pub returns : goal.returns

@@ -1,4 +1,4 @@
-use Rattle.rv_cells.proofs.Written.{word_written, no_word_written}
+use Rattle.rv_cells.proofs.WrittenLines.{word_written, no_word_written}
 use Rattle.rv_cells.proofs.cells.write_word.Goals as goal
 
 pub returns-in_ok-write : goal.returns-in_ok-write

@@ -4,7 +4,7 @@ use Rattle.rv_cells.specs.TokenedWritten.{is_left}
 use Rattle.rv_cells.specs.CellLines.{SomeStores, SomeWords, is_kept}
 use Rattle.rv_lower.specs.Written.{WroteLines, short_line}
 use Rattle.std.specs.Prelude.{map}
-use Rattle.rv_cells.proofs.Written.{some_words_written}
+use Rattle.rv_cells.proofs.WrittenLines.{some_words_written}
 use Rattle.rv_cells.proofs.cells.write_words.Goals as goal
 
 pub returns : goal.returns

@@ -1,5 +1,5 @@
 use Rattle.kk_counted.specs.TokenedForms.{tokened_last_code, tokened_move}
-use Rattle.rv_cells.proofs.Naming.{between_of}
+use Rattle.rv_cells.proofs.UnnamedVariables.{between_of}
 use Rattle.rv_cells.proofs.compare.branch_between.Goals as goal
 
 pub returns : goal.returns

@@ -4,7 +4,7 @@ use Rattle.kk_core.specs.declared.decisions.Edge.{Edge}
 use Rattle.rv_lower.specs.Written.{Wrote}
 use Rattle.rv_cells.specs.CountedLines.{number_tests}
 use Rattle.rv_cells.specs.Written.{layout_known, ways_known, number_shown}
-use Rattle.rv_cells.proofs.Written.{choice_written}
+use Rattle.rv_cells.proofs.WrittenLines.{choice_written}
 use Rattle.rv_cells.proofs.decide.write_choice.Goals as goal
 
 pub returns : goal.returns

@@ -4,7 +4,7 @@ use Rattle.rv_lower.specs.Written.{Wrote}
 use Rattle.rv_cells.specs.CountedLines.{answer_word, number_tests}
 use Rattle.std.proofs.lemmas.Result.{on_ok_weaker}
 use Rattle.rv_cells.specs.Written.{layout_known, ways_known}
-use Rattle.rv_cells.proofs.Written.{tags_written}
+use Rattle.rv_cells.proofs.WrittenLines.{tags_written}
 use Rattle.rv_cells.proofs.decide.write_decided.Goals as goal
 
 pub returns : goal.returns

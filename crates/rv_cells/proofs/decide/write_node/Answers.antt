@@ -4,8 +4,8 @@ use Rattle.kk_core.specs.Decisions.{NodeTree}
 use Rattle.rv_lower.specs.Written.{WroteLines}
 use Rattle.rv_cells.specs.CountedLines.{NodeLines}
 use Rattle.rv_cells.specs.Written.{layout_known, ways_known}
-use Rattle.rv_cells.proofs.Grown.{node_is}
-use Rattle.rv_cells.proofs.Written.{labelled_test}
+use Rattle.rv_cells.proofs.WrittenNodes.{node_is}
+use Rattle.rv_cells.proofs.WrittenLines.{labelled_test}
 use Rattle.rv_cells.proofs.decide.write_node.Goals as goal
 
 pub returns-in_ok-behind-in-Test : goal.returns-in_ok-behind-in-Test

@@ -3,8 +3,8 @@ use Rattle.kk_core.specs.Decisions.{NodeTree, node_tree}
 use Rattle.rv_lower.specs.Written.{WroteLines}
 use Rattle.rv_cells.specs.CountedLines.{NodesLines}
 use Rattle.rv_cells.specs.Written.{layout_known, ways_known}
-use Rattle.rv_cells.proofs.Written.{nodes_more}
-use Rattle.rv_cells.proofs.Grown.{nodes_taken, length_mapped}
+use Rattle.rv_cells.proofs.WrittenLines.{nodes_more}
+use Rattle.rv_cells.proofs.WrittenNodes.{nodes_taken, length_mapped}
 use Rattle.rv_cells.proofs.decide.write_nodes.Goals as goal
 
 pub loop-node-preserved : goal.loop-node-preserved

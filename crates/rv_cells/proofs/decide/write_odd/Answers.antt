@@ -2,7 +2,7 @@ use Rattle.std.proofs.Common.{[], ◌∷◌, map}
 use Rattle.std.proofs.lemmas.Result.{on_ok_weaker}
 use Rattle.rv_lower.specs.Written.{short_line}
 use Rattle.rv_cells.specs.Written.{ways_known}
-use Rattle.rv_cells.proofs.Written.{odd_lines}
+use Rattle.rv_cells.proofs.WrittenLines.{odd_lines}
 use Rattle.rv_cells.proofs.decide.write_odd.Goals as goal
 
 pub returns : goal.returns

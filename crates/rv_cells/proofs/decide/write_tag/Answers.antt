@@ -1,7 +1,7 @@
 use Rattle.std.proofs.Common.{[], ◌∷◌, map, refl}
 use Rattle.std.proofs.lemmas.Result.{on_ok_weaker}
 use Rattle.rv_lower.specs.Written.{short_line}
-use Rattle.rv_lower.proofs.Written.{two_same}
+use Rattle.rv_lower.proofs.WrittenLines.{two_same}
 use Rattle.rv_cells.proofs.decide.write_tag.Goals as goal
 
 pub returns : goal.returns

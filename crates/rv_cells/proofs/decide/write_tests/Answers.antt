@@ -1,6 +1,6 @@
 use Rattle.std.proofs.lemmas.Result.{on_ok_weaker}
 use Rattle.rv_cells.specs.Written.{layout_known, ways_known}
-use Rattle.rv_cells.proofs.Written.{test_written}
+use Rattle.rv_cells.proofs.WrittenLines.{test_written}
 use Rattle.rv_cells.proofs.decide.write_tests.Goals as goal
 
 pub returns : goal.returns

@@ -1,5 +1,5 @@
 use Rattle.std.proofs.Common.{sym}
-use Rattle.rv_cells.proofs.Written.{walk_more, walked_more}
+use Rattle.rv_cells.proofs.WrittenLines.{walk_more, walked_more}
 use Rattle.rv_cells.proofs.decide.write_walk.Goals as goal
 
 pub loop-field-preserved : goal.loop-field-preserved

@@ -1,4 +1,4 @@
-use Rattle.rv_cells.proofs.Rooms.{busy_most}
+use Rattle.rv_cells.proofs.UsedCells.{busy_most}
 use Rattle.rv_cells.proofs.law.cells_are_counted_or_set_aside.Goals as goal
 
 pub returns : goal.returns

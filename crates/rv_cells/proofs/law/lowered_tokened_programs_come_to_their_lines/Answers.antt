@@ -1,4 +1,4 @@
-use Rattle.rv_cells.proofs.ComingToLines.{comes_to_its_lines, follows_each_state}
+use Rattle.rv_cells.proofs.LineArrivals.{comes_to_its_lines, follows_each_state}
 use Rattle.rv_cells.proofs.FormRoots.{own_lines}
 use Rattle.rv_cells.proofs.law.lowered_tokened_programs_come_to_their_lines.Goals as goal
 

@@ -1,4 +1,4 @@
-use Rattle.rv_cells.proofs.Starts.{starts}
+use Rattle.rv_cells.proofs.StartHeap.{starts}
 use Rattle.rv_cells.proofs.law.unused_cells_hold_no_heap.Goals as goal
 
 pub returns : goal.returns

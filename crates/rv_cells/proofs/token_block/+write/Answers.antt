@@ -5,10 +5,10 @@ use Rattle.kk_counted.specs.TokenedForms.{tokened_code, tokened_move}
 use Rattle.rv_lower.specs.Written.{goal_of}
 use Rattle.rv_cells.specs.TokenedWritten.{variables_known, WroteTokened, WroteTokenedArms}
 use Rattle.kk_counted.specs.declared.tokened.TokenedStep.{TokenedStep}
-use Rattle.rv_cells.specs.Comparing.{AreNoLines}
+use Rattle.rv_cells.specs.ComparisonBranch.{AreNoLines}
 use Rattle.rv_cells.specs.Written.{facts_of, holds_known}
-use Rattle.rv_cells.proofs.Grown.{length_mapped}
-use Rattle.rv_cells.proofs.TokenGrown.{
+use Rattle.rv_cells.proofs.WrittenNodes.{length_mapped}
+use Rattle.rv_cells.proofs.TokenCodeGrowth.{
   steps_none,
   steps_on,
   step_asks,

@@ -1,6 +1,6 @@
 use Rattle.std.proofs.Common.{◌≤◌, length, map, drop}
 use Rattle.kk_counted.specs.TokenedForms.{tokened_move}
-use Rattle.rv_cells.specs.Comparing.{AreNoLines}
+use Rattle.rv_cells.specs.ComparisonBranch.{AreNoLines}
 use Rattle.rv_cells.specs.Written.{holds_known}
 use Rattle.rv_cells.proofs.token_block.steps_with_lines.Given as goal
 

@@ -2,7 +2,7 @@ use Rattle.std.proofs.Common.{◌∙◌}
 use Rattle.std.proofs.lemmas.Result.{on_ok_weaker}
 use Rattle.rv_cells.specs.TokenedWritten.{variables_known}
 use Rattle.rv_cells.specs.Written.{facts_of}
-use Rattle.rv_cells.proofs.TokenGrown.{fill_is, step_fills, step_of_fill, step_wrote}
+use Rattle.rv_cells.proofs.TokenCodeGrowth.{fill_is, step_fills, step_of_fill, step_wrote}
 use Rattle.rv_cells.proofs.token_block.write_filled.Goals as goal
 
 pub returns-in_default : goal.returns-in_default

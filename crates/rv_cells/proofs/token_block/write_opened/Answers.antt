@@ -3,7 +3,7 @@ use Rattle.std.proofs.lemmas.Result.{on_ok_weaker}
 use Rattle.kk_counted.specs.TokenedForms.{tokened_move}
 use Rattle.rv_cells.specs.TokenedWritten.{variables_known}
 use Rattle.rv_cells.specs.Written.{facts_of}
-use Rattle.rv_cells.proofs.TokenGrown.{step_opens, step_opens_unique, step_of_open, step_of_unique, step_wrote_before}
+use Rattle.rv_cells.proofs.TokenCodeGrowth.{step_opens, step_opens_unique, step_of_open, step_of_unique, step_wrote_before}
 use Rattle.rv_cells.proofs.token_block.write_opened.Goals as goal
 
 pub returns-in-Open : goal.returns-in-Open

@@ -2,10 +2,10 @@ use Rattle.std.proofs.Common.{List, inl, inr, refl, subst, arith}
 use Rattle.std.proofs.lemmas.Result.{on_ok_weaker}
 use Rattle.rv_cells.specs.TokenedWritten.{variables_known}
 use Rattle.rv_cells.specs.Written.{facts_of}
-use Rattle.rv_lower.proofs.Written.{one_same}
+use Rattle.rv_lower.proofs.WrittenLines.{one_same}
 use Rattle.rv_isa.specs.AsmCode.{Line}
 use Rattle.rv_lower.specs.Written.{Wrote}
-use Rattle.rv_cells.proofs.TokenGrown.{asks_nothing, asks_alone, asks_held, none_there, fill_is}
+use Rattle.rv_cells.proofs.TokenCodeGrowth.{asks_nothing, asks_alone, asks_held, none_there, fill_is}
 use Rattle.rv_cells.proofs.token_cells.write_asking.Goals as goal
 
 pub returns-in_default : goal.returns-in_default

@@ -2,9 +2,9 @@ use Rattle.std.proofs.Common.{ℕ, List, subst, ◌∙◌}
 use Rattle.std.proofs.lemmas.Result.{on_ok_weaker}
 use Rattle.rv_isa.specs.AsmCode.{Line}
 use Rattle.rv_lower.specs.Written.{Wrote}
-use Rattle.rv_lower.proofs.Written.{two_same}
+use Rattle.rv_lower.proofs.WrittenLines.{two_same}
 use Rattle.rv_cells.specs.TokenedWritten.{request_lines}
-use Rattle.rv_cells.proofs.Written.{fill_written}
+use Rattle.rv_cells.proofs.WrittenLines.{fill_written}
 use Rattle.rv_cells.proofs.token_cells.write_fill.Goals as goal
 
 pub returns : goal.returns

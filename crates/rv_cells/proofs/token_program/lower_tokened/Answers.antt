@@ -4,8 +4,8 @@ use Rattle.kk_counted.specs.TokenedCodes.{TokenedFunction}
 use Rattle.kk_counted.specs.TokenedForms.{tokened_function}
 use Rattle.rv_isa.specs.AsmCode.{Lines, lines_of}
 use Rattle.rv_cells.specs.TokenedFunctions.{LoweredTokenedFunctions}
-use Rattle.rv_cells.proofs.Grown.{length_mapped}
-use Rattle.rv_cells.proofs.TokenLowered.{tokened_then, tokened_more, tokened_all, tokened_form}
+use Rattle.rv_cells.proofs.WrittenNodes.{length_mapped}
+use Rattle.rv_cells.proofs.TokenFunctions.{tokened_then, tokened_more, tokened_all, tokened_form}
 use Rattle.rv_cells.proofs.token_program.lower_tokened.Goals as goal
 
 pub loop-function-preserved : goal.loop-function-preserved

@@ -1,7 +1,7 @@
 use Rattle.std.proofs.Common.{map, ap, refl, ◌∙◌}
 use Rattle.kk_counted.specs.TokenedForms.{tokened_code, tokened_function}
 use Rattle.rv_isa.specs.AsmCode.{line_of}
-use Rattle.rv_cells.proofs.TokenLowered.{tokened_written}
+use Rattle.rv_cells.proofs.TokenFunctions.{tokened_written}
 use Rattle.rv_cells.proofs.token_program.lower_tokened_function.Goals as goal
 
 pub returns : goal.returns

@@ -1,8 +1,8 @@
 -- The law is the simulation of the machines.
-use Rattle.rv_loops.proofs.Simulating.{simulates}
-use Rattle.rv_loops.proofs.Reaching.{follows}
-use Rattle.rv_loops.proofs.Arriving.{has_there, lines_apart, comes}
-use Rattle.rv_loops.proofs.Starting.{starts, agrees, never_stuck}
+use Rattle.rv_loops.proofs.Simulation.{simulates}
+use Rattle.rv_loops.proofs.SharedStates.{follows}
+use Rattle.rv_loops.proofs.LineArrivals.{has_there, lines_apart, comes}
+use Rattle.rv_loops.proofs.StartStates.{starts, agrees, never_stuck}
 use Rattle.rv_loops.proofs.keeps.rotated_code_keeps_meaning.Goals as goal
 
 pub returns-clause-simulates : goal.returns-clause-simulates

@@ -5,7 +5,7 @@ use Rattle.rv_loops.specs.declared.head.Head.{Head}
 use Rattle.rv_isa.specs.declared.placed.Item.{Item}
 use Rattle.rv_loops.specs.Rotation.{rotated_code}
 use Rattle.rv_loops.specs.Heads.{loop_of, Begins}
-use Rattle.rv_loops.proofs.Heading.{rotates}
+use Rattle.rv_loops.proofs.HeadRotation.{rotates}
 use Rattle.rv_loops.proofs.rotating.code_of.Goals as goal
 
 pub returns-in-Some : goal.returns-in-Some

@@ -2,7 +2,7 @@ use Rattle.std.proofs.Common.{List, map, subst}
 use Rattle.rv_isa.specs.declared.placed.PlacedFunction.{PlacedFunction}
 use Rattle.rv_isa.specs.PlacedCode.{placed_lines_of, placed_functions}
 use Rattle.rv_loops.specs.Rotation.{AreRotated}
-use Rattle.rv_loops.proofs.Growing.{functions_short}
+use Rattle.rv_loops.proofs.CodeLength.{functions_short}
 use Rattle.rv_loops.proofs.rotating.rotated.Goals as goal
 
 pub returns-clause-short : goal.returns-clause-short

@@ -1,8 +1,8 @@
 -- The simulation comes to where each line stands, and the lines stand one behind the other behind the runtime.
 use Rattle.std.proofs.Common.{suc}
 use Rattle.rv_isa.specs.PlacedCode.{placed_functions}
-use Rattle.rv_place.specs.Running.{most_lines}
-use Rattle.rv_place.proofs.RunningSimulating.{simulates}
+use Rattle.rv_place.specs.ProcessorStates.{most_lines}
+use Rattle.rv_place.proofs.ProcessorSimulation.{simulates}
 use Rattle.rv_place.proofs.BootRuns.{image-ground}
 use Rattle.rv_place.proofs.BootArrivals.{image-arrives, image-follows, image-apart, image-outside, image-inside}
 use Rattle.rv_place.proofs.arrivals.placed_text_comes_to_its_lines.Goals as goal

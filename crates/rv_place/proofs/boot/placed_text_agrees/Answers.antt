@@ -1,8 +1,8 @@
 -- The law is the simulation, from the state on to which the image comes first.
 use Rattle.std.proofs.Common.{ℕ, suc, ◌+◌, ◌*◌, length}
 use Rattle.rv_isa.specs.PlacedCode.{placed_functions}
-use Rattle.rv_place.specs.Running.{most_lines}
-use Rattle.rv_place.proofs.RunningSimulating.{simulates}
+use Rattle.rv_place.specs.ProcessorStates.{most_lines}
+use Rattle.rv_place.proofs.ProcessorSimulation.{simulates}
 use Rattle.rv_place.proofs.BootRuns.{image-ground, image-agrees}
 use Rattle.rv_place.proofs.boot.placed_text_agrees.Goals as goal
 

@@ -1,10 +1,10 @@
 use Rattle.std.proofs.Common.{Some, refl, ap, ◌∙◌}
-use Rattle.rv_isa.proofs.Same.{same_register}
+use Rattle.rv_isa.proofs.RangeEquality.{same_register}
 use Rattle.rv_isa.specs.declared.instr.Instr.TheVariants.{Andi}
 use Rattle.cell_runtime.proofs.Operands.{imm_0}
-use Rattle.cell_runtime.proofs.SameLines.{same_addi, same_bne, same_lw, same_sw}
+use Rattle.cell_runtime.proofs.ItemEquality.{same_addi, same_bne, same_lw, same_sw}
 use Rattle.rv_place.specs.Registers.{ra}
-use Rattle.rv_place.proofs.Emitting.{grew_so, grew_then}
+use Rattle.rv_place.proofs.Emissions.{grew_so, grew_then}
 use Rattle.rv_place.proofs.cells.emit_dup.Goals as goal
 
 pub returns : goal.returns

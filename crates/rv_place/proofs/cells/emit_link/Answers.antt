@@ -1,7 +1,7 @@
 use Rattle.std.proofs.Common.{Some, refl, ap, ◌∙◌}
 use Rattle.cell_runtime.proofs.Operands.{imm_0}
-use Rattle.cell_runtime.proofs.SameLines.{same_addi, same_sw}
-use Rattle.rv_place.proofs.Emitting.{grew_so, grew_then}
+use Rattle.cell_runtime.proofs.ItemEquality.{same_addi, same_sw}
+use Rattle.rv_place.proofs.Emissions.{grew_so, grew_then}
 use Rattle.rv_place.proofs.cells.emit_link.Goals as goal
 
 pub returns : goal.returns

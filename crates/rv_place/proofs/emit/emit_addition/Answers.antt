@@ -1,6 +1,6 @@
 use Rattle.std.proofs.Common.{Some, refl, ap, ◌∙◌}
-use Rattle.cell_runtime.proofs.SameLines.{same_addi}
-use Rattle.rv_place.proofs.Emitting.{grew_so, on_so}
+use Rattle.cell_runtime.proofs.ItemEquality.{same_addi}
+use Rattle.rv_place.proofs.Emissions.{grew_so, on_so}
 use Rattle.rv_place.proofs.emit.emit_addition.Goals as goal
 
 pub returns : goal.returns

@@ -1,13 +1,13 @@
 use Rattle.std.proofs.Common.{◌≡◌, ◌+◌, ◌*◌, Some, refl, sym, ap, ◌∙◌, subst}
 use Rattle.rv_isa.specs.declared.instr.Instr.TheVariants.{Lw}
-use Rattle.cell_runtime.proofs.SameLines.{same_bne}
+use Rattle.cell_runtime.proofs.ItemEquality.{same_bne}
 use Rattle.rv_place.specs.declared.reach.Reach.{Reach}
 use Rattle.rv_place.specs.Registers.{ra, sp}
 use Rattle.rv_place.specs.Addresses.{words_of_shift, entry_words}
 use Rattle.rv_place.specs.Instructions.{words_of_jump}
 use Rattle.rv_place.specs.Lines.{IsFromPointer, ShiftsStack}
-use Rattle.rv_place.proofs.Emitting.{grew_so, grew_then}
-use Rattle.rv_place.proofs.Acting.{entry_jump}
+use Rattle.rv_place.proofs.Emissions.{grew_so, grew_then}
+use Rattle.rv_place.proofs.LineInstructions.{entry_jump}
 use Rattle.rv_place.proofs.emit.emit_bare_entry.Goals as goal
 
 pub returns : goal.returns

@@ -1,5 +1,5 @@
-use Rattle.rv_place.proofs.Emitting.{on_so}
-use Rattle.rv_place.proofs.Jumping.{branch_near, branch_far}
+use Rattle.rv_place.proofs.Emissions.{on_so}
+use Rattle.rv_place.proofs.JumpInstructions.{branch_near, branch_far}
 use Rattle.rv_place.proofs.emit.emit_branch.Goals as goal
 
 pub returns-in-Near : goal.returns-in-Near

@@ -1,6 +1,6 @@
 use Rattle.std.proofs.Common.{refl, sym, ◌∙◌}
-use Rattle.rv_place.proofs.Emitting.{on_so}
-use Rattle.rv_place.proofs.Operating.{set_short, set_upper}
+use Rattle.rv_place.proofs.Emissions.{on_so}
+use Rattle.rv_place.proofs.OperationInstructions.{set_short, set_upper}
 use Rattle.rv_place.proofs.emit.emit_constant.Goals as goal
 
 pub returns-in-Short : goal.returns-in-Short

@@ -1,7 +1,7 @@
 use Rattle.std.proofs.Common.{Some, ◌+◌, refl, ap, ◌∙◌}
 use Rattle.rv_isa.specs.declared.asm.Condition.{Condition}
 use Rattle.rv_place.specs.Instructions.{branch_instruction}
-use Rattle.rv_place.proofs.Emitting.{grew_so, grew_then}
+use Rattle.rv_place.proofs.Emissions.{grew_so, grew_then}
 use Rattle.rv_place.proofs.emit.emit_far_branch.Goals as goal
 
 pub returns : goal.returns

@@ -1,6 +1,6 @@
 use Rattle.std.proofs.Common.{Some, refl, ap, ◌∙◌}
-use Rattle.cell_runtime.proofs.SameLines.{same_jalr}
-use Rattle.rv_place.proofs.Emitting.{grew_so, grew_then, same_lui}
+use Rattle.cell_runtime.proofs.ItemEquality.{same_jalr}
+use Rattle.rv_place.proofs.Emissions.{grew_so, grew_then, same_lui}
 use Rattle.rv_place.proofs.emit.emit_far_jump.Goals as goal
 
 pub returns : goal.returns

@@ -1,6 +1,6 @@
 use Rattle.std.proofs.Common.{refl}
-use Rattle.rv_place.proofs.Emitting.{on_so}
-use Rattle.rv_place.proofs.Shifting.{found_narrow, found_wide}
+use Rattle.rv_place.proofs.Emissions.{on_so}
+use Rattle.rv_place.proofs.PointerShifts.{found_narrow, found_wide}
 use Rattle.rv_place.proofs.emit.emit_finding.Goals as goal
 
 pub returns-in-Near : goal.returns-in-Near

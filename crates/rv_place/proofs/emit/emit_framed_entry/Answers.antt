@@ -5,8 +5,8 @@ use Rattle.rv_place.specs.Registers.{ra, sp}
 use Rattle.rv_place.specs.Addresses.{words_of_shift, words_to_frame}
 use Rattle.rv_place.specs.Instructions.{words_of_jump}
 use Rattle.rv_place.specs.Lines.{IsFromPointer, ShiftsStack, FindsFrame}
-use Rattle.rv_place.proofs.Emitting.{grew_so, grew_then}
-use Rattle.rv_place.proofs.Acting.{entry_branch}
+use Rattle.rv_place.proofs.Emissions.{grew_so, grew_then}
+use Rattle.rv_place.proofs.LineInstructions.{entry_branch}
 use Rattle.rv_place.proofs.emit.emit_framed_entry.Goals as goal
 
 pub returns : goal.returns

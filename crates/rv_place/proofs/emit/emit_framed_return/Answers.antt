@@ -4,7 +4,7 @@ use Rattle.rv_place.specs.declared.reach.Reach.{Reach}
 use Rattle.rv_place.specs.Registers.{zero_register, ra}
 use Rattle.rv_place.specs.Addresses.{words_of_shift}
 use Rattle.rv_place.specs.Lines.{IsFromPointer, ShiftsStack}
-use Rattle.rv_place.proofs.Emitting.{grew_so, grew_then}
+use Rattle.rv_place.proofs.Emissions.{grew_so, grew_then}
 use Rattle.rv_place.proofs.emit.emit_framed_return.Goals as goal
 
 pub returns : goal.returns

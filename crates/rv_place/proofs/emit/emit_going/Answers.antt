@@ -1,7 +1,7 @@
 use Rattle.std.proofs.Common.{Some, refl, ap, ◌∙◌}
 use Rattle.cell_runtime.proofs.Operands.{imm_0}
-use Rattle.cell_runtime.proofs.SameLines.{same_jalr}
-use Rattle.rv_place.proofs.Emitting.{on_so, grew_so}
+use Rattle.cell_runtime.proofs.ItemEquality.{same_jalr}
+use Rattle.rv_place.proofs.Emissions.{on_so, grew_so}
 use Rattle.rv_place.proofs.emit.emit_going.Goals as goal
 
 pub returns : goal.returns

@@ -1,8 +1,8 @@
 use Rattle.std.proofs.Common.{refl, subst}
-use Rattle.rv_isa.proofs.Same.{same_register}
+use Rattle.rv_isa.proofs.RangeEquality.{same_register}
 use Rattle.rv_place.specs.Registers.{zero_register}
 use Rattle.rv_place.specs.Instructions.{JumpsBy}
-use Rattle.rv_place.proofs.Emitting.{grew_so, on_so}
+use Rattle.rv_place.proofs.Emissions.{grew_so, on_so}
 use Rattle.rv_place.proofs.emit.emit_jump.Goals as goal
 
 pub returns : goal.returns

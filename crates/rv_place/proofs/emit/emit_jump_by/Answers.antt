@@ -1,5 +1,5 @@
-use Rattle.rv_place.proofs.Emitting.{on_so}
-use Rattle.rv_place.proofs.Jumping.{jump_near, jump_far}
+use Rattle.rv_place.proofs.Emissions.{on_so}
+use Rattle.rv_place.proofs.JumpInstructions.{jump_near, jump_far}
 use Rattle.rv_place.proofs.emit.emit_jump_by.Goals as goal
 
 pub returns-in-Near : goal.returns-in-Near

@@ -1,5 +1,5 @@
 use Rattle.std.proofs.Common.{refl}
-use Rattle.rv_place.proofs.Emitting.{grew_so, grew_then}
+use Rattle.rv_place.proofs.Emissions.{grew_so, grew_then}
 use Rattle.rv_place.proofs.emit.emit_load.Goals as goal
 
 pub returns : goal.returns

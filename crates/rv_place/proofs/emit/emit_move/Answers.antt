@@ -1,6 +1,6 @@
 use Rattle.std.proofs.Common.{refl}
-use Rattle.rv_place.proofs.Emitting.{on_so}
-use Rattle.rv_place.proofs.Moving.{moves_copy, moves_load, moves_store}
+use Rattle.rv_place.proofs.Emissions.{on_so}
+use Rattle.rv_place.proofs.MoveInstructions.{moves_copy, moves_load, moves_store}
 use Rattle.rv_place.proofs.emit.emit_move.Goals as goal
 
 pub returns-in-Copy : goal.returns-in-Copy

@@ -2,7 +2,7 @@ use Rattle.std.proofs.Common.{◌≡◌, ◌*◌, sym, subst, refl}
 use Rattle.rv_isa.specs.Arithmetic.{sum_word}
 use Rattle.rv_place.specs.Addresses.{jump_words}
 use Rattle.rv_place.specs.Emitted.{AreNear}
-use Rattle.rv_place.proofs.Emitting.{grew_so, on_so}
+use Rattle.rv_place.proofs.Emissions.{grew_so, on_so}
 use Rattle.rv_place.proofs.emit.emit_near_jump.Goals as goal
 
 pub returns : goal.returns

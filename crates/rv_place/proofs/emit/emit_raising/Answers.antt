@@ -1,5 +1,5 @@
-use Rattle.rv_place.proofs.Emitting.{on_so}
-use Rattle.rv_place.proofs.Shifting.{shift_narrow}
+use Rattle.rv_place.proofs.Emissions.{on_so}
+use Rattle.rv_place.proofs.PointerShifts.{shift_narrow}
 use Rattle.rv_place.proofs.emit.emit_raising.Goals as goal
 
 pub returns-in-Near : goal.returns-in-Near

@@ -1,6 +1,6 @@
 use Rattle.std.proofs.Common.{Some, refl, ap, ◌∙◌, arith}
-use Rattle.cell_runtime.proofs.SameLines.{same_sw}
-use Rattle.rv_place.proofs.Emitting.{grew_so, grew_then}
+use Rattle.cell_runtime.proofs.ItemEquality.{same_sw}
+use Rattle.rv_place.proofs.Emissions.{grew_so, grew_then}
 use Rattle.rv_place.proofs.emit.emit_taking.Goals as goal
 
 pub returns : goal.returns

@@ -1,5 +1,5 @@
 -- The law is the simulation of the lines.
-use Rattle.rv_place.proofs.RunningSimulating.{simulates}
+use Rattle.rv_place.proofs.ProcessorSimulation.{simulates}
 use Rattle.rv_place.proofs.law.placed_code_keeps_meaning.Goals as goal
 
 pub returns : goal.returns

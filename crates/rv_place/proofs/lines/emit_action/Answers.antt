@@ -1,5 +1,5 @@
-use Rattle.rv_place.proofs.Emitting.{on_so}
-use Rattle.rv_place.proofs.Acting.{on_operation, on_jump, on_branch, on_call, on_tail_call, on_return, on_routine, on_hold, on_unhold}
+use Rattle.rv_place.proofs.Emissions.{on_so}
+use Rattle.rv_place.proofs.LineInstructions.{on_operation, on_jump, on_branch, on_call, on_tail_call, on_return, on_routine, on_hold, on_unhold}
 use Rattle.rv_place.proofs.lines.emit_action.Goals as goal
 
 pub returns-in-Compute : goal.returns-in-Compute

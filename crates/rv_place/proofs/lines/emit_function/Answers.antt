@@ -2,7 +2,7 @@ use Rattle.std.proofs.Common.{◌+◌, List, map, ap, sym, subst, ◌*◌, ◌�
 use Rattle.rv_isa.specs.declared.placed.Item.{Item}
 use Rattle.rv_isa.specs.PlacedCode.{placed_line_of, placed_lines_of}
 use Rattle.rv_place.specs.Emitted.{HasLabels}
-use Rattle.rv_place.proofs.Acting.{entry_then}
+use Rattle.rv_place.proofs.LineInstructions.{entry_then}
 use Rattle.rv_isa.specs.PlacedCode.{PlacedLine}
 use Rattle.rv_place.specs.Addresses.{words_of_lines, entry_words, forms_of}
 use Rattle.rv_place.specs.Emitted.{Grew, LinesBy}

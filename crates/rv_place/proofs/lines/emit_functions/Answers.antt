@@ -3,9 +3,9 @@ use Rattle.rv_isa.specs.Costs.{placed_functions_length}
 use Rattle.rv_isa.specs.PlacedCode.{PlacedLines, placed_lines_of}
 use Rattle.rv_place.specs.Addresses.{words_of_functions, slots_of_functions}
 use Rattle.rv_place.specs.Emitted.{Grew, FunctionsBy}
-use Rattle.rv_place.proofs.Emitting.{grew_nothing}
+use Rattle.rv_place.proofs.Emissions.{grew_nothing}
 use Rattle.rv_place.proofs.Rests.{rest_at, nothing_left}
-use Rattle.rv_place.proofs.Acting.{function_then}
+use Rattle.rv_place.proofs.LineInstructions.{function_then}
 use Rattle.rv_place.proofs.lines.emit_functions.Goals as goal
 
 pub loop-function-preserved : goal.loop-function-preserved

@@ -1,7 +1,7 @@
 use Rattle.std.proofs.Common.{ap}
 use Rattle.rv_isa.specs.PlacedCode.{placed_line_of}
-use Rattle.rv_place.proofs.Emitting.{on_so}
-use Rattle.rv_place.proofs.Acting.{on_move}
+use Rattle.rv_place.proofs.Emissions.{on_so}
+use Rattle.rv_place.proofs.LineInstructions.{on_move}
 use Rattle.rv_place.proofs.lines.emit_item.Goals as goal
 
 pub returns-in-Moves : goal.returns-in-Moves

@@ -3,9 +3,9 @@ use Rattle.rv_isa.specs.Costs.{placed_code_length}
 use Rattle.rv_isa.specs.PlacedCode.{PlacedLine, placed_line_of}
 use Rattle.rv_place.specs.Addresses.{words_of_lines, slots_of_lines}
 use Rattle.rv_place.specs.Emitted.{Grew, LinesBy}
-use Rattle.rv_place.proofs.Emitting.{grew_nothing}
+use Rattle.rv_place.proofs.Emissions.{grew_nothing}
 use Rattle.rv_place.proofs.Rests.{rest_at, nothing_left}
-use Rattle.rv_place.proofs.Acting.{line_then}
+use Rattle.rv_place.proofs.LineInstructions.{line_then}
 use Rattle.rv_place.proofs.lines.emit_items.Goals as goal
 
 pub loop-item-preserved : goal.loop-item-preserved

@@ -1,6 +1,6 @@
 use Rattle.std.proofs.Common.{refl}
-use Rattle.rv_place.proofs.Emitting.{on_so}
-use Rattle.rv_place.proofs.Operating.{on_two, on_immediate, on_shift, on_copy, on_word, on_address, on_load, on_store, on_dup, on_free}
+use Rattle.rv_place.proofs.Emissions.{on_so}
+use Rattle.rv_place.proofs.OperationInstructions.{on_two, on_immediate, on_shift, on_copy, on_word, on_address, on_load, on_store, on_dup, on_free}
 use Rattle.rv_place.proofs.operations.emit_operation.Goals as goal
 
 pub returns-in-Register : goal.returns-in-Register

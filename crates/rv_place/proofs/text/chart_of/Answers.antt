@@ -7,7 +7,7 @@ use Rattle.cell_runtime.specs.Lines.{words_of, labels_of}
 use Rattle.rv_place.specs.Addresses.{entries_from, frames_taken}
 use Rattle.rv_place.specs.Texts.{jumps_of, text_words}
 use Rattle.rv_place.specs.Emitted.{AreSymbols, addresses_from}
-use Rattle.rv_place.proofs.Texting.{entries_among, short_text, addresses_get}
+use Rattle.rv_place.proofs.TextParts.{entries_among, short_text, addresses_get}
 use Rattle.rv_place.proofs.Symbolic.{symbols_within}
 use Rattle.rv_place.specs.declared.reach.Reach.{Reach}
 use Rattle.rv_place.proofs.text.chart_of.Goals as goal

@@ -1,5 +1,5 @@
-use Rattle.rv_place.proofs.Emitting.{on_so}
-use Rattle.rv_place.proofs.Texting.{native_instruction, native_address}
+use Rattle.rv_place.proofs.Emissions.{on_so}
+use Rattle.rv_place.proofs.TextParts.{native_instruction, native_address}
 use Rattle.rv_place.proofs.text.emit_native.Goals as goal
 
 pub returns-in-Instruction : goal.returns-in-Instruction

@@ -9,7 +9,7 @@ use Rattle.rv_place.specs.Addresses.{words_of_functions}
 use Rattle.rv_place.specs.Texts.{jumps_of, map_of}
 use Rattle.rv_place.specs.declared.reach.Reach.{Reach}
 use Rattle.rv_place.specs.Emitted.{Grew, FunctionsBy}
-use Rattle.rv_place.proofs.Texting.{functions_at}
+use Rattle.rv_place.proofs.TextParts.{functions_at}
 use Rattle.rv_place.proofs.text.place.Goals as goal
 
 pub returns : goal.returns

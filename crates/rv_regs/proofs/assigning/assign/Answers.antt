@@ -3,7 +3,7 @@ use Rattle.rv_isa.specs.declared.asm.AsmFunction.{AsmFunction}
 use Rattle.rv_isa.specs.AsmCode.{lines_of, asm_functions}
 use Rattle.rv_isa.specs.PlacedCode.{placed_lines_of}
 use Rattle.rv_regs.specs.Shape.{AreRight}
-use Rattle.rv_regs.proofs.Right.{right_placings, right_shape}
+use Rattle.rv_regs.proofs.ProgramPlacings.{right_placings, right_shape}
 use Rattle.rv_regs.proofs.assigning.assign.Goals as goal
 
 pub returns-clause-valid : goal.returns-clause-valid

@@ -4,7 +4,7 @@ use Rattle.rv_isa.specs.AsmCode.{lines_of}
 use Rattle.rv_isa.specs.PlacedCode.{placed_lines_of}
 use Rattle.rv_regs.specs.Plain.{placed_function}
 use Rattle.rv_regs.specs.Shape.{IsRight}
-use Rattle.rv_regs.proofs.Right.{plain_right}
+use Rattle.rv_regs.proofs.ProgramPlacings.{plain_right}
 use Rattle.rv_regs.proofs.assigning.place_function.Goals as goal
 
 pub returns-in-None : goal.returns-in-None

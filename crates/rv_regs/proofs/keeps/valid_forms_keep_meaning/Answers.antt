@@ -4,8 +4,8 @@ use Rattle.rv_isa.specs.AsmCode.{asm_functions}
 use Rattle.rv_isa.specs.PlacedCode.{placed_functions}
 use Rattle.rv_isa.specs.AsmMachine.{asm_machine}
 use Rattle.std.proofs.Common.{◌*◌}
-use Rattle.rv_regs.proofs.Extra.{none_extra, weighs_within}
-use Rattle.rv_regs.proofs.MeaningKept.{simulates, starts, agrees, agrees_exactly, never_stuck}
+use Rattle.rv_regs.proofs.ExtraMoves.{none_extra, weighs_within}
+use Rattle.rv_regs.proofs.MeaningPreservation.{simulates, starts, agrees, agrees_exactly, never_stuck}
 use Rattle.rv_regs.proofs.keeps.valid_forms_keep_meaning.Goals as goal
 
 pub returns-clause-simulates : goal.returns-clause-simulates

@@ -4,7 +4,7 @@ use Rattle.rv_isa.specs.declared.asm.Action.{Action}
 use Rattle.rv_isa.specs.AsmMachine.{is_label}
 use Rattle.rv_regs.specs.declared.liveness.LabelPoint.{LabelPoint}
 use Rattle.rv_regs.specs.Tables.{last_at}
-use Rattle.rv_regs.proofs.Walking.{last_at_put, no_label}
+use Rattle.rv_regs.proofs.WalkSteps.{last_at_put, no_label}
 use Rattle.rv_regs.proofs.liveness.with_point.Goals as goal
 use Rattle.rv_regs.proofs.liveness.with_point.Goals.{in-Label+in_ok-push, in_default}
 

@@ -1,8 +1,8 @@
 -- The lines of the functions, and the simulation that comes to them.
 use Rattle.rv_isa.specs.AsmCode.{asm_functions}
 use Rattle.rv_isa.specs.PlacedCode.{placed_functions}
-use Rattle.rv_regs.proofs.LinesReached.{lines_there, own_lines_there, lines_apart}
-use Rattle.rv_regs.proofs.Reaching.{comes_to_lines, follows_each_state}
+use Rattle.rv_regs.proofs.StatementLines.{lines_there, own_lines_there, lines_apart}
+use Rattle.rv_regs.proofs.StatementArrivals.{comes_to_lines, follows_each_state}
 use Rattle.rv_regs.proofs.reached.placed_forms_come_to_each_line.Goals as goal
 
 pub returns-clause-has : goal.returns-clause-has

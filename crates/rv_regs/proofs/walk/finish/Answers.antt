@@ -1,4 +1,4 @@
-use Rattle.rv_regs.proofs.Walking.{finished}
+use Rattle.rv_regs.proofs.WalkSteps.{finished}
 use Rattle.rv_regs.proofs.walk.finish.Goals as goal
 
 pub returns : goal.returns

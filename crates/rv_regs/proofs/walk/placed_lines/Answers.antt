@@ -1,7 +1,7 @@
 use Rattle.std.proofs.Common.{ap, arith, map}
 use Rattle.std.proofs.Math.Seq.{drop-length}
 use Rattle.rv_isa.specs.AsmCode.{line_of}
-use Rattle.rv_regs.proofs.Walking.{come_to_end}
+use Rattle.rv_regs.proofs.WalkSteps.{come_to_end}
 use Rattle.rv_regs.proofs.walk.placed_lines.Goals as goal
 
 pub loop-left-init : goal.loop-left-init

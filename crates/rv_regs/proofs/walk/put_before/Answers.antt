@@ -1,6 +1,6 @@
 use Rattle.std.proofs.Common.{ap, ◌∙◌}
 use Rattle.rv_regs.specs.Backwards.{backwards}
-use Rattle.rv_regs.proofs.Walking.{backwards_put}
+use Rattle.rv_regs.proofs.WalkSteps.{backwards_put}
 use Rattle.rv_regs.proofs.walk.put_before.Goals as goal
 
 pub returns : goal.returns

@@ -1,4 +1,4 @@
-use Rattle.rv_regs.proofs.Walking.{put_load}
+use Rattle.rv_regs.proofs.WalkSteps.{put_load}
 use Rattle.rv_regs.specs.Backwards.{backwards}
 use Rattle.rv_regs.specs.Plain.{loads}
 use Rattle.rv_regs.specs.Views.{lists_of}

@@ -1,5 +1,5 @@
 use Rattle.std.proofs.Common.{arith}
-use Rattle.rv_regs.proofs.Walking.{put_store}
+use Rattle.rv_regs.proofs.WalkSteps.{put_store}
 use Rattle.rv_regs.specs.Backwards.{backwards}
 use Rattle.rv_regs.specs.Views.{lists_of}
 use Rattle.rv_regs.proofs.walk.put_stores.Goals as goal

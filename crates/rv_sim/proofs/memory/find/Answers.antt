@@ -1,6 +1,6 @@
 use Rattle.std.proofs.Common.{sym, ap, ◌∙◌}
 use Rattle.rv_sim.specs.Areas.{allows}
-use Rattle.rv_sim.proofs.Finding.{finds-first, finds-place, finds-last}
+use Rattle.rv_sim.proofs.AreaSearch.{finds-first, finds-place, finds-last}
 use Rattle.rv_sim.proofs.memory.find.Goals as goal
 
 pub returns-then-allows-clause-found : goal.returns-then-allows-clause-found

@@ -1,5 +1,5 @@
 use Rattle.std.proofs.Common.{get_or, ap}
-use Rattle.rv_sim.proofs.Reading.{byte_loaded-put_area, bare-put, are_apart-put}
+use Rattle.rv_sim.proofs.AreaBytes.{byte_loaded-put_area, bare-put, are_apart-put}
 use Rattle.rv_sim.proofs.memory.put.Goals as goal
 
 pub returns-clause-put : goal.returns-clause-put

@@ -1,5 +1,5 @@
 use Rattle.std.proofs.Common.{take, rules}
-use Rattle.rv_sim.proofs.Reading.{with_number-put}
+use Rattle.rv_sim.proofs.AreaBytes.{with_number-put}
 use Rattle.rv_sim.proofs.memory.put_number.Goals as goal
 
 pub returns-clause-put : goal.returns-clause-put

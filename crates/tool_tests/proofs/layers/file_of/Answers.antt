@@ -8,7 +8,7 @@ use Rattle.kk_middle.specs.Compiled.{instance_positions}
 use Rattle.kk_middle.specs.Meaning.{store_steps}
 use Rattle.kk_back.specs.Images.{IsRunnable}
 use Rattle.kk_build.proofs.LentNames.{keeps_lent}
-use Rattle.kk_build.proofs.Runnable.{runnable}
+use Rattle.kk_build.proofs.ImageConditions.{runnable}
 use Rattle.tool_tests.proofs.layers.file_of.Goals as goal
 
 pub compile-requires-clause-checked : goal.compile-requires-clause-checked

@@ -1,5 +1,5 @@
 use Rattle.std.proofs.Common.{is_ok}
-use Rattle.kk_counted.specs.Shaping.{positions_in}
+use Rattle.kk_counted.specs.InstancePositions.{positions_in}
 use Rattle.kk_counted.proofs.Programs.{function_pushed}
 use Rattle.kk_counted.proofs.counted.Counted.add.Goals as goal
 

@@ -1,12 +1,12 @@
 use Rattle.std.proofs.Common.{◌≡◌, arith, refl, sym, ap}
 use Rattle.kk_counted.specs.Drafts.{Draft, forked}
 use Rattle.kk_counted.specs.Emissions.{state}
-use Rattle.kk_counted.specs.Shaping.{positions_in, fields_in}
+use Rattle.kk_counted.specs.InstancePositions.{positions_in, fields_in}
 use Rattle.kk_counted.specs.CountedForms.{decisions_of}
 use Rattle.kk_counted.specs.Works.{left_in, draft}
-use Rattle.kk_counted.proofs.Seeing.{seen, going_now, works_now, instance_now, newest}
-use Rattle.kk_counted.proofs.Drafted.{copies_back}
-use Rattle.kk_counted.proofs.Working.{forked_works, works_same}
+use Rattle.kk_counted.proofs.EmitterViews.{seen, going_now, works_now, instance_now, newest}
+use Rattle.kk_counted.proofs.DraftChanges.{copies_back}
+use Rattle.kk_counted.proofs.EmitterCalls.{forked_works, works_same}
 use Rattle.kk_counted.proofs.emitter.Emitter.begin.Goals as goal
 
 pub invariant_of-self : goal.invariant_of-self

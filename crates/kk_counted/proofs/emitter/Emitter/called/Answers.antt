@@ -3,10 +3,10 @@ use Rattle.std.proofs.Common.{◌≡◌, ◌<◌, length, get_or, arith, refl, s
 use Rattle.std.proofs.lemmas.List.{length-map}
 use Rattle.kk_counted.specs.Drafts.{computed, used_in}
 use Rattle.kk_counted.specs.Emissions.{state}
-use Rattle.kk_counted.specs.Shaping.{passed_to, positions_in, fields_in}
+use Rattle.kk_counted.specs.InstancePositions.{passed_to, positions_in, fields_in}
 use Rattle.kk_counted.specs.Works.{draft, used_at}
-use Rattle.kk_counted.proofs.Seeing.{seen, going_now, works_now, instance_now, next_now, used_same}
-use Rattle.kk_counted.proofs.Working.{called_works, works_same, passed_at}
+use Rattle.kk_counted.proofs.EmitterViews.{seen, going_now, works_now, instance_now, next_now, used_same}
+use Rattle.kk_counted.proofs.EmitterCalls.{called_works, works_same, passed_at}
 use Rattle.kk_counted.proofs.emitter.Emitter.called.Goals as goal
 
 pub invariant_of-self : goal.invariant_of-self

@@ -2,10 +2,10 @@ use Rattle.kk_syntax.specs.declared.program.Form.TheVariants as OfForm
 use Rattle.std.proofs.Common.{refl, ap, ◌∙◌}
 use Rattle.kk_counted.specs.Drafts.{computed}
 use Rattle.kk_counted.specs.Emissions.{state}
-use Rattle.kk_counted.specs.Shaping.{positions_in, fields_in}
+use Rattle.kk_counted.specs.InstancePositions.{positions_in, fields_in}
 use Rattle.kk_counted.specs.Works.{draft}
-use Rattle.kk_counted.proofs.Seeing.{seen, going_now, works_now, instance_now, next_now}
-use Rattle.kk_counted.proofs.Working.{constructed_works, works_same, all_used}
+use Rattle.kk_counted.proofs.EmitterViews.{seen, going_now, works_now, instance_now, next_now}
+use Rattle.kk_counted.proofs.EmitterCalls.{constructed_works, works_same, all_used}
 use Rattle.kk_counted.proofs.emitter.Emitter.construct.Goals as goal
 
 pub invariant_of-self : goal.invariant_of-self

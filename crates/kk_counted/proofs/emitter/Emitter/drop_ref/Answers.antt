@@ -1,9 +1,9 @@
 use Rattle.kk_counted.specs.Drafts.{dropped}
 use Rattle.kk_counted.specs.Emissions.{state}
-use Rattle.kk_counted.specs.Shaping.{positions_in, fields_in}
+use Rattle.kk_counted.specs.InstancePositions.{positions_in, fields_in}
 use Rattle.kk_counted.specs.Works.{draft}
-use Rattle.kk_counted.proofs.Seeing.{seen, going_now, works_now}
-use Rattle.kk_counted.proofs.Working.{dropped_works, works_same}
+use Rattle.kk_counted.proofs.EmitterViews.{seen, going_now, works_now}
+use Rattle.kk_counted.proofs.EmitterCalls.{dropped_works, works_same}
 use Rattle.kk_counted.proofs.emitter.Emitter.drop_ref.Goals as goal
 
 pub invariant_of-self-in-Ok : goal.invariant_of-self-in-Ok

@@ -1,9 +1,9 @@
 use Rattle.kk_counted.specs.Drafts.{ended_by_call}
 use Rattle.kk_counted.specs.Emissions.{state}
-use Rattle.kk_counted.specs.Shaping.{positions_in, fields_in}
+use Rattle.kk_counted.specs.InstancePositions.{positions_in, fields_in}
 use Rattle.kk_counted.specs.Works.{draft}
-use Rattle.kk_counted.proofs.Seeing.{seen, going_now, works_now}
-use Rattle.kk_counted.proofs.Working.{call_works, works_same}
+use Rattle.kk_counted.proofs.EmitterViews.{seen, going_now, works_now}
+use Rattle.kk_counted.proofs.EmitterCalls.{call_works, works_same}
 use Rattle.kk_counted.proofs.emitter.Emitter.end_by_call.Goals as goal
 
 pub invariant_of-self : goal.invariant_of-self

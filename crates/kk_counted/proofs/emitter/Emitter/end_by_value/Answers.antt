@@ -1,9 +1,9 @@
 use Rattle.kk_counted.specs.Drafts.{ended_by_value}
 use Rattle.kk_counted.specs.Emissions.{state}
-use Rattle.kk_counted.specs.Shaping.{positions_in, fields_in}
+use Rattle.kk_counted.specs.InstancePositions.{positions_in, fields_in}
 use Rattle.kk_counted.specs.Works.{draft}
-use Rattle.kk_counted.proofs.Seeing.{seen, going_now, works_now}
-use Rattle.kk_counted.proofs.Working.{ended_works, works_same}
+use Rattle.kk_counted.proofs.EmitterViews.{seen, going_now, works_now}
+use Rattle.kk_counted.proofs.EmitterCalls.{ended_works, works_same}
 use Rattle.kk_counted.proofs.emitter.Emitter.end_by_value.Goals as goal
 
 pub invariant_of-self-in-Ok : goal.invariant_of-self-in-Ok

@@ -5,9 +5,9 @@ use Rattle.kk_counted.specs.CountedForms.{block_code}
 use Rattle.kk_counted.specs.Drafts.{finished}
 use Rattle.kk_counted.specs.Emissions.{state}
 use Rattle.kk_counted.specs.Emitting.{IsJudged, IsSoundDraft}
-use Rattle.kk_counted.specs.Shaping.{positions_in, fields_in}
-use Rattle.kk_counted.proofs.Seeing.{going_now, works_now}
-use Rattle.kk_counted.proofs.Working.{finished_arms, sound_now, finished_judged}
+use Rattle.kk_counted.specs.InstancePositions.{positions_in, fields_in}
+use Rattle.kk_counted.proofs.EmitterViews.{going_now, works_now}
+use Rattle.kk_counted.proofs.EmitterCalls.{finished_arms, sound_now, finished_judged}
 use Rattle.kk_counted.proofs.emitter.Emitter.finish.Goals as goal
 
 pub returns-clause-function : goal.returns-clause-function

@@ -4,9 +4,9 @@ use Rattle.kk_counted.specs.CountedCodes.{Counted, tail_call}
 use Rattle.kk_counted.specs.CountedForms.{plug, block_code}
 use Rattle.kk_counted.specs.Emissions.{state}
 use Rattle.kk_counted.specs.Emitting.{IsJudged, IsSoundDraft}
-use Rattle.kk_counted.specs.Shaping.{positions_in, fields_in}
-use Rattle.kk_counted.proofs.Seeing.{going_now, works_now}
-use Rattle.kk_counted.proofs.Working.{tail_arms, sound_now, tail_judged}
+use Rattle.kk_counted.specs.InstancePositions.{positions_in, fields_in}
+use Rattle.kk_counted.proofs.EmitterViews.{going_now, works_now}
+use Rattle.kk_counted.proofs.EmitterCalls.{tail_arms, sound_now, tail_judged}
 use Rattle.kk_counted.proofs.emitter.Emitter.finish_tail.Goals as goal
 
 pub returns-clause-function : goal.returns-clause-function

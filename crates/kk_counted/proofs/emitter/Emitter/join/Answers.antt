@@ -1,10 +1,10 @@
 use Rattle.std.proofs.Common.{ap, ◌∙◌}
 use Rattle.kk_counted.specs.Drafts.{joined}
 use Rattle.kk_counted.specs.Emissions.{state}
-use Rattle.kk_counted.specs.Shaping.{positions_in, fields_in}
+use Rattle.kk_counted.specs.InstancePositions.{positions_in, fields_in}
 use Rattle.kk_counted.specs.Works.{draft}
-use Rattle.kk_counted.proofs.Seeing.{seen, going_now, works_now, next_now}
-use Rattle.kk_counted.proofs.Working.{ending_none, between_ends, joined_works, joined_instance, works_same}
+use Rattle.kk_counted.proofs.EmitterViews.{seen, going_now, works_now, next_now}
+use Rattle.kk_counted.proofs.EmitterCalls.{ending_none, between_ends, joined_works, joined_instance, works_same}
 use Rattle.kk_counted.proofs.emitter.Emitter.join.Goals as goal
 
 pub join-requires : goal.join-requires

@@ -1,11 +1,11 @@
 use Rattle.std.proofs.Common.{[], ap, ◌∙◌}
 use Rattle.kk_counted.specs.Drafts.{entered}
 use Rattle.kk_counted.specs.Emissions.{state}
-use Rattle.kk_counted.specs.Shaping.{positions_in, fields_in}
+use Rattle.kk_counted.specs.InstancePositions.{positions_in, fields_in}
 use Rattle.kk_counted.specs.Works.{items_of, left_in, draft}
-use Rattle.kk_counted.proofs.Drafted.{back_more}
-use Rattle.kk_counted.proofs.Seeing.{seen, going_now, works_now}
-use Rattle.kk_counted.proofs.Working.{entered_works}
+use Rattle.kk_counted.proofs.DraftChanges.{back_more}
+use Rattle.kk_counted.proofs.EmitterViews.{seen, going_now, works_now}
+use Rattle.kk_counted.proofs.EmitterCalls.{entered_works}
 use Rattle.kk_counted.proofs.emitter.Emitter.next_arm.Goals as goal
 
 pub returns-then-self-clause-left : goal.returns-then-self-clause-left

@@ -3,10 +3,10 @@ use Rattle.std.specs.Prelude.{slice_index_or}
 use Rattle.std.proofs.lemmas.List.{length-map}
 use Rattle.kk_counted.specs.Drafts.{opened, unpacked}
 use Rattle.kk_counted.specs.Emissions.{state}
-use Rattle.kk_counted.specs.Shaping.{positions_in, fields_in}
+use Rattle.kk_counted.specs.InstancePositions.{positions_in, fields_in}
 use Rattle.kk_counted.specs.Works.{draft}
-use Rattle.kk_counted.proofs.Seeing.{seen, going_now, works_now, instance_now}
-use Rattle.kk_counted.proofs.Working.{unpacked_works, works_same, fields_at}
+use Rattle.kk_counted.proofs.EmitterViews.{seen, going_now, works_now, instance_now}
+use Rattle.kk_counted.proofs.EmitterCalls.{unpacked_works, works_same, fields_at}
 use Rattle.kk_counted.proofs.emitter.Emitter.opened.Goals as goal
 
 pub invariant_of-self-in-Ok : goal.invariant_of-self-in-Ok

@@ -1,10 +1,10 @@
 use Rattle.std.proofs.Common.{refl}
 use Rattle.kk_counted.specs.Drafts.{given}
 use Rattle.kk_counted.specs.Emissions.{state}
-use Rattle.kk_counted.specs.Shaping.{positions_in, fields_in}
+use Rattle.kk_counted.specs.InstancePositions.{positions_in, fields_in}
 use Rattle.kk_counted.specs.Works.{draft}
-use Rattle.kk_counted.proofs.Seeing.{seen, going_now, works_now, fallen_already, fell_now, instance_now}
-use Rattle.kk_counted.proofs.Working.{given_works}
+use Rattle.kk_counted.proofs.EmitterViews.{seen, going_now, works_now, fallen_already, fell_now, instance_now}
+use Rattle.kk_counted.proofs.EmitterCalls.{given_works}
 use Rattle.kk_counted.proofs.emitter.Emitter.param.Goals as goal
 
 pub returns-then-self-clause-err : goal.returns-then-self-clause-err

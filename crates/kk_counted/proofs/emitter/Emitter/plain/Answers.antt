@@ -1,10 +1,10 @@
 use Rattle.std.proofs.Common.{refl, ap, ◌∙◌}
 use Rattle.kk_counted.specs.Drafts.{computed}
 use Rattle.kk_counted.specs.Emissions.{state}
-use Rattle.kk_counted.specs.Shaping.{positions_in, fields_in}
+use Rattle.kk_counted.specs.InstancePositions.{positions_in, fields_in}
 use Rattle.kk_counted.specs.Works.{draft}
-use Rattle.kk_counted.proofs.Seeing.{seen, going_now, works_now, instance_now, next_now}
-use Rattle.kk_counted.proofs.Working.{plain_works, works_same, all_used}
+use Rattle.kk_counted.proofs.EmitterViews.{seen, going_now, works_now, instance_now, next_now}
+use Rattle.kk_counted.proofs.EmitterCalls.{plain_works, works_same, all_used}
 use Rattle.kk_counted.proofs.emitter.Emitter.plain.Goals as goal
 
 pub invariant_of-self : goal.invariant_of-self

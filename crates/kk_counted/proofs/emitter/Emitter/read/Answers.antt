@@ -3,10 +3,10 @@ use Rattle.std.specs.Prelude.{slice_index_or}
 use Rattle.std.proofs.lemmas.List.{length-map}
 use Rattle.kk_counted.specs.Drafts.{read_of, looked}
 use Rattle.kk_counted.specs.Emissions.{state}
-use Rattle.kk_counted.specs.Shaping.{positions_in, fields_in}
+use Rattle.kk_counted.specs.InstancePositions.{positions_in, fields_in}
 use Rattle.kk_counted.specs.Works.{draft}
-use Rattle.kk_counted.proofs.Seeing.{seen, going_now, works_now, fallen_already, fell_now}
-use Rattle.kk_counted.proofs.Working.{read_works, fields_at}
+use Rattle.kk_counted.proofs.EmitterViews.{seen, going_now, works_now, fallen_already, fell_now}
+use Rattle.kk_counted.proofs.EmitterCalls.{read_works, fields_at}
 use Rattle.kk_counted.proofs.emitter.Emitter.read.Goals as goal
 
 pub returns-then-self-clause-err : goal.returns-then-self-clause-err

@@ -3,10 +3,10 @@ use Rattle.kk_counted.specs.declared.form.Step.{Step}
 use Rattle.kk_counted.specs.declared.work.Fork.{Fork}
 use Rattle.kk_counted.specs.CountedForms.{step_move}
 use Rattle.kk_counted.specs.Drafts.{Draft, begun}
-use Rattle.kk_counted.specs.Shaping.{positions_in, fields_in}
+use Rattle.kk_counted.specs.InstancePositions.{positions_in, fields_in}
 use Rattle.kk_counted.specs.Spending.{at_positions, numbers_from}
 use Rattle.kk_counted.specs.Works.{passes, back_to_front, split_of}
-use Rattle.kk_counted.proofs.Working.{begun_is, begun_works, passed_at}
+use Rattle.kk_counted.proofs.EmitterCalls.{begun_is, begun_works, passed_at}
 use Rattle.kk_counted.proofs.emitter.Emitter.start.Goals as goal
 
 pub invariant_of-result : goal.invariant_of-result

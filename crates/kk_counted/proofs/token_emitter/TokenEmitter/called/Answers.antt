@@ -5,7 +5,7 @@ use Rattle.kk_counted.specs.Emissions.{state}
 use Rattle.kk_counted.specs.TokenDrafts.{token_draft, under_holds}
 use Rattle.kk_counted.specs.TokenedForms.{TokenedMove}
 use Rattle.kk_counted.specs.TokenEmissions.{counted_of, tokens_of}
-use Rattle.kk_counted.proofs.TokenDrafting.{call_keeps, adds_on}
+use Rattle.kk_counted.proofs.TokenDraftChanges.{call_keeps, adds_on}
 use Rattle.kk_counted.proofs.token_emitter.TokenEmitter.called.Goals as goal
 
 pub invariant_of-self-2 : goal.invariant_of-self-2

@@ -2,7 +2,7 @@ use Rattle.std.proofs.Common.{[], sym, subst}
 use Rattle.kk_counted.specs.KeptFields.{fields_in, KeepsKnown}
 use Rattle.kk_counted.specs.TokenEmissions.{tokens_of}
 use Rattle.kk_counted.specs.TokenEmitting.{known_now}
-use Rattle.kk_counted.proofs.TokenDrafting.{keeps_none}
+use Rattle.kk_counted.proofs.TokenDraftChanges.{keeps_none}
 use Rattle.kk_counted.proofs.token_emitter.TokenEmitter.construct_in.Goals as goal
 
 pub fill-requires-clause-known : goal.fill-requires-clause-known

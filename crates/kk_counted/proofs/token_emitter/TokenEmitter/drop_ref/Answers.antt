@@ -5,7 +5,7 @@ use Rattle.kk_counted.specs.Emissions.{state}
 use Rattle.kk_counted.specs.TokenDrafts.{token_draft}
 use Rattle.kk_counted.specs.TokenedForms.{TokenedMove}
 use Rattle.kk_counted.proofs.TokenedViews.{drop_step}
-use Rattle.kk_counted.proofs.TokenDrafting.{drop_keeps, put_on}
+use Rattle.kk_counted.proofs.TokenDraftChanges.{drop_keeps, put_on}
 use Rattle.kk_counted.proofs.token_emitter.TokenEmitter.drop_ref.Goals as goal
 
 pub invariant_of-self-2 : goal.invariant_of-self-2

@@ -5,7 +5,7 @@ use Rattle.kk_counted.specs.Emissions.{state}
 use Rattle.kk_counted.specs.TokenDrafts.{token_draft}
 use Rattle.kk_counted.specs.TokenedForms.{TokenedMove}
 use Rattle.kk_counted.proofs.TokenedViews.{dup_step}
-use Rattle.kk_counted.proofs.TokenDrafting.{dup_keeps, put_on}
+use Rattle.kk_counted.proofs.TokenDraftChanges.{dup_keeps, put_on}
 use Rattle.kk_counted.proofs.token_emitter.TokenEmitter.dup.Goals as goal
 
 pub invariant_of-self-2 : goal.invariant_of-self-2

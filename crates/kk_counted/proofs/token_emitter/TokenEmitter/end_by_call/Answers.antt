@@ -5,7 +5,7 @@ use Rattle.kk_counted.specs.TokenedCodes.{Tokened}
 use Rattle.kk_counted.specs.TokenDrafts.{token_draft, tokens_ended_in}
 use Rattle.kk_counted.specs.TokenEmissions.{counted_of, tokens_of}
 use Rattle.kk_counted.specs.TokenEmitting.{CanEnd}
-use Rattle.kk_counted.proofs.TokenBranching.{ended_call_keeps}
+use Rattle.kk_counted.proofs.TokenDraftBranches.{ended_call_keeps}
 use Rattle.kk_counted.proofs.token_emitter.TokenEmitter.end_by_call.Goals as goal
 
 pub invariant_of-self-in-Ok-end_arm : goal.invariant_of-self-in-Ok-end_arm

@@ -4,7 +4,7 @@ use Rattle.kk_counted.specs.Emissions.{state}
 use Rattle.kk_counted.specs.TokenDrafts.{token_draft, reads_with}
 use Rattle.kk_counted.specs.TokenEmissions.{counted_of, tokens_of}
 use Rattle.kk_counted.specs.TokenEmitting.{fields_at}
-use Rattle.kk_counted.proofs.TokenDrafting.{reads_keeps, adds_on}
+use Rattle.kk_counted.proofs.TokenDraftChanges.{reads_keeps, adds_on}
 use Rattle.kk_counted.proofs.token_emitter.TokenEmitter.field.Goals as goal
 
 -- the mask of no bits names no variable

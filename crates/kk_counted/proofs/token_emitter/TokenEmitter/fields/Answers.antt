@@ -4,7 +4,7 @@ use Rattle.kk_counted.specs.Emissions.{state}
 use Rattle.kk_counted.specs.TokenDrafts.{token_draft, reads_with}
 use Rattle.kk_counted.specs.TokenEmissions.{counted_of}
 use Rattle.kk_counted.specs.TokenEmitting.{fields_at}
-use Rattle.kk_counted.proofs.TokenDrafting.{reads_keeps, adds_on}
+use Rattle.kk_counted.proofs.TokenDraftChanges.{reads_keeps, adds_on}
 use Rattle.kk_counted.proofs.token_emitter.TokenEmitter.fields.Goals as goal
 
 pub invariant_of-self-2 : goal.invariant_of-self-2

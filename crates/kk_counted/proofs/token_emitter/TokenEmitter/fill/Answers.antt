@@ -5,7 +5,7 @@ use Rattle.kk_counted.specs.Emissions.{state}
 use Rattle.kk_counted.specs.TokenDrafts.{token_draft, fills_with}
 use Rattle.kk_counted.specs.TokenEmissions.{counted_of, tokens_of}
 use Rattle.kk_counted.specs.TokenEmitting.{HasSpare, HasKnown}
-use Rattle.kk_counted.proofs.TokenDrafting.{fill_keeps, spends_on}
+use Rattle.kk_counted.proofs.TokenDraftChanges.{fill_keeps, spends_on}
 use Rattle.kk_counted.proofs.token_emitter.TokenEmitter.fill.Goals as goal
 
 pub invariant_of-self-in-Ok-construct : goal.invariant_of-self-in-Ok-construct

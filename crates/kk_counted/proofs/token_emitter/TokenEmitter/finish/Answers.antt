@@ -4,7 +4,7 @@ use Rattle.kk_counted.specs.Programs.{IsFunctionOf}
 use Rattle.kk_counted.specs.TokenEmissions.{counted_of, tokens_of}
 use Rattle.kk_counted.specs.TokenEmitting.{KeepsTokens}
 use Rattle.kk_counted.specs.TokenDrafts.{tokens_finished}
-use Rattle.kk_counted.proofs.TokenDrafting.{given_function}
+use Rattle.kk_counted.proofs.TokenDraftChanges.{given_function}
 use Rattle.kk_counted.proofs.token_emitter.TokenEmitter.finish.Goals as goal
 
 pub returns-clause-function : goal.returns-clause-function

@@ -7,7 +7,7 @@ use Rattle.kk_counted.specs.TokenedForms.{plug_tokened, tokened_move}
 use Rattle.kk_counted.specs.TokenEmissions.{counted_of, tokens_of}
 use Rattle.kk_counted.specs.TokenEmitting.{KeepsTokens}
 use Rattle.kk_counted.proofs.TokenedViews.{tokened_block_is, tail_call_end}
-use Rattle.kk_counted.proofs.TokenDrafting.{called_function}
+use Rattle.kk_counted.proofs.TokenDraftChanges.{called_function}
 use Rattle.kk_counted.proofs.token_emitter.TokenEmitter.finish_tail.Goals as goal
 
 pub returns-clause-function : goal.returns-clause-function

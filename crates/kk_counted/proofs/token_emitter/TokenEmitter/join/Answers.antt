@@ -3,7 +3,7 @@ use Rattle.kk_counted.specs.Drafts.{IsBetween, AreNewest}
 use Rattle.kk_counted.specs.Emissions.{state}
 use Rattle.kk_counted.specs.TokenDrafts.{token_draft, tokens_joined}
 use Rattle.kk_counted.specs.TokenEmissions.{counted_of}
-use Rattle.kk_counted.proofs.TokenJoining.{joined_keeps}
+use Rattle.kk_counted.proofs.TokenDraftJoins.{joined_keeps}
 use Rattle.kk_counted.proofs.token_emitter.TokenEmitter.join.Goals as goal
 
 pub invariant_of-self-in-Ok-join : goal.invariant_of-self-in-Ok-join

@@ -4,7 +4,7 @@ use Rattle.kk_counted.specs.Emissions.{state}
 use Rattle.kk_counted.specs.TokenDrafts.{token_draft}
 use Rattle.kk_counted.specs.TokenEmissions.{counted_of}
 use Rattle.kk_counted.specs.Works.{left_in}
-use Rattle.kk_counted.proofs.TokenBranching.{entered_keeps, went}
+use Rattle.kk_counted.proofs.TokenDraftBranches.{entered_keeps, went}
 use Rattle.kk_counted.proofs.token_emitter.TokenEmitter.next_arm.Goals as goal
 
 pub invariant_of-self-2 : goal.invariant_of-self-2

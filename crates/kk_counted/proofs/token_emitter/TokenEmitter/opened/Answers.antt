@@ -4,7 +4,7 @@ use Rattle.kk_counted.specs.Emissions.{state}
 use Rattle.kk_counted.specs.TokenDrafts.{token_draft, next_slot, opens_with}
 use Rattle.kk_counted.specs.TokenEmissions.{counted_of, tokens_of}
 use Rattle.kk_counted.specs.TokenEmitting.{fields_at}
-use Rattle.kk_counted.proofs.TokenDrafting.{open_keeps, gains_on}
+use Rattle.kk_counted.proofs.TokenDraftChanges.{open_keeps, gains_on}
 use Rattle.kk_counted.proofs.token_emitter.TokenEmitter.opened.Goals as goal
 
 pub invariant_of-self-2 : goal.invariant_of-self-2

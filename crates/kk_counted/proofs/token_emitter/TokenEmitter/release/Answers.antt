@@ -6,7 +6,7 @@ use Rattle.kk_counted.specs.TokenedForms.{TokenedMove}
 use Rattle.kk_counted.specs.TokenEmissions.{counted_of, tokens_of}
 use Rattle.kk_counted.specs.TokenEmitting.{HasSpare}
 use Rattle.kk_counted.proofs.TokenedViews.{free_step}
-use Rattle.kk_counted.proofs.TokenDrafting.{free_keeps, spends_on}
+use Rattle.kk_counted.proofs.TokenDraftChanges.{free_keeps, spends_on}
 use Rattle.kk_counted.proofs.token_emitter.TokenEmitter.release.Goals as goal
 
 pub invariant_of-self-2 : goal.invariant_of-self-2

@@ -7,8 +7,8 @@ use Rattle.kk_counted.specs.TokenDrafts.{token_draft}
 use Rattle.kk_counted.specs.TokenEmissions.{counted_of}
 use Rattle.kk_counted.specs.TokenEmitting.{AreNewestTokens}
 use Rattle.kk_counted.specs.Works.{left_in}
-use Rattle.kk_counted.proofs.Drafted.{copies_back}
-use Rattle.kk_counted.proofs.TokenBranching.{forked_keeps, forked_left}
+use Rattle.kk_counted.proofs.DraftChanges.{copies_back}
+use Rattle.kk_counted.proofs.TokenDraftBranches.{forked_keeps, forked_left}
 use Rattle.kk_counted.proofs.token_emitter.TokenEmitter.split.Goals as goal
 
 pub invariant_of-self-in-Ok-split-2 : goal.invariant_of-self-in-Ok-split-2

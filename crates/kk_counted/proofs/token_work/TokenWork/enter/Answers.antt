@@ -2,7 +2,7 @@ use Rattle.std.proofs.Common.{sym, ap, ◌∙◌, refl}
 use Rattle.std.proofs.lemmas.List.{append-nil}
 use Rattle.kk_counted.specs.TokenDrafts.{token_split_of}
 use Rattle.kk_counted.specs.Works.{left_in}
-use Rattle.kk_counted.proofs.Drafted.{none_taken}
+use Rattle.kk_counted.proofs.DraftChanges.{none_taken}
 use Rattle.kk_counted.proofs.TokenDrafted.{none_left_to_enter, next_entered}
 use Rattle.kk_counted.proofs.token_work.TokenWork.enter.Goals as goal
 

@@ -2,7 +2,7 @@ use Rattle.std.proofs.Common.{◌==◌, rules, not, ap, ◌∙◌}
 use Rattle.std.specs.Prelude.{filter}
 use Rattle.std.proofs.lemmas.Fn.{filter_same}
 use Rattle.kk_counted.specs.TokenDrafts.{token_draft}
-use Rattle.kk_counted.proofs.TokenDrafting.{without_is}
+use Rattle.kk_counted.proofs.TokenDraftChanges.{without_is}
 use Rattle.kk_counted.proofs.token_work.TokenWork.others.Goals as goal
 
 pub returns : goal.returns

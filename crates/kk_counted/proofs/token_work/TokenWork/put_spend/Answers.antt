@@ -1,6 +1,6 @@
 use Rattle.std.proofs.Common.{◌==◌, rules, not}
 use Rattle.std.proofs.lemmas.Fn.{filter_same}
-use Rattle.kk_counted.proofs.TokenDrafting.{put_spent}
+use Rattle.kk_counted.proofs.TokenDraftChanges.{put_spent}
 use Rattle.kk_counted.proofs.token_work.TokenWork.put_spend.Goals as goal
 
 pub returns : goal.returns

@@ -6,7 +6,7 @@ use Rattle.kk_counted.specs.TokenedForms.{tokened_move}
 use Rattle.kk_counted.specs.TokenDrafts.{TokenSplit, arm_of}
 use Rattle.kk_counted.specs.Drafts.{copies}
 use Rattle.kk_counted.specs.Works.{left_in}
-use Rattle.kk_counted.proofs.Drafted.{copies_back}
+use Rattle.kk_counted.proofs.DraftChanges.{copies_back}
 use Rattle.kk_counted.proofs.TokenDrafted.{branch_begun, same_branch}
 use Rattle.kk_counted.proofs.token_work.TokenWork.split.Goals as goal
 

@@ -2,7 +2,7 @@ use Rattle.std.proofs.Common.{map, ap, ◌∙◌}
 use Rattle.kk_counted.specs.CountedForms.{plug, step_move, block_code, last_code}
 use Rattle.kk_counted.specs.Drafts.{more_arms}
 use Rattle.kk_counted.specs.Works.{split_of}
-use Rattle.kk_counted.proofs.Drafted.{put_back, ended_is}
+use Rattle.kk_counted.proofs.DraftChanges.{put_back, ended_is}
 use Rattle.kk_counted.proofs.work.Work.end_arm.Goals as goal
 
 pub returns-then-is_err-clause-err : goal.returns-then-is_err-clause-err

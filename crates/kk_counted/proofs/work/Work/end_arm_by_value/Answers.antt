@@ -1,7 +1,7 @@
 use Rattle.std.proofs.Common.{Some, None, true, false, sym, ap, ◌∙◌, refl}
 use Rattle.kk_counted.specs.CountedForms.{last_code}
 use Rattle.kk_counted.proofs.FormViews.{return_code}
-use Rattle.kk_counted.proofs.Drafted.{ended_at, restored, none_restored}
+use Rattle.kk_counted.proofs.DraftChanges.{ended_at, restored, none_restored}
 use Rattle.kk_counted.proofs.work.Work.end_arm_by_value.Goals as goal
 
 pub returns-in-Ok-clause-ok : goal.returns-in-Ok-clause-ok

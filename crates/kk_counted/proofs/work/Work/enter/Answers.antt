@@ -1,7 +1,7 @@
 use Rattle.std.proofs.Common.{sym, ap, ◌∙◌, refl}
 use Rattle.std.proofs.lemmas.List.{append-nil}
 use Rattle.kk_counted.specs.Works.{split_of, left_in}
-use Rattle.kk_counted.proofs.Drafted.{none_taken, none_entered, arm_entered}
+use Rattle.kk_counted.proofs.DraftChanges.{none_taken, none_entered, arm_entered}
 use Rattle.kk_counted.proofs.work.Work.enter.Goals as goal
 
 pub returns-in-None : goal.returns-in-None

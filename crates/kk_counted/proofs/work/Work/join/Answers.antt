@@ -1,7 +1,7 @@
 use Rattle.std.proofs.Common.{map, ap, ◌∙◌}
 use Rattle.kk_counted.specs.CountedForms.{step_move}
 use Rattle.kk_counted.specs.Works.{split_of}
-use Rattle.kk_counted.proofs.Drafted.{put_back, joined_is}
+use Rattle.kk_counted.proofs.DraftChanges.{put_back, joined_is}
 use Rattle.kk_counted.proofs.work.Work.join.Goals as goal
 use Rattle.kk_counted.proofs.work.Work.join.Goals.{then-is_err-via-then-is_err, then-is_err-via-else-is_err+then-is_err-2}
 

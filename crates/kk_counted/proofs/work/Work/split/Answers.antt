@@ -3,7 +3,7 @@ use Rattle.kk_counted.specs.declared.work.Fork.{Fork}
 use Rattle.kk_counted.specs.CountedForms.{step_move, block_code, decisions_of}
 use Rattle.kk_counted.specs.Drafts.{minus_all, copies, Split}
 use Rattle.kk_counted.specs.Works.{left_in}
-use Rattle.kk_counted.proofs.Drafted.{copies_back, same_split, forked_is}
+use Rattle.kk_counted.proofs.DraftChanges.{copies_back, same_split, forked_is}
 use Rattle.kk_counted.proofs.work.Work.split.Goals as goal
 
 pub returns-clause-ok : goal.returns-clause-ok

@@ -3,13 +3,13 @@ use Rattle.std.proofs.lemmas.List.{take_more}
 use Rattle.kk_core.specs.declared.decisions.Answer.TheVariants.{Number}
 use Rattle.kk_match.specs.Built.{Names, Branches}
 use Rattle.kk_match.specs.Graphs.{after, weight}
-use Rattle.kk_match.specs.Growing.{IsNumbered, IsMade, HasEdges, HasOther, Grows}
+use Rattle.kk_match.specs.GraphGrowth.{IsNumbered, IsMade, HasEdges, HasOther, Grows}
 use Rattle.kk_match.specs.Parts.{types_of}
 use Rattle.kk_match.specs.Views.{part_of, state_tree, graph_tree}
-use Rattle.kk_match.proofs.After.{lighter}
-use Rattle.kk_match.proofs.Branching.{kind_at, unlisted_right}
+use Rattle.kk_match.proofs.StateAfterAnswer.{lighter}
+use Rattle.kk_match.proofs.EdgeAnswers.{kind_at, unlisted_right}
 use Rattle.kk_match.proofs.Growth.{grows_same, over_behind, numbered_then, numbered_after, reached_after, edges_more, branch_made}
-use Rattle.kk_match.proofs.Keyed.{state_found}
+use Rattle.kk_match.proofs.StateEquality.{state_found}
 use Rattle.kk_match.proofs.graph.Graph.+number.Goals as goal
 
 pub branch-returns-in_default-2 : goal.branch-returns-in_default-2

@@ -1,6 +1,6 @@
 use Rattle.std.proofs.Common.{◌+◌, ◌*◌, Some, take}
 use Rattle.kk_match.specs.Graphs.{weight}
-use Rattle.kk_match.specs.Growing.{HasEdges}
+use Rattle.kk_match.specs.GraphGrowth.{HasEdges}
 use Rattle.kk_match.specs.Parts.{types_of}
 use Rattle.kk_match.specs.Views.{part_of, state_tree, graph_tree}
 use Rattle.kk_match.proofs.graph.Graph.+number.Given as goal

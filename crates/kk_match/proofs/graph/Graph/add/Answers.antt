@@ -1,7 +1,7 @@
 use Rattle.std.proofs.Common.{◌≡◌, ℕ, ◌+◌, ◌<◌, ◌≤◌, ◌∷◌, [], ◌++◌, map, ap, sym, ◌∙◌, subst, arith, add-zero}
 use Rattle.std.proofs.lemmas.List.{map-append}
 use Rattle.kk_core.specs.Decisions.{node_tree}
-use Rattle.kk_match.specs.Growing.{IsPut}
+use Rattle.kk_match.specs.GraphGrowth.{IsPut}
 use Rattle.kk_match.specs.Parts.{types_of}
 use Rattle.kk_match.specs.Views.{state_tree, graph_tree}
 use Rattle.kk_match.proofs.Growth.{one_if, over_now, grows_now}

@@ -6,8 +6,8 @@ use Rattle.kk_meaning.specs.View.{value_view, environment_of}
 use Rattle.kk_meaning.specs.Machines.{setting_of, configuration_of, frames_below}
 use Rattle.kk_meaning.specs.Performs.{Performs}
 use Rattle.kk_meaning.specs.Frames.{frame_view}
-use Rattle.kk_meaning.proofs.Listed.{no_items}
-use Rattle.kk_meaning.proofs.Stepped.{form_at_once}
+use Rattle.kk_meaning.proofs.FrameOrder.{no_items}
+use Rattle.kk_meaning.proofs.ValueTurns.{form_at_once}
 use Rattle.kk_meaning.proofs.machine.Machine.apply.Goals as goal
 
 pub returns-in-None : goal.returns-in-None

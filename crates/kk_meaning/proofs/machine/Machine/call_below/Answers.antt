@@ -1,6 +1,6 @@
 use Rattle.std.proofs.Common.{◌-◌, reverse, take, length, refl, sym, ap, ◌∙◌, subst}
 use Rattle.kk_meaning.specs.Machines.{IsCallOf}
-use Rattle.kk_meaning.proofs.Listed.{newest_is}
+use Rattle.kk_meaning.proofs.FrameOrder.{newest_is}
 use Rattle.kk_meaning.proofs.machine.Machine.call_below.Goals as goal
 
 pub returns-in-Some-Call-clause-call : goal.returns-in-Some-Call-clause-call

@@ -7,8 +7,8 @@ use Rattle.kk_meaning.specs.Turns.{turn_of}
 use Rattle.kk_meaning.specs.View.{value_view, bound_view, environment_of, pushed, cell_view, chosen_view}
 use Rattle.kk_meaning.specs.Frames.{frame_view}
 use Rattle.kk_meaning.specs.Machines.{setting_of, configuration_of, control_view}
-use Rattle.kk_meaning.proofs.Popped.{popped}
-use Rattle.kk_meaning.proofs.Stepped.{choice_turn, no_choice, stays_turn}
+use Rattle.kk_meaning.proofs.FramePops.{popped}
+use Rattle.kk_meaning.proofs.ValueTurns.{choice_turn, no_choice, stays_turn}
 use Rattle.kk_meaning.proofs.machine.Machine.choose.Goals as goal
 
 pub returns-in_default : goal.returns-in_default

@@ -5,8 +5,8 @@ use Rattle.kk_meaning.specs.declared.frame.Frame.TheVariants as OfFrame
 use Rattle.kk_meaning.specs.View.{value_view, environment_of, cell_view}
 use Rattle.kk_meaning.specs.Frames.{block_tree, frame_view}
 use Rattle.kk_meaning.specs.Machines.{setting_of, control_view}
-use Rattle.kk_meaning.proofs.Popped.{popped}
-use Rattle.kk_meaning.proofs.Stepped.{statement_turn}
+use Rattle.kk_meaning.proofs.FramePops.{popped}
+use Rattle.kk_meaning.proofs.ValueTurns.{statement_turn}
 use Rattle.kk_meaning.proofs.machine.Machine.go_on.Goals as goal
 
 pub returns-in_ok-more-in-Some : goal.returns-in_ok-more-in-Some

@@ -1,7 +1,7 @@
 use Rattle.std.proofs.Common.{map, arith, sym}
 use Rattle.std.proofs.lemmas.List.{length-map}
 use Rattle.kk_meaning.specs.View.{cell_view}
-use Rattle.kk_meaning.proofs.Stepped.{has_room}
+use Rattle.kk_meaning.proofs.ValueTurns.{has_room}
 use Rattle.kk_meaning.proofs.machine.Machine.heap_is_full.Goals as goal
 
 pub returns-then-len-self : goal.returns-then-len-self

@@ -6,8 +6,8 @@ use Rattle.kk_meaning.specs.declared.frame.Frame.TheVariants as OfFrame
 use Rattle.kk_meaning.specs.View.{value_view, environment_of, cell_view}
 use Rattle.kk_meaning.specs.Frames.{frame_view}
 use Rattle.kk_meaning.specs.Machines.{setting_of, control_view, FramesFit}
-use Rattle.kk_meaning.proofs.Changed.{newest_changes, was_awaiting, changed_fits, changed_counts}
-use Rattle.kk_meaning.proofs.Stepped.{machine, argument_turn, on_err}
+use Rattle.kk_meaning.proofs.NewestFrame.{newest_changes, was_awaiting, changed_fits, changed_counts}
+use Rattle.kk_meaning.proofs.ValueTurns.{machine, argument_turn, on_err}
 use Rattle.kk_meaning.proofs.machine.Machine.keep.Goals as goal
 
 pub returns-in_err-push-in-Arguments : goal.returns-in_err-push-in-Arguments

@@ -4,8 +4,8 @@ use Rattle.kk_meaning.specs.View.{value_view, cell_view}
 use Rattle.kk_meaning.specs.Frames.{frame_view}
 use Rattle.kk_meaning.specs.Machines.{setting_of, control_view, FramesFit}
 use Rattle.kk_meaning.proofs.Environments.{agree_on_front, take_again}
-use Rattle.kk_meaning.proofs.Listed.{frames_agree, fits_more, calls_alike, call_fits, call_counts, call_seen, nothing_left, front_length}
-use Rattle.kk_meaning.proofs.Stepped.{call_turn}
+use Rattle.kk_meaning.proofs.FrameOrder.{frames_agree, fits_more, calls_alike, call_fits, call_counts, call_seen, nothing_left, front_length}
+use Rattle.kk_meaning.proofs.ValueTurns.{call_turn}
 use Rattle.kk_meaning.proofs.machine.Machine.leave.Goals as goal
 
 pub returns-else-is_empty : goal.returns-else-is_empty

@@ -8,8 +8,8 @@ use Rattle.kk_meaning.specs.View.{value_view}
 use Rattle.kk_meaning.specs.Frames.{frame_view}
 use Rattle.kk_meaning.specs.Machines.{setting_of, configuration_of, frames_below, FramesFit}
 use Rattle.kk_meaning.proofs.Environments.{agree_on_front, parameters_bound}
-use Rattle.kk_meaning.proofs.Listed.{one_newer, frames_agree, calls_alike}
-use Rattle.kk_meaning.proofs.Stepped.{full_turn, pushed_turn}
+use Rattle.kk_meaning.proofs.FrameOrder.{one_newer, frames_agree, calls_alike}
+use Rattle.kk_meaning.proofs.ValueTurns.{full_turn, pushed_turn}
 use Rattle.kk_meaning.proofs.machine.Machine.push.Goals as goal
 
 pub returns-then-self : goal.returns-then-self

@@ -6,8 +6,8 @@ use Rattle.kk_meaning.specs.View.{value_view}
 use Rattle.kk_meaning.specs.Frames.{frame_view}
 use Rattle.kk_meaning.specs.Machines.{configuration_of, frames_below, FramesFit}
 use Rattle.kk_meaning.proofs.Environments.{agree_on_front, parameters_bound}
-use Rattle.kk_meaning.proofs.Listed.{frames_agree, calls_alike, call_fits, call_fits_back}
-use Rattle.kk_meaning.proofs.Stepped.{entered_turn}
+use Rattle.kk_meaning.proofs.FrameOrder.{frames_agree, calls_alike, call_fits, call_fits_back}
+use Rattle.kk_meaning.proofs.ValueTurns.{entered_turn}
 use Rattle.kk_meaning.proofs.machine.Machine.replace.Goals as goal
 
 pub returns : goal.returns

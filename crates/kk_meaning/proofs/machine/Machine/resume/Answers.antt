@@ -4,12 +4,12 @@ use Rattle.kk_source.specs.Actions.{Action}
 use Rattle.kk_source.specs.State.{Value, Frame, arguments, Configuration}
 use Rattle.kk_syntax.specs.Trees.{no_tree, trees_of, expr_tree}
 use Rattle.kk_meaning.specs.declared.frame.Frame.TheVariants as OfFrame
-use Rattle.kk_meaning.proofs.Listed.{newest_is, no_items}
+use Rattle.kk_meaning.proofs.FrameOrder.{newest_is, no_items}
 use Rattle.kk_meaning.specs.Frames.{frame_view}
 use Rattle.kk_meaning.specs.View.{value_view, environment_of}
 use Rattle.kk_meaning.specs.Machines.{setting_of, configuration_of, frames_below}
 use Rattle.kk_meaning.specs.Performs.{Performs}
-use Rattle.kk_meaning.proofs.Stepped.{form_with_last}
+use Rattle.kk_meaning.proofs.ValueTurns.{form_with_last}
 use Rattle.kk_meaning.proofs.machine.Machine.resume.Goals as goal
 
 pub returns-in_ok-values-in-None : goal.returns-in_ok-values-in-None

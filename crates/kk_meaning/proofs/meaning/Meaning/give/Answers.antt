@@ -5,7 +5,7 @@ use Rattle.kk_meaning.specs.declared.turn.Turn.{Turn}
 use Rattle.kk_meaning.specs.Machines.{setting_of, configuration_of}
 use Rattle.kk_meaning.specs.Turns.{without_read}
 use Rattle.kk_meaning.specs.View.{value_view}
-use Rattle.kk_meaning.proofs.Asked.{at_byte, reads, byte_sound}
+use Rattle.kk_meaning.proofs.TurnSteps.{at_byte, reads, byte_sound}
 use Rattle.kk_meaning.proofs.meaning.Meaning.give.Goals as goal
 
 pub invariant_of-self : goal.invariant_of-self

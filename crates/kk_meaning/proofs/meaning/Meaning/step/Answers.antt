@@ -1,6 +1,6 @@
 use Rattle.kk_meaning.specs.Machines.{setting_of, configuration_of}
-use Rattle.kk_meaning.proofs.Asked.{sound_kept, wanted}
-use Rattle.kk_meaning.proofs.Stepped.{on_if_ok}
+use Rattle.kk_meaning.proofs.TurnSteps.{sound_kept, wanted}
+use Rattle.kk_meaning.proofs.ValueTurns.{on_if_ok}
 use Rattle.kk_meaning.proofs.meaning.Meaning.step.Goals as goal
 
 pub invariant_of-self : goal.invariant_of-self

@@ -1,4 +1,4 @@
-use Rattle.kk_mono.proofs.Keyed.{key_known}
+use Rattle.kk_mono.proofs.SearchKeys.{key_known}
 use Rattle.kk_mono.proofs.keys.Keys.contains.Goals as goal
 
 pub returns : goal.returns

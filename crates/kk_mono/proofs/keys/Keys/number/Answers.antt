@@ -2,7 +2,7 @@ use Rattle.std.proofs.Common.{ℕ, Bool, true, Some, ◌≡◌, List, sym, subst
 use Rattle.std.specs.Prelude.{slice_get, IfOk, Result, Ok}
 use Rattle.kk_mono.specs.declared.keys.Key.{Key}
 use Rattle.kk_mono.specs.contracts.keys.KeyPartialEq.TheImpl.{eq-value}
-use Rattle.kk_mono.proofs.Keyed.{key_sighted, key_found}
+use Rattle.kk_mono.proofs.SearchKeys.{key_sighted, key_found}
 use Rattle.kk_mono.proofs.keys.Keys.number.Goals as goal
 
 pub returns-in-Ok-clause-sees : goal.returns-in-Ok-clause-sees

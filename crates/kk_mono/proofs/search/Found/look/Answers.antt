@@ -2,12 +2,12 @@ use Rattle.std.proofs.Common.{◌≡◌, ℕ, ◌<◌, List, length, map, All, S
 use Rattle.std.specs.Prelude.{slice_get}
 use Rattle.kk_syntax.specs.Programs.{constructor_tree}
 use Rattle.kk_syntax.specs.TypedPrograms.{typing_of}
-use Rattle.kk_mono.specs.Looking.{Looks, Uses}
-use Rattle.kk_mono.specs.Searching.{AreConstructionsBelow}
+use Rattle.kk_mono.specs.InstanceUses.{Looks, Uses}
+use Rattle.kk_mono.specs.InstanceSearch.{AreConstructionsBelow}
 use Rattle.kk_mono.specs.Siblings.{HaveSiblings}
 use Rattle.kk_mono.specs.KeyTrees.{key_tree, keys_in}
 use Rattle.kk_mono.specs.Views.{types_in}
-use Rattle.kk_mono.proofs.Looks.{function_within, body_within, key_types, function_read, typing_read, looked_more}
+use Rattle.kk_mono.proofs.InstanceUses.{function_within, body_within, key_types, function_read, typing_read, looked_more}
 use Rattle.kk_mono.proofs.search.Found.look.Goals as goal
 
 pub index-requires : goal.index-requires

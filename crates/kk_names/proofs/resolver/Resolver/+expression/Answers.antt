@@ -22,10 +22,11 @@ use Rattle.kk_names.specs.Methods.{known_of, before_of, newest_first, choice_of,
 use Rattle.kk_names.specs.Tables.{meaning_in}
 use Rattle.kk_names.proofs.Arguments.{AllSoFar, all_more, all_done, first_resolved, call_resolved, construct_resolved, dot_call_resolved}
 use Rattle.kk_names.proofs.Depths.{more_below, some_depth, call_depth, construct_depth, row_depth, row_deep, match_deep, block_deep, pattern_below}
-use Rattle.kk_names.proofs.Growing.{binary_resolved, both_resolved, either_resolved, alone_resolved, branch_resolved, as_written}
+use Rattle.kk_names.proofs.ResolverStates.{binary_resolved, both_resolved, either_resolved, alone_resolved, branch_resolved}
+use Rattle.kk_names.proofs.ResolverStates.{as_written}
 use Rattle.kk_names.proofs.Rows.{RowsSoFar, rows_more, rows_done, row_resolved, match_resolved}
 use Rattle.kk_names.proofs.Statements.{block_resolved, StatementsSoFar, statements_more, variable_statement}
-use Rattle.kk_names.proofs.Written.{call_written, construct_written, binary_written, next_expr, next_statement, variable_written, row_written, next_row}
+use Rattle.kk_names.proofs.WrittenForms.{call_written, construct_written, binary_written, next_expr, next_statement, variable_written, row_written, next_row}
 use Rattle.kk_names.proofs.resolver.Resolver.+expression.Goals as goal
 use Rattle.kk_names.proofs.resolver.Resolver.+expression.Goals.{choice-in-Some+in_ok-negative-in-Some, choice-in-None}
 

@@ -6,7 +6,7 @@ use Rattle.kk_syntax.specs.Trees.{expr_tree, row_tree, statement_tree}
 use Rattle.kk_names.proofs.Arguments.{AllSoFar}
 use Rattle.kk_names.proofs.Rows.{RowsSoFar}
 use Rattle.kk_names.proofs.Statements.{StatementsSoFar}
-use Rattle.kk_names.proofs.Written.{option_size}
+use Rattle.kk_names.proofs.WrittenForms.{option_size}
 use Rattle.kk_names.proofs.resolver.Resolver.+expression.Given as goal
 
 abbrev pub invariant-expressions-loop-expr : goal.invariant-expressions-loop-expr

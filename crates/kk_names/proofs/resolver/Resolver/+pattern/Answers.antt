@@ -7,7 +7,7 @@ use Rattle.kk_syntax.specs.Surface.{WrittenPattern, WrittenPatterns, written_pat
 use Rattle.kk_names.specs.Methods.{newest_first, ResolvesPattern}
 use Rattle.kk_names.specs.Tables.{meaning_in}
 use Rattle.kk_names.proofs.Patterns.{PatternsSoFar, patterns_more, patterns_done, constructor_resolved}
-use Rattle.kk_names.proofs.Written.{pattern_written, next_pattern}
+use Rattle.kk_names.proofs.WrittenForms.{pattern_written, next_pattern}
 use Rattle.kk_names.proofs.resolver.Resolver.+pattern.Goals as goal
 
 pub pattern-returns-in_ok-parts-in-Constructor : goal.pattern-returns-in_ok-parts-in-Constructor

@@ -6,8 +6,8 @@ use Rattle.kk_syntax.specs.Surface.{WrittenType, WrittenTypes, written_type, typ
 use Rattle.kk_syntax.specs.Types.{TypeTree, type_tree}
 use Rattle.kk_names.specs.Methods.{MeansType}
 use Rattle.kk_names.specs.Tables.{type_in}
-use Rattle.kk_names.proofs.TypesMeant.{TypesSoFar, types_more, types_done, named_resolved}
-use Rattle.kk_names.proofs.Written.{named_written, next_type}
+use Rattle.kk_names.proofs.TypeMeanings.{TypesSoFar, types_more, types_done, named_resolved}
+use Rattle.kk_names.proofs.WrittenForms.{named_written, next_type}
 use Rattle.kk_names.proofs.resolver.Resolver.+types.Goals as goal
 
 pub of_type-returns-in_ok-arguments-in-Named : goal.of_type-returns-in_ok-arguments-in-Named

@@ -1,7 +1,7 @@
 use Rattle.std.proofs.Common.{map, drop}
 use Rattle.kk_syntax.specs.Surface.{written_type, types_of}
 use Rattle.kk_syntax.specs.Types.{type_tree}
-use Rattle.kk_names.proofs.TypesMeant.{TypesSoFar}
+use Rattle.kk_names.proofs.TypeMeanings.{TypesSoFar}
 use Rattle.kk_names.proofs.resolver.Resolver.+types.Given as goal
 
 abbrev pub invariant-of_types-loop-written : goal.invariant-of_types-loop-written

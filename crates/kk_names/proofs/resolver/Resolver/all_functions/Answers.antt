@@ -8,7 +8,7 @@ use Rattle.kk_names.specs.declared.resolver.Resolver.{Resolver}
 use Rattle.kk_names.specs.Names.{KeepsDepth}
 use Rattle.kk_names.proofs.Depths.{function_keeps}
 use Rattle.kk_names.proofs.Declarations.{ResolvedSoFar, one_more_resolved, type_passed}
-use Rattle.kk_names.proofs.Written.{next_declaration}
+use Rattle.kk_names.proofs.WrittenForms.{next_declaration}
 use Rattle.kk_names.proofs.resolver.Resolver.all_functions.Goals as goal
 use Rattle.kk_names.proofs.resolver.Resolver.all_functions.Goals.{in-Function+in_ok-function+in_ok-push, in_default}
 

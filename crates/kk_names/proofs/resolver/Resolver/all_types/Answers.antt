@@ -7,8 +7,8 @@ use Rattle.kk_syntax.specs.Programs.{constructor_tree}
 use Rattle.kk_syntax.specs.Surface.{WrittenDeclaration, written_constructor, written_declaration, written_parameter, written_result, written_expr}
 use Rattle.kk_names.specs.declared.resolver.Resolver.{Resolver}
 use Rattle.kk_names.specs.Names.{types_of}
-use Rattle.kk_names.proofs.TypesDeclared.{TypesSoFar, types_more, function_passed}
-use Rattle.kk_names.proofs.Written.{next_declaration}
+use Rattle.kk_names.proofs.DeclaredTypes.{TypesSoFar, types_more, function_passed}
+use Rattle.kk_names.proofs.WrittenForms.{next_declaration}
 use Rattle.kk_names.proofs.resolver.Resolver.all_types.Goals as goal
 use Rattle.kk_names.proofs.resolver.Resolver.all_types.Goals.{in-Type+in_ok-declared_type, in_default}
 

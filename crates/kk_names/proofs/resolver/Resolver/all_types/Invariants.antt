@@ -1,7 +1,7 @@
 use Rattle.std.proofs.Common.{map, drop}
 use Rattle.kk_syntax.specs.Programs.{constructor_tree}
 use Rattle.kk_syntax.specs.Surface.{written_declaration}
-use Rattle.kk_names.proofs.TypesDeclared.{TypesSoFar}
+use Rattle.kk_names.proofs.DeclaredTypes.{TypesSoFar}
 use Rattle.kk_names.proofs.resolver.Resolver.all_types.Given as goal
 
 abbrev pub invariant-loop-declaration : goal.invariant-loop-declaration

@@ -3,7 +3,7 @@ use Rattle.std.proofs.lemmas.List.{map-append, drop_all}
 use Rattle.kk_syntax.specs.declared.tree.ConstructorDeclaration.{ConstructorDeclaration}
 use Rattle.kk_syntax.specs.Programs.{ConstructorTree, constructor_tree}
 use Rattle.kk_syntax.specs.Surface.{WrittenConstructor, written_constructor}
-use Rattle.kk_names.proofs.TypesDeclared.{CasesSoFar, cases_more, cases_done}
+use Rattle.kk_names.proofs.DeclaredTypes.{CasesSoFar, cases_more, cases_done}
 use Rattle.kk_base.proofs.Lists.{rest_at}
 use Rattle.kk_names.proofs.resolver.Resolver.cases.Goals as goal
 

@@ -1,7 +1,7 @@
 use Rattle.std.proofs.Common.{map, drop}
 use Rattle.kk_syntax.specs.Programs.{constructor_tree}
 use Rattle.kk_syntax.specs.Surface.{written_constructor}
-use Rattle.kk_names.proofs.TypesDeclared.{CasesSoFar}
+use Rattle.kk_names.proofs.DeclaredTypes.{CasesSoFar}
 use Rattle.kk_names.proofs.resolver.Resolver.cases.Given as goal
 
 abbrev pub invariant-loop-case : goal.invariant-loop-case

@@ -1,7 +1,7 @@
 use Rattle.std.proofs.Common.{◌+◌, map, drop, sym, ap, ◌∙◌, arith}
 use Rattle.kk_syntax.specs.Surface.{written_constructor}
 use Rattle.kk_names.specs.Methods.{state_of, behind_cases}
-use Rattle.kk_names.proofs.Declaring.{cases_more}
+use Rattle.kk_names.proofs.DeclaredNames.{cases_more}
 use Rattle.kk_base.proofs.Lists.{rest_at}
 use Rattle.kk_names.proofs.resolver.Resolver.declare_cases.Goals as goal
 

@@ -2,8 +2,8 @@ use Rattle.std.proofs.Common.{◌+◌, ◌∷◌, length, map, drop, sym, ap, �
 use Rattle.std.proofs.lemmas.List.{length-map}
 use Rattle.kk_syntax.specs.Surface.{written_constructor, written_declaration}
 use Rattle.kk_names.specs.Methods.{state_of, behind_cases, behind_constructors}
-use Rattle.kk_names.proofs.Declaring.{constructors_more}
-use Rattle.kk_names.proofs.Written.{next_declaration}
+use Rattle.kk_names.proofs.DeclaredNames.{constructors_more}
+use Rattle.kk_names.proofs.WrittenForms.{next_declaration}
 use Rattle.kk_names.proofs.resolver.Resolver.declare_constructors.Goals as goal
 use Rattle.kk_names.proofs.resolver.Resolver.declare_constructors.Goals.{in-Type+in_ok-number, in_default}
 

@@ -6,7 +6,7 @@ use Rattle.std.specs.Prelude.{is_some}
 use Rattle.kk_names.specs.declared.resolver.Resolver.{Resolver}
 use Rattle.kk_names.specs.Methods.{known_of, names_in_table}
 use Rattle.kk_names.specs.Tables.{meaning_in}
-use Rattle.kk_names.proofs.Declaring.{name_declared, functions_longer}
+use Rattle.kk_names.proofs.DeclaredNames.{name_declared, functions_longer}
 use Rattle.kk_names.proofs.Tables.{is_meant}
 use Rattle.kk_names.proofs.resolver.Resolver.declare_function.Goals as goal
 

@@ -1,8 +1,8 @@
 use Rattle.std.proofs.Common.{◌+◌, ◌∷◌, map, drop, sym, ap, ◌∙◌}
 use Rattle.kk_syntax.specs.Surface.{written_parameter, written_result, written_expr, written_declaration}
 use Rattle.kk_names.specs.Methods.{state_of, behind_functions}
-use Rattle.kk_names.proofs.Declaring.{functions_more}
-use Rattle.kk_names.proofs.Written.{next_declaration}
+use Rattle.kk_names.proofs.DeclaredNames.{functions_more}
+use Rattle.kk_names.proofs.WrittenForms.{next_declaration}
 use Rattle.kk_names.proofs.resolver.Resolver.declare_functions.Goals as goal
 use Rattle.kk_names.proofs.resolver.Resolver.declare_functions.Goals.{in-Function+in_ok-declare_function+in_ok-number, in_default}
 

@@ -3,7 +3,7 @@ use Rattle.std.specs.Prelude.{is_some}
 use Rattle.kk_names.specs.declared.resolver.Resolver.{Resolver}
 use Rattle.kk_names.specs.Methods.{known_of, names_of_types}
 use Rattle.kk_names.specs.Tables.{type_in}
-use Rattle.kk_names.proofs.Declaring.{name_declared, types_longer}
+use Rattle.kk_names.proofs.DeclaredNames.{name_declared, types_longer}
 use Rattle.kk_names.proofs.Tables.{type_is_meant}
 use Rattle.kk_names.proofs.resolver.Resolver.declare_type.Goals as goal
 

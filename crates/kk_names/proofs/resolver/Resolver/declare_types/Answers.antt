@@ -1,8 +1,8 @@
 use Rattle.std.proofs.Common.{◌+◌, ◌∷◌, map, drop, sym, ap, ◌∙◌}
 use Rattle.kk_syntax.specs.Surface.{written_constructor, written_declaration}
 use Rattle.kk_names.specs.Methods.{state_of, behind_types}
-use Rattle.kk_names.proofs.Declaring.{types_more}
-use Rattle.kk_names.proofs.Written.{next_declaration}
+use Rattle.kk_names.proofs.DeclaredNames.{types_more}
+use Rattle.kk_names.proofs.WrittenForms.{next_declaration}
 use Rattle.kk_names.proofs.resolver.Resolver.declare_types.Goals as goal
 use Rattle.kk_names.proofs.resolver.Resolver.declare_types.Goals.{in-Type+in_ok-declare_type+in_ok-number, in_default}
 

@@ -10,7 +10,7 @@ use Rattle.kk_names.specs.Faults.{second_names, field_faults}
 use Rattle.kk_names.specs.Methods.{known_of, Notes, NotesInside}
 use Rattle.kk_names.specs.Names.{cases_of}
 use Rattle.kk_names.specs.Tables.{names_of}
-use Rattle.kk_names.proofs.TypesDeclared.{declaration_is, type_noted, constructors_made}
+use Rattle.kk_names.proofs.DeclaredTypes.{declaration_is, type_noted, constructors_made}
 use Rattle.kk_names.proofs.resolver.Resolver.declared_type.Goals as goal
 
 pub returns-clause-types : goal.returns-clause-types

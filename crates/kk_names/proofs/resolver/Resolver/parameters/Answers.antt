@@ -8,7 +8,7 @@ use Rattle.kk_names.specs.declared.fault.FaultKind.TheVariants.{Twice}
 use Rattle.kk_names.specs.Methods.{Notes, faults_if, newest_first}
 use Rattle.kk_names.specs.Scopes.{number_in}
 use Rattle.kk_names.proofs.Declarations.{ParametersSoFar, parameters_more}
-use Rattle.kk_names.proofs.Written.{next_parameter}
+use Rattle.kk_names.proofs.WrittenForms.{next_parameter}
 use Rattle.kk_names.proofs.resolver.Resolver.parameters.Goals as goal
 
 pub loop-parameter-preserved : goal.loop-parameter-preserved

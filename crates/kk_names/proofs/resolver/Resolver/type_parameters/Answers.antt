@@ -3,7 +3,7 @@ use Rattle.std.specs.Prelude.{is_some, ℕ}
 use Rattle.std.proofs.lemmas.List.{drop_all}
 use Rattle.kk_syntax.specs.declared.tree.Identifier.{Identifier}
 use Rattle.kk_names.specs.TypeNames.{place_of}
-use Rattle.kk_names.proofs.TypesDeclared.{NamedSoFar, named_more, named_done}
+use Rattle.kk_names.proofs.DeclaredTypes.{NamedSoFar, named_more, named_done}
 use Rattle.kk_base.proofs.Lists.{rest_at}
 use Rattle.kk_names.proofs.resolver.Resolver.type_parameters.Goals as goal
 

@@ -1,5 +1,5 @@
 use Rattle.std.proofs.Common.{drop}
-use Rattle.kk_names.proofs.TypesDeclared.{NamedSoFar}
+use Rattle.kk_names.proofs.DeclaredTypes.{NamedSoFar}
 use Rattle.kk_names.proofs.resolver.Resolver.type_parameters.Given as goal
 
 abbrev pub invariant-loop-parameter : goal.invariant-loop-parameter

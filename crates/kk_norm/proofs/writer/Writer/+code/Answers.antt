@@ -17,10 +17,10 @@ use Rattle.kk_norm.specs.declared.writer.Writer.{Writer}
 use Rattle.kk_norm.specs.Written.{WritesStep}
 use Rattle.kk_syntax.proofs.Views.{variable_is, apply_is, branch_is, match_is, block_is}
 use Rattle.kk_norm.proofs.ProgramTrees.{next_expr, next_row, next_statement}
-use Rattle.kk_norm.proofs.Writing.{return_code, case_code, arms_pushed}
-use Rattle.kk_norm.proofs.Writing as Writing
-use Rattle.kk_norm.proofs.WritingAll.{if_ok_three, ValuesSoFar, values_more, values_done, variable_end, apply_end, choice_value, choice_end, choice_done, block_done, StatementsSoFar, statements_more, statements_done, value_asked, statement_asked, statements_asked, choice_asked, last_asked, names_back, block_value, block_end, variable_value, apply_value}
-use Rattle.kk_norm.proofs.WritingMatches.{ArmsSoFar, arms_more, arms_done, arm_asked, case_asked, arm_done, case_done, case_value, case_end}
+use Rattle.kk_norm.proofs.WriterSteps.{return_code, case_code, arms_pushed}
+use Rattle.kk_norm.proofs.WriterSteps as Writing
+use Rattle.kk_norm.proofs.WriterLoops.{if_ok_three, ValuesSoFar, values_more, values_done, variable_end, apply_end, choice_value, choice_end, choice_done, block_done, StatementsSoFar, statements_more, statements_done, value_asked, statement_asked, statements_asked, choice_asked, last_asked, names_back, block_value, block_end, variable_value, apply_value}
+use Rattle.kk_norm.proofs.MatchLoop.{ArmsSoFar, arms_more, arms_done, arm_asked, case_asked, arm_done, case_done, case_value, case_end}
 use Rattle.kk_norm.proofs.writer.Writer.+code.Goals as goal
 
 pub end-statements-requires : goal.end-statements-requires

@@ -5,8 +5,8 @@ use Rattle.kk_syntax.specs.declared.program.Expr.{size-Expr}
 use Rattle.kk_syntax.specs.GroundPrograms.{ground_program}
 use Rattle.kk_syntax.specs.Trees.{expr_tree, row_tree, rows_of, statement_tree, trees_of}
 use Rattle.kk_core.specs.Codes.{arm_code}
-use Rattle.kk_norm.proofs.WritingAll.{ValuesSoFar, StatementsSoFar}
-use Rattle.kk_norm.proofs.WritingMatches.{ArmsSoFar}
+use Rattle.kk_norm.proofs.WriterLoops.{ValuesSoFar, StatementsSoFar}
+use Rattle.kk_norm.proofs.MatchLoop.{ArmsSoFar}
 use Rattle.kk_norm.proofs.writer.Writer.+code.Given as goal
 
 abbrev pub decreases-value : goal.decreases-value

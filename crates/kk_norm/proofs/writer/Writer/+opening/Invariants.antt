@@ -1,6 +1,6 @@
 use Rattle.std.proofs.Common.{map, drop}
 use Rattle.kk_syntax.specs.Patterns.{pattern_tree, patterns_of}
-use Rattle.kk_norm.proofs.WritingOpenings.{OpenedSoFar}
+use Rattle.kk_norm.proofs.OpeningLoops.{OpenedSoFar}
 use Rattle.kk_norm.proofs.writer.Writer.+opening.Given as goal
 
 abbrev pub invariant-open_parts-loop-part : goal.invariant-open_parts-loop-part

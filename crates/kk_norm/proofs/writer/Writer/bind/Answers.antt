@@ -2,7 +2,7 @@ use Rattle.std.proofs.Common.{ap, ◌∙◌, [], sym}
 use Rattle.kk_syntax.specs.Shapes.{variable_of}
 use Rattle.kk_norm.specs.Names.{named}
 use Rattle.kk_norm.specs.Written.{names_of}
-use Rattle.kk_norm.proofs.Writing.{names_one_more}
+use Rattle.kk_norm.proofs.WriterSteps.{names_one_more}
 use Rattle.kk_norm.proofs.writer.Writer.bind.Goals as goal
 
 pub returns-in_ok-push-in-Variable-clause-names : goal.returns-in_ok-push-in-Variable-clause-names

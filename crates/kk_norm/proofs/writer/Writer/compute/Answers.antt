@@ -1,5 +1,5 @@
 use Rattle.std.proofs.Common.{refl}
-use Rattle.kk_norm.proofs.Writing.{let_piece, writes_step}
+use Rattle.kk_norm.proofs.WriterSteps.{let_piece, writes_step}
 use Rattle.kk_norm.proofs.writer.Writer.compute.Goals as goal
 
 pub returns : goal.returns

@@ -1,5 +1,5 @@
 use Rattle.std.proofs.Common.{refl}
-use Rattle.kk_norm.proofs.Writing.{inside_piece, writes_step}
+use Rattle.kk_norm.proofs.WriterSteps.{inside_piece, writes_step}
 use Rattle.kk_norm.proofs.writer.Writer.inside.Goals as goal
 
 pub returns : goal.returns

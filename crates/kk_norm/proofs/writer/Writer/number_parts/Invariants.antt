@@ -1,6 +1,6 @@
 use Rattle.std.proofs.Common.{map, drop}
 use Rattle.kk_syntax.specs.Patterns.{pattern_tree, patterns_of}
-use Rattle.kk_norm.proofs.WritingOpenings.{NumberedSoFar}
+use Rattle.kk_norm.proofs.OpeningLoops.{NumberedSoFar}
 use Rattle.kk_norm.proofs.writer.Writer.number_parts.Given as goal
 
 abbrev pub invariant-loop : goal.invariant-loop

@@ -1,5 +1,5 @@
 use Rattle.std.proofs.Common.{refl}
-use Rattle.kk_norm.proofs.Writing.{steps_one_more}
+use Rattle.kk_norm.proofs.WriterSteps.{steps_one_more}
 use Rattle.kk_norm.proofs.writer.Writer.push.Goals as goal
 
 pub returns : goal.returns

@@ -1,5 +1,5 @@
 use Rattle.std.proofs.lemmas.Result.{IfOk-weaker}
-use Rattle.kk_norm.proofs.Writing.{use_piece, writes_piece}
+use Rattle.kk_norm.proofs.WriterSteps.{use_piece, writes_piece}
 use Rattle.kk_norm.proofs.writer.Writer.use_variable.Goals as goal
 
 pub returns : goal.returns

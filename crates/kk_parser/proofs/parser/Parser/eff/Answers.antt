@@ -9,7 +9,7 @@ use Rattle.kk_parser.specs.Methods.{Read, behind}
 use Rattle.kk_parser.specs.Phrases.{rule, eff, token}
 use Rattle.kk_parser.specs.Reading.{first, fails_rule, fails_second, fails_token, finds_rule, finds_first, finds_second}
 use Rattle.kk_parser.specs.Views.{class_of_effect}
-use Rattle.kk_parser.proofs.Apart.{apart, apart-is_at, within, within-is_at, not_at}
+use Rattle.kk_parser.proofs.ClassDisjointness.{apart, apart-is_at, within, within-is_at, not_at}
 use Rattle.kk_parser.proofs.Steps.{said_next, token_read}
 use Rattle.kk_parser.proofs.parser.Parser.eff.Goals as goal
 

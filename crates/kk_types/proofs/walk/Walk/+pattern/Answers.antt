@@ -8,9 +8,10 @@ use Rattle.kk_syntax.proofs.PatternViews.{wildcard_tree, variable_tree, number_t
 use Rattle.kk_types.specs.Claims.{typed_as, pattern_at}
 use Rattle.kk_types.specs.Steps.{nodes_of, size_of, Goes, Walked, AnswersInstance}
 use Rattle.kk_types.specs.Walks.{AreBoundBelow, Done}
-use Rattle.kk_types.proofs.Going.{still_inside, still_bound, goes_reworded}
-use Rattle.kk_types.proofs.Parts.{parts_at, other_length, part_refused, part_goes, parts_done, not_of_type, of_type, parts_asked}
-use Rattle.kk_types.proofs.Refining.{below_more}
+use Rattle.kk_types.proofs.WalkComposition.{still_inside, still_bound, goes_reworded}
+use Rattle.kk_types.proofs.PatternWalk.{parts_at, other_length, part_refused, part_goes, parts_done, not_of_type, of_type}
+use Rattle.kk_types.proofs.PatternWalk.{parts_asked}
+use Rattle.kk_types.proofs.ClaimComposition.{below_more}
 use Rattle.kk_types.proofs.walk.Walk.+pattern.Goals as goal
 
 pub parts-returns-then-parts-wants : goal.parts-returns-then-parts-wants

@@ -1,7 +1,7 @@
 use Rattle.std.proofs.Common.{drop}
 use Rattle.kk_syntax.specs.Programs.{program_tree}
 use Rattle.kk_types.specs.Steps.{Goes}
-use Rattle.kk_types.proofs.Parts.{parts_at}
+use Rattle.kk_types.proofs.PatternWalk.{parts_at}
 use Rattle.kk_types.proofs.walk.Walk.+pattern.Given as goal
 
 abbrev pub invariant-parts-loop-index : goal.invariant-parts-loop-index

@@ -11,10 +11,10 @@ use Rattle.kk_types.specs.Claims.{expression_at, expressions_at}
 use Rattle.kk_types.specs.Steps.{nodes_of, size_of, Goes, Walked}
 use Rattle.kk_types.specs.Walks.{AreBelow, AreBoundBelow, Refused}
 use Rattle.kk_types.proofs.Forms.{in_scope, form_not_given, form_walked, condition_refused, positive_refused, branch_walked, scrutinee_refused, match_walked}
-use Rattle.kk_types.proofs.Going.{still_bound, goes_reworded}
-use Rattle.kk_types.proofs.Listing.{left_of, too_many, argument_walked, argument_refused}
-use Rattle.kk_types.proofs.Refining.{below_more, bound_more}
-use Rattle.kk_types.proofs.Stating.{into_first, none_stated, statement_refused, statement_walked, block_walked}
+use Rattle.kk_types.proofs.WalkComposition.{still_bound, goes_reworded}
+use Rattle.kk_types.proofs.ArgumentWalk.{left_of, too_many, argument_walked, argument_refused}
+use Rattle.kk_types.proofs.ClaimComposition.{below_more, bound_more}
+use Rattle.kk_types.proofs.StatementWalk.{into_first, none_stated, statement_refused, statement_walked, block_walked}
 use Rattle.kk_types.proofs.RowsOf.{cases_at, cases_done, pattern_fails, body_fails, row_goes}
 use Rattle.kk_types.proofs.walk.Walk.+walk.Goals as goal
 

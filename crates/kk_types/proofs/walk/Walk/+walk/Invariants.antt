@@ -2,7 +2,7 @@ use Rattle.std.proofs.Common.{map, drop}
 use Rattle.kk_syntax.specs.Programs.{program_tree}
 use Rattle.kk_syntax.specs.Trees.{statement_tree}
 use Rattle.kk_types.specs.Steps.{Goes, GoesInto}
-use Rattle.kk_types.proofs.Listing.{left_of}
+use Rattle.kk_types.proofs.ArgumentWalk.{left_of}
 use Rattle.kk_types.proofs.RowsOf.{cases_at}
 use Rattle.kk_types.proofs.walk.Walk.+walk.Given as goal
 

@@ -9,7 +9,7 @@ use Rattle.kk_unify.specs.Graphs.{Adds}
 use Rattle.kk_unify.specs.GraphOf.{graph_of, variables_of}
 use Rattle.kk_types.specs.Walks.{constructing_at}
 use Rattle.kk_types.proofs.Instances.{instantiated, declared_builds, taken_grown, one_below}
-use Rattle.kk_types.proofs.Refining.{below_more}
+use Rattle.kk_types.proofs.ClaimComposition.{below_more}
 use Rattle.kk_types.proofs.walk.Walk.constructor.Goals as goal
 use Rattle.kk_types.proofs.walk.Walk.constructor.Goals.{in-Some-get, in-None-get}
 

@@ -1,4 +1,4 @@
-use Rattle.kk_types.proofs.Basics.{is_walked}
+use Rattle.kk_types.proofs.ShortestWalks.{is_walked}
 use Rattle.kk_types.proofs.walk.Walk.is.Goals as goal
 
 pub returns : goal.returns

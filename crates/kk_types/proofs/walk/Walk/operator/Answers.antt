@@ -4,7 +4,7 @@ use Rattle.std.proofs.lemmas.List.Elements.{All-nil}
 use Rattle.kk_syntax.specs.Types.{type_tree}
 use Rattle.kk_types.specs.Steps.{nodes_of}
 use Rattle.kk_types.specs.Walks.{IsTakenBelow, takings_of}
-use Rattle.kk_types.proofs.Adding.{opens_none}
+use Rattle.kk_types.proofs.NewNodes.{opens_none}
 use Rattle.kk_types.proofs.Instances.{instantiated}
 use Rattle.kk_types.proofs.walk.Walk.operator.Goals as goal
 

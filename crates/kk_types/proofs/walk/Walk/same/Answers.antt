@@ -1,4 +1,4 @@
-use Rattle.kk_types.proofs.Going.{joined_walked}
+use Rattle.kk_types.proofs.WalkComposition.{joined_walked}
 use Rattle.kk_types.proofs.walk.Walk.same.Goals as goal
 
 pub returns : goal.returns

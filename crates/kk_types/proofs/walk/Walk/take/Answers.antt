@@ -1,4 +1,4 @@
-use Rattle.kk_types.proofs.Basics.{was_opened}
+use Rattle.kk_types.proofs.ShortestWalks.{was_opened}
 use Rattle.kk_types.proofs.walk.Walk.take.Goals as goal
 
 pub returns : goal.returns

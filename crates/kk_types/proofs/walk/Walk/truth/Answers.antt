@@ -1,4 +1,4 @@
-use Rattle.kk_types.proofs.Basics.{truth_made}
+use Rattle.kk_types.proofs.ShortestWalks.{truth_made}
 use Rattle.kk_types.proofs.walk.Walk.truth.Goals as goal
 
 pub returns : goal.returns

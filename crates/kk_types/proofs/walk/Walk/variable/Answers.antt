@@ -1,9 +1,9 @@
 use Rattle.std.proofs.Common.{◌==◌, ap, sym, ◌∙◌}
 use Rattle.std.specs.Prelude.{reverse}
 use Rattle.std.specs.List.{find}
-use Rattle.kk_types.specs.declared.scope.Bound.{Bound}
+use Rattle.kk_types.specs.declared.walk.Bound.{Bound}
 use Rattle.kk_types.specs.Steps.{nodes_of, size_of}
-use Rattle.kk_types.proofs.Basics.{variable_walked, unbound_refused}
+use Rattle.kk_types.proofs.ShortestWalks.{variable_walked, unbound_refused}
 use Rattle.kk_types.proofs.Scopes.{newest_inside}
 use Rattle.kk_types.proofs.walk.Walk.variable.Goals as goal
 

@@ -2,7 +2,7 @@ use Rattle.std.proofs.Common.{◌≡◌, ℕ, sym, subst}
 use Rattle.kk_unify.specs.Graphs.{NodeTree, Assignment, Holds}
 use Rattle.kk_unify.specs.NodesOf.{node_tree}
 use Rattle.kk_unify.specs.GraphOf.{graph_of, type_by}
-use Rattle.kk_unify.proofs.Adding.{added_holds, added_says, added_node_means}
+use Rattle.kk_unify.proofs.NodeAddition.{added_holds, added_says, added_node_means}
 use Rattle.kk_unify.proofs.graph.Graph.add.Goals as goal
 
 pub returns-clause-added : goal.returns-clause-added

@@ -1,4 +1,4 @@
-use Rattle.kk_unify.proofs.Adding.{formed_pushed}
+use Rattle.kk_unify.proofs.NodeAddition.{formed_pushed}
 use Rattle.kk_unify.proofs.graph.Graph.put.Goals as goal
 
 pub invariant_of-self-clause-formed : goal.invariant_of-self-clause-formed

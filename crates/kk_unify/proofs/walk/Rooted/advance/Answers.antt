@@ -1,5 +1,5 @@
 use Rattle.std.proofs.Common.{◌<◌, ◌-◌, length, get_or, take, drop, refl, arith}
-use Rattle.kk_unify.proofs.Advancing.{argument_within, root_within, wanted, advanced}
+use Rattle.kk_unify.proofs.ArgumentSteps.{argument_within, root_within, wanted, advanced}
 use Rattle.kk_unify.proofs.walk.Rooted.advance.Goals as goal
 
 pub index-root-requires : goal.index-root-requires

@@ -2,8 +2,8 @@ use Rattle.std.proofs.Common.{rules, ◌≡◌, ◌∙◌, ap, sym, map, refl, l
 use Rattle.kk_unify.specs.declared.walk.Mark.TheVariants.{Numbered}
 use Rattle.kk_syntax.specs.Types.{type_at}
 use Rattle.kk_syntax.specs.TypedPrograms.{node_types}
-use Rattle.kk_unify.specs.Walking.{made_type}
-use Rattle.kk_unify.proofs.InMemory.{read}
+use Rattle.kk_unify.specs.GraphWalk.{made_type}
+use Rattle.kk_unify.proofs.NodeLists.{read}
 use Rattle.kk_unify.proofs.walk.Rooted.leave.Goals as goal
 
 pub returns : goal.returns

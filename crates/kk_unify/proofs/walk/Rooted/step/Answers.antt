@@ -1,7 +1,7 @@
 use Rattle.std.proofs.Common.{◌<◌, ◌∙◌, ◌++◌, ◌∷◌, [], List, ap, length, arith}
 use Rattle.kk_unify.specs.declared.walk.Frame.{Frame}
 use Rattle.kk_unify.specs.declared.walk.Mark.TheVariants.{Entered}
-use Rattle.kk_unify.proofs.Turning.{left_head, left_numbers, turn_left, turn_left_less, turn_left_keeps, wanted_within, turn_again, turn_entered, turn_entered_less, turn_entered_keeps, set_knows}
+use Rattle.kk_unify.proofs.WalkTurns.{left_head, left_numbers, turn_left, turn_left_less, turn_left_keeps, wanted_within, turn_again, turn_entered, turn_entered_less, turn_entered_keeps, set_knows}
 use Rattle.kk_unify.proofs.walk.Rooted.step.Goals as goal
 
 pub leave-requires-clause-head : goal.leave-requires-clause-head

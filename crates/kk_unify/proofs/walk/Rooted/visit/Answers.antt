@@ -1,9 +1,9 @@
 use Rattle.std.proofs.Common.{◌≢◌, [], sym, subst}
 use Rattle.kk_unify.specs.declared.walk.Mark.TheVariants.{New}
 use Rattle.kk_unify.specs.declared.walk.Walk.{Walk}
-use Rattle.kk_unify.specs.Walking.{mark_at, KeepsNumbers}
+use Rattle.kk_unify.specs.GraphWalk.{mark_at, KeepsNumbers}
 use Rattle.kk_unify.specs.WalkOf.{Stands}
-use Rattle.kk_unify.proofs.Visiting.{begins_known, begins_entered}
+use Rattle.kk_unify.proofs.WalkStart.{begins_known, begins_entered}
 use Rattle.kk_unify.proofs.walk.Rooted.visit.Goals as goal
 use Rattle.kk_unify.proofs.walk.Rooted.visit.Goals.{in-New+in_ok-enter, in_default}
 

@@ -1,6 +1,6 @@
 use Rattle.std.proofs.Common.{◌≢◌, []}
 use Rattle.kk_unify.specs.declared.walk.Mark.TheVariants.{New}
-use Rattle.kk_unify.specs.Walking.{mark_at, KeepsNumbers}
+use Rattle.kk_unify.specs.GraphWalk.{mark_at, KeepsNumbers}
 use Rattle.kk_unify.specs.WalkOf.{Stands, work_left}
 use Rattle.kk_unify.proofs.walk.Rooted.visit.Given as goal
 

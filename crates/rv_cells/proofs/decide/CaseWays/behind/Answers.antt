@@ -2,7 +2,7 @@ use Rattle.std.proofs.Common.{◌≡◌, ◌∙◌, suc, ap, drop, map, arith, r
 use Rattle.std.proofs.lemmas.Result.{IfOk-weaker}
 use Rattle.kk_core.specs.Decisions.{node_tree}
 use Rattle.rv_cells.specs.CountedLines.{first_label}
-use Rattle.rv_cells.proofs.Written.{later_label}
+use Rattle.rv_cells.proofs.WrittenLines.{later_label}
 use Rattle.rv_cells.proofs.decide.CaseWays.behind.Goals as goal
 
 pub returns-in-Some : goal.returns-in-Some

@@ -2,7 +2,7 @@ use Rattle.std.proofs.Common.{List, subst}
 use Rattle.std.proofs.lemmas.Result.{on_ok_weaker}
 use Rattle.rv_isa.specs.AsmCode.{Line}
 use Rattle.rv_lower.specs.Lines.{Compares}
-use Rattle.rv_lower.proofs.Written.{two_same}
+use Rattle.rv_lower.proofs.WrittenLines.{two_same}
 use Rattle.rv_lower.proofs.lowering.Lowering.compare_with_one.Goals as goal
 
 pub returns : goal.returns

@@ -3,7 +3,7 @@ use Rattle.std.proofs.lemmas.Result.{on_ok_weaker}
 use Rattle.kk_syntax.specs.declared.program.Form.{Form}
 use Rattle.kk_source.specs.FormEffects.{piece_of}
 use Rattle.rv_lower.specs.Written.{WroteForm}
-use Rattle.rv_lower.proofs.Written.{print_lines}
+use Rattle.rv_lower.proofs.WrittenLines.{print_lines}
 use Rattle.rv_lower.proofs.lowering.Lowering.form.Goals as goal
 
 pub returns-in_ok-print_text-in-PrintText : goal.returns-in_ok-print_text-in-PrintText

@@ -1,7 +1,7 @@
 use Rattle.std.proofs.Common.{refl, [], ◌∷◌, ◌++◌, map}
 use Rattle.std.proofs.lemmas.Result.{on_ok_weaker}
 use Rattle.rv_lower.specs.Written.{short_line}
-use Rattle.rv_lower.proofs.Written.{wrote_then, two_same}
+use Rattle.rv_lower.proofs.WrittenLines.{wrote_then, two_same}
 use Rattle.rv_lower.proofs.lowering.Lowering.truth.Goals as goal
 
 pub returns : goal.returns

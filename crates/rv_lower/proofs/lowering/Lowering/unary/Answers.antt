@@ -1,7 +1,7 @@
 use Rattle.std.proofs.Common.{◌∷◌, [], map, sym}
 use Rattle.std.proofs.lemmas.Result.{on_ok_weaker}
 use Rattle.rv_lower.specs.Written.{short_line}
-use Rattle.rv_lower.proofs.Written.{one_same, not_lines}
+use Rattle.rv_lower.proofs.WrittenLines.{one_same, not_lines}
 use Rattle.rv_lower.proofs.lowering.Lowering.unary.Goals as goal
 
 pub returns-in-Not : goal.returns-in-Not

@@ -1,7 +1,7 @@
 use Rattle.std.proofs.Common.{refl, sym, ap, ◌∙◌}
 use Rattle.rv_isa.proofs.Acts.{acts-nothing, acts-set, acts-call, acts-break}
 use Rattle.rv_sim.specs.Simulation.{processor_of}
-use Rattle.rv_sim.proofs.Stepping.{finishes}
+use Rattle.rv_sim.proofs.InstructionSteps.{finishes}
 use Rattle.rv_sim.proofs.machine.Machine.act.Goals as goal
 
 pub returns-in-Call : goal.returns-in-Call

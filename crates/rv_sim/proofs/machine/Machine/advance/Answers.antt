@@ -3,7 +3,7 @@ use Rattle.rv_isa.specs.Execution.{executes, decodes, step}
 use Rattle.rv_isa.proofs.Steps.{decodes-none, decodes-some}
 use Rattle.rv_sim.specs.contracts.machine.Machine.{the_view}
 use Rattle.rv_sim.specs.Simulation.{processor_of}
-use Rattle.rv_sim.proofs.Stepping.{does-same, fetches, fetches_nothing}
+use Rattle.rv_sim.proofs.InstructionSteps.{does-same, fetches, fetches_nothing}
 use Rattle.rv_sim.proofs.machine.Machine.advance.Goals as goal
 
 pub returns-in_default : goal.returns-in_default

@@ -7,7 +7,7 @@ use Rattle.rv_sim.specs.Turns.{NextDoes}
 use Rattle.rv_sim.specs.Registers.{registers_of}
 use Rattle.rv_sim.specs.contracts.machine.Machine.{the_view}
 use Rattle.rv_sim.proofs.Turns.{HasRun-quiet}
-use Rattle.rv_sim.proofs.Calling.{next-reads, next-writes, next-exits, next-traps}
+use Rattle.rv_sim.proofs.EnvironmentCalls.{next-reads, next-writes, next-exits, next-traps}
 use Rattle.rv_sim.proofs.machine.Machine.call.Goals as goal
 use Rattle.rv_sim.proofs.machine.Machine.call.Goals.{in_default-via-in-63+then-file-eq-STANDARD_INPUT+else-can, in_default-via-in-63+else-file-eq-STANDARD_INPUT, in_default-via-in-64+then-file-eq-STANDARD_OUTPUT+else-can-2, in_default-via-in-64+else-file-eq-STANDARD_OUTPUT, in_default-via-in_default-1}
 

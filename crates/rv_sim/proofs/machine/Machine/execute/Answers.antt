@@ -3,7 +3,7 @@ use Rattle.rv_isa.specs.Execution.{effect_at, executes, acts}
 use Rattle.rv_isa.proofs.Steps.{executes-misaligned, executes-aligned}
 use Rattle.rv_sim.specs.contracts.machine.Machine.{the_view}
 use Rattle.rv_sim.specs.Simulation.{processor_of}
-use Rattle.rv_sim.proofs.Stepping.{does-same}
+use Rattle.rv_sim.proofs.InstructionSteps.{does-same}
 use Rattle.rv_sim.proofs.machine.Machine.execute.Goals as goal
 
 pub returns-then-effect-ne0 : goal.returns-then-effect-ne0

@@ -1,5 +1,5 @@
 use Rattle.elf_image.specs.Parts.{memory_of}
-use Rattle.rv_sim.proofs.Loading.{starts}
+use Rattle.rv_sim.proofs.StartMachine.{starts}
 use Rattle.rv_sim.proofs.machine.Machine.load.Goals as goal
 
 pub returns-clause-start : goal.returns-clause-start

@@ -2,7 +2,7 @@ use Rattle.std.proofs.Common.{sym, ◌∙◌, rules}
 use Rattle.rv_isa.proofs.Acts.{acts-load_misaligned}
 use Rattle.rv_sim.specs.contracts.machine.Machine.{the_view}
 use Rattle.rv_sim.specs.Simulation.{processor_of}
-use Rattle.rv_sim.proofs.Stepping.{loads, loads_nothing}
+use Rattle.rv_sim.proofs.InstructionSteps.{loads, loads_nothing}
 use Rattle.rv_sim.proofs.machine.Machine.load_number.Goals as goal
 
 pub returns-then-at-from-ne0 : goal.returns-then-at-from-ne0

@@ -2,8 +2,8 @@ use Rattle.std.proofs.Common.{◌≡◌, ◌≢◌, arith, rules}
 use Rattle.rv_sim.specs.contracts.machine.Machine.{the_view}
 use Rattle.rv_isa.specs.Processor.{value}
 use Rattle.rv_sim.specs.Registers.{registers_of}
-use Rattle.rv_sim.proofs.Stepping.{can_store-one}
-use Rattle.rv_sim.proofs.Calling.{read-none, read-byte, read-end, read-failed}
+use Rattle.rv_sim.proofs.InstructionSteps.{can_store-one}
+use Rattle.rv_sim.proofs.EnvironmentCalls.{read-none, read-byte, read-end, read-failed}
 use Rattle.rv_sim.proofs.machine.Machine.read.Goals as goal
 
 pub store_byte-requires : goal.store_byte-requires

@@ -3,7 +3,7 @@ use Rattle.rv_isa.specs.Processor.{going}
 use Rattle.rv_sim.specs.Turns.{answer_at}
 use Rattle.rv_sim.specs.declared.halt.Halt.TheVariants.{InputFault, OutputFault}
 use Rattle.rv_sim.specs.Devices.{halt_of}
-use Rattle.rv_sim.proofs.Running.{HasRun-none, HasRun-same, HasRun-then, HasRun-more, HasRun-ended, halt_of-no_fault}
+use Rattle.rv_sim.proofs.RunComposition.{HasRun-none, HasRun-same, HasRun-then, HasRun-more, HasRun-ended, halt_of-no_fault}
 use Rattle.rv_sim.proofs.machine.Machine.run.Goals as goal
 use Rattle.rv_sim.proofs.machine.Machine.run.Goals.{then-loop-left-test+else-eq, else-loop-left-test}
 

@@ -4,7 +4,7 @@ use Rattle.rv_isa.specs.Bytes.{bytes_at}
 use Rattle.rv_isa.specs.Processor.{value}
 use Rattle.rv_sim.specs.Registers.{registers_of}
 use Rattle.rv_sim.specs.contracts.machine.Machine.{the_view}
-use Rattle.rv_sim.proofs.Calling.{write-none, write-all, write-failed}
+use Rattle.rv_sim.proofs.EnvironmentCalls.{write-none, write-all, write-failed}
 use Rattle.rv_sim.proofs.machine.Machine.write.Goals as goal
 use Rattle.rv_sim.proofs.machine.Machine.write.Goals.{then-count-gt0+in_default, else-count-gt0}
 

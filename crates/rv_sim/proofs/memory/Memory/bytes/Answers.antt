@@ -1,6 +1,6 @@
 use Rattle.std.proofs.Common.{sym, ◌∙◌, rules}
 use Rattle.rv_sim.specs.declared.area.Access.TheVariants.{Load}
-use Rattle.rv_sim.proofs.Reading.{bytes_at-area, covered}
+use Rattle.rv_sim.proofs.AreaBytes.{bytes_at-area, covered}
 use Rattle.rv_sim.proofs.memory.Memory.bytes.Goals as goal
 
 pub returns-in-Some : goal.returns-in-Some

@@ -2,7 +2,7 @@ use Rattle.std.proofs.Common.{◌≡◌, map, subst, sym, arith}
 use Rattle.std.proofs.lemmas.Grind.{common_steps}
 use Rattle.elf_image.specs.Parts.{memory_of}
 use Rattle.rv_sim.specs.Areas.{filled, parts_of_areas, AreApart}
-use Rattle.rv_sim.proofs.Loading.{are_apart-filled}
+use Rattle.rv_sim.proofs.StartMachine.{are_apart-filled}
 use Rattle.rv_sim.proofs.memory.Memory.from_parts.Goals as goal
 
 pub new-requires : goal.new-requires

@@ -2,7 +2,7 @@ use Rattle.std.proofs.Common.{◌≡◌, None, true, sym, arith, rules}
 use Rattle.rv_isa.specs.Processor.{lies_in_part}
 use Rattle.rv_sim.specs.declared.area.Access.TheVariants.{Inspect}
 use Rattle.rv_sim.specs.Areas.{parts_of_areas}
-use Rattle.rv_sim.proofs.Reading.{number_at-area, where_true}
+use Rattle.rv_sim.proofs.AreaBytes.{number_at-area, where_true}
 use Rattle.rv_sim.proofs.memory.Memory.word.Goals as goal
 
 pub returns : goal.returns

@@ -1,0 +1,67 @@
+//! How a run starts, and how it stops.
+
+ghost use Rattle.std.specs.Prelude.{◌+◌, ◌≡◌, ◌<◌};
+ghost use Rattle.cell_runtime.specs.Lines.{Makes};
+ghost use Rattle.cell_runtime.specs.Starts.{IsStartOf};
+ghost use Rattle.cell_runtime.specs.Stops.{number_of, IsStop};
+
+use crate::assembly::{address, ecall, jal, set};
+use crate::layout::Layout;
+use kk_base::{HEAP_FULL_EXIT, STACK_FULL_EXIT};
+use rv_isa::environment::EXIT;
+use rv_isa::{JumpOffset, Native, Register};
+
+/// Instructions of the runtime.
+pub const TEXT_WORDS: u32 = 101;
+
+/// Sets the stack, the bounds of the cells, an empty chain of free cells, an empty chain of held tokens and 1 in `gp`, and calls
+/// `main`, which stands behind the runtime. So `main` returns to the stop behind the start.
+pub fn start(layout: Layout) -> [Native; 7]
+    ensures { Makes result 10 (layout.cells + layout.cells_end + layout.stack_end) (IsStartOf layout) }
+{
+    [
+        address(Register::SP, layout.stack_end),
+        address(Register::S2, layout.cells),
+        address(Register::S3, layout.cells_end),
+        set(Register::S0, 0),
+        set(Register::S1, 0),
+        set(Register::GP, 1),
+        jal(Register::RA, JumpOffset::new(4 * (TEXT_WORDS - 9))),
+    ]
+}
+
+/// How a run ends.
+#[derive(Clone, Copy, PartialEq, Eq, Debug)]
+pub enum Ending {
+    /// `main` has returned.
+    Ended,
+    /// A cell was asked for where there was none.
+    HeapFull,
+    /// A call was made where no frame was left.
+    StackFull,
+}
+
+impl Ending {
+    /// The number that the run exits with.
+    pub fn number(self) -> u32
+        ensures number { result ≡ number_of self }
+        ensures small { result < 256 }
+    {
+        match self {
+            Ending::Ended => 0,
+            Ending::HeapFull => HEAP_FULL_EXIT,
+            Ending::StackFull => STACK_FULL_EXIT,
+        }
+    }
+}
+
+/// Exits.
+pub fn stop(ending: Ending) -> [Native; 3]
+    ensures { Makes result 3 0 (λ memory. IsStop ending) }
+{
+    [
+        set(Register::A0, ending.number()),
+        set(Register::A7, EXIT),
+        ecall(),
+    ]
+}

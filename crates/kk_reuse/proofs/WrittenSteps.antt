@@ -1,0 +1,233 @@
+-- Steps with their tokens, as they are written one behind the other.
+use Rattle.std.proofs.Common.{◌≡◌, ◌≤◌, ◌<◌, ℕ, zero, suc, ◌+◌, ◌-◌, Bool, true, false, Result, Ok, Err, List, [], ◌∷◌, ◌++◌, map, length, take, drop, get_or, append-nil, length-drop, refl, sym, ap, ◌∙◌, arith, append_assoc}
+use Rattle.std.specs.Prelude.{if◌then◌else◌, OnOk}
+use Rattle.std.proofs.lemmas.List.{map-append}
+use Rattle.std.proofs.Math.ListN.{drop_of_length-le}
+use Rattle.std.proofs.Math.Seq.{take_all}
+use Rattle.std.specs.Global.{Vec}
+use Rattle.kk_syntax.specs.declared.program.Form.{Form}
+use Rattle.kk_syntax.specs.declared.program.Form.TheVariants.{Construct, Call}
+use Rattle.kk_counted.specs.declared.counted.CountedFun.{CountedFun}
+use Rattle.kk_counted.specs.declared.form.Block.{Block}
+use Rattle.kk_counted.specs.declared.form.Last.TheFolds.{fold-roll-Step}
+use Rattle.kk_counted.specs.declared.form.Step.{Step}
+use Rattle.kk_counted.specs.declared.form.Step.TheVariants as OfPlain
+use Rattle.kk_counted.specs.declared.tokened.TokenedBlock.{TokenedBlock}
+use Rattle.kk_counted.specs.declared.tokened.TokenedFun.{TokenedFun}
+use Rattle.kk_counted.specs.declared.tokened.TokenedStep.{TokenedStep}
+use Rattle.kk_counted.specs.declared.tokened.TokenedStep.TheVariants as OfStep
+use Rattle.kk_counted.specs.CountedCodes.{Counted}
+use Rattle.kk_counted.specs.CountedForms.{Move, reads, opens, opens_unique, dups, drops, plug, block_code, last_code, step_move, last_step, step_step, block_step}
+use Rattle.kk_counted.specs.Programs.{function_of, program_of}
+use Rattle.kk_counted.specs.TokenedCodes.{Tokened, TokenedFunction, TokenedProgram}
+use Rattle.kk_counted.specs.TokenedForms.{TokenedMove, put_tokened, put_steps, tokened_code, tokened_last_code, tokened_move, tokened_function, tokened_program}
+use Rattle.kk_counted.proofs.FormViews.{step_read, step_open, step_dup, step_drop}
+use Rattle.kk_counted.proofs.TokenedViews.{tokened_block_is, step_pushed, let_step, inside_step, dup_step, drop_step, fill_step}
+use Rattle.kk_reuse.specs.Following.{may_make, kept, leaves}
+use Rattle.kk_reuse.specs.Pairing.{slots_below, frees, holds, unholds, paired_form, paired, paired_function, paired_program}
+use Rattle.kk_reuse.specs.PairedForms.{moves_may_make, paired_block, paired_move, tokens_behind}
+use Rattle.kk_reuse.proofs.LaterForms.{leaves_kept, may_make_plug, none_behind}
+use Rattle.kk_reuse.proofs.Steps.{step_paired}
+use Rattle.kk_reuse.proofs.Walks.{one_dropped}
+
+pub on_ok : {T E : Type 0} (result : Result T E) {P Q : Type 0} → OnOk result P → (P → Q) → OnOk result Q
+on_ok (Ok x) holds follows = follows holds
+on_ok (Err e) holds follows = holds
+
+-- a part of a list up to its end
+pub to_end : {A : Type 0} (xs : List A) (k : ℕ) → take (length xs - k) (drop k xs) ≡ drop k xs
+to_end xs k = take_all (length xs - k) (drop k xs) (omega (arith, length-drop k xs))
+
+-- ---- forms on variables
+
+pub let_written : (before after : List TokenedStep) (x : ℕ) (form : Form) (arguments others : Vec ℕ) (given : List ℕ)
+    → after ≡ before ++ OfStep.Let x form arguments others ∷ [] → arguments.items ≡ given → others.items ≡ []
+    → (rest : Tokened) → put_steps after rest ≡ put_steps before (Tokened.compute x form given [] rest)
+let_written before after x form arguments others given grown same none rest =
+    step_pushed before after _ _ grown (let_step x form arguments others) rest
+    ∙ ap (λ xs. put_steps before (Tokened.compute x form xs others.items rest)) same
+    ∙ ap (λ xs. put_steps before (Tokened.compute x form given xs rest)) none
+
+filled : (n slot x c first d : ℕ) (form : Form) (given arguments : List ℕ) (rest : Tokened) → n ≡ slot + 1 → form ≡ Construct c
+    → 1 ≤ length given → first ≡ get_or given 0 d → arguments ≡ drop 1 given
+    → Tokened.fill x slot c first arguments [] (slots_below slot) rest ≡ paired_form n x form given rest
+filled n slot x c first d form [] arguments rest one is some here others = absurd (omega (arith, some))
+filled n slot x c first d form (y ∷ ys) arguments rest one is some here others =
+    ap (λ z. Tokened.fill x slot c z arguments [] (slots_below slot) rest) here
+    ∙ ap (λ zs. Tokened.fill x slot c y zs [] (slots_below slot) rest) others
+    ∙ sym (ap (λ k. paired_form k x form (y ∷ ys) rest) {x = n} {y = suc slot} (omega (arith, one))
+    ∙ ap (λ f. paired_form (suc slot) x f (y ∷ ys) rest) is)
+
+pub fill_written : (before after : List TokenedStep) (n slot x c first d : ℕ) (form : Form) (arguments kept others : Vec ℕ)
+    (given : List ℕ)
+    → after ≡ before ++ OfStep.Fill x slot c first arguments kept others ∷ [] → n ≡ slot + 1 → form ≡ Construct c
+    → 1 ≤ length given → first ≡ get_or given 0 d → arguments.items ≡ drop 1 given → kept.items ≡ []
+    → others.items ≡ slots_below slot
+    → (rest : Tokened) → put_steps after rest ≡ put_steps before (paired_form n x form given rest)
+fill_written before after n slot x c first d form arguments kept others given grown one is some here same none all rest =
+    step_pushed before after _ _ grown (fill_step x slot c first arguments kept others) rest
+    ∙ ap (λ xs. put_steps before (Tokened.fill x slot c first arguments.items xs others.items rest)) none
+    ∙ ap (λ xs. put_steps before (Tokened.fill x slot c first arguments.items [] xs rest)) all
+    ∙ ap (put_steps before) (filled n slot x c first d form given arguments.items rest one is some here same)
+
+called : (n x f : ℕ) (form : Form) (given : List ℕ) (rest : Tokened) → form ≡ Call f
+    → holds n (Tokened.compute x form given [] (unholds n rest)) ≡ paired_form n x form given rest
+called zero x f form given rest is =
+    ap (λ g. Tokened.compute x g given [] rest) is ∙ sym (ap (λ g. paired_form zero x g given rest) is)
+called (suc n) x f form given rest is =
+    ap (λ g. holds (suc n) (Tokened.compute x g given [] (unholds (suc n) rest))) is
+    ∙ sym (ap (λ g. paired_form (suc n) x g given rest) is)
+
+pub call_written : (before held middle after : List TokenedStep) (n x f : ℕ) (form : Form) (given : List ℕ) → form ≡ Call f
+    → ((rest : Tokened) → put_steps held rest ≡ put_steps before (holds n rest))
+    → ((rest : Tokened) → put_steps middle rest ≡ put_steps held (Tokened.compute x form given [] rest))
+    → ((rest : Tokened) → put_steps after rest ≡ put_steps middle (unholds n rest))
+    → (rest : Tokened) → put_steps after rest ≡ put_steps before (paired_form n x form given rest)
+call_written before held middle after n x f form given is first second third rest =
+    third rest ∙ second (unholds n rest) ∙ first (Tokened.compute x form given [] (unholds n rest))
+    ∙ ap (put_steps before) (called n x f form given rest is)
+
+-- ---- the steps of a block
+
+-- a step is written, and those tokens are freed that are not kept behind it
+pub one_written : (b makes : Bool) (l n behind after i : ℕ) (steps : List Step) (step : Step) (last : Counted) (total : Tokened)
+    (old middle new : List TokenedStep) → i < length steps → step ≡ get_or steps i step
+    → makes ≡ moves_may_make (may_make b last) (map step_move (drop (i + 1) steps))
+    → behind ≡ tokens_behind makes n (step_move step) → after ≡ (if makes then behind else 0)
+    → ((code : Tokened) → put_steps middle code ≡ put_steps old (paired_move makes n (step_move step) code))
+    → ((code : Tokened) → put_steps new code ≡ put_steps middle (if makes then code else frees behind code))
+    → put_steps old (paired b l n (plug (map step_move (drop i steps)) last)) ≡ total
+    → put_steps new (paired b l after (plug (map step_move (drop (i + 1) steps)) last)) ≡ total
+one_written b makes l n behind after i steps step last total old middle new less is may many left written settled_too so_far =
+    step_paired b makes l n behind after (step_move step) (plug (map step_move (drop (i + 1) steps)) last) old middle new
+    (may ∙ sym (may_make_plug b (map step_move (drop (i + 1) steps)) last)) many left written settled_too
+    ∙ sym (ap (λ xs. put_steps old (paired b l n (plug (map step_move xs) last))) (one_dropped steps i step less is)) ∙ so_far
+
+-- the steps of a block are written, and its end
+pub block_written : (b : Bool) (l tokens i : ℕ) (block : Block) (items : List Step) (made : TokenedBlock)
+    (before : List TokenedStep)
+    (total : Tokened) → items ≡ block.steps.items → length items ≤ i
+    → put_steps before (paired b l tokens (plug (map step_move (drop i block.steps.items)) (last_code block.last))) ≡ total
+    → put_steps made.steps.items (tokened_last_code made.last) ≡ put_steps before (paired b l tokens (last_code block.last))
+    → tokened_code made ≡ total
+block_written b l tokens i block items made before total is all so_far end =
+    tokened_block_is made ∙ end
+    ∙ sym (ap (λ xs. put_steps before (paired b l tokens (plug (map step_move xs) (last_code block.last))))
+    (ap (drop i) (sym is) ∙ drop_of_length-le items all))
+    ∙ so_far
+
+-- ---- other steps
+
+written : (before after : List TokenedStep) (made : TokenedStep) (step : Step) (tokened : TokenedMove) (move : Move) (makes : Bool)
+    (n : ℕ)
+    → after ≡ before ++ made ∷ [] → tokened_move made ≡ tokened → step_move step ≡ move
+    → ((rest : Tokened) → put_tokened tokened rest ≡ paired_move makes n move rest)
+    → (rest : Tokened) → put_steps after rest ≡ put_steps before (paired_move makes n (step_move step) rest)
+written before after made step tokened move makes n grown is of same rest =
+    step_pushed before after made tokened grown is rest
+    ∙ ap (put_steps before) (same rest ∙ ap (λ m. paired_move makes n m rest) (sym of))
+
+step_if_unique : (x c : ℕ) (fields used : Vec ℕ)
+    → step_move (OfPlain.IfUnique x c fields used) ≡ opens_unique x c fields.items used.items
+step_if_unique x c fields used =
+    ap step_move (sym (OfPlain.rolls-IfUnique x c fields used))
+    ∙ fold-roll-Step Counted Move Counted last_step step_step block_step _
+
+pub read_written : (before after : List TokenedStep) (step : Step) (made : TokenedStep) (makes : Bool) (n x c : ℕ) (fields : Vec ℕ)
+    → step ≡ OfPlain.Read x c fields → tokened_move made ≡ TokenedMove.reads x c fields.items → after ≡ before ++ made ∷ []
+    → (rest : Tokened) → put_steps after rest ≡ put_steps before (paired_move makes n (step_move step) rest)
+read_written before after step made makes n x c fields is same grown =
+    written before after made step _ _ makes n grown same (ap step_move is ∙ step_read x c fields) (λ rest. refl)
+
+pub open_written : (before after : List TokenedStep) (step : Step) (made : TokenedStep) (makes : Bool) (n x c : ℕ)
+    (fields used : Vec ℕ) → step ≡ OfPlain.Open x c fields used
+    → tokened_move made ≡ TokenedMove.opens x c fields.items used.items n → after ≡ before ++ made ∷ []
+    → (rest : Tokened) → put_steps after rest ≡ put_steps before (paired_move makes n (step_move step) rest)
+open_written before after step made makes n x c fields used is same grown =
+    written before after made step _ _ makes n grown same (ap step_move is ∙ step_open x c fields used) (λ rest. refl)
+
+pub if_unique_written : (before after : List TokenedStep) (step : Step) (made : TokenedStep) (makes : Bool) (n x c : ℕ)
+    (fields used : Vec ℕ) → step ≡ OfPlain.IfUnique x c fields used
+    → tokened_move made ≡ TokenedMove.opens_unique x c fields.items used.items n → after ≡ before ++ made ∷ []
+    → (rest : Tokened) → put_steps after rest ≡ put_steps before (paired_move makes n (step_move step) rest)
+if_unique_written before after step made makes n x c fields used is same grown =
+    written before after made step _ _ makes n grown same (ap step_move is ∙ step_if_unique x c fields used) (λ rest. refl)
+
+pub dup_written : (before after : List TokenedStep) (step : Step) (makes : Bool) (n x : ℕ) → step ≡ OfPlain.Dup x
+    → after ≡ before ++ OfStep.Dup x ∷ []
+    → (rest : Tokened) → put_steps after rest ≡ put_steps before (paired_move makes n (step_move step) rest)
+dup_written before after step makes n x is grown =
+    written before after _ step _ _ makes n grown (dup_step x) (ap step_move is ∙ step_dup x) (λ rest. refl)
+
+pub drop_written : (before after : List TokenedStep) (step : Step) (makes : Bool) (n x : ℕ) → step ≡ OfPlain.Drop x
+    → after ≡ before ++ OfStep.Drop x ∷ []
+    → (rest : Tokened) → put_steps after rest ≡ put_steps before (paired_move makes n (step_move step) rest)
+drop_written before after step makes n x is grown =
+    written before after _ step _ _ makes n grown (drop_step x) (ap step_move is ∙ step_drop x) (λ rest. refl)
+
+-- ---- blocks inside
+
+pub left_of_some : (makes : Bool) (n left : ℕ) (block : Counted) → makes ≡ true → left ≡ leaves true n block
+    → left ≡ leaves makes (kept makes block n) block
+left_of_some makes n left block is same =
+    same ∙ sym (leaves_kept block n) ∙ sym (ap (λ b. leaves b (kept b block n) block) is)
+
+pub left_of_none : (makes : Bool) (n left : ℕ) (block : Counted) → makes ≡ false → left ≡ 0
+    → left ≡ leaves makes (kept makes block n) block
+left_of_none makes n left block is none =
+    none ∙ sym (none_behind block n) ∙ sym (ap (λ b. leaves b (kept b block n) block) is)
+
+pub inside_written : (before after : List TokenedStep) (makes : Bool) (n x left : ℕ) (block : Counted) (made : TokenedBlock)
+    → after ≡ before ++ OfStep.Inside x made ∷ [] → left ≡ leaves makes (kept makes block n) block
+    → tokened_code made ≡ paired_block makes left n block
+    → (rest : Tokened) → put_steps after rest
+    ≡ put_steps before (Tokened.inside x (paired_block makes (leaves makes (kept makes block n) block) n block) rest)
+inside_written before after makes n x left block made grown is same rest =
+    step_pushed before after _ _ grown (inside_step x made) rest
+    ∙ ap (λ code. put_steps before (Tokened.inside x code rest)) (same ∙ ap (λ k. paired_block makes k n block) is)
+
+-- ---- functions
+
+pub whole : (code : Counted) → paired_block false 0 0 code ≡ paired false 0 0 code
+whole code = by (may_make false code)
+  where
+    by : (b : Bool) → (if b then paired false 0 (if b then 0 else 0) code else frees 0 (paired false 0 (if b then 0 else 0) code))
+        ≡ paired false 0 0 code
+    by true = refl
+    by false = refl
+
+function_paired : (fun : TokenedFun) (of : CountedFun) → fun.parameters ≡ of.parameters
+    → tokened_code fun.body ≡ paired_block false 0 0 (block_code of.body) → tokened_function fun ≡ paired_function (function_of of)
+function_paired fun of many same =
+    ap (λ n. with_body n (tokened_code fun.body)) many ∙ ap (with_body of.parameters) (same ∙ whole (block_code of.body))
+  where
+    with_body : ℕ → Tokened → TokenedFunction
+    with_body n code = record { parameters = n; body = code }
+
+pub function_written : (before after : List TokenedFun) (fun : TokenedFun) (functions : List CountedFun) (i : ℕ) (of : CountedFun)
+    (total : List TokenedFunction) → i < length functions → of ≡ get_or functions i of → after ≡ before ++ fun ∷ []
+    → fun.parameters ≡ of.parameters → tokened_code fun.body ≡ paired_block false 0 0 (block_code of.body)
+    → map tokened_function before ++ map paired_function (map function_of (drop i functions)) ≡ total
+    → map tokened_function after ++ map paired_function (map function_of (drop (i + 1) functions)) ≡ total
+function_written before after fun functions i of total less is grown many same so_far =
+    let later = map paired_function (map function_of (drop (i + 1) functions)) in
+    ap (λ xs. map tokened_function xs ++ later) grown
+    ∙ ap (λ xs. xs ++ later) (map-append tokened_function before (fun ∷ []))
+    ∙ append_assoc (map tokened_function before) (tokened_function fun ∷ []) later
+    ∙ ap (λ x. map tokened_function before ++ x ∷ later) (function_paired fun of many same)
+    ∙ sym (ap (λ xs. map tokened_function before ++ map paired_function (map function_of xs)) (one_dropped functions i of less is))
+    ∙ so_far
+
+pub program_written : (made : List TokenedFun) (items functions : List CountedFun) (i : ℕ) (texts : List (List ℕ))
+    → items ≡ functions
+    → length items ≤ i
+    → map tokened_function made ++ map paired_function (map function_of (drop i items)) ≡ map paired_function
+    (map function_of items)
+    → tokened_program made texts ≡ paired_program (program_of functions texts)
+program_written made items functions i texts is all so_far =
+    ap of (sym (append-nil (map tokened_function made))
+    ∙ sym (ap (λ xs. map tokened_function made ++ map paired_function (map function_of xs)) (drop_of_length-le items all))
+    ∙ so_far ∙ ap (λ xs. map paired_function (map function_of xs)) is)
+  where
+    of : List TokenedFunction → TokenedProgram
+    of functions = record { functions = functions; texts = texts; main = 0 }

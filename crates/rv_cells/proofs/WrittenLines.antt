@@ -1,0 +1,514 @@
+-- Lines that were written one after the other are those of the forms that touch cells.
+use Rattle.std.proofs.Common.{
+  ◌≡◌,
+  ℕ,
+  suc,
+  ◌+◌,
+  ◌-◌,
+  ◌≤◌,
+  ◌<◌,
+  Bool,
+  true,
+  not,
+  List,
+  [],
+  ◌∷◌,
+  ◌++◌,
+  length,
+  take,
+  get_or,
+  Option,
+  Some,
+  refl,
+  sym,
+  ap,
+  subst,
+  ◌∙◌,
+  arith,
+  append-nil,
+  append_assoc,
+  false,
+}
+use Rattle.std.specs.Prelude.{filter, map, drop, slice_range, option_to_list}
+use Rattle.std.proofs.lemmas.List.{length-take-le, take_more, take_all, length-drop, drop-map}
+use Rattle.kk_syntax.specs.Shapes.{is_among}
+use Rattle.kk_core.specs.Decisions.{NodeTree, node_tree, tests}
+use Rattle.kk_core.specs.declared.decisions.Answer.{Answer}
+use Rattle.kk_core.specs.declared.decisions.Node.{Node}
+use Rattle.kk_core.specs.declared.decisions.Edge.{Edge}
+use Rattle.rv_isa.specs.declared.asm.Action.TheVariants.{Label, Branch}
+use Rattle.rv_isa.specs.declared.asm.Condition.TheVariants.{NotEqual}
+use Rattle.rv_isa.specs.declared.asm.Operation.TheVariants as Op
+use Rattle.rv_isa.specs.declared.asm.ImmediateOperation.TheVariants.{Andi}
+use Rattle.rv_isa.specs.declared.immediate.Immediate.{Immediate}
+use Rattle.rv_isa.specs.AsmCode.{Line}
+use Rattle.rv_lower.specs.declared.lowering.Lowering.{Lowering}
+use Rattle.rv_lower.specs.Lines.{computes, sets, copies_to, acts}
+use Rattle.rv_lower.specs.Written.{lines_written, Wrote, WroteLines, TookLabel}
+use Rattle.rv_lower.proofs.WrittenLines.{wrote_then}
+use Rattle.rv_lower.proofs.CodeGrowth.{grows_of, grows_took, grows_then, grows_more}
+use Rattle.rv_cells.specs.Layout.{Layout}
+use Rattle.rv_cells.specs.CellLines.{Loads, Stores, AllLoads, AllStores, StoresIf, SomeStores, is_kept, Walks, walked, spare, dups_lines, drops_lines, ConstructLines}
+use Rattle.rv_cells.specs.CellLines.{SetIf, SomeWords, FillLines, hold_lines, unhold_lines, token_ends, TokenUniqueLines}
+use Rattle.rv_cells.specs.CountedLines.{
+  is_plain,
+  answer_word,
+  answer_tag,
+  Ways,
+  first_label,
+  number_tests,
+  last_lines,
+  ChoiceLines,
+  OddLines,
+  DecideLines,
+  AreTried,
+  TestLines,
+  NodeLines,
+  NodesLines,
+}
+use Rattle.rv_cells.specs.TokenedWritten.{take_line, request_lines, StoreLines, WroteFill}
+use Rattle.rv_cells.specs.Written.{TestsCount, LowersCount, LoadsTag, WroteOpening}
+
+pub three_same : {a b c d e f : Line} → a ≡ b → c ≡ d → e ≡ f → a ∷ c ∷ e ∷ [] ≡ b ∷ d ∷ f ∷ []
+three_same {a} {b} {c} {d} {e} {f} first second third = cc (first, second, third)
+
+length_taken : {A : Type 0} (xs : List A) (n : ℕ) → n < length xs → length (take n xs) ≡ n
+length_taken xs n less = length-take-le n xs (omega (arith, less))
+
+-- ---- a field more
+
+more_loads : (cell i x : ℕ) (xs : List ℕ) (lines : List Line) (line : Line) → AllLoads cell i xs lines
+    → Loads cell (i + length xs) x line
+    → AllLoads cell i (xs ++ x ∷ []) (lines ++ line ∷ [])
+more_loads cell i x [] lines line all one =
+    (line, [], subst (λ n. Loads cell n x line) (omega arith) one, refl, ap (λ ls. ls ++ line ∷ []) all)
+more_loads cell i x (y ∷ xs) lines line all one = (
+  all.0,
+  all.1 ++ line ∷ [],
+  all.2,
+  more_loads cell (suc i) x xs all.1 line all.3 (subst (λ n. Loads cell n x line) (omega arith) one),
+  ap (λ ls. ls ++ line ∷ []) all.4,
+)
+
+more_stores : (cell i x : ℕ) (xs : List ℕ) (lines : List Line) (line : Line) → AllStores cell i xs lines
+    → Stores cell (i + length xs) x line
+    → AllStores cell i (xs ++ x ∷ []) (lines ++ line ∷ [])
+more_stores cell i x [] lines line all one =
+    (line, [], subst (λ n. Stores cell n x line) (omega arith) one, refl, ap (λ ls. ls ++ line ∷ []) all)
+more_stores cell i x (y ∷ xs) lines line all one = (
+  all.0,
+  all.1 ++ line ∷ [],
+  all.2,
+  more_stores cell (suc i) x xs all.1 line all.3 (subst (λ n. Stores cell n x line) (omega arith) one),
+  ap (λ ls. ls ++ line ∷ []) all.4,
+)
+
+pub loads_more : (cell n index : ℕ) (xs : List ℕ) (lines : List Line) (line : Line) → n < length xs → index ≡ 2 + n
+    → AllLoads cell 2 (take n xs) lines → Loads cell index (get_or xs n 0) line
+    → AllLoads cell 2 (take (n + 1) xs) (lines ++ line ∷ [])
+loads_more cell n index xs lines line less is all one =
+    subst (λ ys. AllLoads cell 2 ys (lines ++ line ∷ [])) (sym (take_more xs n 0 less))
+    (more_loads cell 2 (get_or xs n 0) (take n xs) lines line all
+    (subst (λ i. Loads cell i (get_or xs n 0) line) (is ∙ ap (λ m. 2 + m) (sym (length_taken xs n less))) one))
+
+-- so are some of them
+more_some : (takes : ℕ → Bool) (cell i position from : ℕ) (xs : List ℕ) (lines one : List Line)
+    → SomeStores takes cell i position xs lines → StoresIf (takes (position + length xs)) cell (i + length xs) from one
+    → SomeStores takes cell i position (xs ++ from ∷ []) (lines ++ one)
+more_some takes cell i position from [] lines one all last = (
+  one,
+  [],
+  subst (λ b. StoresIf b cell i from one) (ap takes (none_beside position))
+      (subst (λ j. StoresIf (takes (position + 0)) cell j from one) (none_beside i) last),
+  refl,
+  ap (λ ls. ls ++ one) all ∙ sym (append-nil one),
+)
+  where
+    none_beside : (n : ℕ) → n + 0 ≡ n
+    none_beside n = omega arith
+more_some takes cell i position from (x ∷ xs) lines one all last = (
+  all.0,
+  all.1 ++ one,
+  all.2,
+  more_some takes cell (suc i) (suc position) from xs all.1 one all.3
+      (subst (λ b. StoresIf b cell (suc i + length xs) from one) (ap takes (one_on position (length xs)))
+      (subst (λ j. StoresIf (takes (position + suc (length xs))) cell j from one) (one_on i (length xs)) last)),
+  ap (λ ls. ls ++ one) all.4 ∙ append_assoc all.0 all.1 one,
+)
+  where
+    one_on : (n k : ℕ) → n + suc k ≡ suc n + k
+    one_on n k = omega arith
+
+pub some_more : (takes : ℕ → Bool) (cell n index position : ℕ) (xs : List ℕ) (lines one : List Line) → n < length xs
+    → index ≡ 2 + n → position ≡ n → SomeStores takes cell 2 0 (take n xs) lines
+    → StoresIf (takes position) cell index (get_or xs n 0) one
+    → SomeStores takes cell 2 0 (take (n + 1) xs) (lines ++ one)
+some_more takes cell n index position xs lines one less is place all last =
+    subst (λ ys. SomeStores takes cell 2 0 ys (lines ++ one)) (sym (take_more xs n 0 less))
+    (more_some takes cell 2 0 (get_or xs n 0) (take n xs) lines one all
+    (subst (λ b. StoresIf b cell (2 + length (take n xs)) (get_or xs n 0) one)
+    (ap takes (place ∙ sym (length_taken xs n less) ∙ none_before (length (take n xs))))
+    (subst (λ i. StoresIf (takes position) cell i (get_or xs n 0) one)
+    (is ∙ ap (λ m. 2 + m) (sym (length_taken xs n less))) last)))
+  where
+    none_before : (k : ℕ) → k ≡ 0 + k
+    none_before k = omega arith
+
+pub stores_more : (cell n index : ℕ) (xs : List ℕ) (lines : List Line) (line : Line) → n < length xs → index ≡ 2 + n
+    → AllStores cell 2 (take n xs) lines → Stores cell index (get_or xs n 0) line
+    → AllStores cell 2 (take (n + 1) xs) (lines ++ line ∷ [])
+stores_more cell n index xs lines line less is all one =
+    subst (λ ys. AllStores cell 2 ys (lines ++ line ∷ [])) (sym (take_more xs n 0 less))
+    (more_stores cell 2 (get_or xs n 0) (take n xs) lines line all
+    (subst (λ i. Stores cell i (get_or xs n 0) line) (is ∙ ap (λ m. 2 + m) (sym (length_taken xs n less))) one))
+
+more_walk : (temporary value field : ℕ) (way : List ℕ) (lines : List Line) (line : Line) → Walks temporary value way lines
+    → Loads (walked temporary value way) (2 + field) temporary line
+    → Walks temporary value (way ++ field ∷ []) (lines ++ line ∷ [])
+more_walk temporary value field [] lines line walks one = (line, [], one, refl, ap (λ ls. ls ++ line ∷ []) walks)
+more_walk temporary value field (first ∷ way) lines line walks one = (
+  walks.0,
+  walks.1 ++ line ∷ [],
+  walks.2,
+  more_walk temporary temporary field way walks.1 line walks.3
+      (subst (λ cell. Loads cell (2 + field) temporary line) (sym (walked_again temporary way)) one),
+  ap (λ ls. ls ++ line ∷ []) walks.4,
+)
+  where
+    walked_again : (temporary : ℕ) (way : List ℕ) → walked temporary temporary way ≡ temporary
+    walked_again temporary [] = refl
+    walked_again temporary (field ∷ way) = refl
+
+pub walked_more : (temporary value n : ℕ) (xs : List ℕ) → n < length xs → walked temporary value (take (n + 1) xs) ≡ temporary
+walked_more temporary value n xs less =
+    ap (walked temporary value) (take_more xs n 0 less) ∙ behind (take n xs)
+  where
+    behind : (way : List ℕ) → walked temporary value (way ++ get_or xs n 0 ∷ []) ≡ temporary
+    behind [] = refl
+    behind (field ∷ way) = refl
+
+pub walk_more : {n index cell : ℕ} {line : Line} {a b c : Lowering} (temporary value : ℕ) (xs : List ℕ) → n < length xs
+    → index ≡ 2 + get_or xs n 0 → cell ≡ walked temporary value (take n xs)
+    → WroteLines (Walks temporary value (take n xs)) a b → Loads cell index temporary line → Wrote (line ∷ []) b c
+    → WroteLines (Walks temporary value (take (n + 1) xs)) a c
+walk_more {n} {index} {cell} {line} {a} {b} {c} temporary value xs less is from wrote one more = record {
+  lines = wrote.lines ++ line ∷ [];
+  wrote = wrote_then wrote.wrote more;
+  are = subst (λ ys. Walks temporary value ys (wrote.lines ++ line ∷ [])) (sym (take_more xs n 0 less))
+      (more_walk temporary value (get_or xs n 0) (take n xs) wrote.lines line wrote.are
+      (subst (λ i. Loads (walked temporary value (take n xs)) i temporary line) is
+      (subst (λ from. Loads from index temporary line) from one)));
+}
+
+-- ---- an opening by the count of a cell
+
+module _ {holds : ℕ → Bool} {x : ℕ} {fields used : List ℕ} {token : ℕ} {into : Option ℕ} where
+  pub opening_written : {shared behind : ℕ} {loads : List Line} {a b c d e f g h i j k l m : Lowering} → TookLabel shared a b
+      → TookLabel behind b c
+      → AllLoads x 2 fields loads → WroteLines (TestsCount c.base shared x) c d → Wrote loads d e
+      → Wrote (drops_lines e.base holds (filter (λ y. not (is_among used y)) fields)) e f → Wrote (token_ends into x token behind
+      (behind + 1)) f g
+      → Wrote (acts (Label shared) [] ∷ []) g h → Wrote (sets 0 token ∷ []) h i → Wrote loads i j → WroteLines (LowersCount j.base
+      x) j k
+      → Wrote (dups_lines holds (filter (is_among used) fields)) k l → Wrote (acts (Label behind) [] ∷ []) l m
+      → WroteOpening holds x fields used token into a m
+  opening_written {shared} {behind} {loads} {a} {b} {c} {d} {e} {f} {g} {h} {i} {j} {k} {l} {m} first second all test one
+      drops end label began again less dups last = record {
+        lines = lines;
+        grows = grows_more (omega arith) (grows_then (grows_took first) (grows_then (grows_took second) (grows_of whole)));
+        label = whole.label ∙ second.next ∙ ap (λ n. n + 1) first.next ∙ two a.next_label;
+        are = subst (λ n. TokenUniqueLines a.base holds a.next_label (a.next_label + 1) n x fields used token into lines)
+            (ap (λ n. n + 1) (second.is ∙ first.next) ∙ two a.next_label)
+            (subst (λ n. TokenUniqueLines a.base holds a.next_label n (behind + 1) x fields used token into lines)
+            (second.is ∙ first.next)
+            (subst (λ n. TokenUniqueLines a.base holds n behind (behind + 1) x fields used token into lines) first.is (
+              test_own.0,
+              loads,
+              less_own.0,
+              less_own.1,
+              less_own.2,
+              test_own.1,
+              all,
+              less_own.3,
+              less_own.4,
+              less_own.5,
+              ap (λ (ls : List Line). ls ++ ((loads ++ (dropped ++ token_ends into x token behind (behind + 1))) ++
+                  ((acts (Label shared) [] ∷ ((sets 0 token ∷ []) ++ (loads ++ (less.lines ++ dupped)))) ++ (acts (Label behind) []
+                  ∷ []))))
+                  test_own.2
+                  ∙ ap (λ (ls : List Line). tested ++ ((loads ++ (dropped ++ token_ends into x token behind (behind + 1))) ++
+                  ((acts (Label shared) [] ∷ ((sets 0 token ∷ []) ++ (loads ++ (ls ++ dupped)))) ++ (acts (Label behind) [] ∷ []))))
+                  less_own.6,
+            )));
+      }
+    where
+      two : (n : ℕ) → n + 1 + 1 ≡ n + 2
+      two n = omega arith
+
+      at_c : c.base ≡ a.base
+      at_c = second.base ∙ first.base
+
+      at_e : e.base ≡ a.base
+      at_e = one.base ∙ test.wrote.base ∙ at_c
+
+      at_j : j.base ≡ a.base
+      at_j = again.base ∙ began.base ∙ label.base ∙ end.base ∙ drops.base ∙ at_e
+
+      dropped : List Line
+      dropped = drops_lines a.base holds (filter (λ y. not (is_among used y)) fields)
+
+      dupped : List Line
+      dupped = dups_lines holds (filter (is_among used) fields)
+
+      test_own : TestsCount a.base shared x test.lines
+      test_own = subst (λ n. TestsCount n shared x test.lines) at_c test.are
+
+      less_own : LowersCount a.base x less.lines
+      less_own = subst (λ n. LowersCount n x less.lines) at_j less.are
+
+      tested : List Line
+      tested = test_own.0 ∷ sets 1 (a.base + 1) ∷ acts (Branch NotEqual shared) (a.base ∷ (a.base + 1) ∷ []) ∷ []
+
+      lines : List Line
+      lines = test.lines ++ ((loads ++ (dropped ++ token_ends into x token behind (behind + 1))) ++
+          ((acts (Label shared) [] ∷ ((sets 0 token ∷ []) ++ (loads ++ (less.lines ++ dupped)))) ++ (acts (Label behind) [] ∷ [])))
+
+      whole : Wrote lines c m
+      whole =
+          wrote_then test.wrote
+          (wrote_then (wrote_then one (wrote_then (subst (λ n. Wrote
+          (drops_lines n holds (filter (λ y. not (is_among used y)) fields)) e f) at_e drops) end))
+          (wrote_then (wrote_then label (wrote_then began (wrote_then again (wrote_then less.wrote dups)))) last))
+
+-- ---- constructions
+
+pub construction_written : {a b c : Lowering} (x header : ℕ) (arguments : List ℕ) → Wrote (take_line x ∷ []) a b
+    → WroteLines (StoreLines b.base x header arguments) b c → WroteLines (ConstructLines a.base x header arguments) a c
+construction_written {a} {b} {c} x header arguments takes stores = record {
+  lines = take_line x ∷ stores.lines;
+  wrote = wrote_then takes stores.wrote;
+  are = subst (λ n. ConstructLines n x header arguments (take_line x ∷ stores.lines)) takes.base stores.are;
+}
+
+-- a construction in the cell of a token
+pub fill_written : {x token header filled : ℕ} {others arguments kept : List ℕ} {head count : Bool} {a b c d e f g : Lowering}
+    → TookLabel filled a b
+    → Wrote (copies_to token x ∷ acts (Branch NotEqual filled) (x ∷ []) ∷ []) b c → Wrote (request_lines x others) c d
+    → WroteLines (SomeWords head count (is_kept true kept) d.base x header arguments) d e → Wrote (acts (Label filled) [] ∷ []) e f
+    → WroteLines (SomeWords (not head) (not count) (is_kept false kept) f.base x header arguments) f g
+    → WroteFill x token others header arguments kept head count a g
+fill_written {x} {token} {header} {filled} {others} {arguments} {kept} {head} {count} {a} {b} {c} {d} {e} {f} {g} took test
+    requests left labelled stores = record {
+      lines = test_lines ++ (request_lines x others ++ behind);
+      grows = grows_more (omega arith) (grows_then (grows_took took) (grows_of
+          (wrote_then test (wrote_then requests (wrote_then left.wrote (wrote_then labelled stores.wrote))))));
+      label = stores.wrote.label ∙ labelled.label ∙ left.wrote.label ∙ requests.label ∙ test.label ∙ took.next;
+      are = subst (λ n. FillLines a.base x token others n header arguments kept head count
+          (test_lines ++ (request_lines x others ++ behind))) took.is (
+            left.lines,
+            stores.lines,
+            subst (λ n. SomeWords head count (is_kept true kept) n x header arguments left.lines)
+                (requests.base ∙ test.base ∙ took.base) left.are,
+            subst (λ n. SomeWords (not head) (not count) (is_kept false kept) n x header arguments stores.lines)
+                (labelled.base ∙ left.wrote.base ∙ requests.base ∙ test.base ∙ took.base) stores.are,
+            ap (λ (ls : List Line). test_lines ++ ls)
+                (append_assoc (hold_lines others) (take_line x ∷ unhold_lines others) behind),
+          );
+    }
+  where
+    test_lines : List Line
+    test_lines = copies_to token x ∷ acts (Branch NotEqual filled) (x ∷ []) ∷ []
+
+    behind : List Line
+    behind = left.lines ++ (acts (Label filled) [] ∷ stores.lines)
+
+-- a word of a cell, and none
+pub word_written : (cell i word : ℕ) {taken : Bool} {set_line store : Line} {a b : Lowering} → taken ≡ true
+    → set_line ≡ sets word a.base → Stores cell i a.base store → Wrote (set_line ∷ store ∷ []) a b
+    → WroteLines (SetIf taken a.base cell i word) a b
+word_written cell i word {taken} {set_line} {store} {a} {b} is set_is stores wrote =
+    subst (λ t. WroteLines (SetIf t a.base cell i word) a b) (sym is)
+    (record { lines = set_line ∷ store ∷ []; wrote = wrote; are = (store, stores, ap (λ (l : Line). l ∷ store ∷ []) set_is) })
+
+pub no_word_written : (a : Lowering) (cell i word : ℕ) {taken : Bool} → taken ≡ false
+    → WroteLines (SetIf taken a.base cell i word) a a
+no_word_written a cell i word {taken} is =
+    subst (λ t. WroteLines (SetIf t a.base cell i word) a a) (sym is)
+    (record {
+      lines = [];
+      wrote = record { code = sym (append-nil (lines_written a)); texts = refl; base = refl; label = refl };
+      are = refl;
+    })
+
+-- some words of a construction
+pub some_words_written : (x header : ℕ) (arguments : List ℕ) (head count : Bool) (takes : ℕ → Bool) {a b c d : Lowering}
+    (fields : List Line) → SomeStores takes x 2 0 arguments fields → WroteLines (SetIf head a.base x 1 header) a b
+    → Wrote fields b c → WroteLines (SetIf count c.base x 0 1) c d
+    → WroteLines (SomeWords head count takes a.base x header arguments) a d
+some_words_written x header arguments head count takes {a} {b} {c} {d} fields stores first middle last = record {
+  lines = first.lines ++ (fields ++ last.lines);
+  wrote = wrote_then first.wrote (wrote_then middle last.wrote);
+  are = (
+    first.lines,
+    fields,
+    last.lines,
+    first.are,
+    stores,
+    subst (λ n. SetIf count n x 0 1 last.lines) (middle.base ∙ first.wrote.base) last.are,
+    refl,
+  );
+}
+
+-- ---- tests
+
+pub odd_lines : (value temporary node label : ℕ) (to : ℕ → ℕ) (otherwise : Option ℕ) (one : Immediate) (first second : Line)
+    → otherwise ≡ Some node → label ≡ to node → one.word ≡ 1
+    → first ≡ computes (Op.Immediate Andi one) (value ∷ []) temporary → second ≡ acts (Branch NotEqual label) (temporary ∷ [])
+    → OddLines value temporary to otherwise (first ∷ second ∷ [])
+odd_lines value temporary node label to otherwise one first second is label_is word first_is second_is =
+    subst (λ other. OddLines value temporary to other (first ∷ second ∷ [])) (sym is)
+    (one, word, cc (label_is, first_is, second_is))
+
+-- the tests of a number, the last one apart
+pub choice_written : {a b c : Lowering} (number : Answer → ℕ) (to : ℕ → ℕ) (next value temporary : ℕ) (edges some : List Edge)
+    (last : Option Edge) (other : Option ℕ) → edges ≡ some ++ option_to_list last
+    → Wrote (number_tests number to value temporary some) a b → Wrote (last_lines number to next value temporary last other) b c
+    → WroteLines (ChoiceLines number to next value temporary edges other) a c
+choice_written number to next value temporary edges some last other is first second = record {
+  lines = number_tests number to value temporary some ++ last_lines number to next value temporary last other;
+  wrote = wrote_then first second;
+  are = (some, last, is, refl);
+}
+
+decide_lines : (layout : Layout) (to : ℕ → ℕ) (next value temporary : ℕ) (plain tagged : List Edge) (otherwise other : Option ℕ)
+    (odd loads choice : List Line) → (tagged ≡ [] → ⊥) → OddLines value temporary to otherwise odd
+    → LoadsTag value temporary loads → ChoiceLines (answer_tag layout) to next temporary (temporary + 1) tagged other choice
+    → DecideLines layout to next value temporary plain tagged otherwise other
+    (number_tests (answer_word layout) to value temporary plain ++ (odd ++ (loads ++ choice)))
+decide_lines layout to next value temporary plain [] otherwise other odd loads choice some odds loaded chosen =
+    absurd (some refl)
+decide_lines layout to next value temporary plain (edge ∷ edges) otherwise other odd loads choice some odds loaded chosen = (
+  odd,
+  loaded.0,
+  loaded.1,
+  choice,
+  odds,
+  loaded.2,
+  loaded.3,
+  chosen,
+  ap (λ (ls : List Line). number_tests (answer_word layout) to value temporary plain ++ (odd ++ (ls ++ choice))) loaded.4,
+)
+
+pub tags_written : {above : ℕ} {a b c d e : Lowering} (layout : Layout) (to : ℕ → ℕ) (next value temporary : ℕ)
+    (plain tagged : List Edge) (otherwise other : Option ℕ) → (tagged ≡ [] → ⊥) → above ≡ temporary + 1
+    → Wrote (number_tests (answer_word layout) to value temporary plain) a b
+    → WroteLines (OddLines value temporary to otherwise) b c → WroteLines (LoadsTag value temporary) c d
+    → WroteLines (ChoiceLines (answer_tag layout) to next temporary above tagged other) d e
+    → WroteLines (DecideLines layout to next value temporary plain tagged otherwise other) a e
+tags_written {above} layout to next value temporary plain tagged otherwise other some is words odd loads choice = record {
+  lines = number_tests (answer_word layout) to value temporary plain ++ (odd.lines ++ (loads.lines ++ choice.lines));
+  wrote = wrote_then words (wrote_then odd.wrote (wrote_then loads.wrote choice.wrote));
+  are = decide_lines layout to next value temporary plain tagged otherwise other odd.lines loads.lines choice.lines some odd.are
+      loads.are
+      (subst (λ t. ChoiceLines (answer_tag layout) to next temporary t tagged other choice.lines) is choice.are);
+}
+
+pub words_written : {a b : Lowering} (layout : Layout) (to : ℕ → ℕ) (next value temporary : ℕ) (plain tagged : List Edge)
+    (otherwise other : Option ℕ) → tagged ≡ [] → WroteLines (ChoiceLines (answer_word layout) to next value temporary plain other) a b
+    → WroteLines (DecideLines layout to next value temporary plain tagged otherwise other) a b
+words_written {a} {b} layout to next value temporary plain tagged otherwise other none wrote =
+    subst (λ es. WroteLines (DecideLines layout to next value temporary plain es otherwise other) a b) (sym none)
+    (record { lines = wrote.lines; wrote = wrote.wrote; are = wrote.are })
+
+pub test_written : {value temporary : ℕ} {a b c : Lowering} (base : ℕ) (layout : Layout) (to : ℕ → ℕ) (next x : ℕ) (at : List ℕ)
+    (edges : List Edge) (otherwise : Option ℕ) (plain tagged : List Edge) (other : Option ℕ)
+    → WroteLines (Walks base x at) a b → value ≡ walked base x at → temporary ≡ spare base at
+    → AreTried (filter (λ edge. is_plain layout edge.found) edges) (filter (λ edge. not (is_plain layout edge.found)) edges) otherwise
+    plain tagged other
+    → WroteLines (DecideLines layout to next value temporary plain tagged otherwise other) b c
+    → WroteLines (TestLines layout base to next x at edges otherwise) a c
+test_written {value} {temporary} {a} {b} {c} base layout to next x at edges otherwise plain tagged other walk value_is spare_is tried
+    decided = record {
+      lines = walk.lines ++ decided.lines;
+      wrote = wrote_then walk.wrote decided.wrote;
+      are = (
+        walk.lines,
+        decided.lines,
+        plain,
+        tagged,
+        other,
+        walk.are,
+        tried,
+        subst (λ v. DecideLines layout to next v (spare base at) plain tagged otherwise other decided.lines) value_is
+            (subst (λ t. DecideLines layout to next value t plain tagged otherwise other decided.lines) spare_is decided.are),
+        refl,
+      );
+    }
+
+-- a test behind its label
+pub labelled_test : {label behind : ℕ} {a b c : Lowering} (layout : Layout) (nodes : ℕ) (ways : Ways) (x k : ℕ) (at : List ℕ)
+    (edges : List Edge) (otherwise : Option ℕ) → label ≡ nodes + k → behind ≡ ways.behind k → Wrote (acts (Label label) [] ∷ []) a b
+    → WroteLines (TestLines layout b.base ways.to behind x at edges otherwise) b c
+    → WroteLines (NodeLines layout a.base nodes ways x k (tests at edges otherwise)) a c
+labelled_test {label} {behind} {a} {b} {c} layout nodes ways x k at edges otherwise is behind_is labelled test = record {
+  lines = acts (Label (nodes + k)) [] ∷ test.lines;
+  wrote = wrote_then (subst (λ n. Wrote (acts (Label n) [] ∷ []) a b) is labelled) test.wrote;
+  are = (
+    test.lines,
+    subst (λ n. TestLines layout n ways.to (ways.behind k) x at edges otherwise test.lines) labelled.base
+        (subst (λ n. TestLines layout b.base ways.to n x at edges otherwise test.lines) behind_is test.are),
+    refl,
+  );
+}
+
+more_nodes : (layout : Layout) (base nodes : ℕ) (ways : Ways) (x k : ℕ) (each : List NodeTree) (node : NodeTree)
+    (lines first : List Line) → NodesLines layout base nodes ways x k each lines
+    → NodeLines layout base nodes ways x (k + length each) node first
+    → NodesLines layout base nodes ways x k (each ++ node ∷ []) (lines ++ first)
+more_nodes layout base nodes ways x k [] node lines first all one = (
+  first,
+  [],
+  subst (λ n. NodeLines layout base nodes ways x n node first) (none k) one,
+  refl,
+  ap (λ (ls : List Line). ls ++ first) all ∙ sym (append-nil first),
+)
+  where
+    none : (n : ℕ) → n + 0 ≡ n
+    none n = omega arith
+more_nodes layout base nodes ways x k (other ∷ each) node lines first all one = (
+  all.0,
+  all.1 ++ first,
+  all.2,
+  more_nodes layout base nodes ways x (suc k) each node all.1 first all.3
+      (subst (λ n. NodeLines layout base nodes ways x n node first) (one_more k (length each)) one),
+  ap (λ (ls : List Line). ls ++ first) all.4 ∙ append_assoc all.0 all.1 first,
+)
+  where
+    one_more : (n m : ℕ) → n + suc m ≡ suc n + m
+    one_more n m = omega arith
+
+pub nodes_more : {number : ℕ} {a b c : Lowering} (layout : Layout) (nodes : ℕ) (ways : Ways) (x : ℕ) (each : List NodeTree)
+    (node : NodeTree) → number ≡ length each
+    → WroteLines (NodesLines layout a.base nodes ways x 0 each) a b
+    → WroteLines (NodeLines layout b.base nodes ways x number node) b c
+    → WroteLines (NodesLines layout a.base nodes ways x 0 (each ++ node ∷ [])) a c
+nodes_more {number} {a} {b} {c} layout nodes ways x each node is wrote one = record {
+  lines = wrote.lines ++ one.lines;
+  wrote = wrote_then wrote.wrote one.wrote;
+  are = more_nodes layout a.base nodes ways x 0 each node wrote.lines one.lines wrote.are
+      (subst (λ n. NodeLines layout a.base nodes ways x n node one.lines) (is ∙ none (length each))
+      (subst (λ n. NodeLines layout n nodes ways x number node one.lines) wrote.wrote.base one.are));
+}
+  where
+    none : (n : ℕ) → n ≡ 0 + n
+    none n = omega arith
+
+-- the first label of the nodes from one on
+pub later_label : (nodes arms k : ℕ) (each rest : List Node) → rest ≡ slice_range each k (length each)
+    → first_label nodes arms k (map node_tree rest) ≡ first_label nodes arms k (drop k (map node_tree each))
+later_label nodes arms k each rest is =
+    ap (λ ns. first_label nodes arms k (map node_tree ns)) (is ∙ take_all (length each - k) (drop k each) few)
+    ∙ ap (first_label nodes arms k) (sym (drop-map node_tree k each))
+  where
+    few : length (drop k each) ≤ length each - k
+    few = let left = length-drop k each in omega (arith, left)
