@@ -1,6 +1,6 @@
 //! Whether a step of code with tokens is the one that is expected.
 
-use kk_counted::{TokenedLast, TokenedStep};
+use kk_counted::{TokenedBlock, TokenedLast, TokenedStep};
 use kk_syntax::Form;
 
 /// Whether a variable takes the value of a form on these arguments, which names these tokens.
@@ -39,19 +39,32 @@ pub fn reads(step: &TokenedStep, variable: u32, fields: &[u32]) -> bool {
 
 /// Whether the cell of the first variable, by the first constructor, is opened, and its token stands in the first slot.
 pub fn opens(step: &TokenedStep, fields: &[u32], used: &[u32]) -> bool {
+    opens_into(step, 0, fields, used, 0)
+}
+
+/// Whether the cell of a variable, by the first constructor, is opened, and its token stands in a slot.
+pub fn opens_into(
+    step: &TokenedStep,
+    variable: u32,
+    fields: &[u32],
+    used: &[u32],
+    slot: u32,
+) -> bool {
     match step {
         TokenedStep::Open {
-            variable: 0,
+            variable: of,
             constructor: 0,
             fields: found,
             used: named,
-            slot: 0,
-        } => found.as_slice() == fields && named.as_slice() == used,
+            slot: to,
+        } => {
+            *of == variable && found.as_slice() == fields && named.as_slice() == used && *to == slot
+        }
         _ => false,
     }
 }
 
-/// The same by the count of the cell.
+/// Whether the cell of the first variable is opened so by its count, and its token stands in the first slot.
 pub fn opens_by_count(step: &TokenedStep, fields: &[u32], used: &[u32]) -> bool {
     match step {
         TokenedStep::IfUnique {
@@ -98,5 +111,24 @@ pub fn calls(last: &TokenedLast, arguments: &[u32]) -> bool {
     match last {
         TokenedLast::TailCall(0, on) => on.as_slice() == arguments,
         _ => false,
+    }
+}
+
+/// The blocks of the rows of a branch on a variable.
+pub fn rows_of(last: &TokenedLast, variable: u32) -> &[TokenedBlock] {
+    match last {
+        TokenedLast::Case(on, _, rows) if *on == variable => rows.as_slice(),
+        _ => &[],
+    }
+}
+
+/// The blocks of the rows of a branch on a variable, whose value another variable takes.
+pub fn rows_inside(step: &TokenedStep, value: u32, variable: u32) -> &[TokenedBlock] {
+    match step {
+        TokenedStep::Inside {
+            variable: to,
+            block,
+        } if *to == value && block.steps.is_empty() => rows_of(&block.last, variable),
+        _ => &[],
     }
 }

@@ -2,6 +2,8 @@
 #![tactic(auto)]
 
 #[cfg(test)]
+mod branching;
+#[cfg(test)]
 mod expecting;
 #[cfg(test)]
 mod lists;

@@ -4,7 +4,7 @@ ghost use Rattle.std.specs.Prelude.{◌≡◌, [], true, length};
 ghost use Rattle.kk_counted.specs.TokenEmissions.{counted_of};
 
 use kk_base::NoMemory;
-use kk_counted::{Debts, Kept, Owed, Spare, TokenEmitter};
+use kk_counted::{Arms, Debts, Kept, Owed, Spare, TokenEmitter};
 
 /// Spends what a call could not take. The emitter has failed from then on.
 pub fn abandoned(emitter: &mut TokenEmitter<'_>, kept: Kept) -> NoMemory
@@ -46,4 +46,35 @@ pub fn lose_only(emitter: &mut TokenEmitter<'_>, mut debts: Debts)
     };
     debts.close();
     lose(emitter, owed);
+}
+
+/// Spends all references and tokens of some debts of an emitter that has failed.
+pub fn lose_all(emitter: &mut TokenEmitter<'_>, mut debts: Debts)
+    requires { (counted_of emitter.old).failed ≡ true }
+    ensures { (counted_of emitter.new).failed ≡ true }
+{
+    while let Some(owed) = debts.take() {
+        lose(emitter, owed);
+    }
+    while let Some(spare) = debts.take_spare() {
+        lose_token(emitter, spare);
+    }
+    debts.close();
+}
+
+/// Spends what is left of a branch of an emitter that has failed.
+pub fn lose_arms(emitter: &mut TokenEmitter<'_>, mut arms: Arms)
+    requires { (counted_of emitter.old).failed ≡ true }
+    ensures { (counted_of emitter.new).failed ≡ true }
+{
+    while let Some(debts) = emitter.next_arm(&mut arms) {
+        lose_all(emitter, debts);
+    }
+    match emitter.join(arms) {
+        Ok((owed, debts)) => {
+            lose(emitter, owed);
+            lose_all(emitter, debts);
+        }
+        Err(kept) => emitter.abandon(kept),
+    }
 }

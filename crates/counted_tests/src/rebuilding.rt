@@ -18,7 +18,7 @@ use kk_syntax::Ownership;
 use std::alloc::Global;
 
 /// The shape of a program with one function, which owns its parameter. It is a cell, whose type has one constructor with one field.
-fn shape_of_one_function(alloc: Global) -> Result<Shape, NoMemory>
+pub fn shape_of_one_function(alloc: Global) -> Result<Shape, NoMemory>
     ensures positions { IfOk result (λ shape. positions_in shape.instances.items ≡ (Owned ∷ []) ∷ []) }
     ensures fields { IfOk result (λ shape. fields_in shape.constructors.items ≡ 1 ∷ []) }
 {

@@ -1,0 +1,624 @@
+//! Functions with branches: in an arm a token is held, filled, freed or passed on, and behind it all stand in the same slots.
+
+ghost use Rattle.std.specs.Prelude.{◌≡◌, ◌∷◌, [], true, false, None, IfOk, OnOk, OnErr};
+ghost use Rattle.kk_syntax.specs.declared.positions.Ownership.TheVariants.{Owned};
+ghost use Rattle.kk_counted.specs.CountedForms.{decisions_of};
+ghost use Rattle.kk_counted.specs.InstancePositions.{positions_in, fields_in};
+ghost use Rattle.kk_counted.specs.TokenedCodes.{Tokened};
+ghost use Rattle.kk_counted.specs.TokenedForms.{TokenedMove};
+ghost use Rattle.kk_counted.specs.Drafts.{begun, given, unpacked, forked, computed, joined, outside, ended_by_value, ended_by_call, Writes, Owns, IsOnly, AreNewest, IsBetween, IsInArm};
+ghost use Rattle.kk_counted.specs.TokenDrafts.{no_tokens, adds, gains, spends, under_holds, opens_with, fills_with, ended_with, tokens_forked, tokens_joined, tokens_ended_by, tokens_ended_in};
+ghost use Rattle.kk_counted.specs.TokenEmissions.{counted_of, tokens_of};
+ghost use Rattle.kk_counted.specs.TokenEmitting.{HasSpare, HasAllSpare, CanEnd, EndsTokenArm, IsTokenedFunctionOf};
+ghost use Rattle.kk_counted.specs.Works.{left_in};
+
+use crate::expecting::{
+    calls, computes, fills, opens, opens_by_count, opens_into, rows_inside, rows_of,
+};
+use crate::losing::{abandoned, lose, lose_all, lose_arms, lose_token};
+use crate::rebuilding::shape_of_one_function;
+use kk_base::NoMemory;
+use kk_core::{Decisions, truth_decisions};
+use kk_counted::{
+    Arms, Debts, Owed, Shape, Spare, TokenArmEnd, TokenEmitter, TokenedFun, TokenedLast,
+    TokenedStep, give_up,
+};
+use kk_syntax::Form;
+use std::alloc::Global;
+
+/// Opens the parameter, a box, by its count, and begins a branch on what was inside. Each arm is to spend that and the token.
+fn opened(emitter: &mut TokenEmitter<'_>, tests: &Decisions) -> Result<Arms, NoMemory>
+    requires counted { counted_of emitter.old ≡ begun ((Owned ∷ []) ∷ []) (1 ∷ []) 0 }
+    requires tokens { tokens_of emitter.old ≡ no_tokens }
+    requires rows { tests.now.rows ≡ 2 }
+    ensures ok { OnOk result (counted_of emitter.new ≡ forked (unpacked (given (counted_of emitter.old) 0) true 0 0 1) 1 (decisions_of tests.now) (1 ∷ []) 2) }
+    ensures tokens { OnOk result (tokens_of emitter.new ≡ tokens_forked (gains no_tokens (opens_with true 0 0 (1 ∷ []) (1 ∷ []) 0)) 1 (decisions_of tests.now) 2) }
+    ensures arms { IfOk result (λ arms. (arms.emitter ≡ 0) × (arms.depth ≡ 1)) }
+    ensures left { IfOk result (λ arms. left_in arms.left.items ≡ (1 ∷ []) ∷ (1 ∷ []) ∷ []) }
+    ensures slots { IfOk result (λ arms. left_in arms.spare.items ≡ (0 ∷ []) ∷ (0 ∷ []) ∷ []) }
+{
+    let cell = emitter.param(0)?;
+    let (mut debts, spare) = match emitter.unpack_unique(cell, 0, 1) {
+        Ok(both) => both,
+        Err(kept) => return Err(abandoned(emitter, kept)),
+    };
+    if let Err(kept) = debts.put_spare(spare) {
+        let error = abandoned(emitter, kept);
+        lose_all(emitter, debts);
+        return Err(error);
+    }
+    match emitter.split(1, tests, debts) {
+        Ok(arms) => Ok(arms),
+        Err(kept) => Err(abandoned(emitter, kept)),
+    }
+}
+
+/// Ends the arm that is written, or spends what is left of its branch.
+fn ended(emitter: &mut TokenEmitter<'_>, end: TokenArmEnd, arms: Arms) -> Result<Arms, NoMemory>
+    requires inside { (counted_of emitter.old).failed ≡ false → (counted_of emitter.old).inside ≡ true }
+    requires arm { (counted_of emitter.old).failed ≡ false → IsInArm (counted_of emitter.old).splits }
+    requires ends { EndsTokenArm (counted_of emitter.old) (tokens_of emitter.old) end }
+    ensures going { OnOk result ((counted_of emitter.old).failed ≡ false) }
+    ensures ok { OnOk result (counted_of emitter.new ≡ ended_with (counted_of emitter.old) end) }
+    ensures tokens { OnOk result (tokens_of emitter.new ≡ tokens_ended_by (tokens_of emitter.old) end) }
+    ensures same { IfOk result (λ left. left ≡ arms) }
+{
+    match emitter.end_arm(end) {
+        Ok(()) => Ok(arms),
+        Err(kept) => {
+            let error = abandoned(emitter, kept);
+            lose_arms(emitter, arms);
+            Err(error)
+        }
+    }
+}
+
+/// Frees a token, and ends the arm by a value and the other tokens.
+fn given_without(
+    emitter: &mut TokenEmitter<'_>,
+    value: Owed,
+    spare: Spare,
+    others: Debts,
+    arms: Arms,
+) -> Result<Arms, NoMemory>
+    requires writes { Writes (counted_of emitter.old) }
+    requires arm { (counted_of emitter.old).failed ≡ false → IsInArm (counted_of emitter.old).splits }
+    requires only { IsOnly (counted_of emitter.old) value.emitter value.variable }
+    requires has { HasSpare (counted_of emitter.old) (tokens_of emitter.old) spare.emitter spare.slot }
+    requires alone { others.variables.items ≡ [] }
+    requires rest { HasAllSpare (counted_of emitter.old) (spends (tokens_of emitter.old) (TokenedMove.frees spare.slot) spare.slot) others.emitter others.spare.items }
+    requires can { (counted_of emitter.old).failed ≡ false → CanEnd (spends (tokens_of emitter.old) (TokenedMove.frees spare.slot) spare.slot) false (tokens_of emitter.old).splits }
+    requires value { (counted_of emitter.old).failed ≡ false → (tokens_of emitter.old).ending ≡ None }
+    ensures going { OnOk result ((counted_of emitter.old).failed ≡ false) }
+    ensures ok { OnOk result (counted_of emitter.new ≡ ended_by_value (counted_of emitter.old) value.variable) }
+    ensures tokens { OnOk result (tokens_of emitter.new ≡ tokens_ended_in (spends (tokens_of emitter.old) (TokenedMove.frees spare.slot) spare.slot) (Tokened.give value.variable) false (tokens_of emitter.old).splits) }
+    ensures same { IfOk result (λ left. left ≡ arms) }
+{
+    if let Err(kept) = emitter.release(spare) {
+        let error = abandoned(emitter, kept);
+        lose(emitter, value);
+        lose_all(emitter, others);
+        lose_arms(emitter, arms);
+        return Err(error);
+    }
+    ended(emitter, TokenArmEnd::Value(value, others), arms)
+}
+
+/// An arm that frees its token and gives its reference.
+fn freed(emitter: &mut TokenEmitter<'_>, mut debts: Debts, arms: Arms) -> Result<Arms, NoMemory>
+    requires writes { Writes (counted_of emitter.old) }
+    requires arm { (counted_of emitter.old).failed ≡ false → IsInArm (counted_of emitter.old).splits }
+    requires debts { (debts.variables.items ≡ 1 ∷ []) × (debts.spare.items ≡ 0 ∷ []) }
+    requires of { debts.emitter ≡ (counted_of emitter.old).instance }
+    requires owed { (counted_of emitter.old).failed ≡ false → (counted_of emitter.old).owed ≡ 1 ∷ [] }
+    requires spare { (counted_of emitter.old).failed ≡ false → (tokens_of emitter.old).spare ≡ 0 ∷ [] }
+    requires value { (counted_of emitter.old).failed ≡ false → (tokens_of emitter.old).ending ≡ None }
+    requires can { (counted_of emitter.old).failed ≡ false → CanEnd (spends (tokens_of emitter.old) (TokenedMove.frees 0) 0) false (tokens_of emitter.old).splits }
+    ensures going { OnOk result ((counted_of emitter.old).failed ≡ false) }
+    ensures ok { OnOk result (counted_of emitter.new ≡ ended_by_value (counted_of emitter.old) 1) }
+    ensures tokens { OnOk result (tokens_of emitter.new ≡ tokens_ended_in (spends (tokens_of emitter.old) (TokenedMove.frees 0) 0) (Tokened.give 1) false (tokens_of emitter.old).splits) }
+    ensures same { IfOk result (λ left. left ≡ arms) }
+{
+    let Some(value) = debts.take() else {
+        unreachable!();
+    };
+    let Some(spare) = debts.take_spare() else {
+        unreachable!();
+    };
+    given_without(emitter, value, spare, debts, arms)
+}
+
+/// Calls the function on a reference, while all tokens are held.
+fn called_again(
+    alloc: Global,
+    emitter: &mut TokenEmitter<'_>,
+    inner: Owed,
+) -> Result<Owed, NoMemory>
+    requires writes { Writes (counted_of emitter.old) }
+    requires owns { Owns (counted_of emitter.old) inner.emitter inner.variable }
+    requires positions { (counted_of emitter.old).positions ≡ (Owned ∷ []) ∷ [] }
+    ensures going { OnOk result ((counted_of emitter.old).failed ≡ false) }
+    ensures ok { OnOk result (counted_of emitter.new ≡ computed (counted_of emitter.old) (Form.Call 0) (inner.variable ∷ []) (inner.variable ∷ [])) }
+    ensures tokens { OnOk result (tokens_of emitter.new ≡ adds (tokens_of emitter.old) (under_holds (tokens_of emitter.old).spare (TokenedMove.computes (counted_of emitter.old).next (Form.Call 0) (inner.variable ∷ []) (tokens_of emitter.old).spare))) }
+    ensures owed { IfOk result (λ owed. (owed.emitter ≡ (counted_of emitter.old).instance) × (owed.variable ≡ (counted_of emitter.old).next)) }
+    ensures failed { OnErr result ((counted_of emitter.new).failed ≡ true) }
+{
+    let argument = match emitter.hand_over(inner) {
+        Ok(argument) => argument,
+        Err(kept) => return Err(abandoned(emitter, kept)),
+    };
+    let Ok(arguments) = Vec::from_slice(alloc, &[argument]) else {
+        return Err(emitter.fail());
+    };
+    match emitter.called(0, arguments) {
+        Ok(value) => Ok(value),
+        Err(kept) => Err(abandoned(emitter, kept)),
+    }
+}
+
+/// Builds a box of a reference in the cell of the only token.
+fn boxed(emitter: &mut TokenEmitter<'_>, mut debts: Debts, field: Owed) -> Result<Owed, NoMemory>
+    requires writes { Writes (counted_of emitter.old) }
+    requires fields { (counted_of emitter.old).field_counts ≡ 1 ∷ [] }
+    requires owns { Owns (counted_of emitter.old) field.emitter field.variable }
+    requires debts { (debts.variables.items ≡ []) × (debts.spare.items ≡ 0 ∷ []) }
+    requires of { debts.emitter ≡ (counted_of emitter.old).instance }
+    requires spare { (counted_of emitter.old).failed ≡ false → (tokens_of emitter.old).spare ≡ 0 ∷ [] }
+    ensures going { OnOk result ((counted_of emitter.old).failed ≡ false) }
+    ensures ok { OnOk result (counted_of emitter.new ≡ computed (counted_of emitter.old) (Form.Construct 0) (field.variable ∷ []) (field.variable ∷ [])) }
+    ensures tokens { OnOk result (tokens_of emitter.new ≡ spends (tokens_of emitter.old) (fills_with (counted_of emitter.old).next 0 0 (field.variable ∷ []) [] []) 0) }
+    ensures owed { IfOk result (λ owed. (owed.emitter ≡ (counted_of emitter.old).instance) × (owed.variable ≡ (counted_of emitter.old).next)) }
+    ensures failed { OnErr result ((counted_of emitter.new).failed ≡ true) }
+{
+    let Some(spare) = debts.take_spare() else {
+        unreachable!();
+    };
+    if let Err(kept) = debts.put(field) {
+        let error = abandoned(emitter, kept);
+        lose_token(emitter, spare);
+        debts.close();
+        return Err(error);
+    }
+    match emitter.construct_in(spare, 0, debts) {
+        Ok(built) => Ok(built),
+        Err(kept) => Err(abandoned(emitter, kept)),
+    }
+}
+
+/// An arm that holds its token while the function calls itself on its reference, and gives a box of the value in the cell.
+fn held_and_filled(
+    alloc: Global,
+    emitter: &mut TokenEmitter<'_>,
+    mut debts: Debts,
+    arms: Arms,
+) -> Result<Arms, NoMemory>
+    requires writes { Writes (counted_of emitter.old) }
+    requires arm { (counted_of emitter.old).failed ≡ false → IsInArm (counted_of emitter.old).splits }
+    requires positions { (counted_of emitter.old).positions ≡ (Owned ∷ []) ∷ [] }
+    requires fields { (counted_of emitter.old).field_counts ≡ 1 ∷ [] }
+    requires debts { (debts.variables.items ≡ 1 ∷ []) × (debts.spare.items ≡ 0 ∷ []) }
+    requires of { debts.emitter ≡ (counted_of emitter.old).instance }
+    requires owed { (counted_of emitter.old).failed ≡ false → (counted_of emitter.old).owed ≡ 1 ∷ [] }
+    requires next { (counted_of emitter.old).failed ≡ false → (counted_of emitter.old).next ≡ 2 }
+    requires spare { (counted_of emitter.old).failed ≡ false → (tokens_of emitter.old).spare ≡ 0 ∷ [] }
+    requires value { (counted_of emitter.old).failed ≡ false → (tokens_of emitter.old).ending ≡ None }
+    requires can { (counted_of emitter.old).failed ≡ false → CanEnd (spends (tokens_of emitter.old) (TokenedMove.frees 0) 0) false (tokens_of emitter.old).splits }
+    ensures going { OnOk result ((counted_of emitter.old).failed ≡ false) }
+    ensures ok { OnOk result (counted_of emitter.new ≡ ended_by_value (computed (computed (counted_of emitter.old) (Form.Call 0) (1 ∷ []) (1 ∷ [])) (Form.Construct 0) (2 ∷ []) (2 ∷ [])) 3) }
+    ensures tokens { OnOk result (tokens_of emitter.new ≡ tokens_ended_in (spends (adds (tokens_of emitter.old) (under_holds (0 ∷ []) (TokenedMove.computes 2 (Form.Call 0) (1 ∷ []) (0 ∷ [])))) (fills_with 3 0 0 (2 ∷ []) [] []) 0) (Tokened.give 3) false (tokens_of emitter.old).splits) }
+    ensures same { IfOk result (λ left. left ≡ arms) }
+{
+    let Some(inner) = debts.take() else {
+        unreachable!();
+    };
+    let field = match called_again(alloc, emitter, inner) {
+        Ok(field) => field,
+        Err(error) => {
+            lose_all(emitter, debts);
+            lose_arms(emitter, arms);
+            return Err(error);
+        }
+    };
+    match boxed(emitter, debts, field) {
+        Ok(built) => ended(emitter, TokenArmEnd::Value(built, Debts::new(alloc)), arms),
+        Err(error) => {
+            lose_arms(emitter, arms);
+            Err(error)
+        }
+    }
+}
+
+/// Joins the branch, which leaves no token, and ends the function by its value.
+fn finished(mut emitter: TokenEmitter<'_>, arms: Arms) -> Result<TokenedFun, NoMemory>
+    requires between { IsBetween (counted_of emitter) }
+    requires newest { (counted_of emitter).failed ≡ false → AreNewest (counted_of emitter).splits arms.depth [] }
+    requires left { left_in arms.left.items ≡ [] }
+    requires instance { (counted_of emitter).instance ≡ 0 }
+    requires of { ((joined (counted_of emitter)).instance ≡ 0) × ((joined (counted_of emitter)).positions ≡ (Owned ∷ []) ∷ []) }
+    requires inside { (joined (counted_of emitter)).inside ≡ true }
+    requires joined { (joined (counted_of emitter)).splits ≡ [] }
+    requires called { (joined (counted_of emitter)).uncalled ≡ [] }
+    requires only { (joined (counted_of emitter)).owed ≡ (counted_of emitter).next ∷ [] }
+    requires none { (tokens_joined (tokens_of emitter) (counted_of emitter).next).spare ≡ [] }
+    ensures { IfOk result (λ function. IsTokenedFunctionOf ((Owned ∷ []) ∷ []) 0 function) }
+{
+    let (value, debts) = match emitter.join(arms) {
+        Ok(both) => both,
+        Err(kept) => return Err(abandoned(&mut emitter, kept)),
+    };
+    debts.close();
+    match emitter.finish(value) {
+        Ok(function) => Ok(function),
+        Err(kept) => Err(give_up(kept)),
+    }
+}
+
+/// The function that opens its box, and by what is inside gives that, or what it gives for that itself in a box.
+fn shift(alloc: Global, shape: &Shape) -> Result<TokenedFun, NoMemory>
+    requires positions { positions_in shape.now.instances.items ≡ (Owned ∷ []) ∷ [] }
+    requires fields { fields_in shape.now.constructors.items ≡ 1 ∷ [] }
+    ensures { IfOk result (λ function. IsTokenedFunctionOf ((Owned ∷ []) ∷ []) 0 function) }
+{
+    let tests = truth_decisions(alloc)?;
+    let mut emitter = TokenEmitter::start(alloc, shape, 0)?;
+    let mut arms = opened(&mut emitter, &tests)?;
+    let Some(debts) = emitter.next_arm(&mut arms) else {
+        unreachable!();
+    };
+    let mut arms = freed(&mut emitter, debts, arms)?;
+    let Some(debts) = emitter.next_arm(&mut arms) else {
+        unreachable!();
+    };
+    let arms = held_and_filled(alloc, &mut emitter, debts, arms)?;
+    finished(emitter, arms)
+}
+
+/// It opens the cell. Where it gives what is inside it frees the cell, and else it holds it and builds one in its place.
+#[test]
+fn a_token_is_freed_or_held_by_rows(rt: HostRuntime) -> Result<(), NoMemory> {
+    let shape = shape_of_one_function(rt.alloc())?;
+    let function = shift(rt.alloc(), &shape)?;
+    let steps = &function.body.steps;
+    assert_eq!(rt; steps.len(), 2);
+    assert!(rt; opens_by_count(&steps[0], &[1], &[1]));
+    let rows = rows_inside(&steps[1], 4, 1);
+    assert_eq!(rt; rows.len(), 2);
+    assert_eq!(rt; rows[0].steps.len(), 1);
+    assert!(rt; matches!(rows[0].steps[0], TokenedStep::Free { slot: 0 }));
+    assert!(rt; matches!(rows[0].last, TokenedLast::Return(1)));
+    assert_eq!(rt; rows[1].steps.len(), 4);
+    assert!(rt; matches!(rows[1].steps[0], TokenedStep::Hold { slot: 0 }));
+    assert!(rt; computes(&rows[1].steps[1], 2, Form::Call(0), &[1], &[0]));
+    assert!(rt; matches!(rows[1].steps[2], TokenedStep::Unhold { slot: 0 }));
+    assert!(rt; fills(&rows[1].steps[3], 3, 2, &[], &[]));
+    assert!(rt; matches!(rows[1].last, TokenedLast::Return(3)));
+    assert!(rt; matches!(function.body.last, TokenedLast::Return(4)));
+    Ok(())
+}
+
+/// An arm that frees its token, and ends by a tail call of the function on its reference.
+fn freed_and_called(
+    alloc: Global,
+    emitter: &mut TokenEmitter<'_>,
+    mut debts: Debts,
+    arms: Arms,
+) -> Result<Arms, NoMemory>
+    requires writes { Writes (counted_of emitter.old) }
+    requires arm { (counted_of emitter.old).failed ≡ false → IsInArm (counted_of emitter.old).splits }
+    requires positions { (counted_of emitter.old).positions ≡ (Owned ∷ []) ∷ [] }
+    requires outside { (counted_of emitter.old).failed ≡ false → outside (counted_of emitter.old).uncalled (counted_of emitter.old).splits ≡ [] }
+    requires debts { (debts.variables.items ≡ 1 ∷ []) × (debts.spare.items ≡ 0 ∷ []) }
+    requires of { debts.emitter ≡ (counted_of emitter.old).instance }
+    requires owed { (counted_of emitter.old).failed ≡ false → (counted_of emitter.old).owed ≡ 1 ∷ [] }
+    requires spare { (counted_of emitter.old).failed ≡ false → (tokens_of emitter.old).spare ≡ 0 ∷ [] }
+    requires can { (counted_of emitter.old).failed ≡ false → CanEnd (spends (tokens_of emitter.old) (TokenedMove.frees 0) 0) true (tokens_of emitter.old).splits }
+    ensures going { OnOk result ((counted_of emitter.old).failed ≡ false) }
+    ensures ok { OnOk result (counted_of emitter.new ≡ ended_by_call (counted_of emitter.old) 0 (1 ∷ [])) }
+    ensures tokens { OnOk result (tokens_of emitter.new ≡ tokens_ended_in (spends (tokens_of emitter.old) (TokenedMove.frees 0) 0) (Tokened.tail_call 0 (1 ∷ [])) true (tokens_of emitter.old).splits) }
+    ensures same { IfOk result (λ left. left ≡ arms) }
+{
+    let Some(value) = debts.take() else {
+        unreachable!();
+    };
+    let Some(spare) = debts.take_spare() else {
+        unreachable!();
+    };
+    debts.close();
+    match freed_for_call(alloc, emitter, value, spare) {
+        Ok(arguments) => ended(emitter, TokenArmEnd::Tail(0, arguments), arms),
+        Err(error) => {
+            lose_arms(emitter, arms);
+            Err(error)
+        }
+    }
+}
+
+/// Frees a token, and hands a reference over.
+fn freed_for_call(
+    alloc: Global,
+    emitter: &mut TokenEmitter<'_>,
+    value: Owed,
+    spare: Spare,
+) -> Result<Vec<u32>, NoMemory>
+    requires writes { Writes (counted_of emitter.old) }
+    requires owns { Owns (counted_of emitter.old) value.emitter value.variable }
+    requires has { HasSpare (counted_of emitter.old) (tokens_of emitter.old) spare.emitter spare.slot }
+    ensures going { OnOk result ((counted_of emitter.old).failed ≡ false) }
+    ensures ok { OnOk result (counted_of emitter.new ≡ counted_of emitter.old) }
+    ensures tokens { OnOk result (tokens_of emitter.new ≡ spends (tokens_of emitter.old) (TokenedMove.frees spare.slot) spare.slot) }
+    ensures arguments { IfOk result (λ arguments. arguments.items ≡ value.variable ∷ []) }
+    ensures failed { OnErr result ((counted_of emitter.new).failed ≡ true) }
+{
+    if let Err(kept) = emitter.release(spare) {
+        let error = abandoned(emitter, kept);
+        lose(emitter, value);
+        return Err(error);
+    }
+    let argument = match emitter.hand_over(value) {
+        Ok(argument) => argument,
+        Err(kept) => return Err(abandoned(emitter, kept)),
+    };
+    let Ok(arguments) = Vec::from_slice(alloc, &[argument]) else {
+        return Err(emitter.fail());
+    };
+    Ok(arguments)
+}
+
+/// The function that opens its box, and by what is inside gives that, or calls itself on it last.
+fn innermost(alloc: Global, shape: &Shape) -> Result<TokenedFun, NoMemory>
+    requires positions { positions_in shape.now.instances.items ≡ (Owned ∷ []) ∷ [] }
+    requires fields { fields_in shape.now.constructors.items ≡ 1 ∷ [] }
+    ensures { IfOk result (λ function. IsTokenedFunctionOf ((Owned ∷ []) ∷ []) 0 function) }
+{
+    let tests = truth_decisions(alloc)?;
+    let mut emitter = TokenEmitter::start(alloc, shape, 0)?;
+    let mut arms = opened(&mut emitter, &tests)?;
+    let Some(debts) = emitter.next_arm(&mut arms) else {
+        unreachable!();
+    };
+    let mut arms = freed(&mut emitter, debts, arms)?;
+    let Some(debts) = emitter.next_arm(&mut arms) else {
+        unreachable!();
+    };
+    let arms = freed_and_called(alloc, &mut emitter, debts, arms)?;
+    finished(emitter, arms)
+}
+
+/// Each row frees the cell. The branch ends the function: by what is inside, or by a tail call on it.
+#[test]
+fn a_row_ends_by_a_tail_call(rt: HostRuntime) -> Result<(), NoMemory> {
+    let shape = shape_of_one_function(rt.alloc())?;
+    let function = innermost(rt.alloc(), &shape)?;
+    let steps = &function.body.steps;
+    assert_eq!(rt; steps.len(), 1);
+    assert!(rt; opens_by_count(&steps[0], &[1], &[1]));
+    let rows = rows_of(&function.body.last, 1);
+    assert_eq!(rt; rows.len(), 2);
+    assert_eq!(rt; rows[0].steps.len(), 1);
+    assert!(rt; matches!(rows[0].steps[0], TokenedStep::Free { slot: 0 }));
+    assert!(rt; matches!(rows[0].last, TokenedLast::Return(1)));
+    assert_eq!(rt; rows[1].steps.len(), 1);
+    assert!(rt; matches!(rows[1].steps[0], TokenedStep::Free { slot: 0 }));
+    assert!(rt; calls(&rows[1].last, &[1]));
+    Ok(())
+}
+
+/// Opens the parameter, a box, and the box that was inside, and begins a branch on what was inside that. Each arm is to spend
+/// that and both tokens.
+fn opened_twice(emitter: &mut TokenEmitter<'_>, tests: &Decisions) -> Result<Arms, NoMemory>
+    requires counted { counted_of emitter.old ≡ begun ((Owned ∷ []) ∷ []) (1 ∷ []) 0 }
+    requires tokens { tokens_of emitter.old ≡ no_tokens }
+    requires rows { tests.now.rows ≡ 2 }
+    ensures ok { OnOk result (counted_of emitter.new ≡ forked (unpacked (unpacked (given (counted_of emitter.old) 0) false 0 0 1) false 1 0 1) 2 (decisions_of tests.now) (2 ∷ []) 2) }
+    ensures tokens { OnOk result (tokens_of emitter.new ≡ tokens_forked (gains (gains no_tokens (opens_with false 0 0 (1 ∷ []) (1 ∷ []) 0)) (opens_with false 1 0 (2 ∷ []) (2 ∷ []) 1)) 2 (decisions_of tests.now) 2) }
+    ensures arms { IfOk result (λ arms. (arms.emitter ≡ 0) × (arms.depth ≡ 1)) }
+    ensures left { IfOk result (λ arms. left_in arms.left.items ≡ (2 ∷ []) ∷ (2 ∷ []) ∷ []) }
+    ensures slots { IfOk result (λ arms. left_in arms.spare.items ≡ (0 ∷ 1 ∷ []) ∷ (0 ∷ 1 ∷ []) ∷ []) }
+{
+    let cell = emitter.param(0)?;
+    let (mut outer, first) = match emitter.unpack(cell, 0, 1) {
+        Ok(both) => both,
+        Err(kept) => return Err(abandoned(emitter, kept)),
+    };
+    let Some(inner) = outer.take() else {
+        unreachable!();
+    };
+    outer.close();
+    let (mut debts, second) = match emitter.unpack(inner, 0, 1) {
+        Ok(both) => both,
+        Err(kept) => {
+            let error = abandoned(emitter, kept);
+            lose_token(emitter, first);
+            return Err(error);
+        }
+    };
+    if let Err(error) = put_both(emitter, &mut debts, first, second) {
+        lose_all(emitter, debts);
+        return Err(error);
+    }
+    match emitter.split(2, tests, debts) {
+        Ok(arms) => Ok(arms),
+        Err(kept) => Err(abandoned(emitter, kept)),
+    }
+}
+
+/// Puts two tokens behind some references.
+fn put_both(
+    emitter: &mut TokenEmitter<'_>,
+    debts: &mut Debts,
+    first: Spare,
+    second: Spare,
+) -> Result<(), NoMemory>
+    requires emitters { (first.emitter ≡ debts.old.emitter) × (second.emitter ≡ debts.old.emitter) }
+    requires none { debts.old.spare.items ≡ [] }
+    ensures same { OnOk result (emitter.new ≡ emitter.old) }
+    ensures emitter { OnOk result (debts.new.emitter ≡ debts.old.emitter) }
+    ensures variables { debts.new.variables.items ≡ debts.old.variables.items }
+    ensures spare { OnOk result (debts.new.spare.items ≡ first.slot ∷ second.slot ∷ []) }
+    ensures failed { OnErr result ((counted_of emitter.new).failed ≡ true) }
+{
+    if let Err(kept) = debts.put_spare(first) {
+        let error = abandoned(emitter, kept);
+        lose_token(emitter, second);
+        return Err(error);
+    }
+    if let Err(kept) = debts.put_spare(second) {
+        return Err(abandoned(emitter, kept));
+    }
+    Ok(())
+}
+
+/// An arm that frees the older of its two tokens, and gives its reference.
+fn older_freed(
+    emitter: &mut TokenEmitter<'_>,
+    mut debts: Debts,
+    arms: Arms,
+) -> Result<Arms, NoMemory>
+    requires writes { Writes (counted_of emitter.old) }
+    requires arm { (counted_of emitter.old).failed ≡ false → IsInArm (counted_of emitter.old).splits }
+    requires debts { (debts.variables.items ≡ 2 ∷ []) × (debts.spare.items ≡ 0 ∷ 1 ∷ []) }
+    requires of { debts.emitter ≡ (counted_of emitter.old).instance }
+    requires owed { (counted_of emitter.old).failed ≡ false → (counted_of emitter.old).owed ≡ 2 ∷ [] }
+    requires spare { (counted_of emitter.old).failed ≡ false → (tokens_of emitter.old).spare ≡ 1 ∷ 0 ∷ [] }
+    requires value { (counted_of emitter.old).failed ≡ false → (tokens_of emitter.old).ending ≡ None }
+    requires can { (counted_of emitter.old).failed ≡ false → CanEnd (spends (tokens_of emitter.old) (TokenedMove.frees 0) 0) false (tokens_of emitter.old).splits }
+    ensures going { OnOk result ((counted_of emitter.old).failed ≡ false) }
+    ensures ok { OnOk result (counted_of emitter.new ≡ ended_by_value (counted_of emitter.old) 2) }
+    ensures tokens { OnOk result (tokens_of emitter.new ≡ tokens_ended_in (spends (tokens_of emitter.old) (TokenedMove.frees 0) 0) (Tokened.give 2) false (tokens_of emitter.old).splits) }
+    ensures same { IfOk result (λ left. left ≡ arms) }
+{
+    let Some(value) = debts.take() else {
+        unreachable!();
+    };
+    let Some(newer) = debts.take_spare() else {
+        unreachable!();
+    };
+    let Some(older) = debts.take_spare() else {
+        unreachable!();
+    };
+    if let Err(kept) = debts.put_spare(newer) {
+        let error = abandoned(emitter, kept);
+        lose(emitter, value);
+        lose_token(emitter, older);
+        debts.close();
+        lose_arms(emitter, arms);
+        return Err(error);
+    }
+    given_without(emitter, value, older, debts, arms)
+}
+
+/// An arm that frees the newer of its two tokens, and gives its reference.
+fn newer_freed(
+    emitter: &mut TokenEmitter<'_>,
+    mut debts: Debts,
+    arms: Arms,
+) -> Result<Arms, NoMemory>
+    requires writes { Writes (counted_of emitter.old) }
+    requires arm { (counted_of emitter.old).failed ≡ false → IsInArm (counted_of emitter.old).splits }
+    requires debts { (debts.variables.items ≡ 2 ∷ []) × (debts.spare.items ≡ 0 ∷ 1 ∷ []) }
+    requires of { debts.emitter ≡ (counted_of emitter.old).instance }
+    requires owed { (counted_of emitter.old).failed ≡ false → (counted_of emitter.old).owed ≡ 2 ∷ [] }
+    requires spare { (counted_of emitter.old).failed ≡ false → (tokens_of emitter.old).spare ≡ 1 ∷ 0 ∷ [] }
+    requires value { (counted_of emitter.old).failed ≡ false → (tokens_of emitter.old).ending ≡ None }
+    requires can { (counted_of emitter.old).failed ≡ false → CanEnd (spends (tokens_of emitter.old) (TokenedMove.frees 1) 1) false (tokens_of emitter.old).splits }
+    ensures going { OnOk result ((counted_of emitter.old).failed ≡ false) }
+    ensures ok { OnOk result (counted_of emitter.new ≡ ended_by_value (counted_of emitter.old) 2) }
+    ensures tokens { OnOk result (tokens_of emitter.new ≡ tokens_ended_in (spends (tokens_of emitter.old) (TokenedMove.frees 1) 1) (Tokened.give 2) false (tokens_of emitter.old).splits) }
+    ensures same { IfOk result (λ left. left ≡ arms) }
+{
+    let Some(value) = debts.take() else {
+        unreachable!();
+    };
+    let Some(newer) = debts.take_spare() else {
+        unreachable!();
+    };
+    let Some(older) = debts.take_spare() else {
+        unreachable!();
+    };
+    if let Err(kept) = debts.put_spare(older) {
+        let error = abandoned(emitter, kept);
+        lose(emitter, value);
+        lose_token(emitter, newer);
+        debts.close();
+        lose_arms(emitter, arms);
+        return Err(error);
+    }
+    given_without(emitter, value, newer, debts, arms)
+}
+
+/// Joins the branch, which leaves one token, frees that and ends the function by the branch's value.
+fn freed_and_finished(mut emitter: TokenEmitter<'_>, arms: Arms) -> Result<TokenedFun, NoMemory>
+    requires between { IsBetween (counted_of emitter) }
+    requires newest { (counted_of emitter).failed ≡ false → AreNewest (counted_of emitter).splits arms.depth [] }
+    requires left { left_in arms.left.items ≡ [] }
+    requires instance { (counted_of emitter).instance ≡ 0 }
+    requires of { ((joined (counted_of emitter)).instance ≡ 0) × ((joined (counted_of emitter)).positions ≡ (Owned ∷ []) ∷ []) }
+    requires inside { ((joined (counted_of emitter)).inside ≡ true) × ((joined (counted_of emitter)).ending ≡ None) }
+    requires joined { (joined (counted_of emitter)).splits ≡ [] }
+    requires called { (joined (counted_of emitter)).uncalled ≡ [] }
+    requires only { (joined (counted_of emitter)).owed ≡ (counted_of emitter).next ∷ [] }
+    requires one { (tokens_joined (tokens_of emitter) (counted_of emitter).next).spare ≡ 1 ∷ [] }
+    ensures { IfOk result (λ function. IsTokenedFunctionOf ((Owned ∷ []) ∷ []) 0 function) }
+{
+    let (value, mut debts) = match emitter.join(arms) {
+        Ok(both) => both,
+        Err(kept) => return Err(abandoned(&mut emitter, kept)),
+    };
+    let Some(spare) = debts.take_spare() else {
+        unreachable!();
+    };
+    debts.close();
+    if let Err(kept) = emitter.release(spare) {
+        let error = abandoned(&mut emitter, kept);
+        lose(&mut emitter, value);
+        return Err(error);
+    }
+    match emitter.finish(value) {
+        Ok(function) => Ok(function),
+        Err(kept) => Err(give_up(kept)),
+    }
+}
+
+/// The function that opens two boxes, and by what is inside frees the one or the other before the branch is left.
+fn one_of_two(alloc: Global, shape: &Shape) -> Result<TokenedFun, NoMemory>
+    requires positions { positions_in shape.now.instances.items ≡ (Owned ∷ []) ∷ [] }
+    requires fields { fields_in shape.now.constructors.items ≡ 1 ∷ [] }
+    ensures { IfOk result (λ function. IsTokenedFunctionOf ((Owned ∷ []) ∷ []) 0 function) }
+{
+    let tests = truth_decisions(alloc)?;
+    let mut emitter = TokenEmitter::start(alloc, shape, 0)?;
+    let mut arms = opened_twice(&mut emitter, &tests)?;
+    let Some(debts) = emitter.next_arm(&mut arms) else {
+        unreachable!();
+    };
+    let mut arms = older_freed(&mut emitter, debts, arms)?;
+    let Some(debts) = emitter.next_arm(&mut arms) else {
+        unreachable!();
+    };
+    let arms = newer_freed(&mut emitter, debts, arms)?;
+    freed_and_finished(emitter, arms)
+}
+
+/// Each row leaves a token, which stands in the slot of the newer cell behind the branch: the row that has it in the other
+/// slot moves it.
+#[test]
+fn a_token_is_moved_where_a_branch_is_joined(rt: HostRuntime) -> Result<(), NoMemory> {
+    let shape = shape_of_one_function(rt.alloc())?;
+    let function = one_of_two(rt.alloc(), &shape)?;
+    let steps = &function.body.steps;
+    assert_eq!(rt; steps.len(), 4);
+    assert!(rt; opens(&steps[0], &[1], &[1]));
+    assert!(rt; opens_into(&steps[1], 1, &[2], &[2], 1));
+    let rows = rows_inside(&steps[2], 3, 2);
+    assert_eq!(rt; rows.len(), 2);
+    assert_eq!(rt; rows[0].steps.len(), 1);
+    assert!(rt; matches!(rows[0].steps[0], TokenedStep::Free { slot: 0 }));
+    assert!(rt; matches!(rows[0].last, TokenedLast::Return(2)));
+    assert_eq!(rt; rows[1].steps.len(), 2);
+    assert!(rt; matches!(rows[1].steps[0], TokenedStep::Free { slot: 1 }));
+    assert!(rt; matches!(rows[1].steps[1], TokenedStep::Move { to: 1, from: 0 }));
+    assert!(rt; matches!(rows[1].last, TokenedLast::Return(2)));
+    assert!(rt; matches!(steps[3], TokenedStep::Free { slot: 1 }));
+    assert!(rt; matches!(function.body.last, TokenedLast::Return(3)));
+    Ok(())
+}
