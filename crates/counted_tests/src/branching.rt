@@ -54,7 +54,7 @@ fn opened(emitter: &mut TokenEmitter<'_>, tests: &Decisions) -> Result<Arms, NoM
 }
 
 /// Ends the arm that is written, or spends what is left of its branch.
-fn ended(emitter: &mut TokenEmitter<'_>, end: TokenArmEnd, arms: Arms) -> Result<Arms, NoMemory>
+pub fn ended(emitter: &mut TokenEmitter<'_>, end: TokenArmEnd, arms: Arms) -> Result<Arms, NoMemory>
     requires inside { (counted_of emitter.old).failed ≡ false → (counted_of emitter.old).inside ≡ true }
     requires arm { (counted_of emitter.old).failed ≡ false → IsInArm (counted_of emitter.old).splits }
     requires ends { EndsTokenArm (counted_of emitter.old) (tokens_of emitter.old) end }
@@ -129,7 +129,7 @@ fn freed(emitter: &mut TokenEmitter<'_>, mut debts: Debts, arms: Arms) -> Result
 }
 
 /// Calls the function on a reference, while all tokens are held.
-fn called_again(
+pub fn called_again(
     alloc: Global,
     emitter: &mut TokenEmitter<'_>,
     inner: Owed,
@@ -229,7 +229,7 @@ fn held_and_filled(
 }
 
 /// Joins the branch, which leaves no token, and ends the function by its value.
-fn finished(mut emitter: TokenEmitter<'_>, arms: Arms) -> Result<TokenedFun, NoMemory>
+pub fn finished(mut emitter: TokenEmitter<'_>, arms: Arms) -> Result<TokenedFun, NoMemory>
     requires between { IsBetween (counted_of emitter) }
     requires newest { (counted_of emitter).failed ≡ false → AreNewest (counted_of emitter).splits arms.depth [] }
     requires left { left_in arms.left.items ≡ [] }

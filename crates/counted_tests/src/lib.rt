@@ -11,3 +11,5 @@ mod lists;
 mod losing;
 #[cfg(test)]
 mod rebuilding;
+#[cfg(test)]
+mod rows;

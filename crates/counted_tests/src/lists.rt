@@ -4,11 +4,12 @@ ghost use Rattle.std.specs.Prelude.{◌≡◌, ◌∷◌, [], true, false, None,
 ghost use Rattle.kk_syntax.specs.Shapes.{without};
 ghost use Rattle.kk_syntax.specs.declared.positions.Ownership.TheVariants.{Owned, Lent};
 ghost use Rattle.kk_counted.specs.InstancePositions.{positions_in, fields_in};
-ghost use Rattle.kk_counted.specs.Drafts.{minus_all, Writes, Owns, OwnsAll, HasFields};
+ghost use Rattle.kk_counted.specs.Drafts.{computed, Writes, Owns, OwnsAll, HasFields};
 ghost use Rattle.kk_counted.specs.TokenDrafts.{kept_by};
 ghost use Rattle.kk_counted.specs.TokenEmissions.{counted_of, tokens_of};
-ghost use Rattle.kk_counted.specs.TokenEmitting.{HasKnown, HasSpare, HasNoSpare, IsTokenedFunctionOf};
+ghost use Rattle.kk_counted.specs.TokenEmitting.{HasKnown, HasSpare, IsTokenedFunctionOf};
 
+use crate::branching::called_again;
 use crate::expecting::{calls, computes, fills, opens, opens_by_count, reads};
 use crate::losing::{abandoned, lose, lose_only, lose_token};
 use kk_base::NoMemory;
@@ -71,41 +72,38 @@ fn two_fields(
     Ok(fields)
 }
 
-/// Ends a function by a cell of two fields, in the cell of its only token, which has the fields that the mask names.
+/// Builds a cell of two fields in the cell of the only token, which has the fields that the mask names.
 fn filled(
     alloc: Global,
-    mut emitter: TokenEmitter<'_>,
+    emitter: &mut TokenEmitter<'_>,
     spare: Spare,
     keep: u8,
     first: Owed,
     second: Owed,
-) -> Result<TokenedFun, NoMemory>
-    requires inside { (counted_of emitter).failed ≡ false → ((counted_of emitter).inside ≡ true) × ((counted_of emitter).ending ≡ None) }
-    requires joined { (counted_of emitter).failed ≡ false → (counted_of emitter).splits ≡ [] }
-    requires has { HasSpare (counted_of emitter) (tokens_of emitter) spare.emitter spare.slot }
-    requires alone { (counted_of emitter).failed ≡ false → without (spare.slot ∷ []) (tokens_of emitter).spare ≡ [] }
-    requires known { HasKnown (counted_of emitter) (tokens_of emitter) spare.slot (kept_by keep 2) (first.variable ∷ second.variable ∷ []) }
-    requires owns { OwnsAll (counted_of emitter) first.emitter (first.variable ∷ second.variable ∷ []) }
-    requires only { (counted_of emitter).failed ≡ false → minus_all (first.variable ∷ second.variable ∷ []) (counted_of emitter).owed ≡ [] }
+) -> Result<Owed, NoMemory>
+    requires writes { Writes (counted_of emitter.old) }
+    requires has { HasSpare (counted_of emitter.old) (tokens_of emitter.old) spare.emitter spare.slot }
+    requires alone { (counted_of emitter.old).failed ≡ false → without (spare.slot ∷ []) (tokens_of emitter.old).spare ≡ [] }
+    requires known { HasKnown (counted_of emitter.old) (tokens_of emitter.old) spare.slot (kept_by keep 2) (first.variable ∷ second.variable ∷ []) }
+    requires owns { OwnsAll (counted_of emitter.old) first.emitter (first.variable ∷ second.variable ∷ []) }
     requires of { first.emitter ≡ second.emitter }
-    requires called { (counted_of emitter).failed ≡ false → (counted_of emitter).uncalled ≡ [] }
-    requires fields { HasFields (counted_of emitter) 0 2 }
-    ensures { IfOk result (λ function. IsTokenedFunctionOf (counted_of emitter.entry).positions (counted_of emitter.entry).instance function) }
+    requires fields { HasFields (counted_of emitter.old) 0 2 }
+    ensures going { OnOk result ((counted_of emitter.old).failed ≡ false) }
+    ensures ok { OnOk result (counted_of emitter.new ≡ computed (counted_of emitter.old) (Form.Construct 0) (first.variable ∷ second.variable ∷ []) (first.variable ∷ second.variable ∷ [])) }
+    ensures tokens { OnOk result (tokens_of emitter.new ≡ record (tokens_of emitter.old) { moves = (tokens_of emitter.new).moves; spare = [] }) }
+    ensures owed { IfOk result (λ owed. (owed.emitter ≡ (counted_of emitter.old).instance) × (owed.variable ≡ (counted_of emitter.old).next)) }
+    ensures failed { OnErr result ((counted_of emitter.new).failed ≡ true) }
 {
-    let fields = match two_fields(alloc, &mut emitter, first, second) {
+    let fields = match two_fields(alloc, emitter, first, second) {
         Ok(fields) => fields,
         Err(error) => {
-            lose_token(&mut emitter, spare);
+            lose_token(emitter, spare);
             return Err(error);
         }
     };
-    let built = match emitter.construct_over(spare, 0, keep, fields) {
-        Ok(built) => built,
-        Err(kept) => return Err(abandoned(&mut emitter, kept)),
-    };
-    match emitter.finish(built) {
-        Ok(function) => Ok(function),
-        Err(kept) => Err(give_up(kept)),
+    match emitter.construct_over(spare, 0, keep, fields) {
+        Ok(built) => Ok(built),
+        Err(kept) => Err(abandoned(emitter, kept)),
     }
 }
 
@@ -135,7 +133,11 @@ fn keep(alloc: Global, shape: &Shape) -> Result<TokenedFun, NoMemory>
             return Err(error);
         }
     };
-    filled(alloc, emitter, spare, 2, number, second)
+    let built = filled(alloc, &mut emitter, spare, 2, number, second)?;
+    match emitter.finish(built) {
+        Ok(function) => Ok(function),
+        Err(kept) => Err(give_up(kept)),
+    }
 }
 
 /// It opens the cell and gives its first field up, and builds one in its place that has the second field already.
@@ -152,46 +154,54 @@ fn a_second_field_is_left(rt: HostRuntime) -> Result<(), NoMemory> {
     Ok(())
 }
 
-/// Ends a function by a new cell of two fields.
+/// Builds a new cell of two fields.
 fn constructed(
     alloc: Global,
-    mut emitter: TokenEmitter<'_>,
+    emitter: &mut TokenEmitter<'_>,
     first: Owed,
     second: Owed,
-) -> Result<TokenedFun, NoMemory>
-    requires inside { (counted_of emitter).failed ≡ false → ((counted_of emitter).inside ≡ true) × ((counted_of emitter).ending ≡ None) }
-    requires joined { (counted_of emitter).failed ≡ false → (counted_of emitter).splits ≡ [] }
-    requires none { HasNoSpare (counted_of emitter) (tokens_of emitter) }
-    requires owns { OwnsAll (counted_of emitter) first.emitter (first.variable ∷ second.variable ∷ []) }
-    requires only { (counted_of emitter).failed ≡ false → minus_all (first.variable ∷ second.variable ∷ []) (counted_of emitter).owed ≡ [] }
+) -> Result<Owed, NoMemory>
+    requires writes { Writes (counted_of emitter.old) }
+    requires owns { OwnsAll (counted_of emitter.old) first.emitter (first.variable ∷ second.variable ∷ []) }
     requires of { first.emitter ≡ second.emitter }
-    requires called { (counted_of emitter).failed ≡ false → (counted_of emitter).uncalled ≡ [] }
-    requires fields { HasFields (counted_of emitter) 0 2 }
-    ensures { IfOk result (λ function. IsTokenedFunctionOf (counted_of emitter.entry).positions (counted_of emitter.entry).instance function) }
+    requires fields { HasFields (counted_of emitter.old) 0 2 }
+    ensures going { OnOk result ((counted_of emitter.old).failed ≡ false) }
+    ensures ok { OnOk result (counted_of emitter.new ≡ computed (counted_of emitter.old) (Form.Construct 0) (first.variable ∷ second.variable ∷ []) (first.variable ∷ second.variable ∷ [])) }
+    ensures tokens { OnOk result (tokens_of emitter.new ≡ record (tokens_of emitter.old) { moves = (tokens_of emitter.new).moves }) }
+    ensures owed { IfOk result (λ owed. (owed.emitter ≡ (counted_of emitter.old).instance) × (owed.variable ≡ (counted_of emitter.old).next)) }
+    ensures failed { OnErr result ((counted_of emitter.new).failed ≡ true) }
 {
-    let fields = two_fields(alloc, &mut emitter, first, second)?;
-    let built = match emitter.construct(0, fields) {
-        Ok(built) => built,
-        Err(kept) => return Err(abandoned(&mut emitter, kept)),
-    };
-    match emitter.finish(built) {
-        Ok(function) => Ok(function),
-        Err(kept) => Err(give_up(kept)),
+    let fields = two_fields(alloc, emitter, first, second)?;
+    match emitter.construct(0, fields) {
+        Ok(built) => Ok(built),
+        Err(kept) => Err(abandoned(emitter, kept)),
     }
 }
 
-/// The row of `fun tails(xs: list): list { match xs { Cons(_, xx) -> Cons(xs, tails(xx)) } }`. The cell stays.
-fn tails(alloc: Global, shape: &Shape) -> Result<TokenedFun, NoMemory>
-    requires positions { positions_in shape.now.instances.items ≡ (Owned ∷ []) ∷ [] }
-    requires fields { fields_in shape.now.constructors.items ≡ 2 ∷ [] }
-    ensures { IfOk result (λ function. IsTokenedFunctionOf (positions_in shape.now.instances.items) 0 function) }
+/// The row of `Cons(_, xx) -> Cons(xs, tails(xx))`, where `xs` is the cell, which stays.
+pub fn with_tails(
+    alloc: Global,
+    emitter: &mut TokenEmitter<'_>,
+    cell: Owed,
+) -> Result<Owed, NoMemory>
+    requires writes { Writes (counted_of emitter.old) }
+    requires positions { (counted_of emitter.old).positions ≡ (Owned ∷ []) ∷ [] }
+    requires fields { HasFields (counted_of emitter.old) 0 2 }
+    requires cell { (cell.variable ≡ 0) × (cell.emitter ≡ (counted_of emitter.old).instance) }
+    requires owed { (counted_of emitter.old).failed ≡ false → (counted_of emitter.old).owed ≡ 0 ∷ [] }
+    requires next { (counted_of emitter.old).failed ≡ false → (counted_of emitter.old).next ≡ 1 }
+    requires spare { (counted_of emitter.old).failed ≡ false → (tokens_of emitter.old).spare ≡ [] }
+    requires lent { (counted_of emitter.old).failed ≡ false → (counted_of emitter.old).lent ≡ [] }
+    ensures going { OnOk result ((counted_of emitter.old).failed ≡ false) }
+    ensures ok { OnOk result (counted_of emitter.new ≡ record (counted_of emitter.old) { steps = (counted_of emitter.new).steps; owed = 4 ∷ []; next = 5; lent = [] }) }
+    ensures tokens { OnOk result (tokens_of emitter.new ≡ record (tokens_of emitter.old) { moves = (tokens_of emitter.new).moves; spare = [] }) }
+    ensures value { IfOk result (λ owed. (owed.emitter ≡ (counted_of emitter.old).instance) × (owed.variable ≡ 4)) }
+    ensures failed { OnErr result ((counted_of emitter.new).failed ≡ true) }
 {
-    let mut emitter = TokenEmitter::start(alloc, shape, 0)?;
-    let cell = emitter.param(0)?;
     let mut read = match emitter.fields(0, 0, 2) {
         Ok(read) => read,
         Err(error) => {
-            lose(&mut emitter, cell);
+            lose(emitter, cell);
             return Err(error);
         }
     };
@@ -199,57 +209,37 @@ fn tails(alloc: Global, shape: &Shape) -> Result<TokenedFun, NoMemory>
         unreachable!();
     };
     read.close();
-    let argument = match emitter.hand_over(rest) {
-        Ok(argument) => argument,
-        Err(kept) => {
-            let error = abandoned(&mut emitter, kept);
-            lose(&mut emitter, cell);
-            return Err(error);
+    match called_again(alloc, emitter, rest) {
+        Ok(value) => constructed(alloc, emitter, cell, value),
+        Err(error) => {
+            lose(emitter, cell);
+            Err(error)
         }
-    };
-    let Ok(arguments) = Vec::from_slice(alloc, &[argument]) else {
-        let error = emitter.fail();
-        lose(&mut emitter, cell);
-        return Err(error);
-    };
-    let value = match emitter.called(0, arguments) {
-        Ok(value) => value,
-        Err(kept) => {
-            let error = abandoned(&mut emitter, kept);
-            lose(&mut emitter, cell);
-            return Err(error);
-        }
-    };
-    constructed(alloc, emitter, cell, value)
+    }
 }
 
-/// It reads the fields of the cell, which stays, and builds a new one.
-#[test]
-fn a_cell_that_is_read_stays(rt: HostRuntime) -> Result<(), NoMemory> {
-    let shape = shape_of_pairs(rt.alloc(), Ownership::Owned)?;
-    let function = tails(rt.alloc(), &shape)?;
-    let steps = &function.body.steps;
-    assert_eq!(rt; steps.len(), 4);
-    assert!(rt; reads(&steps[0], 0, &[1, 2]));
-    assert!(rt; matches!(steps[1], TokenedStep::Dup { variable: 2 }));
-    assert!(rt; computes(&steps[2], 3, Form::Call(0), &[2], &[]));
-    assert!(rt; computes(&steps[3], 4, Form::Construct(0), &[0, 3], &[]));
-    assert!(rt; matches!(function.body.last, TokenedLast::Return(4)));
-    Ok(())
-}
-
-/// The row of `fun inc(xs: list): list { match xs { Cons(x, xx) -> Cons(x + 1, inc(xx)) } }`. Its cell is held while it calls
-/// itself.
-fn inc(alloc: Global, shape: &Shape) -> Result<TokenedFun, NoMemory>
-    requires positions { positions_in shape.now.instances.items ≡ (Owned ∷ []) ∷ [] }
-    requires fields { fields_in shape.now.constructors.items ≡ 2 ∷ [] }
-    ensures { IfOk result (λ function. IsTokenedFunctionOf (positions_in shape.now.instances.items) 0 function) }
+/// The row of `Cons(x, xx) -> Cons(x + 1, inc(xx))`. The cell is held while the function calls itself.
+pub fn increased(
+    alloc: Global,
+    emitter: &mut TokenEmitter<'_>,
+    cell: Owed,
+) -> Result<Owed, NoMemory>
+    requires writes { Writes (counted_of emitter.old) }
+    requires positions { (counted_of emitter.old).positions ≡ (Owned ∷ []) ∷ [] }
+    requires fields { HasFields (counted_of emitter.old) 0 2 }
+    requires cell { (cell.variable ≡ 0) × (cell.emitter ≡ (counted_of emitter.old).instance) }
+    requires owed { (counted_of emitter.old).failed ≡ false → (counted_of emitter.old).owed ≡ 0 ∷ [] }
+    requires next { (counted_of emitter.old).failed ≡ false → (counted_of emitter.old).next ≡ 1 }
+    requires spare { (counted_of emitter.old).failed ≡ false → (tokens_of emitter.old).spare ≡ [] }
+    ensures going { OnOk result ((counted_of emitter.old).failed ≡ false) }
+    ensures ok { OnOk result (counted_of emitter.new ≡ record (counted_of emitter.old) { steps = (counted_of emitter.new).steps; owed = 6 ∷ []; next = 7 }) }
+    ensures tokens { OnOk result (tokens_of emitter.new ≡ record (tokens_of emitter.old) { moves = (tokens_of emitter.new).moves; spare = [] }) }
+    ensures value { IfOk result (λ owed. (owed.emitter ≡ (counted_of emitter.old).instance) × (owed.variable ≡ 6)) }
+    ensures failed { OnErr result ((counted_of emitter.new).failed ≡ true) }
 {
-    let mut emitter = TokenEmitter::start(alloc, shape, 0)?;
-    let cell = emitter.param(0)?;
     let (mut opened, spare) = match emitter.unpack_unique(cell, 0, 3) {
         Ok(both) => both,
-        Err(kept) => return Err(abandoned(&mut emitter, kept)),
+        Err(kept) => return Err(abandoned(emitter, kept)),
     };
     let Some(rest) = opened.take() else {
         unreachable!();
@@ -261,10 +251,10 @@ fn inc(alloc: Global, shape: &Shape) -> Result<TokenedFun, NoMemory>
     match emitter.plain(Form::Number(1), Vec::new(alloc)) {
         Ok(one) => summed(alloc, emitter, spare, number, one, rest),
         Err(kept) => {
-            let error = abandoned(&mut emitter, kept);
-            lose(&mut emitter, number);
-            lose(&mut emitter, rest);
-            lose_token(&mut emitter, spare);
+            let error = abandoned(emitter, kept);
+            lose(emitter, number);
+            lose(emitter, rest);
+            lose_token(emitter, spare);
             Err(error)
         }
     }
@@ -273,40 +263,42 @@ fn inc(alloc: Global, shape: &Shape) -> Result<TokenedFun, NoMemory>
 /// Goes on with the sum of both numbers.
 fn summed(
     alloc: Global,
-    mut emitter: TokenEmitter<'_>,
+    emitter: &mut TokenEmitter<'_>,
     spare: Spare,
     number: Owed,
     one: Owed,
     rest: Owed,
-) -> Result<TokenedFun, NoMemory>
-    requires inside { (counted_of emitter).failed ≡ false → ((counted_of emitter).inside ≡ true) × ((counted_of emitter).ending ≡ None) }
-    requires joined { (counted_of emitter).failed ≡ false → (counted_of emitter).splits ≡ [] }
-    requires positions { (counted_of emitter).positions ≡ (Owned ∷ []) ∷ [] }
-    requires fields { (counted_of emitter).field_counts ≡ 2 ∷ [] }
-    requires called { (counted_of emitter).failed ≡ false → (counted_of emitter).uncalled ≡ [] }
-    requires owed { (counted_of emitter).failed ≡ false → (counted_of emitter).owed ≡ 1 ∷ 2 ∷ 3 ∷ [] }
-    requires next { (counted_of emitter).failed ≡ false → (counted_of emitter).next ≡ 4 }
-    requires spare { (counted_of emitter).failed ≡ false → (tokens_of emitter).spare ≡ 0 ∷ [] }
-    requires slot { (spare.slot ≡ 0) × (spare.emitter ≡ (counted_of emitter).instance) }
-    requires number { (number.variable ≡ 1) × (number.emitter ≡ (counted_of emitter).instance) }
-    requires one { (one.variable ≡ 3) × (one.emitter ≡ (counted_of emitter).instance) }
-    requires rest { (rest.variable ≡ 2) × (rest.emitter ≡ (counted_of emitter).instance) }
-    ensures { IfOk result (λ function. IsTokenedFunctionOf (counted_of emitter.entry).positions (counted_of emitter.entry).instance function) }
+) -> Result<Owed, NoMemory>
+    requires writes { Writes (counted_of emitter.old) }
+    requires positions { (counted_of emitter.old).positions ≡ (Owned ∷ []) ∷ [] }
+    requires fields { HasFields (counted_of emitter.old) 0 2 }
+    requires owed { (counted_of emitter.old).failed ≡ false → (counted_of emitter.old).owed ≡ 1 ∷ 2 ∷ 3 ∷ [] }
+    requires next { (counted_of emitter.old).failed ≡ false → (counted_of emitter.old).next ≡ 4 }
+    requires spare { (counted_of emitter.old).failed ≡ false → (tokens_of emitter.old).spare ≡ 0 ∷ [] }
+    requires slot { (spare.slot ≡ 0) × (spare.emitter ≡ (counted_of emitter.old).instance) }
+    requires number { (number.variable ≡ 1) × (number.emitter ≡ (counted_of emitter.old).instance) }
+    requires one { (one.variable ≡ 3) × (one.emitter ≡ (counted_of emitter.old).instance) }
+    requires rest { (rest.variable ≡ 2) × (rest.emitter ≡ (counted_of emitter.old).instance) }
+    ensures going { OnOk result ((counted_of emitter.old).failed ≡ false) }
+    ensures ok { OnOk result (counted_of emitter.new ≡ record (counted_of emitter.old) { steps = (counted_of emitter.new).steps; owed = 6 ∷ []; next = 7 }) }
+    ensures tokens { OnOk result (tokens_of emitter.new ≡ record (tokens_of emitter.old) { moves = (tokens_of emitter.new).moves; spare = [] }) }
+    ensures value { IfOk result (λ owed. (owed.emitter ≡ (counted_of emitter.old).instance) × (owed.variable ≡ 6)) }
+    ensures failed { OnErr result ((counted_of emitter.new).failed ≡ true) }
 {
-    let arguments = match handed_over(alloc, &mut emitter, number, one) {
+    let arguments = match handed_over(alloc, emitter, number, one) {
         Ok(arguments) => arguments,
         Err(error) => {
-            lose(&mut emitter, rest);
-            lose_token(&mut emitter, spare);
+            lose(emitter, rest);
+            lose_token(emitter, spare);
             return Err(error);
         }
     };
     match emitter.plain(Form::Binary(BinaryOperator::Add), arguments) {
         Ok(sum) => called_and_filled(alloc, emitter, spare, sum, rest),
         Err(kept) => {
-            let error = abandoned(&mut emitter, kept);
-            lose(&mut emitter, rest);
-            lose_token(&mut emitter, spare);
+            let error = abandoned(emitter, kept);
+            lose(emitter, rest);
+            lose_token(emitter, spare);
             Err(error)
         }
     }
@@ -345,77 +337,37 @@ fn handed_over(
     Ok(arguments)
 }
 
-/// Calls the function on the rest of the list, and ends by a cell of the sum and what the call gives.
+/// Calls the function on the rest of the list, and builds a cell of the sum and what the call gives.
 fn called_and_filled(
     alloc: Global,
-    mut emitter: TokenEmitter<'_>,
+    emitter: &mut TokenEmitter<'_>,
     spare: Spare,
     sum: Owed,
     rest: Owed,
-) -> Result<TokenedFun, NoMemory>
-    requires inside { (counted_of emitter).failed ≡ false → ((counted_of emitter).inside ≡ true) × ((counted_of emitter).ending ≡ None) }
-    requires joined { (counted_of emitter).failed ≡ false → (counted_of emitter).splits ≡ [] }
-    requires positions { (counted_of emitter).positions ≡ (Owned ∷ []) ∷ [] }
-    requires fields { (counted_of emitter).field_counts ≡ 2 ∷ [] }
-    requires called { (counted_of emitter).failed ≡ false → (counted_of emitter).uncalled ≡ [] }
-    requires owed { (counted_of emitter).failed ≡ false → (counted_of emitter).owed ≡ 2 ∷ 4 ∷ [] }
-    requires next { (counted_of emitter).failed ≡ false → (counted_of emitter).next ≡ 5 }
-    requires spare { (counted_of emitter).failed ≡ false → (tokens_of emitter).spare ≡ 0 ∷ [] }
-    requires slot { (spare.slot ≡ 0) × (spare.emitter ≡ (counted_of emitter).instance) }
-    requires sum { (sum.variable ≡ 4) × (sum.emitter ≡ (counted_of emitter).instance) }
-    requires rest { (rest.variable ≡ 2) × (rest.emitter ≡ (counted_of emitter).instance) }
-    ensures { IfOk result (λ function. IsTokenedFunctionOf (counted_of emitter.entry).positions (counted_of emitter.entry).instance function) }
+) -> Result<Owed, NoMemory>
+    requires writes { Writes (counted_of emitter.old) }
+    requires positions { (counted_of emitter.old).positions ≡ (Owned ∷ []) ∷ [] }
+    requires fields { HasFields (counted_of emitter.old) 0 2 }
+    requires owed { (counted_of emitter.old).failed ≡ false → (counted_of emitter.old).owed ≡ 2 ∷ 4 ∷ [] }
+    requires next { (counted_of emitter.old).failed ≡ false → (counted_of emitter.old).next ≡ 5 }
+    requires spare { (counted_of emitter.old).failed ≡ false → (tokens_of emitter.old).spare ≡ 0 ∷ [] }
+    requires slot { (spare.slot ≡ 0) × (spare.emitter ≡ (counted_of emitter.old).instance) }
+    requires sum { (sum.variable ≡ 4) × (sum.emitter ≡ (counted_of emitter.old).instance) }
+    requires rest { (rest.variable ≡ 2) × (rest.emitter ≡ (counted_of emitter.old).instance) }
+    ensures going { OnOk result ((counted_of emitter.old).failed ≡ false) }
+    ensures ok { OnOk result (counted_of emitter.new ≡ record (counted_of emitter.old) { steps = (counted_of emitter.new).steps; owed = 6 ∷ []; next = 7 }) }
+    ensures tokens { OnOk result (tokens_of emitter.new ≡ record (tokens_of emitter.old) { moves = (tokens_of emitter.new).moves; spare = [] }) }
+    ensures value { IfOk result (λ owed. (owed.emitter ≡ (counted_of emitter.old).instance) × (owed.variable ≡ 6)) }
+    ensures failed { OnErr result ((counted_of emitter.new).failed ≡ true) }
 {
-    let argument = match emitter.hand_over(rest) {
-        Ok(argument) => argument,
-        Err(kept) => {
-            let error = abandoned(&mut emitter, kept);
-            lose(&mut emitter, sum);
-            lose_token(&mut emitter, spare);
-            return Err(error);
-        }
-    };
-    let Ok(arguments) = Vec::from_slice(alloc, &[argument]) else {
-        let error = emitter.fail();
-        lose(&mut emitter, sum);
-        lose_token(&mut emitter, spare);
-        return Err(error);
-    };
-    match emitter.called(0, arguments) {
+    match called_again(alloc, emitter, rest) {
         Ok(value) => filled(alloc, emitter, spare, 0, sum, value),
-        Err(kept) => {
-            let error = abandoned(&mut emitter, kept);
-            lose(&mut emitter, sum);
-            lose_token(&mut emitter, spare);
+        Err(error) => {
+            lose(emitter, sum);
+            lose_token(emitter, spare);
             Err(error)
         }
     }
-}
-
-/// It adds 1, holds the token, calls itself, takes the token back, and builds a cell in its place.
-#[test]
-fn a_number_of_a_list_is_increased(rt: HostRuntime) -> Result<(), NoMemory> {
-    let shape = shape_of_pairs(rt.alloc(), Ownership::Owned)?;
-    let function = inc(rt.alloc(), &shape)?;
-    let steps = &function.body.steps;
-    assert_eq!(rt; steps.len(), 7);
-    assert!(rt; opens_by_count(&steps[0], &[1, 2], &[1, 2]));
-    assert!(rt; computes(&steps[1], 3, Form::Number(1), &[], &[0]));
-    assert!(rt;
-        computes(
-            &steps[2],
-            4,
-            Form::Binary(BinaryOperator::Add),
-            &[1, 3],
-            &[0]
-        )
-    );
-    assert!(rt; matches!(steps[3], TokenedStep::Hold { slot: 0 }));
-    assert!(rt; computes(&steps[4], 5, Form::Call(0), &[2], &[0]));
-    assert!(rt; matches!(steps[5], TokenedStep::Unhold { slot: 0 }));
-    assert!(rt; fills(&steps[6], 6, 4, &[5], &[]));
-    assert!(rt; matches!(function.body.last, TokenedLast::Return(6)));
-    Ok(())
 }
 
 /// The function that duplicates its parameter, drops one of the two references, and gives the other.

@@ -1,0 +1,216 @@
+//! Functions on lists with a row for each constructor: the rows of no cell, and those that read, open or fill one.
+
+ghost use Rattle.std.specs.Prelude.{◌≡◌, ◌∷◌, [], false, None, IfOk, OnOk};
+ghost use Rattle.kk_syntax.specs.declared.positions.Ownership.TheVariants.{Owned};
+ghost use Rattle.kk_counted.specs.CountedForms.{decisions_of};
+ghost use Rattle.kk_counted.specs.InstancePositions.{positions_in, fields_in};
+ghost use Rattle.kk_counted.specs.TokenedCodes.{Tokened};
+ghost use Rattle.kk_counted.specs.Drafts.{begun, given, forked, ended_by_value, Writes, IsInArm};
+ghost use Rattle.kk_counted.specs.TokenDrafts.{no_tokens, tokens_forked, tokens_ended_in};
+ghost use Rattle.kk_counted.specs.TokenEmissions.{counted_of, tokens_of};
+ghost use Rattle.kk_counted.specs.TokenEmitting.{CanEnd, IsTokenedFunctionOf};
+ghost use Rattle.kk_counted.specs.Works.{left_in};
+
+use crate::branching::{ended, finished};
+use crate::expecting::{computes, fills, opens_by_count, reads, rows_inside};
+use crate::lists::{increased, with_tails};
+use crate::losing::{abandoned, lose_arms};
+use kk_base::NoMemory;
+use kk_core::{ConstructorShape, Decisions, truth_decisions};
+use kk_counted::{
+    Arms, Debts, InstanceShape, Parameter, Shape, TokenArmEnd, TokenEmitter, TokenedFun,
+    TokenedLast, TokenedStep,
+};
+use kk_syntax::{BinaryOperator, Form, Ownership};
+use std::alloc::Global;
+
+/// The shape of a program with one function, which owns its parameter. It is a list, whose first constructor has two fields and
+/// whose second one has none.
+fn shape_of_lists(alloc: Global) -> Result<Shape, NoMemory>
+    ensures positions { IfOk result (λ shape. positions_in shape.instances.items ≡ (Owned ∷ []) ∷ []) }
+    ensures fields { IfOk result (λ shape. fields_in shape.constructors.items ≡ 2 ∷ 0 ∷ []) }
+{
+    let parameter = Parameter {
+        ownership: Ownership::Owned,
+        has_cells: true,
+    };
+    let instance = InstanceShape {
+        parameters: vec![in alloc; parameter]?,
+        result_has_cells: true,
+    };
+    let cons = ConstructorShape {
+        of_type: 0,
+        tag: 0,
+        has_cells: true,
+        fields: vec![in alloc; false, true]?,
+    };
+    let nil = ConstructorShape {
+        of_type: 0,
+        tag: 1,
+        has_cells: true,
+        fields: Vec::new(alloc),
+    };
+    Ok(Shape::new(vec![in alloc; instance]?, vec![in alloc; cons, nil]?))
+}
+
+/// Begins a branch on the parameter, a list. Each arm is to spend that, and no token.
+fn matched(
+    alloc: Global,
+    emitter: &mut TokenEmitter<'_>,
+    tests: &Decisions,
+) -> Result<Arms, NoMemory>
+    requires counted { counted_of emitter.old ≡ begun ((Owned ∷ []) ∷ []) (2 ∷ 0 ∷ []) 0 }
+    requires tokens { tokens_of emitter.old ≡ no_tokens }
+    requires rows { tests.now.rows ≡ 2 }
+    ensures ok { OnOk result (counted_of emitter.new ≡ forked (given (counted_of emitter.old) 0) 0 (decisions_of tests.now) (0 ∷ []) 2) }
+    ensures tokens { OnOk result (tokens_of emitter.new ≡ tokens_forked no_tokens 0 (decisions_of tests.now) 2) }
+    ensures arms { IfOk result (λ arms. (arms.emitter ≡ 0) × (arms.depth ≡ 1)) }
+    ensures left { IfOk result (λ arms. left_in arms.left.items ≡ (0 ∷ []) ∷ (0 ∷ []) ∷ []) }
+    ensures slots { IfOk result (λ arms. left_in arms.spare.items ≡ [] ∷ [] ∷ []) }
+{
+    let list = emitter.param(0)?;
+    let mut debts = Debts::new(alloc);
+    if let Err(kept) = debts.put(list) {
+        debts.close();
+        return Err(abandoned(emitter, kept));
+    }
+    match emitter.split(0, tests, debts) {
+        Ok(arms) => Ok(arms),
+        Err(kept) => Err(abandoned(emitter, kept)),
+    }
+}
+
+/// The row of the constructor without fields: it gives the list as it is.
+fn given_back(
+    emitter: &mut TokenEmitter<'_>,
+    mut debts: Debts,
+    arms: Arms,
+) -> Result<Arms, NoMemory>
+    requires writes { Writes (counted_of emitter.old) }
+    requires arm { (counted_of emitter.old).failed ≡ false → IsInArm (counted_of emitter.old).splits }
+    requires debts { (debts.variables.items ≡ 0 ∷ []) × (debts.spare.items ≡ []) }
+    requires of { debts.emitter ≡ (counted_of emitter.old).instance }
+    requires owed { (counted_of emitter.old).failed ≡ false → (counted_of emitter.old).owed ≡ 0 ∷ [] }
+    requires spare { (counted_of emitter.old).failed ≡ false → (tokens_of emitter.old).spare ≡ [] }
+    requires value { (counted_of emitter.old).failed ≡ false → (tokens_of emitter.old).ending ≡ None }
+    requires can { (counted_of emitter.old).failed ≡ false → CanEnd (tokens_of emitter.old) false (tokens_of emitter.old).splits }
+    ensures going { OnOk result ((counted_of emitter.old).failed ≡ false) }
+    ensures ok { OnOk result (counted_of emitter.new ≡ ended_by_value (counted_of emitter.old) 0) }
+    ensures tokens { OnOk result (tokens_of emitter.new ≡ tokens_ended_in (tokens_of emitter.old) (Tokened.give 0) false (tokens_of emitter.old).splits) }
+    ensures same { IfOk result (λ left. left ≡ arms) }
+{
+    let Some(list) = debts.take() else {
+        unreachable!();
+    };
+    ended(emitter, TokenArmEnd::Value(list, debts), arms)
+}
+
+/// The function `fun tails(xs: list): list { match xs { Cons(_, xx) -> Cons(xs, tails(xx)); Nil -> xs } }`.
+fn tails(alloc: Global, shape: &Shape) -> Result<TokenedFun, NoMemory>
+    requires positions { positions_in shape.now.instances.items ≡ (Owned ∷ []) ∷ [] }
+    requires fields { fields_in shape.now.constructors.items ≡ 2 ∷ 0 ∷ [] }
+    ensures { IfOk result (λ function. IsTokenedFunctionOf ((Owned ∷ []) ∷ []) 0 function) }
+{
+    let tests = truth_decisions(alloc)?;
+    let mut emitter = TokenEmitter::start(alloc, shape, 0)?;
+    let mut arms = matched(alloc, &mut emitter, &tests)?;
+    let Some(debts) = emitter.next_arm(&mut arms) else {
+        unreachable!();
+    };
+    let mut arms = given_back(&mut emitter, debts, arms)?;
+    let Some(mut debts) = emitter.next_arm(&mut arms) else {
+        unreachable!();
+    };
+    let Some(cell) = debts.take() else {
+        unreachable!();
+    };
+    let value = match with_tails(alloc, &mut emitter, cell) {
+        Ok(value) => value,
+        Err(error) => {
+            debts.close();
+            lose_arms(&mut emitter, arms);
+            return Err(error);
+        }
+    };
+    let arms = ended(&mut emitter, TokenArmEnd::Value(value, debts), arms)?;
+    finished(emitter, arms)
+}
+
+/// Where the list has a cell its fields are read, the cell stays, and a new one is built. Else the list is given as it is.
+#[test]
+fn a_cell_that_is_read_stays(rt: HostRuntime) -> Result<(), NoMemory> {
+    let shape = shape_of_lists(rt.alloc())?;
+    let function = tails(rt.alloc(), &shape)?;
+    let steps = &function.body.steps;
+    assert_eq!(rt; steps.len(), 1);
+    let rows = rows_inside(&steps[0], 5, 0);
+    assert_eq!(rt; rows.len(), 2);
+    assert!(rt; rows[0].steps.is_empty());
+    assert!(rt; matches!(rows[0].last, TokenedLast::Return(0)));
+    assert_eq!(rt; rows[1].steps.len(), 4);
+    assert!(rt; reads(&rows[1].steps[0], 0, &[1, 2]));
+    assert!(rt; matches!(rows[1].steps[1], TokenedStep::Dup { variable: 2 }));
+    assert!(rt; computes(&rows[1].steps[2], 3, Form::Call(0), &[2], &[]));
+    assert!(rt; computes(&rows[1].steps[3], 4, Form::Construct(0), &[0, 3], &[]));
+    assert!(rt; matches!(rows[1].last, TokenedLast::Return(4)));
+    assert!(rt; matches!(function.body.last, TokenedLast::Return(5)));
+    Ok(())
+}
+
+/// The function `fun inc(xs: list): list { match xs { Cons(x, xx) -> Cons(x + 1, inc(xx)); Nil -> xs } }`.
+fn inc(alloc: Global, shape: &Shape) -> Result<TokenedFun, NoMemory>
+    requires positions { positions_in shape.now.instances.items ≡ (Owned ∷ []) ∷ [] }
+    requires fields { fields_in shape.now.constructors.items ≡ 2 ∷ 0 ∷ [] }
+    ensures { IfOk result (λ function. IsTokenedFunctionOf ((Owned ∷ []) ∷ []) 0 function) }
+{
+    let tests = truth_decisions(alloc)?;
+    let mut emitter = TokenEmitter::start(alloc, shape, 0)?;
+    let mut arms = matched(alloc, &mut emitter, &tests)?;
+    let Some(debts) = emitter.next_arm(&mut arms) else {
+        unreachable!();
+    };
+    let mut arms = given_back(&mut emitter, debts, arms)?;
+    let Some(mut debts) = emitter.next_arm(&mut arms) else {
+        unreachable!();
+    };
+    let Some(cell) = debts.take() else {
+        unreachable!();
+    };
+    let value = match increased(alloc, &mut emitter, cell) {
+        Ok(value) => value,
+        Err(error) => {
+            debts.close();
+            lose_arms(&mut emitter, arms);
+            return Err(error);
+        }
+    };
+    let arms = ended(&mut emitter, TokenArmEnd::Value(value, debts), arms)?;
+    finished(emitter, arms)
+}
+
+/// Where the list has a cell the row adds 1, holds the token, calls the function, takes the token back, and builds a cell in its
+/// place. Else the list is given as it is.
+#[test]
+fn a_number_of_a_list_is_increased(rt: HostRuntime) -> Result<(), NoMemory> {
+    let shape = shape_of_lists(rt.alloc())?;
+    let function = inc(rt.alloc(), &shape)?;
+    let steps = &function.body.steps;
+    assert_eq!(rt; steps.len(), 1);
+    let rows = rows_inside(&steps[0], 7, 0);
+    assert_eq!(rt; rows.len(), 2);
+    assert!(rt; rows[0].steps.is_empty());
+    assert!(rt; matches!(rows[0].last, TokenedLast::Return(0)));
+    let filling = &rows[1].steps;
+    assert_eq!(rt; filling.len(), 7);
+    assert!(rt; opens_by_count(&filling[0], &[1, 2], &[1, 2]));
+    assert!(rt; computes(&filling[1], 3, Form::Number(1), &[], &[0]));
+    let addition = Form::Binary(BinaryOperator::Add);
+    assert!(rt; computes(&filling[2], 4, addition, &[1, 3], &[0]));
+    assert!(rt; matches!(filling[3], TokenedStep::Hold { slot: 0 }));
+    assert!(rt; computes(&filling[4], 5, Form::Call(0), &[2], &[0]));
+    assert!(rt; matches!(filling[5], TokenedStep::Unhold { slot: 0 }));
+    assert!(rt; fills(&filling[6], 6, 4, &[5], &[]));
+    assert!(rt; matches!(rows[1].last, TokenedLast::Return(6)));
+    assert!(rt; matches!(function.body.last, TokenedLast::Return(7)));
+    Ok(())
+}
