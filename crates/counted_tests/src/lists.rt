@@ -1,6 +1,6 @@
 //! Functions on pairs and lists: each call of an emitter of code with tokens writes the steps that are expected.
 
-ghost use Rattle.std.specs.Prelude.{◌≡◌, ◌∷◌, [], true, false, None, IfOk, OnOk, OnErr};
+ghost use Rattle.std.specs.Prelude.{◌≡◌, ◌∷◌, [], true, false, IfOk, OnOk, OnErr};
 ghost use Rattle.kk_syntax.specs.Shapes.{without};
 ghost use Rattle.kk_syntax.specs.declared.positions.Ownership.TheVariants.{Owned, Lent};
 ghost use Rattle.kk_counted.specs.InstancePositions.{positions_in, fields_in};
