@@ -1,5 +1,6 @@
 pub mod Agreements
 pub mod Exactly
+pub mod Exits
 pub mod Faults
 pub mod Limits
 pub mod Machines

@@ -13,6 +13,10 @@ limit_word_of FunctionNodes = codes "function-nodes"
 limit_word_of Instances = codes "instances"
 limit_word_of ProgramNodes = codes "program-nodes"
 
+-- the greatest number of bytes that a string in a text stands for
+abbrev pub greatest_string : ℕ
+greatest_string = 255
+
 -- the greatest number of a quantity
 abbrev pub greatest_of : LimitKind → ℕ
 greatest_of Source = 65536

@@ -4,11 +4,17 @@ use Rattle.kk_core.specs.Codes.{Code, give, tail_call, case, compute, use_of, un
 use Rattle.kk_core.specs.Decisions.{NodeTree, chooses, tests}
 use Rattle.kk_core.specs.Sizes.{most_nodes, most_program_nodes}
 
--- The most instructions of a node: those of a test are so many, and more for each field on the way to its position and for each
--- edge.
+-- the most instructions of a node that chooses a row
+abbrev pub choice_length : ℕ
+choice_length = 2
+
+-- the most of a test: so many, and more for each field on the way to its position and for each edge
+abbrev pub length_of_test : ℕ → ℕ → ℕ
+length_of_test fields edges = 22 + 4 * fields + 12 * edges
+
 abbrev pub node_length : NodeTree → ℕ
-node_length (chooses row) = 2
-node_length (tests at edges otherwise) = 22 + 4 * length at + 12 * length edges
+node_length (chooses row) = choice_length
+node_length (tests at edges otherwise) = length_of_test (length at) (length edges)
 
 abbrev pub tests_length : List NodeTree → ℕ
 tests_length [] = 0

@@ -28,6 +28,12 @@ control_cost (stopped by) store = 0
 abbrev pub core_cost : CoreState → ℕ
 core_cost s = control_cost s.machine.control s.machine.store
 
+-- ---- steps of the source
+
+-- what the steps that do one step of the source cost at most, where the greatest body has so many nodes
+abbrev pub most_step_cost : ℕ → ℕ
+most_step_cost nodes = 256 * (nodes * nodes)
+
 -- ---- room
 
 -- The same where each step pays so much more: room for work that a later form does beside it. There is room for so much where the

@@ -11,6 +11,7 @@ pub mod OwnedSearch
 pub mod PatternTypes
 pub mod PatternViews
 pub mod PositionTables
+pub mod ProgramTrees
 pub mod TypeSubstitution
 pub mod TypeEquality
 pub mod TailCalls

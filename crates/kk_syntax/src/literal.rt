@@ -1,5 +1,5 @@
 ghost use Rattle.std.specs.Prelude.{◌≡◌, ℕ, ◌≤◌, List, length, IfOk};
-ghost use Rattle.kk_base.specs.declared.strings.TheConstants.{GREATEST_STRING};
+ghost use Rattle.kk_base.specs.Limits.{greatest_string};
 
 use kk_base::{GREATEST_STRING, NoMemory, Text};
 use std::alloc::Global;
@@ -16,7 +16,7 @@ impl Model for StringLiteral {
 
     ghost view = { λ l. l.text };
 
-    ghost invariant = { λ l. length l.text ≤ GREATEST_STRING };
+    ghost invariant = { λ l. length l.text ≤ greatest_string };
 }
 
 impl StringLiteral {
@@ -25,7 +25,7 @@ impl StringLiteral {
 
     /// The literal of these bytes. Takes no memory.
     pub fn new(text: Text) -> Self
-        requires { length text ≤ GREATEST_STRING }
+        requires { length text ≤ greatest_string }
         ensures { result ≡ text }
     {
         StringLiteral { text }
@@ -42,7 +42,7 @@ impl StringLiteral {
 
     pub fn as_slice(&self) -> &[u8]
         ensures bytes { result.now ≡ self.now }
-        ensures short { length result.now ≤ GREATEST_STRING }
+        ensures short { length result.now ≤ greatest_string }
     {
         self.text.as_slice()
     }
