@@ -11,7 +11,7 @@ use Rattle.kk_syntax.specs.Shapes.{nodes_of_pattern}
 use Rattle.kk_core.specs.declared.decisions.Answer.{Answer}
 use Rattle.kk_core.specs.declared.decisions.Answer.TheVariants.{Number, Constructor}
 use Rattle.kk_core.specs.declared.decisions.Edge.{Edge}
-use Rattle.kk_core.specs.CaseLengths.{node_length, tests_length}
+use Rattle.kk_core.specs.CaseLengths.{choice_length, length_of_test, node_length, tests_length}
 use Rattle.kk_core.specs.Decisions.{NodeTree, chooses, tests, targets}
 use Rattle.kk_match.specs.Parts.{Part, has_several, parts_of, parts_of_all}
 use Rattle.kk_match.specs.Graphs.{StateTree, agrees, left_after, kept_line, after, IsReached, at_start, by_answer, by_another, weight, parts_at, weight_at, lines_from}
@@ -255,13 +255,14 @@ nodes_small types most rows _ _ (one_more {states} {nodes} state node row right)
 
 -- the tests alone, and two for each node
 small_length : (most rows : ℕ) (nodes : List NodeTree) → AreSmall most rows nodes
-    → tests_length nodes ≤ count_by is_test nodes * (22 + 4 * most + 12 * rows) + 2 * length nodes
+    → tests_length nodes ≤ count_by is_test nodes * length_of_test most rows + choice_length * length nodes
 small_length most rows [] small = omega arith
 small_length most rows (chooses row ∷ nodes) small =
     let rest = small_length most rows nodes small.1 in
     let all = sum_by-cons (λ n. cond (is_test n) 1 0) (chooses row) nodes in
     let same : count_by is_test (chooses row ∷ nodes) ≡ count_by is_test nodes = omega (arith, all) in
-    subst (λ (n : ℕ). 2 + tests_length nodes ≤ n * (22 + 4 * most + 12 * rows) + 2 * suc (length nodes)) (sym same)
+    subst
+    (λ (n : ℕ). choice_length + tests_length nodes ≤ n * length_of_test most rows + choice_length * suc (length nodes)) (sym same)
     (omega (arith, rest))
 small_length most rows (tests at edges otherwise ∷ nodes) small =
     let rest = small_length most rows nodes small.1 in
@@ -271,7 +272,7 @@ small_length most rows (tests at edges otherwise ∷ nodes) small =
     let few = small.0.1 in
     subst
     (λ (n : ℕ). node_length (tests at edges otherwise) + tests_length nodes
-    ≤ n * (22 + 4 * most + 12 * rows) + 2 * suc (length nodes)) (sym same)
+    ≤ n * length_of_test most rows + choice_length * suc (length nodes)) (sym same)
     (omega (arith, rest, low, few))
 
 -- a test leads to no more nodes than it has edges, and one
@@ -341,7 +342,7 @@ graph_short types ps nodes graph =
       small_length most (length ps) nodes small,
       few_nodes types (most_tests ps) start nodes graph,
       targets_few most (length ps) nodes small,
-      mul-le-mul_right (22 + 4 * most + 12 * length ps) count,
+      mul-le-mul_right (length_of_test most (length ps)) count,
       mul-le-mul_right (length ps + 1) count,
     )
 
@@ -408,7 +409,7 @@ turn_short types p ps =
     let wide : length start ≡ rows = lines_as_many types 0 (p ∷ ps) in
     let few : rows ≤ most = rows_few (p ∷ ps) in
     let nodes : length (with_rows start []) ≤ most_tests (p ∷ ps) * (rows + 1) + 1 = omega (arith, long, wide, few, light) in
-    omega (arith, small_length most rows (with_rows start []) small, mul-le-mul_right (22 + 4 * most + 12 * rows) count, nodes)
+    omega (arith, small_length most rows (with_rows start []) small, mul-le-mul_right (length_of_test most rows) count, nodes)
 
 pub formed_short : (types : List ℕ) (ps : List Pattern) (nodes : List NodeTree) (count : ℕ) (by_rows : Bool)
     → IsFormed types ps nodes count by_rows

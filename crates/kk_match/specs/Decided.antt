@@ -3,7 +3,7 @@ use Rattle.std.specs.Prelude.{◌≡◌, ◌<◌, ◌≤◌, ◌+◌, ◌*◌, �
 use Rattle.kk_syntax.specs.Patterns.{Pattern}
 use Rattle.kk_syntax.specs.Shapes.{is_among, nodes_of_pattern}
 use Rattle.kk_core.specs.declared.decisions.Edge.{Edge}
-use Rattle.kk_core.specs.CaseLengths.{tests_length}
+use Rattle.kk_core.specs.CaseLengths.{choice_length, length_of_test, tests_length}
 use Rattle.kk_core.specs.Decisions.{NodeTree, chooses, tests, targets}
 use Rattle.kk_match.specs.Graphs.{weight, lines_from, HasTests, HasMoreTests}
 use Rattle.kk_match.specs.GraphGrowth.{IsGraphOf}
@@ -35,8 +35,8 @@ most_tests patterns = 8 * sum_by nodes_of_pattern patterns
 -- patterns have nodes, a test has no more edges than there are patterns, and each node but the first is one that a test leads to.
 abbrev pub most_tests_length : List Pattern → ℕ
 most_tests_length patterns =
-    most_tests patterns * (22 + 4 * sum_by nodes_of_pattern patterns + 12 * length patterns)
-    + 2 * (most_tests patterns * (length patterns + 1) + 1)
+    most_tests patterns * length_of_test (sum_by nodes_of_pattern patterns) (length patterns)
+    + choice_length * (most_tests patterns * (length patterns + 1) + 1)
 
 -- Nodes are the graph of the states: one for each state that tests lead to, with the test and the edges of that state, and
 -- the start is the first.
@@ -62,10 +62,13 @@ IsFormed types patterns nodes count true =
 
 -- ---- brief tests
 
--- The most that brief tests are long, once they are in an image: 56 for each node of the patterns, and 2 for each two of these nodes.
+-- The most that brief tests of so many nodes of patterns are long, once they are in an image: so much for each node, and more for
+-- each two of the nodes.
+abbrev pub most_brief : ℕ → ℕ
+most_brief nodes = 56 * nodes + 2 * nodes * nodes
+
 abbrev pub brief_length : List Pattern → ℕ
-brief_length patterns =
-    56 * sum_by nodes_of_pattern patterns + 2 * sum_by nodes_of_pattern patterns * sum_by nodes_of_pattern patterns
+brief_length patterns = most_brief (sum_by nodes_of_pattern patterns)
 
 -- the graph of the states has too many tests, or they are not brief
 pub data IsTooLong (types : List ℕ) (patterns : List Pattern) : Type 0 where

@@ -6,6 +6,18 @@ use crate::nodes::{product, sum};
 use kk_base::NoMemory;
 use kk_core::Node;
 
+// The most instructions of a node that chooses a row.
+const CHOICE: usize = 2;
+
+// The most instructions of a test, without those for the fields on the way to its position and for its edges.
+const TEST: usize = 22;
+
+// The most for each field on the way.
+const FIELD: usize = 4;
+
+// The most for each edge.
+const EDGE: usize = 12;
+
 /// How long tests are at most, once they are in an image.
 pub fn tests_length(nodes: &[Node]) -> Result<usize, NoMemory>
     ensures { IfOk result (λ length. length ≡ tests_length (map node_tree nodes.now)) }
@@ -21,11 +33,11 @@ fn node_length(node: &Node) -> Result<usize, NoMemory>
     ensures { IfOk result (λ length. length ≡ node_length (node_tree node.now)) }
 {
     match node {
-        Node::Choose(_) => Ok(2),
+        Node::Choose(_) => Ok(CHOICE),
         Node::Test(at, edges, _) => {
-            let fields = product(4, at.len())?;
-            let own = sum(22, fields)?;
-            let ways = product(12, edges.len())?;
+            let fields = product(FIELD, at.len())?;
+            let own = sum(TEST, fields)?;
+            let ways = product(EDGE, edges.len())?;
             sum(own, ways)
         }
     }

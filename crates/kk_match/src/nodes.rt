@@ -6,12 +6,20 @@ ghost use Rattle.kk_match.specs.Decided.{most_tests, brief_length};
 use kk_base::NoMemory;
 use kk_syntax::Pat;
 
+// The most states that may test, for each node of the patterns.
+const TESTS_OF_NODE: usize = 8;
+
+// How long brief tests are at most: so much for each node of the patterns, and more for each two of these nodes.
+const BRIEF_NODE: usize = 56;
+
+const BRIEF_PAIR: usize = 2;
+
 /// How many states of these patterns may test.
 pub fn most_tests(patterns: &[&Pat]) -> Result<usize, NoMemory>
     ensures { IfOk result (λ most. most ≡ most_tests (map (λ p. pattern_tree p.now) patterns.now)) }
 {
     let count = nodes_in_all(patterns)?;
-    product(8, count)
+    product(TESTS_OF_NODE, count)
 }
 
 /// How long the tests of these patterns are at most where they are brief.
@@ -19,8 +27,8 @@ pub fn brief_length(patterns: &[&Pat]) -> Result<usize, NoMemory>
     ensures { IfOk result (λ most. most ≡ brief_length (map (λ p. pattern_tree p.now) patterns.now)) }
 {
     let count = nodes_in_all(patterns)?;
-    let each = product(56, count)?;
-    let twice = product(2, count)?;
+    let each = product(BRIEF_NODE, count)?;
+    let twice = product(BRIEF_PAIR, count)?;
     let pairs = product(twice, count)?;
     sum(each, pairs)
 }

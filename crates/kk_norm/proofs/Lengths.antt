@@ -13,6 +13,7 @@ use Rattle.kk_core.specs.CaseLengths.{tests_length, cases_length, arms_cases_len
 use Rattle.kk_core.specs.Decisions.{NodeTree}
 use Rattle.kk_core.specs.Sizes.{most_nodes}
 use Rattle.kk_core.specs.Truths.{truth_case}
+use Rattle.kk_match.specs.Decided.{most_brief}
 use Rattle.kk_norm.specs.MatchDecisions.{AreDecisions}
 use Rattle.kk_norm.specs.Names.{Names, name_of, named}
 use Rattle.kk_norm.specs.Normal.{AreWithin, all_nodes}
@@ -78,13 +79,17 @@ rows_nodes no_row = omega arith
 rows_nodes (row (row_parts pattern body) rest) =
     omega (arith, sum_by-cons nodes_of_pattern pattern (patterns_in rest), rows_nodes rest, tree_some body)
 
+-- how long the tests of cases are at most, for each node of a function
+abbrev node_cases : ℕ
+node_cases = 80 * most_nodes
+
 -- patterns of so many nodes
-few_tests : (p : ℕ) → p ≤ 480 → 56 * p + 2 * p * p ≤ 38400 * (p + 1)
+few_tests : (p : ℕ) → p ≤ most_nodes → most_brief p ≤ node_cases * (p + 1)
 few_tests p most = let each = mul-le-mul_right p most in omega (arith, each)
 
 match_short : (constructors : List ConstructorTree) (rows : Rows) (decisions : List NodeTree)
-    → AreDecisions constructors (patterns_in rows) decisions → nodes_of_rows rows ≤ 480
-    → tests_length decisions ≤ 38400 * (sum_by nodes_of_pattern (patterns_in rows) + 1)
+    → AreDecisions constructors (patterns_in rows) decisions → nodes_of_rows rows ≤ most_nodes
+    → tests_length decisions ≤ node_cases * (sum_by nodes_of_pattern (patterns_in rows) + 1)
 match_short constructors rows decisions are few =
     let patterns : List Pattern = patterns_in rows in
     let nodes = rows_nodes rows in
@@ -98,7 +103,7 @@ match_short constructors rows decisions are few =
 
 mutual
   code_short : (constructors : List ConstructorTree) (k : Then) (names : Names) (n : ℕ) (e : Tree) (c : Code)
-      → IsCode constructors k names n e c → nodes_of e ≤ 480 → cases_length c ≤ 38400 * nodes_of e + cases_then k
+      → IsCode constructors k names n e c → nodes_of e ≤ most_nodes → cases_length c ≤ node_cases * nodes_of e + cases_then k
   code_short constructors k names n (variable x) c coded few =
       omega (arith, cases_after_use k (name_of names x), ap cases_length coded)
   code_short constructors k names n (apply form es) c coded few =
@@ -127,8 +132,8 @@ mutual
       omega (arith, one, two)
 
   codes_short : (constructors : List ConstructorTree) (names : Names) (n : ℕ) (es : Trees) (last c : Code)
-      → AreCodes constructors names n es last c → nodes_of_all es ≤ 480
-      → cases_length c ≤ 38400 * nodes_of_all es + cases_length last
+      → AreCodes constructors names n es last c → nodes_of_all es ≤ most_nodes
+      → cases_length c ≤ node_cases * nodes_of_all es + cases_length last
   codes_short constructors names n no_tree last c coded few = omega (arith, ap cases_length coded)
   codes_short constructors names n (tree first rest) last c coded few =
       let one = code_short constructors (next coded.0) names n first c coded.2 (omega (arith, few)) in
@@ -137,8 +142,8 @@ mutual
 
   -- the tests inside of arms, and what the patterns leave for those of the match
   arms_short : (constructors : List ConstructorTree) (k : Then) (names : Names) (a n : ℕ) (rows : Rows) (arms : Arms)
-      → AreArms constructors k names a n rows arms → cases_then k ≡ 0 → nodes_of_rows rows ≤ 480
-      → arms_cases_length arms + 38400 * sum_by nodes_of_pattern (patterns_in rows) ≤ 38400 * nodes_of_rows rows
+      → AreArms constructors k names a n rows arms → cases_then k ≡ 0 → nodes_of_rows rows ≤ most_nodes
+      → arms_cases_length arms + node_cases * sum_by nodes_of_pattern (patterns_in rows) ≤ node_cases * nodes_of_rows rows
   arms_short constructors k names a n no_row arms are none few = omega (arith, ap arms_cases_length are)
   arms_short constructors k names a n (row (row_parts pattern body) rest) arms are none few =
       let from : ℕ = n + pattern_size pattern in
@@ -157,7 +162,7 @@ mutual
 -- ---- programs
 
 pub all_short : (constructors : List ConstructorTree) (functions : List FunctionTree) (cores : List FunctionCode)
-    → AreCoresOf constructors functions cores → AreWithin functions → all_cases_length cores ≤ 80 * most_nodes * all_nodes functions
+    → AreCoresOf constructors functions cores → AreWithin functions → all_cases_length cores ≤ node_cases * all_nodes functions
 all_short constructors [] cores are limits = omega (arith, ap all_cases_length are)
 all_short constructors (function ∷ functions) [] are limits = absurd are
 all_short constructors (function ∷ functions) (core ∷ cores) are limits =

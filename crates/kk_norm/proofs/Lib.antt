@@ -21,7 +21,6 @@ pub mod NeededVariables
 pub mod Openings
 pub mod PatternNames
 pub mod RowChoice
-pub mod ProgramTrees
 pub mod Programs
 mod RunExamples
 pub mod Scopes

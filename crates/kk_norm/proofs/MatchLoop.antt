@@ -1,5 +1,5 @@
 -- How far the loop over the rows of a match has come, and what an arm and a case add.
-use Rattle.std.proofs.Common.{◌≡◌, ℕ, ◌+◌, ◌<◌, ◌≤◌, Bool, false, List, [], ◌∷◌, ◌++◌, length, map, drop, refl, sym, ap, subst, ◌∙◌, arith, append_assoc}
+use Rattle.std.proofs.Common.{◌≡◌, ℕ, ◌+◌, ◌^◌, ◌<◌, ◌≤◌, Bool, false, List, [], ◌∷◌, ◌++◌, length, map, drop, refl, sym, ap, subst, ◌∙◌, arith, append_assoc}
 use Rattle.std.proofs.lemmas.List.{append-nil, drop_all}
 use Rattle.kk_syntax.specs.declared.program.Row.{Row}
 use Rattle.kk_syntax.specs.Patterns.{Pattern, pattern_tree}
@@ -110,8 +110,8 @@ arms_done {constructors} tail a old now all arms so_far =
 -- what is asked of the call in the loop
 pub arm_asked : {constructors : List ConstructorTree} → (tail : Bool) (a : ℕ) (old now : Writer) (left all : Rows)
     (arms : List ArmCode) (pattern : Pattern) (body : Tree) (rest : Rows)
-    → ArmsSoFar constructors tail a old now left all arms → left ≡ row (row_parts pattern body) rest → old.next + size_rows all < 4294967296
-    → MatchesHaveRows body × (now.next + pattern_size pattern + size body < 4294967296)
+    → ArmsSoFar constructors tail a old now left all arms → left ≡ row (row_parts pattern body) rest → old.next + size_rows all < 2 ^ 32
+    → MatchesHaveRows body × (now.next + pattern_size pattern + size body < 2 ^ 32)
 arm_asked {constructors} tail a old now left all arms pattern body rest so_far is room =
     let here : ArmsSoFar constructors tail a old now (row (row_parts pattern body) rest) all arms = subst
     (λ (rows : Rows). ArmsSoFar constructors tail a old now rows all arms) is so_far in
@@ -120,8 +120,8 @@ arm_asked {constructors} tail a old now left all arms pattern body rest so_far i
 -- ---- cases
 
 -- what is asked of the call for a case
-pub case_asked : (e scrutinee : Tree) (rows : Rows) (n : ℕ) → e ≡ match scrutinee rows → MatchesHaveRows e → n + size e < 4294967296
-    → MatchesHaveRows scrutinee × (IsSomeRow rows × (BodiesHaveRows rows × (n + size scrutinee + size_rows rows < 4294967296)))
+pub case_asked : (e scrutinee : Tree) (rows : Rows) (n : ℕ) → e ≡ match scrutinee rows → MatchesHaveRows e → n + size e < 2 ^ 32
+    → MatchesHaveRows scrutinee × (IsSomeRow rows × (BodiesHaveRows rows × (n + size scrutinee + size_rows rows < 2 ^ 32)))
 case_asked e scrutinee rows n is plain room =
     let whole : MatchesHaveRows (match scrutinee rows) = subst (λ (one : Tree). MatchesHaveRows one) is plain in
     let parts = each_parts IsSomeRow (gathered gathers_rows scrutinee) (gathered_rows gathers_rows rows) whole.1 in

@@ -1,5 +1,5 @@
 -- The openings of a pattern are written: what its parts add, and how far the loops over parts have come.
-use Rattle.std.proofs.Common.{◌≡◌, ℕ, ◌+◌, ◌<◌, ◌≤◌, ◌==◌, ◌⊎◌, inl, inr, Bool, true, false, List, [], ◌∷◌, ◌++◌, length, take, map, refl, sym, ap, subst, ◌∙◌, arith, append_assoc}
+use Rattle.std.proofs.Common.{◌≡◌, ℕ, ◌+◌, ◌^◌, ◌<◌, ◌≤◌, ◌==◌, ◌⊎◌, inl, inr, Bool, true, false, List, [], ◌∷◌, ◌++◌, length, take, map, refl, sym, ap, subst, ◌∙◌, arith, append_assoc}
 use Rattle.std.proofs.lemmas.List.{append-nil, take_all}
 use Rattle.std.proofs.Math.Seq.{take-append_seam}
 use Rattle.std.specs.Prelude.{ℤ}
@@ -94,8 +94,8 @@ opened_done first old now all at so_far =
 
 -- what is asked of the call in the loop
 pub open_asked : (first : ℕ) (old now : Writer) (left all : Patterns) (at : ℕ) (p : Pattern) (rest : Patterns)
-    → OpenedSoFar first old now left all at → left ≡ part p rest → old.next + parts_size all < 4294967296
-    → now.next + pattern_size p < 4294967296
+    → OpenedSoFar first old now left all at → left ≡ part p rest → old.next + parts_size all < 2 ^ 32
+    → now.next + pattern_size p < 2 ^ 32
 open_asked first old now left all at p rest so_far is room =
     omega (arith, so_far.number, ap parts_size is)
 

@@ -29,7 +29,7 @@ use Rattle.kk_source.proofs.Values.{at_type, bool_is}
 use Rattle.kk_core.specs.Codes.{Code, give, tail_call, case, compute, use_of, unpack, inside, ProgramCode}
 use Rattle.kk_core.specs.CoreMachine.{core_step, core_ending_of, core_machine}
 use Rattle.kk_core.specs.CoreStates.{CoreSetting, CoreControl, running, stopped, CoreState, core_first_state}
-use Rattle.kk_core.specs.Costs.{step_cost, part_cost, control_cost, most_room, roomy_control_cost}
+use Rattle.kk_core.specs.Costs.{step_cost, part_cost, most_step_cost, control_cost, most_room, roomy_control_cost}
 use Rattle.kk_core.specs.Kinds.{IsTruth}
 use Rattle.kk_core.proofs.PartBounds.{most_seen, most_cost, run_cheap}
 use Rattle.kk_norm.specs.Meaning.{KeepsMeaningByCells, CostsLittle, weighed_store_machine, core_steps, openings_at, core_setting_of, core_after, setting_of}
@@ -191,19 +191,22 @@ cost_at most (stopped by) = omega arith
 
 -- by the cells that a step opens, the nodes of the greatest body, and the room
 square : (o d e room : ℕ) → room ≤ 64 * (o + d + e)
-    → 2 * (room + (128 + 40 * ((o + d) * ((o + d) + 1)))) + o * (room + (128 + 40 * (o + d)))
-    ≤ 256 * ((suc (o + d) + e) * (suc (o + d) + e))
+    → 2 * (room + (step_cost + part_cost * ((o + d) * ((o + d) + 1)))) + o * (room + (step_cost + part_cost * (o + d)))
+    ≤ most_step_cost (suc (o + d) + e)
 square o d e room few = omega (arith, few, mul-le-mul_right o few)
 
 step_costs : (o most nodes room : ℕ) → o ≤ most → suc most ≤ nodes → room ≤ most_room nodes
     → 2 * (room + (step_cost + part_cost * (most * (most + 1)))) + o * (room + (step_cost + part_cost * most))
-    ≤ 256 * (nodes * nodes)
+    ≤ most_step_cost nodes
 step_costs o most nodes room few large within =
     let first : o + (most - o) ≡ most = omega (arith, few) in
     let second : suc most + (nodes - suc most) ≡ nodes = omega (arith, large) in
-    subst (λ (n : ℕ). 2 * (room + (128 + 40 * (most * (most + 1)))) + o * (room + (128 + 40 * most)) ≤ 256 * (n * n)) second
-    (subst (λ (m : ℕ). 2 * (room + (128 + 40 * (m * (m + 1)))) + o * (room + (128 + 40 * m))
-    ≤ 256 * ((suc m + (nodes - suc most)) * (suc m + (nodes - suc most)))) first
+    subst
+    (λ (n : ℕ). 2 * (room + (step_cost + part_cost * (most * (most + 1)))) + o * (room + (step_cost + part_cost * most))
+    ≤ most_step_cost n) second
+    (subst
+    (λ (m : ℕ). 2 * (room + (step_cost + part_cost * (m * (m + 1)))) + o * (room + (step_cost + part_cost * m))
+    ≤ most_step_cost (suc m + (nodes - suc most))) first
     (square o (most - o) (nodes - suc most) room (omega (arith, few, large, within))))
 
 -- a step with room costs no more than it does and the room
@@ -228,7 +231,7 @@ typed_costs_little program code typed form =
           let core : CoreSetting = core_setting_of code positions cells depth in
           typed_agrees program code typed form positions cells depth input
           (room + (step_cost + part_cost * (most * (most + 1)))) (room + (step_cost + part_cost * most))
-          (λ t. room + most_cost (most_by most) t.machine.control) weight (λ s. 256 * (nodes * nodes))
+          (λ t. room + most_cost (most_by most) t.machine.control) weight (λ s. most_step_cost nodes)
           (λ t. omega (arith, cost_at most t.machine.control)) (λ x c fields rest core joins frames store input. omega arith)
           (λ n. omega (
             arith,

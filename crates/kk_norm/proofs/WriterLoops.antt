@@ -1,5 +1,5 @@
 -- How far the loops over arguments and over statements have come, and what blocks, variables and forms add.
-use Rattle.std.proofs.Common.{Result, Ok, Err, ◌≡◌, ℕ, ◌+◌, ◌<◌, ◌≤◌, Bool, zero, suc, List, [], ◌∷◌, ◌++◌, length, take, map, false, refl, sym, ap, subst, ◌∙◌, arith, append_assoc}
+use Rattle.std.proofs.Common.{Result, Ok, Err, ◌≡◌, ℕ, ◌+◌, ◌^◌, ◌<◌, ◌≤◌, Bool, zero, suc, List, [], ◌∷◌, ◌++◌, length, take, map, false, refl, sym, ap, subst, ◌∙◌, arith, append_assoc}
 use Rattle.std.specs.Prelude.{IfOk}
 use Rattle.std.proofs.lemmas.List.{append-nil}
 use Rattle.kk_syntax.proofs.Elements.{each_parts}
@@ -157,33 +157,33 @@ statements_done {constructors} old now all so_far last =
 -- ---- what is asked of the calls in the loops, and of those around them
 
 pub value_asked : {constructors : List ConstructorTree} → (old now : Writer) (left all : Trees) (xs : List ℕ) (e : Tree)
-    (rest : Trees) → ValuesSoFar constructors old now left all xs → left ≡ tree e rest → old.next + size_all all < 4294967296
-    → MatchesHaveRows e × (now.next + size e < 4294967296)
+    (rest : Trees) → ValuesSoFar constructors old now left all xs → left ≡ tree e rest → old.next + size_all all < 2 ^ 32
+    → MatchesHaveRows e × (now.next + size e < 2 ^ 32)
 value_asked {constructors} old now left all xs e rest so_far is room =
     let here : ValuesSoFar constructors old now (tree e rest) all xs = subst
     (λ (es : Trees). ValuesSoFar constructors old now es all xs) is so_far in
     ((of_first e rest here.plain).0, omega (arith, here.number))
 
 abbrev pub StatementsAsked : List StatementTree → ℕ → Type 0
-StatementsAsked all n = (last : Tree) × MatchesHaveRows (block_of all last) × (n + size (block_of all last) < 4294967296)
+StatementsAsked all n = (last : Tree) × MatchesHaveRows (block_of all last) × (n + size (block_of all last) < 2 ^ 32)
 
 pub statement_asked : {constructors : List ConstructorTree} → (old now : Writer) (left all : List StatementTree) (s : StatementTree)
     (rest : List StatementTree) → StatementsSoFar constructors old now left all → left ≡ s ∷ rest → StatementsAsked all old.next
-    → MatchesHaveRows s.value × (now.next + size s.value < 4294967296)
+    → MatchesHaveRows s.value × (now.next + size s.value < 2 ^ 32)
 statement_asked {constructors} old now left all s rest so_far is asked =
     let here : StatementsSoFar constructors old now (s ∷ rest) all = subst
     (λ (ss : List StatementTree). StatementsSoFar constructors old now ss all) is so_far in
     ((of_parts s.value (block_of rest asked.0) (here.plain asked.0 asked.1)).0, omega (arith, here.number asked.0, asked.2))
 
 pub statements_asked : (e last : Tree) (all : List StatementTree) (n : ℕ) → e ≡ block_of all last → MatchesHaveRows e
-    → n + size e < 4294967296 → StatementsAsked all n
+    → n + size e < 2 ^ 32 → StatementsAsked all n
 statements_asked e last all n is plain room =
-    (last, subst (λ (one : Tree). MatchesHaveRows one) is plain, subst (λ (one : Tree). n + size one < 4294967296) is room)
+    (last, subst (λ (one : Tree). MatchesHaveRows one) is plain, subst (λ (one : Tree). n + size one < 2 ^ 32) is room)
 
 pub choice_asked : (e condition positive negative : Tree) (n : ℕ) → e ≡ if_tree condition positive negative → MatchesHaveRows e
-    → n + size e < 4294967296
+    → n + size e < 2 ^ 32
     → MatchesHaveRows condition × (MatchesHaveRows positive × (MatchesHaveRows negative
-    × (n + size condition + size positive + size negative < 4294967296)))
+    × (n + size condition + size positive + size negative < 2 ^ 32)))
 choice_asked e condition positive negative n is plain room =
     let whole : MatchesHaveRows (if_tree condition positive negative) = subst (λ (one : Tree). MatchesHaveRows one) is plain in
     let first = each_parts IsSomeRow (gathered gathers_rows condition)
@@ -196,8 +196,8 @@ plain_last [] last plain = plain
 plain_last (s ∷ all) last plain = plain_last all last (of_parts s.value (block_of all last) plain).1
 
 pub last_asked : {constructors : List ConstructorTree} → (e last : Tree) (all : List StatementTree) (old now : Writer)
-    → e ≡ block_of all last → MatchesHaveRows e → old.next + size e < 4294967296 → WritesStatements constructors all last old now
-    → MatchesHaveRows last × (now.next + size last < 4294967296)
+    → e ≡ block_of all last → MatchesHaveRows e → old.next + size e < 2 ^ 32 → WritesStatements constructors all last old now
+    → MatchesHaveRows last × (now.next + size last < 2 ^ 32)
 last_asked {constructors} e last all old now is plain room writes =
     (plain_last all last (subst (λ (one : Tree). MatchesHaveRows one) is plain), omega (arith, writes.number, ap size is))
 

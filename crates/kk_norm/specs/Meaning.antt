@@ -14,7 +14,7 @@ use Rattle.kk_source.specs.SourceAfter.{step, ending_of, first_state, State}
 use Rattle.kk_core.specs.Codes.{ProgramCode}
 use Rattle.kk_core.specs.CoreStates.{CoreSetting, CoreState, core_first_state}
 use Rattle.kk_core.specs.CoreMachine.{core_machine}
-use Rattle.kk_core.specs.Costs.{most_room, roomy_core_cost}
+use Rattle.kk_core.specs.Costs.{most_step_cost, most_room, roomy_core_cost}
 use Rattle.kk_norm.specs.OpenedCells.{openings}
 
 -- the store machine, where the steps weigh so much
@@ -69,7 +69,7 @@ pub record KeepsMeaningByCells (program : ProgramTree) (code : ProgramCode) : Ty
       → Agree (weighed_store_machine (λ s. core_steps s * cost) (setting_of program positions cells depth)) (core_machine weight (core_setting_of code positions cells depth)) 0 (λ m. m * (greatest_nodes program + 1) + greatest_nodes program + 1)
       (first_state (setting_of program positions cells depth) input) (core_first_state (core_setting_of code positions cells depth) input)
 
--- The core steps that do a step of the source cost at most 256 times the square of the nodes of the greatest body, or of a
+-- The core steps that do a step of the source cost at most `most_step_cost` of the nodes of the greatest body, or of a
 -- greater number, with room for more in each of them: so the machines agree where the one weighs as much, and the steps of the
 -- other no more than they cost with that room.
 pub record CostsLittle (program : ProgramTree) (code : ProgramCode) : Type 0 where
@@ -77,5 +77,5 @@ pub record CostsLittle (program : ProgramTree) (code : ProgramCode) : Type 0 whe
       → greatest_nodes program ≤ nodes → room ≤ most_room nodes
       → ((n : ℕ) → weight (core_after (core_setting_of code positions cells depth) input n)
       ≤ roomy_core_cost room (core_after (core_setting_of code positions cells depth) input n))
-      → Agree (heavy_store_machine (256 * (nodes * nodes)) (setting_of program positions cells depth)) (core_machine weight (core_setting_of code positions cells depth)) 0 (λ m. m * (greatest_nodes program + 1) + greatest_nodes program + 1)
+      → Agree (heavy_store_machine (most_step_cost nodes) (setting_of program positions cells depth)) (core_machine weight (core_setting_of code positions cells depth)) 0 (λ m. m * (greatest_nodes program + 1) + greatest_nodes program + 1)
       (first_state (setting_of program positions cells depth) input) (core_first_state (core_setting_of code positions cells depth) input)

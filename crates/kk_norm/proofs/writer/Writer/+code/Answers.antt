@@ -16,7 +16,7 @@ use Rattle.kk_core.specs.declared.form.Step.{Step}
 use Rattle.kk_norm.specs.declared.writer.Writer.{Writer}
 use Rattle.kk_norm.specs.Written.{WritesStep}
 use Rattle.kk_syntax.proofs.Views.{variable_is, apply_is, branch_is, match_is, block_is}
-use Rattle.kk_norm.proofs.ProgramTrees.{next_expr, next_row, next_statement}
+use Rattle.kk_syntax.proofs.ProgramTrees.{next_expr, next_row, next_statement}
 use Rattle.kk_norm.proofs.WriterSteps.{return_code, case_code, arms_pushed}
 use Rattle.kk_norm.proofs.WriterSteps as Writing
 use Rattle.kk_norm.proofs.WriterLoops.{if_ok_three, ValuesSoFar, values_more, values_done, variable_end, apply_end, choice_value, choice_end, choice_done, block_done, StatementsSoFar, statements_more, statements_done, value_asked, statement_asked, statements_asked, choice_asked, last_asked, names_back, block_value, block_end, variable_value, apply_value}

@@ -5,7 +5,7 @@ use Rattle.kk_syntax.specs.declared.program.Pat.{Pat}
 use Rattle.kk_syntax.specs.declared.program.Pat.TheViews.{the_lemmas}
 use Rattle.kk_syntax.specs.Patterns.{Patterns, patterns_of, pattern_tree}
 use Rattle.kk_syntax.proofs.PatternViews.{variable_tree}
-use Rattle.kk_norm.proofs.ProgramTrees.{next_part}
+use Rattle.kk_syntax.proofs.ProgramTrees.{next_part}
 use Rattle.kk_norm.proofs.WriterSteps.{open_piece, writes_piece}
 use Rattle.kk_norm.proofs.OpeningLoops.{OpenedSoFar, opened_more, opened_done, open_asked, skipped, some_items, variable_opened, cell_done}
 use Rattle.kk_norm.proofs.writer.Writer.+opening.Goals as goal
