@@ -1,7 +1,7 @@
 -- What the acts of instructions come to, one case after the other.
 use Rattle.std.proofs.Common.{◌≡◌, ◌≢◌, ℕ, ◌%◌, Bool, true, false, nat_eq, refl, arith}
 use Rattle.std.proofs.lemmas.Bool.Decides.{nat_tests}
-use Rattle.rv_isa.specs.declared.environment.TheConstants.{ILLEGAL_INSTRUCTION, ACCESS_FAULT, MISALIGNED_ACCESS}
+use Rattle.rv_isa.specs.Numbers.{illegal_instruction, access_fault, misaligned_access}
 use Rattle.rv_isa.specs.declared.act.Act.TheVariants.{Nothing, Set, Load, Store, Call, Break}
 use Rattle.rv_isa.specs.Bytes.{number_at, with_number}
 use Rattle.rv_isa.specs.Processor.{Processor, goes, traps, put, can_load, can_store}
@@ -25,12 +25,12 @@ module _ (rd next word : ℕ) (s : Processor) where
   acts-load at width signed aligned allowed =
       let test : nat_eq (at % width) 0 ≡ true = grind (arith, nat_tests) in rw (test, allowed) refl
 
-  pub acts-load_misaligned : (at width : ℕ) (signed : Bool) → at % width ≢ 0 → acts (Load at width signed) rd next word s ≡ traps MISALIGNED_ACCESS word s
+  pub acts-load_misaligned : (at width : ℕ) (signed : Bool) → at % width ≢ 0 → acts (Load at width signed) rd next word s ≡ traps misaligned_access word s
   unfolding acts_over
   acts-load_misaligned at width signed misaligned =
       let test : nat_eq (at % width) 0 ≡ false = grind (arith, nat_tests) in rw test refl
 
-  pub acts-load_denied : (at width : ℕ) (signed : Bool) → at % width ≡ 0 → can_load s.parts at width ≡ false → acts (Load at width signed) rd next word s ≡ traps ACCESS_FAULT word s
+  pub acts-load_denied : (at width : ℕ) (signed : Bool) → at % width ≡ 0 → can_load s.parts at width ≡ false → acts (Load at width signed) rd next word s ≡ traps access_fault word s
   unfolding acts_over
   acts-load_denied at width signed aligned denied =
       let test : nat_eq (at % width) 0 ≡ true = grind (arith, nat_tests) in rw (test, denied) refl
@@ -41,12 +41,12 @@ module _ (rd next word : ℕ) (s : Processor) where
   acts-store at width v aligned allowed =
       let test : nat_eq (at % width) 0 ≡ true = grind (arith, nat_tests) in rw (test, allowed) refl
 
-  pub acts-store_misaligned : (at width v : ℕ) → at % width ≢ 0 → acts (Store at width v) rd next word s ≡ traps MISALIGNED_ACCESS word s
+  pub acts-store_misaligned : (at width v : ℕ) → at % width ≢ 0 → acts (Store at width v) rd next word s ≡ traps misaligned_access word s
   unfolding acts_over
   acts-store_misaligned at width v misaligned =
       let test : nat_eq (at % width) 0 ≡ false = grind (arith, nat_tests) in rw test refl
 
-  pub acts-store_denied : (at width v : ℕ) → at % width ≡ 0 → can_store s.parts at width ≡ false → acts (Store at width v) rd next word s ≡ traps ACCESS_FAULT word s
+  pub acts-store_denied : (at width v : ℕ) → at % width ≡ 0 → can_store s.parts at width ≡ false → acts (Store at width v) rd next word s ≡ traps access_fault word s
   unfolding acts_over
   acts-store_denied at width v aligned denied =
       let test : nat_eq (at % width) 0 ≡ true = grind (arith, nat_tests) in rw (test, denied) refl
@@ -55,6 +55,6 @@ module _ (rd next word : ℕ) (s : Processor) where
   unfolding acts_over
   acts-call = refl
 
-  pub acts-break : acts Break rd next word s ≡ traps ILLEGAL_INSTRUCTION word s
+  pub acts-break : acts Break rd next word s ≡ traps illegal_instruction word s
   unfolding acts_over
   acts-break = refl

@@ -2,7 +2,7 @@
 use Rattle.std.proofs.Common.{◌≡◌, ◌≢◌, ℕ, ◌%◌, [], ◌∷◌, ◌++◌, Bool, true, false, ◌&&◌, nat_eq, refl, arith}
 use Rattle.std.proofs.lemmas.Bool.Decides.{nat_tests}
 use Rattle.kk_base.specs.Trace.{output}
-use Rattle.rv_isa.specs.declared.environment.TheConstants.{READ, WRITE, EXIT, STANDARD_INPUT, STANDARD_OUTPUT, UNKNOWN_CALL}
+use Rattle.rv_isa.specs.Numbers.{read_call, write_call, exit_call, standard_input, standard_output, unknown_call}
 use Rattle.rv_isa.specs.Processor.{Processor, goes, traps, exited, value, put, can_load, can_store}
 use Rattle.rv_isa.specs.Environment.{stepped, asks, reads, written, writes, calls}
 
@@ -28,25 +28,25 @@ none_of a number b file true none = grind (arith, nat_tests, none)
 none_of a number b file false none = grind (arith, nat_tests)
 
 module _ (next word : ℕ) (s : Processor) where
-  pub calls-read : value s.registers 17 ≡ READ → value s.registers 10 ≡ STANDARD_INPUT → can_store s.parts (value s.registers 11) (value s.registers 12) ≡ true → calls next word s ≡ goes (reads next s)
+  pub calls-read : value s.registers 17 ≡ read_call → value s.registers 10 ≡ standard_input → can_store s.parts (value s.registers 11) (value s.registers 12) ≡ true → calls next word s ≡ goes (reads next s)
   unfolding calls
   calls-read number file allowed = rw (number, file, allowed) refl
 
-  pub calls-write : value s.registers 17 ≡ WRITE → value s.registers 10 ≡ STANDARD_OUTPUT → can_load s.parts (value s.registers 11) (value s.registers 12) ≡ true → calls next word s ≡ goes (writes next s)
+  pub calls-write : value s.registers 17 ≡ write_call → value s.registers 10 ≡ standard_output → can_load s.parts (value s.registers 11) (value s.registers 12) ≡ true → calls next word s ≡ goes (writes next s)
   unfolding calls
   calls-write number file allowed = rw (number, file, allowed) refl
 
-  pub calls-exit : value s.registers 17 ≡ EXIT → calls next word s ≡ record { processor = stepped next s; ending = exited (value s.registers 10 % 256) }
+  pub calls-exit : value s.registers 17 ≡ exit_call → calls next word s ≡ record { processor = stepped next s; ending = exited (value s.registers 10 % 256) }
   unfolding calls
   calls-exit number = rw number refl
 
-  pub calls-none : (value s.registers 17 ≡ READ → value s.registers 10 ≡ STANDARD_INPUT → can_store s.parts (value s.registers 11) (value s.registers 12) ≡ true → ⊥)
-      → (value s.registers 17 ≡ WRITE → value s.registers 10 ≡ STANDARD_OUTPUT → can_load s.parts (value s.registers 11) (value s.registers 12) ≡ true → ⊥)
-      → value s.registers 17 ≢ EXIT → calls next word s ≡ traps UNKNOWN_CALL word s
+  pub calls-none : (value s.registers 17 ≡ read_call → value s.registers 10 ≡ standard_input → can_store s.parts (value s.registers 11) (value s.registers 12) ≡ true → ⊥)
+      → (value s.registers 17 ≡ write_call → value s.registers 10 ≡ standard_output → can_load s.parts (value s.registers 11) (value s.registers 12) ≡ true → ⊥)
+      → value s.registers 17 ≢ exit_call → calls next word s ≡ traps unknown_call word s
   unfolding calls
   calls-none reads writes exits =
       rw (
-        none_of (value s.registers 17) READ (value s.registers 10) STANDARD_INPUT (can_store s.parts (value s.registers 11) (value s.registers 12)) reads,
-        none_of (value s.registers 17) WRITE (value s.registers 10) STANDARD_OUTPUT (can_load s.parts (value s.registers 11) (value s.registers 12)) writes,
-        not_equal (value s.registers 17) EXIT exits,
+        none_of (value s.registers 17) read_call (value s.registers 10) standard_input (can_store s.parts (value s.registers 11) (value s.registers 12)) reads,
+        none_of (value s.registers 17) write_call (value s.registers 10) standard_output (can_load s.parts (value s.registers 11) (value s.registers 12)) writes,
+        not_equal (value s.registers 17) exit_call exits,
       ) refl

@@ -2,7 +2,7 @@
 use Rattle.std.proofs.Common.{◌≡◌, ◌≢◌, ℕ, zero, suc, ◌+◌, ◌%◌, List, [], ◌∷◌, ◌++◌, Bool, true, false, not, ◌&&◌, Option, Some, None, nat_eq, if◌then◌else◌, refl, sym, ap, ◌∙◌, subst, add-zero, append-nil, arith}
 use Rattle.std.proofs.lemmas.Bool.Decides.{nat_tests}
 use Rattle.kk_base.specs.Trace.{output, input, input_end, IsPrefix}
-use Rattle.rv_isa.specs.declared.environment.TheConstants.{READ, WRITE, STANDARD_INPUT, STANDARD_OUTPUT, ILLEGAL_INSTRUCTION, FETCH_FAULT, MISALIGNED_TARGET, ACCESS_FAULT, MISALIGNED_ACCESS, UNKNOWN_CALL}
+use Rattle.rv_isa.specs.Numbers.{read_call, write_call, standard_input, standard_output, illegal_instruction, fetch_fault, misaligned_target, access_fault, misaligned_access, unknown_call}
 use Rattle.rv_isa.specs.declared.act.Act.{Act}
 use Rattle.rv_isa.specs.declared.act.Act.TheVariants.{Nothing, Set, Load, Store, Call, Break}
 use Rattle.rv_isa.specs.Bytes.{number_at, with_number}
@@ -57,41 +57,41 @@ module _ (P : Progress → Type 0) (s : Processor) (cases : Cases P s) where
   unfolding calls
   calls-by next word =
       either P (is_read s) _ _
-      (λ e. by_count_read next (and-right (nat_eq (value s.registers 17) READ && nat_eq (value s.registers 10) STANDARD_INPUT) _ e))
+      (λ e. by_count_read next (and-right (nat_eq (value s.registers 17) read_call && nat_eq (value s.registers 10) standard_input) _ e))
       (λ _. either P (is_write s) _ _
-      (λ e. by_count_write next (and-right (nat_eq (value s.registers 17) WRITE && nat_eq (value s.registers 10) STANDARD_OUTPUT) _ e))
-      (λ _. either P (is_exit s) _ _ (λ _. cases.exit next) (λ _. cases.trap UNKNOWN_CALL word)))
+      (λ e. by_count_write next (and-right (nat_eq (value s.registers 17) write_call && nat_eq (value s.registers 10) standard_output) _ e))
+      (λ _. either P (is_exit s) _ _ (λ _. cases.exit next) (λ _. cases.trap unknown_call word)))
 
   pub acts-by : (width : Width) (act : Act) (rd next word : ℕ) → P (acts_over width act rd next word s)
   unfolding acts_over
   acts-by width Nothing rd next word = cases.nothing next
   acts-by width (Set v) rd next word = cases.set rd v next
   acts-by width (Load at count signed) rd next word =
-      either P (not (nat_eq (at % count) 0)) _ _ (λ _. cases.trap MISALIGNED_ACCESS word) (λ _.
-      either P (not (can_load s.parts at count)) _ _ (λ _. cases.trap ACCESS_FAULT word) (λ _.
+      either P (not (nat_eq (at % count) 0)) _ _ (λ _. cases.trap misaligned_access word) (λ _.
+      either P (not (can_load s.parts at count)) _ _ (λ _. cases.trap access_fault word) (λ _.
       cases.set rd (widened_in width count signed (number_at s.memory at count)) next))
   acts-by width (Store at count v) rd next word =
-      either P (not (nat_eq (at % count) 0)) _ _ (λ _. cases.trap MISALIGNED_ACCESS word) (λ _.
-      either P (not (can_store s.parts at count)) _ _ (λ _. cases.trap ACCESS_FAULT word) (λ e.
+      either P (not (nat_eq (at % count) 0)) _ _ (λ _. cases.trap misaligned_access word) (λ _.
+      either P (not (can_store s.parts at count)) _ _ (λ _. cases.trap access_fault word) (λ e.
       cases.store at count v next (not-false _ e)))
   acts-by width Call rd next word = calls-by next word
-  acts-by width Break rd next word = cases.trap ILLEGAL_INSTRUCTION word
+  acts-by width Break rd next word = cases.trap illegal_instruction word
 
 module _ {I : Type 0} (set : InstructionSet I) (P : Progress → Type 0) (s : Processor) (cases : Cases P s) where
   executes-by : (word : ℕ) (i : I) → P (executes_over set s word i)
   unfolding executes_over
   executes-by word i =
-      either P (nat_eq ((effect_over set s i).next % 4) 0) _ _ (λ _. acts-by P s cases set.width (effect_over set s i).act (set.rd i) (effect_over set s i).next word) (λ _. cases.trap MISALIGNED_TARGET word)
+      either P (nat_eq ((effect_over set s i).next % 4) 0) _ _ (λ _. acts-by P s cases set.width (effect_over set s i).act (set.rd i) (effect_over set s i).next word) (λ _. cases.trap misaligned_target word)
 
   decodes-by : (word : ℕ) (i : Option I) → P (decodes_over set s word i)
   unfolding decodes_over
-  decodes-by word None = cases.trap ILLEGAL_INSTRUCTION word
+  decodes-by word None = cases.trap illegal_instruction word
   decodes-by word (Some i) = executes-by word i
 
   pub step-by : P (step_over set s)
   unfolding step_over
   step-by =
-      either P (can_fetch s.parts s.pc 4) _ _ (λ _. decodes-by (number_at s.memory s.pc 4) (set.read (number_at s.memory s.pc 4))) (λ _. cases.trap FETCH_FAULT 0)
+      either P (can_fetch s.parts s.pc 4) _ _ (λ _. decodes-by (number_at s.memory s.pc 4) (set.read (number_at s.memory s.pc 4))) (λ _. cases.trap fetch_fault 0)
 
 -- a run that leads to a state keeps the parts, and has executed its count of instructions
 abbrev Kept : ℕ → Processor → Processor → Type 0

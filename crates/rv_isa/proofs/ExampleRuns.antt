@@ -1,6 +1,6 @@
 -- Runs of a few instructions, put together from what each of them leads to.
 use Rattle.std.proofs.Common.{◌≡◌, ◌≢◌, ◌<◌, ℕ, zero, suc, ◌+◌, ◌-◌, ◌*◌, ◌%◌, ◌^◌, List, [], ◌∷◌, Some, refl, sym, ap, ◌∙◌, lit<, arith}
-use Rattle.rv_isa.specs.declared.environment.TheConstants.{EXIT}
+use Rattle.rv_isa.specs.Numbers.{exit_call}
 use Rattle.rv_isa.specs.declared.immediate.Immediate.{Immediate}
 use Rattle.rv_isa.specs.Arithmetic.{sum_word}
 use Rattle.rv_isa.specs.declared.instr.Instr.{Instr}
@@ -97,7 +97,7 @@ module _ {code : Code} (at : ℕ) (after : Instr) (has : Has code at (count_down
       (rest.0, rw (sym sum) (LeadsIn-then turn rest.1), rest.2, rest.3, rest.4)
 
 -- ecall, with the number of exit in x17 and 258 in x10: the run has ended with 2, after any count from one on
-exit-ends : {code : Code} {s : Processor} → Stands code s → code s.pc ≡ Some Ecall → value s.registers 17 ≡ EXIT → value s.registers 10 ≡ 258
+exit-ends : {code : Code} {s : Processor} → Stands code s → code s.pc ≡ Some Ecall → value s.registers 17 ≡ exit_call → value s.registers 10 ≡ 258
     → (more : ℕ) → (run (suc more) s).ending ≡ exited 2
 exit-ends {code} {s} stands here number status more =
     let exit = step-exit stands here number (ap (λ x. x % 256) status) refl in

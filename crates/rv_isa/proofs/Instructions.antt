@@ -2,7 +2,7 @@
 use Rattle.std.proofs.Common.{◌≡◌, ◌≢◌, ◌≤◌, ◌<◌, ℕ, ◌-◌, ◌%◌, List, [], ◌∷◌, ◌++◌, Some, Bool, true, false, nat_eq, nat_lt, int_lt, refl, sym, ap, ◌∙◌, subst, arith}
 use Rattle.std.proofs.lemmas.Bool.Decides.{nat_tests}
 use Rattle.kk_base.specs.Trace.{output, input, input_end}
-use Rattle.rv_isa.specs.declared.environment.TheConstants.{READ, WRITE, EXIT, STANDARD_INPUT, STANDARD_OUTPUT}
+use Rattle.rv_isa.specs.Numbers.{read_call, write_call, exit_call, standard_input, standard_output}
 use Rattle.rv_isa.specs.declared.register.Register.{Register}
 use Rattle.rv_isa.specs.declared.immediate.Immediate.{Immediate}
 use Rattle.rv_isa.specs.declared.immediate.BranchOffset.{BranchOffset}
@@ -243,7 +243,7 @@ module _ {code : Code} {s : Processor} (stands : Stands code s) where
 
   -- a write of some bytes puts them in one piece
   pub leads-write : {at count next : ℕ} {piece : List ℕ} → code s.pc ≡ Some Ecall
-      → value s.registers 17 ≡ WRITE → value s.registers 10 ≡ STANDARD_OUTPUT → value s.registers 11 ≡ at → value s.registers 12 ≡ count
+      → value s.registers 17 ≡ write_call → value s.registers 10 ≡ standard_output → value s.registers 11 ≡ at → value s.registers 12 ≡ count
       → count ≢ 0 → can_load s.parts at count ≡ true → bytes_at s.memory at count ≡ piece → sum_word s.pc 4 ≡ next
       → LeadsIn code 1 s (record (stepped next s) { registers = put 10 count s.registers; trace = s.trace ++ output piece ∷ [] })
   leads-write {at} {count} {next} {piece} here number file at_is count_is some allowed piece_is next_is =
@@ -253,7 +253,7 @@ module _ {code : Code} {s : Processor} (stands : Stands code s) where
 
   -- a write of no bytes puts nothing
   pub leads-write_none : {next : ℕ} → code s.pc ≡ Some Ecall
-      → value s.registers 17 ≡ WRITE → value s.registers 10 ≡ STANDARD_OUTPUT → value s.registers 12 ≡ 0 → can_load s.parts (value s.registers 11) 0 ≡ true → sum_word s.pc 4 ≡ next
+      → value s.registers 17 ≡ write_call → value s.registers 10 ≡ standard_output → value s.registers 12 ≡ 0 → can_load s.parts (value s.registers 11) 0 ≡ true → sum_word s.pc 4 ≡ next
       → LeadsIn code 1 s (record (stepped next s) { registers = put 10 0 s.registers })
   leads-write_none {next} here number file none allowed next_is =
       LeadsIn-step here (calls-at here next_is
@@ -262,7 +262,7 @@ module _ {code : Code} {s : Processor} (stands : Stands code s) where
 
   -- a read takes the next byte of the input
   pub leads-read_byte : {at byte next : ℕ} {rest : List ℕ} → code s.pc ≡ Some Ecall
-      → value s.registers 17 ≡ READ → value s.registers 10 ≡ STANDARD_INPUT → value s.registers 11 ≡ at → value s.registers 12 ≢ 0
+      → value s.registers 17 ≡ read_call → value s.registers 10 ≡ standard_input → value s.registers 11 ≡ at → value s.registers 12 ≢ 0
       → can_store s.parts at (value s.registers 12) ≡ true → s.left ≡ byte ∷ rest → sum_word s.pc 4 ≡ next
       → LeadsIn code 1 s (record (stepped next s) {
         registers = put 10 1 s.registers;
@@ -277,7 +277,7 @@ module _ {code : Code} {s : Processor} (stands : Stands code s) where
 
   -- at the end of the input it tells that
   pub leads-read_end : {next : ℕ} → code s.pc ≡ Some Ecall
-      → value s.registers 17 ≡ READ → value s.registers 10 ≡ STANDARD_INPUT → value s.registers 12 ≢ 0
+      → value s.registers 17 ≡ read_call → value s.registers 10 ≡ standard_input → value s.registers 12 ≢ 0
       → can_store s.parts (value s.registers 11) (value s.registers 12) ≡ true → s.left ≡ [] → sum_word s.pc 4 ≡ next
       → LeadsIn code 1 s (record (stepped next s) { registers = put 10 0 s.registers; trace = s.trace ++ input_end ∷ [] })
   leads-read_end {next} here number file some allowed left_is next_is =
@@ -286,7 +286,7 @@ module _ {code : Code} {s : Processor} (stands : Stands code s) where
       ∙ ap goes (reads-some next s some ∙ rw left_is refl))
 
   -- an exit ends the run, with the lowest 8 bits of x10
-  pub step-exit : {number next : ℕ} → code s.pc ≡ Some Ecall → value s.registers 17 ≡ EXIT → value s.registers 10 % 256 ≡ number → sum_word s.pc 4 ≡ next
+  pub step-exit : {number next : ℕ} → code s.pc ≡ Some Ecall → value s.registers 17 ≡ exit_call → value s.registers 10 % 256 ≡ number → sum_word s.pc 4 ≡ next
       → step s ≡ record { processor = stepped next s; ending = exited number }
   step-exit {number} {next} here call number_is next_is =
       calls-at here next_is ∙ calls-exit next (number_at s.memory s.pc 4) s call ∙ rw number_is refl

@@ -2,7 +2,7 @@
 -- with the numbers of Linux.
 use Rattle.std.specs.Prelude.{ℕ, ◌+◌, ◌%◌, List, [], ◌∷◌, ◌++◌, Bool, ◌&&◌, if◌then◌else◌, nat_eq}
 use Rattle.kk_base.specs.Trace.{output, input, input_end}
-use Rattle.rv_isa.specs.declared.environment.TheConstants.{READ, WRITE, EXIT, STANDARD_INPUT, STANDARD_OUTPUT, UNKNOWN_CALL}
+use Rattle.rv_isa.specs.Numbers.{read_call, write_call, exit_call, standard_input, standard_output, unknown_call}
 use Rattle.rv_isa.specs.Bytes.{bytes_at, with_bytes}
 use Rattle.rv_isa.specs.Processor.{Processor, Progress, goes, traps, exited, value, put, can_load, can_store}
 
@@ -13,18 +13,18 @@ stepped next s = record s { pc = next; executed = s.executed + 1 }
 -- read: x10 is the number of the standard input, and the x12 bytes from x11 on may be stored
 abbrev pub is_read : Processor → Bool
 is_read s =
-    nat_eq (value s.registers 17) READ && nat_eq (value s.registers 10) STANDARD_INPUT
+    nat_eq (value s.registers 17) read_call && nat_eq (value s.registers 10) standard_input
     && can_store s.parts (value s.registers 11) (value s.registers 12)
 
 -- write: x10 is the number of the standard output, and the x12 bytes from x11 on may be loaded
 abbrev pub is_write : Processor → Bool
 is_write s =
-    nat_eq (value s.registers 17) WRITE && nat_eq (value s.registers 10) STANDARD_OUTPUT
+    nat_eq (value s.registers 17) write_call && nat_eq (value s.registers 10) standard_output
     && can_load s.parts (value s.registers 11) (value s.registers 12)
 
 -- exit
 abbrev pub is_exit : Processor → Bool
-is_exit s = nat_eq (value s.registers 17) EXIT
+is_exit s = nat_eq (value s.registers 17) exit_call
 
 -- a byte is asked for: the next one of the input comes to x11, and x10 is 1; at the end of the input x10 is 0
 abbrev pub asks : List ℕ → ℕ → Processor → Processor
@@ -60,4 +60,4 @@ calls next word s =
     if is_read s then goes (reads next s)
     else if is_write s then goes (writes next s)
     else if is_exit s then record { processor = stepped next s; ending = exited (value s.registers 10 % 256) }
-    else traps UNKNOWN_CALL word s
+    else traps unknown_call word s

@@ -3,7 +3,7 @@
 -- cell never used, and x19 the end of all cells.
 use Rattle.std.specs.Prelude.{ℕ, zero, suc, ◌+◌, ◌-◌, ◌/◌, ◌%◌, List, [], ◌∷◌, ◌++◌, take, length, ◌&&◌, if◌then◌else◌, nat_eq, nat_le}
 use Rattle.kk_base.specs.Memory.{Part}
-use Rattle.rv_isa.specs.declared.environment.TheConstants.{CELL_SIZE}
+use Rattle.rv_isa.specs.Numbers.{cell_size}
 use Rattle.rv_isa.specs.Bytes.{number_at}
 use Rattle.rv_isa.specs.Processor.{Processor, value, lies_in_part}
 
@@ -21,12 +21,12 @@ free_chain cells s = chain s.parts s.memory cells (value s.registers 8)
 -- so many cells, one behind the other, from an address on
 abbrev pub cells_from : ℕ → ℕ → List ℕ
 cells_from at zero = []
-cells_from at (suc count) = at ∷ cells_from (at + CELL_SIZE) count
+cells_from at (suc count) = at ∷ cells_from (at + cell_size) count
 
 -- how many cells lie from one address on below another; none where one of the two is no multiple of a cell's size, or the first is above the second
 abbrev pub border_size : ℕ → ℕ → ℕ
 border_size low high =
-    if nat_eq (low % CELL_SIZE) 0 && nat_eq (high % CELL_SIZE) 0 && nat_le low high then (high - low) / CELL_SIZE else 0
+    if nat_eq (low % cell_size) 0 && nat_eq (high % cell_size) 0 && nat_le low high then (high - low) / cell_size else 0
 
 -- the cells never used
 abbrev pub border : Processor → List ℕ

@@ -2,7 +2,7 @@
 use Rattle.std.specs.Prelude.{◌≡◌, ◌⊎◌, ℕ, ◌+◌, ◌*◌, ◌≤◌, ◌<◌, List, Some, All}
 use Rattle.rv_isa.specs.declared.act.Act.{Act}
 use Rattle.rv_isa.specs.declared.act.Act.TheVariants.{Load, Store, Call}
-use Rattle.rv_isa.specs.declared.environment.TheConstants.{CELL_SIZE}
+use Rattle.rv_isa.specs.Numbers.{cell_size}
 use Rattle.rv_isa.specs.declared.instr.Instr.{Instr}
 use Rattle.rv_isa.specs.Bytes.{Apart, number_at}
 use Rattle.rv_isa.specs.Execution.{effect_at}
@@ -13,8 +13,8 @@ use Rattle.rv_isa.specs.Read.{read}
 -- An act loads and stores no byte of these cells. A call of the environment is no such act, since it may load and store what its
 -- registers tell.
 abbrev pub Avoids : List ℕ → Act → Type 0
-Avoids cells (Load at count signed) = All (λ cell. Apart at count cell CELL_SIZE) cells
-Avoids cells (Store at count value) = All (λ cell. Apart at count cell CELL_SIZE) cells
+Avoids cells (Load at count signed) = All (λ cell. Apart at count cell cell_size) cells
+Avoids cells (Store at count value) = All (λ cell. Apart at count cell cell_size) cells
 Avoids cells Call = ⊥
 Avoids cells _ = Unit {0}
 

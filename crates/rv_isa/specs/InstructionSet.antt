@@ -6,7 +6,7 @@ use Rattle.kk_base.specs.Memory.{Part}
 use Rattle.rv_isa.specs.declared.act.Act.{Act}
 use Rattle.rv_isa.specs.declared.act.Act.TheVariants.{Nothing, Set, Load, Store, Call, Break}
 use Rattle.rv_isa.specs.declared.act.Effect.{Effect}
-use Rattle.rv_isa.specs.declared.environment.TheConstants.{ILLEGAL_INSTRUCTION, FETCH_FAULT, MISALIGNED_TARGET, ACCESS_FAULT, MISALIGNED_ACCESS}
+use Rattle.rv_isa.specs.Numbers.{illegal_instruction, fetch_fault, misaligned_target, access_fault, misaligned_access}
 use Rattle.rv_isa.specs.Words.{widened_in}
 use Rattle.rv_isa.specs.Bytes.{number_at, with_number}
 use Rattle.rv_isa.specs.Processor.{Processor, Ending, going, exited, trapped, Progress, goes, traps, value, put, can_fetch, can_load, can_store, start}
@@ -28,15 +28,15 @@ unfoldable pub acts_over : Width → Act → ℕ → ℕ → ℕ → Processor �
 acts_over width Nothing rd next word s = goes (stepped next s)
 acts_over width (Set v) rd next word s = goes (record (stepped next s) { registers = put rd v s.registers })
 acts_over width (Load at count signed) rd next word s =
-    if not (nat_eq (at % count) 0) then traps MISALIGNED_ACCESS word s
-    else if not (can_load s.parts at count) then traps ACCESS_FAULT word s
+    if not (nat_eq (at % count) 0) then traps misaligned_access word s
+    else if not (can_load s.parts at count) then traps access_fault word s
     else goes (record (stepped next s) { registers = put rd (widened_in width count signed (number_at s.memory at count)) s.registers })
 acts_over width (Store at count v) rd next word s =
-    if not (nat_eq (at % count) 0) then traps MISALIGNED_ACCESS word s
-    else if not (can_store s.parts at count) then traps ACCESS_FAULT word s
+    if not (nat_eq (at % count) 0) then traps misaligned_access word s
+    else if not (can_store s.parts at count) then traps access_fault word s
     else goes (record (stepped next s) { memory = with_number at count v s.memory })
 acts_over width Call rd next word s = calls next word s
-acts_over width Break rd next word s = traps ILLEGAL_INSTRUCTION word s
+acts_over width Break rd next word s = traps illegal_instruction word s
 
 -- the effect of an instruction on the values of its registers
 abbrev pub effect_over : {I : Type 0} → InstructionSet I → Processor → I → Effect
@@ -46,18 +46,18 @@ effect_over set s i = set.effect i s.pc (value s.registers (set.rs1 i)) (value s
 unfoldable pub executes_over : {I : Type 0} → InstructionSet I → Processor → ℕ → I → Progress
 executes_over set s word i =
     if nat_eq ((effect_over set s i).next % 4) 0 then acts_over set.width (effect_over set s i).act (set.rd i) (effect_over set s i).next word s
-    else traps MISALIGNED_TARGET word s
+    else traps misaligned_target word s
 
 -- a word that is no instruction's traps
 unfoldable pub decodes_over : {I : Type 0} → InstructionSet I → Processor → ℕ → Option I → Progress
-decodes_over set s word None = traps ILLEGAL_INSTRUCTION word s
+decodes_over set s word None = traps illegal_instruction word s
 decodes_over set s word (Some i) = executes_over set s word i
 
 -- the next instruction. One that does not lie in a part in which words may be fetched traps
 unfoldable pub step_over : {I : Type 0} → InstructionSet I → Processor → Progress
 step_over set s =
     if can_fetch s.parts s.pc 4 then decodes_over set s (number_at s.memory s.pc 4) (set.read (number_at s.memory s.pc 4))
-    else traps FETCH_FAULT 0 s
+    else traps fetch_fault 0 s
 
 -- a run that has not ended goes on; one that has ended stays
 abbrev pub resumes : Ending → Processor → (Processor → Progress) → Progress

@@ -30,4 +30,5 @@ pub mod PlacedMachine
 pub mod Sizes
 pub mod WellFormed
 pub mod LinePlaces
+pub mod Numbers
 pub mod Opposites

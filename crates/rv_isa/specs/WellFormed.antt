@@ -1,13 +1,13 @@
 -- When assembler code over values is well formed: what anyone may rely on who gives the values their places.
-use Rattle.std.specs.Prelude.{◌≡◌, ◌==◌, ◌||◌, ◌&&◌, ◌+◌, ◌≤◌, ◌<◌, ◌++◌, ℕ, List, [], ◌∷◌, Option, Some, None, Bool, true, false, not, cond, length, All, IsSome}
+use Rattle.std.specs.Prelude.{◌≡◌, ◌==◌, ◌||◌, ◌&&◌, ◌+◌, ◌-◌, ◌/◌, ◌≤◌, ◌<◌, ◌++◌, ℕ, List, [], ◌∷◌, Option, Some, None, Bool, true, false, not, cond, length, All, IsSome}
 use Rattle.kk_base.specs.Limits.{greatest_of}
 use Rattle.kk_base.specs.declared.limit.LimitKind.TheVariants.{Parameters}
 use Rattle.rv_isa.specs.declared.asm.Action.{Action}
 use Rattle.rv_isa.specs.declared.asm.Action.TheVariants.{Compute, Label, Jump, Branch, Call, TailCall, Return, Routine, Hold, Unhold}
 use Rattle.rv_isa.specs.declared.asm.Operation.TheVariants.{Sw, Dup, Free}
-use Rattle.rv_isa.specs.declared.sizes.TheConstants.{MOST_VALUES}
 use Rattle.rv_isa.specs.AsmCode.{Line, Lines}
 use Rattle.rv_isa.specs.Routines.{taken_by, given_by}
+use Rattle.rv_isa.specs.Sizes.{wide_frame}
 use Rattle.rv_isa.specs.Frames.{found, is_among}
 use Rattle.rv_isa.specs.AsmMachine.{is_label}
 
@@ -43,9 +43,10 @@ is_alive_behind v action rest = is_alive_after action (is_alive v rest) (λ l. i
 
 -- ---- the conditions
 
--- There are so many values at most in a function: a frame has a word for each. Each is a number below this.
+-- There are so many values at most in a function: a frame has a word for the way back, and one for each value. Each is a number
+-- below this.
 abbrev pub most_values : ℕ
-most_values = MOST_VALUES
+most_values = wide_frame / 4 - 1
 
 -- a label stands once, and the label of a jump or a branch lies ahead
 abbrev pub AreLabelsAhead : Action → List Line → Type 0
