@@ -7,12 +7,13 @@ ghost use Rattle.rv_isa.specs.declared.placed.Listed.{Listed};
 ghost use Rattle.rv_isa.specs.declared.placed.Operand.{Operand};
 ghost use Rattle.rv_isa.specs.AsmCode.{line_of, lines_of};
 ghost use Rattle.rv_isa.specs.PlacedCode.{placed_line_of, placed_lines_of, from_of, to_of};
-ghost use Rattle.rv_isa.specs.Costs.{operation_instructions, move_instructions, action_length, result_moves, line_length, code_length, placed_line_length, placed_code_length};
+ghost use Rattle.rv_isa.specs.Costs.{operation_instructions, move_instructions, tail_call_length, action_length, result_moves, line_length, code_length, placed_line_length, placed_code_length};
 ghost use Rattle.rv_isa.specs.WellFormed.{most_values};
 ghost use Rattle.rv_regs.specs.Relation.{stores_behind, FunctionFewMoves};
 ghost use Rattle.rv_regs.specs.Shape.{IsBelow, IsResultBelow, HasSlotsBelow, AllSlotsBelow, IsModest};
 
 use crate::checking::{from, to};
+use kk_base::LimitKind;
 use rv_isa::sizes::MOST_VALUES;
 use rv_isa::{
     Action, AsmFunction, Item, Listed, Operand, Operation, Place, PlacedFunction, Statement,
@@ -84,6 +85,13 @@ fn result_count(into: Option<Operand>) -> usize
     }
 }
 
+// The most arguments of a line: as many as a function has parameters.
+fn most_arguments() -> usize
+    ensures { result ≡ greatest_of Parameters }
+{
+    LimitKind::Parameters.greatest() as usize
+}
+
 // The stores that may stand behind a line with so many arguments.
 fn stores_of(action: Action, args: &[Operand], into: Option<Operand>) -> usize
     requires { length args.now ≤ greatest_of Parameters }
@@ -101,7 +109,7 @@ const MOST_COUNT: usize = 100;
 fn has_few_moves(placed: &PlacedFunction) -> bool
     ensures { IsTrue result → FunctionFewMoves (placed_lines_of placed.now) }
 {
-    if placed.params.len() > 8 {
+    if placed.params.len() > most_arguments() {
         return false;
     }
     let mut most = placed.params.len();
@@ -114,7 +122,7 @@ fn has_few_moves(placed: &PlacedFunction) -> bool
                 into,
                 ..
             } => {
-                if args.len() > 8 || count > most + args.len() {
+                if args.len() > most_arguments() || count > most + args.len() {
                     return false;
                 }
                 most = stores_of(*action, args, *into);
@@ -142,6 +150,9 @@ fn length_of_operation(operation: Operation) -> u32
     }
 }
 
+// What may be written in place of a tail call where a function calls itself.
+const TAIL_CALL_LENGTH: u32 = 11;
+
 fn length_of_action(action: Action) -> u32
     ensures { result ≡ action_length action }
 {
@@ -151,7 +162,7 @@ fn length_of_action(action: Action) -> u32
         Action::Jump(_) => 2,
         Action::Branch(..) => 3,
         Action::Call(_) => 7,
-        Action::TailCall(_) => 11,
+        Action::TailCall(_) => TAIL_CALL_LENGTH,
         Action::Return => 4,
         Action::Routine(_) => 2,
         Action::Hold => 6,
@@ -162,14 +173,14 @@ fn length_of_action(action: Action) -> u32
 // The most instructions of a statement with its moves, or fewer than that where it has too many arguments.
 fn length_of(statement: &Statement) -> u32
     ensures most { result ≤ line_length (line_of statement.now) }
-    ensures few { result < 30 }
+    ensures few { result ≤ 2 * greatest_of Parameters + 1 + tail_call_length }
 {
     let results = match statement.into {
         Some(_) => 1,
         None => 0,
     };
     let action = length_of_action(statement.action);
-    if statement.args.len() > 8 {
+    if statement.args.len() > most_arguments() {
         return action + results;
     }
     let args = statement.args.len() as u32;
@@ -187,7 +198,7 @@ fn least_length(function: &AsmFunction) -> u32
     ensures { result ≤ length function.now.params.items * move_instructions + code_length (lines_of function.now).code }
 {
     let mut sum = 0;
-    if function.params.len() <= 8 {
+    if function.params.len() <= most_arguments() {
         sum = function.params.len() as u32;
     }
     for statement in &function.code {
