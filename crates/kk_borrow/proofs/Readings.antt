@@ -1,7 +1,6 @@
 -- The rules of an expression, read one part after the other; and what one part more is for a loop over parts.
 use Rattle.std.proofs.Common.{◌≡◌, ◌<◌, ◌+◌, ◌||◌, ◌&&◌, ℕ, Bool, List, ◌∷◌, ◌++◌, map, length, drop, get_or, sym, ap, ◌∙◌, append_assoc}
 use Rattle.std.proofs.Math.Bool.{or_assoc}
-use Rattle.kk_base.proofs.Lists.{rest_at}
 use Rattle.kk_syntax.specs.declared.program.Expr.{Expr}
 use Rattle.kk_syntax.specs.declared.program.Form.{Form}
 use Rattle.kk_syntax.specs.declared.program.Row.{Row}
@@ -9,8 +8,8 @@ use Rattle.kk_syntax.specs.declared.program.Statement.{Statement}
 use Rattle.kk_syntax.specs.OwnedPositions.{is_val, opens, builds, builds_any, builds_rows, reuses}
 use Rattle.kk_syntax.specs.OwnedSearch.{builds_statements}
 use Rattle.kk_syntax.specs.Patterns.{pattern_tree}
-use Rattle.kk_syntax.specs.Trees.{Tree, branch, match, Rows, row, row_parts, StatementTree, expr_tree, trees_of, row_tree, rows_of, statement_tree}
-use Rattle.kk_syntax.proofs.Views.{row_tree_is, statement_tree_is}
+use Rattle.kk_syntax.specs.Trees.{Tree, branch, match, Rows, expr_tree, trees_of, row_tree, rows_of, statement_tree}
+use Rattle.kk_syntax.proofs.ProgramTrees.{next_expr, next_row, next_statement}
 use Rattle.kk_borrow.specs.declared.owned_place.Place.{Place}
 use Rattle.kk_borrow.specs.declared.owned_place.Place.TheVariants.{Never, Always}
 use Rattle.kk_borrow.specs.Rules.{RuleTree}
@@ -61,7 +60,7 @@ module _ (es : List Expr) (i : ℕ) (e : Expr) (less : i < length es) (is : e �
   argument_rules f form at at_is old new whole read so_far =
       let rest = placed_all f form (i + 1) (trees_of (map expr_tree (drop (i + 1) es))) in
       rules_more old new (placed f at (expr_tree e)) rest (placed_all f form i (trees_of (map expr_tree (drop i es)))) whole read
-      (ap (λ (xs : List Expr). placed_all f form i (trees_of (map expr_tree xs))) (rest_at es i e less is)
+      (ap (placed_all f form i) (next_expr es i e is less)
       ∙ ap (λ (p : Place). placed f p (expr_tree e) ++ rest) (sym at_is))
       so_far
 
@@ -71,23 +70,17 @@ module _ (es : List Expr) (i : ℕ) (e : Expr) (less : i < length es) (is : e �
   argument_builds old built whole built_is so_far =
       let rest = builds_any (trees_of (map expr_tree (drop (i + 1) es))) in
       any_more old built rest (builds_any (trees_of (map expr_tree (drop i es)))) whole
-      (ap (λ (xs : List Expr). builds_any (trees_of (map expr_tree xs))) (rest_at es i e less is)
+      (ap builds_any (next_expr es i e is less)
       ∙ ap (λ (b : Bool). b || rest) (sym built_is))
       so_far
 
 module _ (rs : List Row) (i : ℕ) (r : Row) (less : i < length rs) (is : r ≡ get_or rs i r) where
-  next_row : rows_of (map row_tree (drop i rs))
-      ≡ row (row_parts (pattern_tree r.pattern) (expr_tree r.body)) (rows_of (map row_tree (drop (i + 1) rs)))
-  next_row =
-      ap (λ (all : List Row). rows_of (map row_tree all)) (rest_at rs i r less is)
-      ∙ ap (λ one. row one (rows_of (map row_tree (drop (i + 1) rs)))) (row_tree_is r)
-
   pub row_rules : (f : ℕ) (old new whole : List RuleTree) → new ≡ old ++ placed f Always (expr_tree r.body)
       → old ++ placed_rows f (rows_of (map row_tree (drop i rs))) ≡ whole
       → new ++ placed_rows f (rows_of (map row_tree (drop (i + 1) rs))) ≡ whole
   row_rules f old new whole read so_far =
       rules_more old new (placed f Always (expr_tree r.body)) (placed_rows f (rows_of (map row_tree (drop (i + 1) rs))))
-      (placed_rows f (rows_of (map row_tree (drop i rs)))) whole read (ap (placed_rows f) next_row) so_far
+      (placed_rows f (rows_of (map row_tree (drop i rs)))) whole read (ap (placed_rows f) (next_row rs i r is less)) so_far
 
   pub row_builds : (old built whole : Bool) → built ≡ builds (expr_tree r.body)
       → (old || builds_rows (rows_of (map row_tree (drop i rs)))) ≡ whole
@@ -95,7 +88,7 @@ module _ (rs : List Row) (i : ℕ) (r : Row) (less : i < length rs) (is : r ≡ 
   row_builds old built whole built_is so_far =
       let rest = builds_rows (rows_of (map row_tree (drop (i + 1) rs))) in
       any_more old built rest (builds_rows (rows_of (map row_tree (drop i rs)))) whole
-      (ap builds_rows next_row ∙ ap (λ (b : Bool). b || rest) (sym built_is)) so_far
+      (ap builds_rows (next_row rs i r is less) ∙ ap (λ (b : Bool). b || rest) (sym built_is)) so_far
 
   pub row_reuses : (old opened built whole : Bool) → opened ≡ opens (pattern_tree r.pattern) → built ≡ builds (expr_tree r.body)
       → (old || reuses (rows_of (map row_tree (drop i rs)))) ≡ whole
@@ -103,18 +96,12 @@ module _ (rs : List Row) (i : ℕ) (r : Row) (less : i < length rs) (is : r ≡ 
   row_reuses old opened built whole opened_is built_is so_far =
       let rest = reuses (rows_of (map row_tree (drop (i + 1) rs))) in
       any_more old (opened && built) rest (reuses (rows_of (map row_tree (drop i rs)))) whole
-      (ap reuses next_row
+      (ap reuses (next_row rs i r is less)
       ∙ (ap (λ (b : Bool). (b && builds (expr_tree r.body)) || rest) (sym opened_is)
       ∙ ap (λ (b : Bool). (opened && b) || rest) (sym built_is)))
       so_far
 
 module _ (ss : List Statement) (i : ℕ) (s : Statement) (less : i < length ss) (is : s ≡ get_or ss i s) where
-  next_statement : map statement_tree (drop i ss)
-      ≡ record { binder = s.binder; value = expr_tree s.value } ∷ map statement_tree (drop (i + 1) ss)
-  next_statement =
-      ap (map statement_tree) (rest_at ss i s less is)
-      ∙ ap (λ (one : StatementTree). one ∷ map statement_tree (drop (i + 1) ss)) (statement_tree_is s)
-
   pub statement_rules : (f : ℕ) (at : Place) (val : Bool) → at ≡ place_if val → val ≡ is_val s.binder
       → (old new whole : List RuleTree) → new ≡ old ++ placed f at (expr_tree s.value)
       → old ++ placed_statements f (map statement_tree (drop i ss)) ≡ whole
@@ -122,7 +109,7 @@ module _ (ss : List Statement) (i : ℕ) (s : Statement) (less : i < length ss) 
   statement_rules f at val at_is val_is old new whole read so_far =
       let rest = placed_statements f (map statement_tree (drop (i + 1) ss)) in
       rules_more old new (placed f at (expr_tree s.value)) rest (placed_statements f (map statement_tree (drop i ss))) whole read
-      (ap (placed_statements f) next_statement
+      (ap (placed_statements f) (next_statement ss i s is less)
       ∙ ap (λ (p : Place). placed f p (expr_tree s.value) ++ rest) (sym (at_is ∙ ap place_if val_is)))
       so_far
 
@@ -132,4 +119,4 @@ module _ (ss : List Statement) (i : ℕ) (s : Statement) (less : i < length ss) 
   statement_builds old built whole built_is so_far =
       let rest = builds_statements (map statement_tree (drop (i + 1) ss)) in
       any_more old built rest (builds_statements (map statement_tree (drop i ss))) whole
-      (ap builds_statements next_statement ∙ ap (λ (b : Bool). b || rest) (sym built_is)) so_far
+      (ap builds_statements (next_statement ss i s is less) ∙ ap (λ (b : Bool). b || rest) (sym built_is)) so_far
