@@ -4,6 +4,7 @@ use mathlib.Core.Path.{fun_ext}
 use Rattle.std.proofs.lemmas.Bool.{cases_lt}
 use Rattle.std.proofs.lemmas.Bool.Decides.{nat_tests}
 use Rattle.rv_isa.specs.Bytes.{with_number, Apart}
+use Rattle.rv_isa.specs.Numbers.{cell_words}
 use Rattle.rv_isa.specs.Processor.{Processor, value, can_load, can_store}
 use Rattle.rv_isa.proofs.Memory.{word-same, word-apart}
 use Rattle.cell_heap.specs.Cells.{Cell, no_cell, free, token, counted, changed, occurs}
@@ -21,7 +22,7 @@ mapped f (Some a) b is = (a, refl, cc)
 
 -- ---- places in a block
 
-by_index : (offset i : ℕ) (whole low : Bool) → nat_eq (offset % 4) 0 ≡ whole → nat_lt offset 32 ≡ low → (if whole && low then Some (offset / 4) else None) ≡ Some i → (offset ≡ 4 * i) × (i < 8)
+by_index : (offset i : ℕ) (whole low : Bool) → nat_eq (offset % 4) 0 ≡ whole → nat_lt offset 32 ≡ low → (if whole && low then Some (offset / 4) else None) ≡ Some i → (offset ≡ 4 * i) × (i < cell_words)
 by_index offset i true true whole low is =
     let at : offset / 4 ≡ i = cc in
     let none : offset % 4 ≡ 0 = grind (arith, nat_tests) in
@@ -30,7 +31,7 @@ by_index offset i true true whole low is =
 by_index offset i true false whole low is = cc
 by_index offset i false low whole test is = cc
 
-pub index-is : (offset i : ℕ) → index_of offset ≡ Some i → (offset ≡ 4 * i) × (i < 8)
+pub index-is : (offset i : ℕ) → index_of offset ≡ Some i → (offset ≡ 4 * i) × (i < cell_words)
 index-is offset i is = by_index offset i (nat_eq (offset % 4) 0) (nat_lt offset 32) refl refl is
 
 -- ---- what is seen of a block
@@ -157,7 +158,7 @@ module _ {pool : Pool} {cells : Cells} {links : List Link} {s : Processor} (hold
   own-inside = (cell-inside pool at holds.memory.usable.aligned own-cell, holds.memory.usable.below)
 
   -- a word of it may be loaded and stored
-  pub own-usable : (i : ℕ) → i < 8 → ((at + 4 * i) % 4 ≡ 0) × (can_load s.parts (at + 4 * i) 4 ≡ true) × (can_store s.parts (at + 4 * i) 4 ≡ true)
+  pub own-usable : (i : ℕ) → i < cell_words → ((at + 4 * i) % 4 ≡ 0) × (can_load s.parts (at + 4 * i) 4 ≡ true) × (can_store s.parts (at + 4 * i) 4 ≡ true)
   own-usable i low =
       let cell = own-cell in
       let whole = cell.aligned in
@@ -169,14 +170,14 @@ module _ {pool : Pool} {cells : Cells} {links : List Link} {s : Processor} (hold
       )
 
   -- and is none of another cell's, so of no free one's
-  pub own-no_other : (i x : ℕ) → i < 8 → IsCell pool x → x ≢ at → (at + 4 * i + 4 ≤ x) ⊎ (x + 32 ≤ at + 4 * i)
+  pub own-no_other : (i x : ℕ) → i < cell_words → IsCell pool x → x ≢ at → (at + 4 * i + 4 ≤ x) ⊎ (x + 32 ≤ at + 4 * i)
   own-no_other i x low other differ =
       let cell = own-cell in
       let whole = cell.aligned in
       let other_whole = other.aligned in
       elim (cases_lt at x) [ inl below ↦ inl (omega arith) | inr above ↦ inr (omega arith) ]
 
-  pub own-no_free : (i x : ℕ) → i < 8 → seen_cells cells x ≡ free → (at + 4 * i + 4 ≤ x) ⊎ (x + 32 ≤ at + 4 * i)
+  pub own-no_free : (i x : ℕ) → i < cell_words → seen_cells cells x ≡ free → (at + 4 * i + 4 ≤ x) ⊎ (x + 32 ≤ at + 4 * i)
   own-no_free i x low is_free =
       own-no_other i x low (shown-cell holds.memory.shown x free is_free (λ e. cc)) (λ e. seen-not_free words (sym seen-is ∙ ap (seen_cells cells) (sym e) ∙ is_free))
 
@@ -250,7 +251,7 @@ placed-by P x at block cells same other = by_test (nat_eq x at) refl
 
 -- ---- a store
 
-stored-known : (memory : ℕ → ℕ) (at i w : ℕ) (words : ℕ → Option ℕ) → i < 8 → w < 2 ^ 32 → AreKnown memory at 0 words → AreKnown (with_number (at + 4 * i) 4 w memory) at 0 (with_word i w words)
+stored-known : (memory : ℕ → ℕ) (at i w : ℕ) (words : ℕ → Option ℕ) → i < cell_words → w < 2 ^ 32 → AreKnown memory at 0 words → AreKnown (with_number (at + 4 * i) 4 w memory) at 0 (with_word i w words)
 stored-known memory at i w words low fits known j v from below is = by_word (nat_eq j i) refl is
   where
     by_word : (b : Bool) → nat_eq j i ≡ b → (if b then Some w else words j) ≡ Some v → (word (with_number (at + 4 * i) 4 w memory) (at + 4 * j) ≡ v) × (v < 2 ^ 32)

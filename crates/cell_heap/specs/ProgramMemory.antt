@@ -1,5 +1,6 @@
 -- When a machine's memory has the blocks of a program.
 use Rattle.std.specs.Prelude.{◌≡◌, ℕ, ◌+◌, ◌*◌, ◌%◌, ◌^◌, ◌<◌, ◌≤◌, ◌⊎◌, List, map, Option, Some, true}
+use Rattle.rv_isa.specs.Numbers.{cell_words}
 use Rattle.rv_isa.specs.Processor.{Processor, value, can_load, can_store}
 use Rattle.cell_heap.specs.Cells.{free, occurs}
 use Rattle.cell_heap.specs.Pool.{Pool}
@@ -10,7 +11,7 @@ use Rattle.cell_heap.specs.Blocks.{Block, no_block, unused, own, kept, Cells, se
 -- the words that are known from one on stand in memory
 abbrev pub AreKnown : (ℕ → ℕ) → ℕ → ℕ → (ℕ → Option ℕ) → Type 0
 AreKnown memory at first words =
-    (i w : ℕ) → first ≤ i → i < 8 → words i ≡ Some w → (word memory (at + 4 * i) ≡ w) × (w < 2 ^ 32)
+    (i w : ℕ) → first ≤ i → i < cell_words → words i ≡ Some w → (word memory (at + 4 * i) ≡ w) × (w < 2 ^ 32)
 
 -- of a token on the held chain words 0 and 1 are not said
 abbrev pub IsKnown : (ℕ → ℕ) → ℕ → Block → Type 0

@@ -1,6 +1,6 @@
 -- The immediates and distances of the routines.
 use Rattle.std.proofs.Common.{◌-◌, ◌^◌, lit<, refl}
-use Rattle.kk_base.specs.declared.exits.TheConstants.{HEAP_FULL_EXIT}
+use Rattle.kk_base.specs.Exits.{heap_full_exit}
 use Rattle.rv_isa.specs.declared.immediate.Immediate.{Immediate}
 use Rattle.rv_isa.specs.declared.immediate.BranchOffset.{BranchOffset}
 
@@ -47,7 +47,7 @@ abbrev pub back_20 : BranchOffset
 back_20 = record { word = 2 ^ 32 - 20; in_range = (lit< tt, lit< tt, refl) }
 
 abbrev pub imm_heap_full : Immediate
-imm_heap_full = record { word = HEAP_FULL_EXIT; in_range = (lit< tt, lit< tt) }
+imm_heap_full = record { word = heap_full_exit; in_range = (lit< tt, lit< tt) }
 
 abbrev pub forward_24 : BranchOffset
 forward_24 = record { word = 24; in_range = (lit< tt, lit< tt, refl) }

@@ -27,7 +27,7 @@ use Rattle.rv_isa.proofs.Registers.{x0, x1, x2, x3, x8, x9, x18, x19}
 use Rattle.cell_runtime.proofs.Operands.{imm_0, imm_1}
 use Rattle.cell_runtime.proofs.Spelling.{plain, plain_is}
 use Rattle.cell_runtime.proofs.RoutineCalls.{then_one}
-use Rattle.cell_runtime.specs.declared.process.TheConstants.{TEXT_WORDS}
+use Rattle.cell_runtime.specs.Sizes.{runtime_words}
 
 -- ---- the cells
 
@@ -74,7 +74,7 @@ first_memory pool t usable chain held border end = record {
 -- ---- the code
 
 abbrev pub to_main : JumpOffset
-to_main = record { word = 4 * (TEXT_WORDS - 9); in_range = (lit< tt, lit< tt, refl) }
+to_main = record { word = 4 * (runtime_words - 9); in_range = (lit< tt, lit< tt, refl) }
 
 abbrev pub start_code : List Instr
 start_code = Addi x8 x0 imm_0 ∷ Addi x9 x0 imm_0 ∷ Addi x3 x0 imm_1 ∷ Jal x1 to_main ∷ []
@@ -85,10 +85,10 @@ start_items layout = Address x2 Data layout.stack_end ∷ Address x18 Data layou
 module _ (code : Code) (s : Processor) (stands : Stands code s) (a b c : UpperImmediate) (d e f : Immediate)
     (has : Has code s.pc (Lui x2 a ∷ Addi x2 x2 d ∷ Lui x18 b ∷ Addi x18 x18 e ∷ Lui x19 c ∷ Addi x19 x19 f ∷ start_code)) where
   starts : (pool : Pool) (stack_end : ℕ) → sum_word a.word d.word ≡ stack_end → sum_word b.word e.word ≡ pool.first → sum_word c.word f.word ≡ end_of pool
-      → IsUsable pool s.parts → s.pc + 4 * TEXT_WORDS < 2 ^ 32 → (t : Processor) × AfterStart code pool stack_end (s.pc + 4 * TEXT_WORDS) s.pc s t
+      → IsUsable pool s.parts → s.pc + 4 * runtime_words < 2 ^ 32 → (t : Processor) × AfterStart code pool stack_end (s.pc + 4 * runtime_words) s.pc s t
   starts pool stack_end stack first end usable below =
       let main_aligned = whole-words s.pc (stands.aligned s.pc _ has.0) in
-      let to : sum_word (s.pc + 4 + 4 + 4 + 4 + 4 + 4 + 4 + 4 + 4) (4 * (TEXT_WORDS - 9)) ≡ s.pc + 4 * TEXT_WORDS = omega arith in
+      let to : sum_word (s.pc + 4 + 4 + 4 + 4 + 4 + 4 + 4 + 4 + 4) (4 * (runtime_words - 9)) ≡ s.pc + 4 * runtime_words = omega arith in
       let back : sum_word (s.pc + 4 + 4 + 4 + 4 + 4 + 4 + 4 + 4 + 4) 4 ≡ s.pc + 40 = omega arith in
       let l = leads-lui stands {v = a.word} has.0 refl (next-is stands s.pc _ has.1.0) in
       let m = then_one stands l (λ on. leads-addi on {v = stack_end} has.1.0 stack (next-is stands (s.pc + 4) _ has.1.1.0)) in
@@ -99,10 +99,10 @@ module _ (code : Code) (s : Processor) (stands : Stands code s) (a b c : UpperIm
       let r = then_one stands q (λ on. leads-addi on {v = 0} has.1.1.1.1.1.1.0 refl (next-is stands (s.pc + 4 + 4 + 4 + 4 + 4 + 4) _ has.1.1.1.1.1.1.1.0)) in
       let u = then_one stands r (λ on. leads-addi on {v = 0} has.1.1.1.1.1.1.1.0 refl (next-is stands (s.pc + 4 + 4 + 4 + 4 + 4 + 4 + 4) _ has.1.1.1.1.1.1.1.1.0)) in
       let w = then_one stands u (λ on. leads-addi on {v = 1} has.1.1.1.1.1.1.1.1.0 refl (next-is stands (s.pc + 4 + 4 + 4 + 4 + 4 + 4 + 4 + 4) _ has.1.1.1.1.1.1.1.1.1.0)) in
-      let v = then_one stands w (λ on. leads-jal on {next = s.pc + 4 * TEXT_WORDS} {back = s.pc + 40} has.1.1.1.1.1.1.1.1.1.0 to main_aligned back) in
+      let v = then_one stands w (λ on. leads-jal on {next = s.pc + 4 * runtime_words} {back = s.pc + 40} has.1.1.1.1.1.1.1.1.1.0 to main_aligned back) in
       let t = record s {
         registers = put 1 (s.pc + 40) (put 3 1 (put 9 0 (put 8 0 (put 19 (end_of pool) (put 19 c.word (put 18 pool.first (put 18 b.word (put 2 stack_end (put 2 a.word s.registers)))))))));
-        pc = s.pc + 4 * TEXT_WORDS;
+        pc = s.pc + 4 * runtime_words;
         executed = s.executed + 1 + 1 + 1 + 1 + 1 + 1 + 1 + 1 + 1 + 1;
       } in (
         t,
@@ -122,7 +122,7 @@ module _ (code : Code) (s : Processor) (stands : Stands code s) (a b c : UpperIm
         },
       )
     where
-      whole-words : (at : ℕ) → at % 4 ≡ 0 → (at + 4 * TEXT_WORDS) % 4 ≡ 0
+      whole-words : (at : ℕ) → at % 4 ≡ 0 → (at + 4 * runtime_words) % 4 ≡ 0
       whole-words at aligned = omega arith
 
       kept : (w e c f b k a x : ℕ) → KeptBy Start x → value (put 1 w (put 3 1 (put 9 0 (put 8 0 (put 19 e (put 19 c (put 18 f (put 18 b (put 2 k (put 2 a s.registers)))))))))) x ≡ value s.registers x
@@ -154,8 +154,8 @@ module _ (layout : Layout) (memory : ℕ) (is : List Instr) (code : Code) (at : 
   does : IsStartOf layout memory code at
   does pool first end s here usable below =
       let pc_is = here.pc_is in
-      let low : s.pc + 4 * TEXT_WORDS < 2 ^ 32 = omega arith in
-      subst (λ a. (t : Processor) × AfterStart code pool (memory + layout.stack_end) (a + 4 * TEXT_WORDS) a s t) pc_is
+      let low : s.pc + 4 * runtime_words < 2 ^ 32 = omega arith in
+      subst (λ a. (t : Processor) × AfterStart code pool (memory + layout.stack_end) (a + 4 * runtime_words) a s t) pc_is
       (starts code s here.stands spells.0 second.0 third.0 spells.1 second.1 third.1
       (subst (Has code s.pc) is_whole (subst (λ a. Has code a is) (sym pc_is) has))
       pool (memory + layout.stack_end) spells.3 (second.3 ∙ sym first) (third.3 ∙ sym end) usable low)

@@ -2,7 +2,7 @@
 use Rattle.std.proofs.Common.{◌≡◌, ◌≢◌, ℕ, ◌+◌, ◌*◌, ◌%◌, ◌^◌, ◌<◌, ◌≤◌, ◌⊎◌, inl, inr, List, [], ◌∷◌, Some, None, refl, sym, subst, lit<, arith}
 use Rattle.std.proofs.lemmas.Bool.{cases_lt}
 use Rattle.std.proofs.lemmas.Bool.Decides.{nat_tests}
-use Rattle.kk_base.specs.declared.exits.TheConstants.{HEAP_FULL_EXIT}
+use Rattle.kk_base.specs.Exits.{heap_full_exit}
 use Rattle.rv_isa.specs.declared.instr.Instr.{Instr}
 use Rattle.rv_isa.specs.declared.instr.Instr.TheVariants.{Beq, Addi, Lw, Sw, Jalr}
 use Rattle.rv_isa.specs.Arithmetic.{sum_word}
@@ -47,7 +47,7 @@ emptied s slot = record s { memory = with_number slot 4 0 s.memory }
 
 module _ (code : Code) (pool : Pool) (view : View) (s : Processor) (stands : Stands code s) (has : Has code s.pc take_code) (way : HasWayBack s) (memory : Memory pool view s) where
   abbrev Served : Type 0
-  Served = ((t : Processor) × AfterTake code pool view s t) ⊎ (IsFull pool view × Exits code HEAP_FULL_EXIT 6 s)
+  Served = ((t : Processor) × AfterTake code pool view s t) ⊎ (IsFull pool view × Exits code heap_full_exit 6 s)
 
   -- ---- from the chain
 
@@ -216,7 +216,7 @@ module _ (code : Code) (pool : Pool) (view : View) (s : Processor) (stands : Sta
 
       -- ---- from none
 
-      full : view.held ≡ [] → IsFull pool view × Exits code HEAP_FULL_EXIT 6 s
+      full : view.held ≡ [] → IsFull pool view × Exits code heap_full_exit 6 s
       full no_token =
           let no_held : value s.registers 9 ≡ 0 = subst (IsHeldChain pool s.parts s.memory view.heap (value s.registers 9)) no_token memory.held in
           let has_stop = has_held.1.1.1.1.1.1 in
@@ -224,7 +224,7 @@ module _ (code : Code) (pool : Pool) (view : View) (s : Processor) (stands : Sta
           let leads = then_one stands to_held (λ on. leads-beq_taken on {next = s.pc + 4 + 4 + 4 + 4 + 4 + 4 + 4 + 4 + 4 + 4 + 4 + 4 + 4 + 4} has_held.0 no_held (omega arith) (stands.aligned (s.pc + 4 + 4 + 4 + 4 + 4 + 4 + 4 + 4 + 4 + 4 + 4 + 4 + 4 + 4) _ has_stop.0)) in
           let t = record s { pc = s.pc + 4 + 4 + 4 + 4 + 4 + 4 + 4 + 4 + 4 + 4 + 4 + 4 + 4 + 4; executed = s.executed + 1 + 1 + 1 } in (
             record { chain = none; border = used; held = no_token },
-            exits-after {t = t} leads refl refl refl refl (omega arith) (stop_exits code imm_heap_full HEAP_FULL_EXIT refl (omega arith) t (LeadsIn-stands leads stands) has_stop),
+            exits-after {t = t} leads refl refl refl refl (omega arith) (stop_exits code imm_heap_full heap_full_exit refl (omega arith) t (LeadsIn-stands leads stands) has_stop),
           )
 
       by_held : (links : List Link) → view.held ≡ links → Served

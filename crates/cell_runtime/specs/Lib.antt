@@ -5,6 +5,7 @@ pub mod Prints
 pub mod Stops
 pub mod Takes
 pub mod Layouts
+pub mod Sizes
 pub mod Starts
 pub mod Texts
 pub mod Drops

@@ -8,7 +8,7 @@ use Rattle.cell_heap.specs.Cells.{no_cell, free, Heap}
 use Rattle.cell_heap.specs.Pool.{Pool, end_of, IsUsable}
 use Rattle.cell_heap.specs.View.{View}
 use Rattle.cell_heap.specs.Memory.{Memory}
-use Rattle.cell_runtime.specs.declared.process.TheConstants.{TEXT_WORDS}
+use Rattle.cell_runtime.specs.Sizes.{runtime_words}
 use Rattle.cell_runtime.specs.declared.layout.Layout.{Layout}
 use Rattle.rv_isa.specs.declared.placed.Symbol.TheVariants.{Start}
 use Rattle.cell_runtime.specs.Registers.{KeptBy}
@@ -47,4 +47,4 @@ IsStart pool stack_end main code at =
 abbrev pub IsStartOf : Layout → ℕ → Code → ℕ → Type 0
 IsStartOf layout memory code at =
     (pool : Pool) → pool.first ≡ memory + layout.cells → end_of pool ≡ memory + layout.cells_end
-    → IsStart pool (memory + layout.stack_end) (at + 4 * TEXT_WORDS) code at
+    → IsStart pool (memory + layout.stack_end) (at + 4 * runtime_words) code at

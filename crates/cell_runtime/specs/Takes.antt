@@ -1,6 +1,6 @@
 -- The request for a cell.
 use Rattle.std.specs.Prelude.{◌≡◌, ℕ, ◌+◌, ◌<◌, ◌≤◌, ◌⊎◌, List, [], ◌∷◌, Option, Some, None}
-use Rattle.kk_base.specs.declared.exits.TheConstants.{HEAP_FULL_EXIT}
+use Rattle.kk_base.specs.Exits.{heap_full_exit}
 use Rattle.rv_isa.specs.Processor.{Processor, value}
 use Rattle.rv_isa.specs.Standing.{Code}
 use Rattle.cell_heap.specs.Cells.{token, changed}
@@ -48,7 +48,7 @@ pub record AfterTake (code : Code) (pool : Pool) (view : View) (s t : Processor)
 abbrev pub IsTake : Pool → Code → ℕ → Type 0
 IsTake pool code at =
     (view : View) (s : Processor) → IsAt code at s → HasWayBack s → Memory pool view s
-    → ((t : Processor) × AfterTake code pool view s t) ⊎ (IsFull pool view × Exits code HEAP_FULL_EXIT 6 s)
+    → ((t : Processor) × AfterTake code pool view s t) ⊎ (IsFull pool view × Exits code heap_full_exit 6 s)
 
 -- the code of a take does not depend on where the cells are
 abbrev pub IsTakeOfPools : Code → ℕ → Type 0

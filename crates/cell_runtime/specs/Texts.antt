@@ -18,7 +18,7 @@ use Rattle.cell_runtime.specs.Stops.{IsStop}
 use Rattle.cell_runtime.specs.Takes.{IsTake}
 use Rattle.cell_runtime.specs.Drops.{IsDrop}
 use Rattle.cell_runtime.specs.Starts.{IsStart}
-use Rattle.cell_runtime.specs.declared.process.TheConstants.{TEXT_WORDS}
+use Rattle.cell_runtime.specs.Sizes.{runtime_words}
 
 -- the cells of an image, of whose memory this is the begin
 abbrev pub pool_of : ℕ → ℕ → Pool
@@ -26,7 +26,7 @@ pool_of cells memory = record { first = memory + 32; cells = cells }
 
 -- the code at an address and behind it: each routine at its place. `main` stands behind the last one
 pub record IsRuntime (cells : ℕ) (layout : Layout) (memory : ℕ) (code : Code) (at : ℕ) : Type 0 where
-  pub start : IsStart (pool_of cells memory) (memory + layout.stack_end) (at + 4 * TEXT_WORDS) code at
+  pub start : IsStart (pool_of cells memory) (memory + layout.stack_end) (at + 4 * runtime_words) code at
   pub ended : IsStop ending.Ended code (at + 4 * 10)
   pub stack_full : IsStop ending.StackFull code (at + 4 * 13)
   pub take : IsTake (pool_of cells memory) code (at + 4 * 16)
@@ -51,7 +51,7 @@ pub record IsText (cells depth frame_bytes : ℕ) (text : Placed) : Type 0 where
   pub memory : text.memory ≡ record { size = (layout_of cells depth frame_bytes).stack_end; stack_bottom = (layout_of cells depth frame_bytes).stack }
   pub functions : text.functions.items ≡ []
   pub constants : text.constants.items ≡ []
-  pub words : words_of text.natives.items ≡ TEXT_WORDS
+  pub words : words_of text.natives.items ≡ runtime_words
   pub labels : labels_of 0 text.natives.items ≡ runtime_labels
   pub within : AreWithin greatest_reach text.natives.items
   pub routines : (memory : ℕ) (is : List Instr) (code : Code) (at : ℕ) → Spells memory text.natives.items is → Has code at is

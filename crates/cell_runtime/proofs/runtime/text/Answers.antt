@@ -8,7 +8,7 @@ use Rattle.cell_runtime.specs.Texts.{pool_of, greatest_reach}
 use Rattle.cell_runtime.proofs.AddressReach.{reach_is_small}
 use Rattle.cell_runtime.proofs.Spelling.{Composes, composes_none, composes_then, composes_within}
 use Rattle.cell_runtime.proofs.runtime.text.Goals as goal
-use Rattle.cell_runtime.specs.declared.process.TheConstants.{TEXT_WORDS}
+use Rattle.cell_runtime.specs.Sizes.{runtime_words}
 
 pub returns : goal.returns
 returns c =
@@ -39,7 +39,7 @@ returns c =
           let starts = subst (λ l. IsStartOf l memory code (at + 4 * 0)) c.new-layout.ensures all.0.0.0.0.0.0.0.1 in
           let end : end_of pool ≡ memory + layout.cells_end = omega arith in
           record {
-            start = subst (λ a. IsStart pool (memory + layout.stack_end) (a + 4 * TEXT_WORDS) code a) first (starts pool refl end);
+            start = subst (λ a. IsStart pool (memory + layout.stack_end) (a + 4 * runtime_words) code a) first (starts pool refl end);
             ended = all.0.0.0.0.0.0.1;
             stack_full = all.0.0.0.0.0.1;
             take = all.0.0.0.0.1 pool;
