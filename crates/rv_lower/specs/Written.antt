@@ -1,5 +1,6 @@
 -- What was written of a function's assembler code.
 use Rattle.std.specs.Prelude.{◌≡◌, ℕ, ◌+◌, ◌*◌, ◌≤◌, List, [], ◌∷◌, ◌++◌, Option, Some, None, map, length}
+use Rattle.kk_base.specs.Limits.{greatest_string}
 use Rattle.kk_syntax.specs.declared.program.Form.{Form}
 use Rattle.rv_isa.specs.AsmCode.{Line, line_of}
 use Rattle.rv_world.specs.Operations.{all_bytes}
@@ -46,13 +47,17 @@ pub record TookLabel (label : ℕ) (old new : Lowering) : Type 0 where
   pub texts : texts_written new ≡ texts_written old
   pub base : new.base ≡ old.base
 
--- lines were written, and texts: those have so many bytes at most
+-- the most bytes of a print: a string, and a line feed
+abbrev pub most_print : ℕ
+most_print = greatest_string + 1
+
+-- lines were written, and texts: those have the bytes of so many prints at most
 pub record Grows (n : ℕ) (lines : List Line) (old new : Lowering) : Type 0 where
   pub code : lines_written new ≡ lines_written old ++ lines
   pub base : new.base ≡ old.base
   pub more : List (List ℕ)
   pub texts : texts_written new ≡ texts_written old ++ more
-  pub few : length (all_bytes more) ≤ 256 * n
+  pub few : length (all_bytes more) ≤ most_print * n
 
 -- The lines of a form on variables were written. They are its lines however many texts come later.
 pub record WroteForm (literals : List (List ℕ)) (x : ℕ) (form : Form) (arguments : List ℕ) (old new : Lowering) : Type 0 where

@@ -1,7 +1,7 @@
 // The lines of forms on variables.
 
-ghost use Rattle.std.specs.Prelude.{◌≡◌, ◌+◌, ◌≤◌, [], ◌∷◌, map, length, OnOk, IfOk};
-ghost use Rattle.kk_base.specs.declared.strings.TheConstants.{GREATEST_STRING};
+ghost use Rattle.std.specs.Prelude.{◌≡◌, ◌≤◌, [], ◌∷◌, map, length, OnOk, IfOk};
+ghost use Rattle.kk_base.specs.Limits.{greatest_string};
 ghost use Rattle.kk_syntax.specs.declared.program.Form.TheVariants.{Unary, Binary, Print, Construct, Call};
 ghost use Rattle.kk_syntax.specs.declared.operator.BinaryOperator.TheVariants.{Divide, Equal, NotEqual};
 ghost use Rattle.kk_syntax.specs.Programs.{text_at};
@@ -10,7 +10,7 @@ ghost use Rattle.rv_isa.specs.declared.asm.Operation.TheVariants.{Register};
 ghost use Rattle.rv_isa.specs.declared.asm.RegisterOperation.TheVariants.{Slt};
 ghost use Rattle.rv_isa.specs.Frames.{only_of};
 ghost use Rattle.rv_lower.specs.Lines.{choice_of, constant_word, registers, Compares, ComparesWithOne, ComparesNot, BinaryLines, AppliedLines};
-ghost use Rattle.rv_lower.specs.Written.{pair_of, short_line, Wrote, WroteLines, WrotePrint, WroteForm};
+ghost use Rattle.rv_lower.specs.Written.{most_print, pair_of, short_line, Wrote, WroteLines, WrotePrint, WroteForm};
 
 use crate::lowering::{Lowering, Reads, Short, act, binary, constant, copy, set, unary};
 use kk_base::{NoMemory, Text};
@@ -68,7 +68,7 @@ fn choice(form: PrintForm) -> u32
 /// The string literal of this number. Behind the last, where no program looks, it is empty.
 fn literal(literals: &[StringLiteral], number: u32) -> &[u8]
     ensures bytes { result.now ≡ text_at literals.now number }
-    ensures short { length result.now ≤ GREATEST_STRING }
+    ensures short { length result.now ≤ greatest_string }
 {
     match literals.get(number as usize) {
         Some(literal) => literal.as_slice(),
@@ -78,9 +78,9 @@ fn literal(literals: &[StringLiteral], number: u32) -> &[u8]
 
 /// The bytes of a print.
 fn piece(alloc: Global, form: PrintForm, text: &[u8]) -> Result<Text, NoMemory>
-    requires { length text.now ≤ GREATEST_STRING }
+    requires { length text.now ≤ greatest_string }
     ensures bytes { IfOk result (λ piece. piece ≡ piece_of form text.now) }
-    ensures short { IfOk result (λ piece. length piece ≤ GREATEST_STRING + 1) }
+    ensures short { IfOk result (λ piece. length piece ≤ most_print) }
 {
     let mut bytes = Vec::from_slice(alloc, text)?;
     match form {
@@ -332,7 +332,7 @@ impl Lowering {
 
     /// A print of constant bytes.
     fn print_text(&mut self, form: PrintForm, text: &[u8]) -> Result<(), NoMemory>
-        requires { length text.now ≤ GREATEST_STRING }
+        requires { length text.now ≤ greatest_string }
         ensures { OnOk result (WrotePrint (piece_of form text.now) self.old self.new) }
     {
         let bytes = piece(self.alloc, form, text)?;
