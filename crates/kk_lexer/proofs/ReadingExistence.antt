@@ -8,7 +8,7 @@ use Rattle.std.proofs.lemmas.List.{same_from_push, length-drop}
 use Rattle.std.proofs.lemmas.Slice.Eq.{bytes_eq-Decides}
 use Rattle.kk_base.specs.declared.error.LexError.TheVariants as OfLexError
 use Rattle.kk_base.specs.declared.span.Span.{Span}
-use Rattle.kk_base.specs.declared.strings.TheConstants.{GREATEST_STRING}
+use Rattle.kk_base.specs.Limits.{greatest_string}
 use Rattle.kk_syntax.specs.declared.token.Keyword.{Keyword}
 use Rattle.kk_syntax.specs.declared.token.LocatedToken.{LocatedToken}
 use Rattle.kk_syntax.specs.declared.token.Symbol.{Symbol}
@@ -349,7 +349,7 @@ limited_string false at token = tt
 lexeme_cause : {signed : Bool} {at : ℕ} {w : List ℕ} {m : Meaning} → SpellsLexeme signed at w m → IsCause m
 lexeme_cause {signed} {at} (number word n h) = limited (nat_lt greatest_number n) at _
 lexeme_cause {signed} {at} (negative_number word n is h) = limited (nat_lt greatest_negative n) at _
-lexeme_cause {signed} {at} (string word bytes h) = limited_string (nat_lt GREATEST_STRING (length bytes)) at _
+lexeme_cause {signed} {at} (string word bytes h) = limited_string (nat_lt greatest_string (length bytes)) at _
 lexeme_cause h = tt
 
 -- what a text begins with

@@ -2,7 +2,7 @@
 use Rattle.std.specs.Prelude.{◌≡◌, ℕ, ◌+◌, ◌<◌, pos, neg_ℤ, List, [], ◌∷◌, ◌++◌, length, take, Bool, true, ◌==◌, ◌||◌, nat_lt, if◌then◌else◌, codes}
 use Rattle.kk_base.specs.declared.error.LexError.{LexError}
 use Rattle.kk_base.specs.declared.error.LexError.TheVariants.{BadByte, OpenComment, OpenString, NumberTooLarge, StringTooLong}
-use Rattle.kk_base.specs.declared.strings.TheConstants.{GREATEST_STRING}
+use Rattle.kk_base.specs.Limits.{greatest_string}
 use Rattle.kk_syntax.specs.declared.token.Keyword.{Keyword}
 use Rattle.kk_syntax.specs.declared.token.Symbol.{Symbol}
 use Rattle.kk_syntax.specs.declared.token.Token.{Token}
@@ -34,7 +34,7 @@ negative_meaning at n = if nat_lt greatest_negative n then refused (NumberTooLar
 
 -- a string stands for a greatest number of bytes at most
 abbrev pub string_meaning : ℕ → List ℕ → Meaning
-string_meaning at bytes = if nat_lt GREATEST_STRING (length bytes) then refused (StringTooLong at) else kept (OfToken.String bytes)
+string_meaning at bytes = if nat_lt greatest_string (length bytes) then refused (StringTooLong at) else kept (OfToken.String bytes)
 
 -- A lexeme by its spelling. `at` is the place of its first byte, and `signed` says whether a `-` belongs to the number
 -- directly behind it. The byte `-` is 45, `"` is 34 and `\` is 92. A comment or a string that is not closed and a string up to
