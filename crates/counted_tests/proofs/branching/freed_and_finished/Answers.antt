@@ -1,0 +1,4 @@
+use Rattle.counted_tests.proofs.branching.freed_and_finished.Goals as goal
+
+pub finish-requires-clause-marked : goal.finish-requires-clause-marked
+finish-requires-clause-marked c = ?

@@ -1,0 +1,4 @@
+use Rattle.counted_tests.proofs.rows.spine.Goals as goal
+
+pub finished-requires-clause-marked : goal.finished-requires-clause-marked
+finished-requires-clause-marked c = ?
