@@ -2,6 +2,7 @@ pub mod CaseLengths
 pub mod Cases
 pub mod CellTypes
 pub mod RowChoice
+pub mod CodeNodes
 pub mod Codes
 pub mod ConstructorShapes
 pub mod CoreMachine

@@ -37,6 +37,7 @@ pub mod TokenMachine
 pub mod TokenRuns
 pub mod TokenSpending
 pub mod TokenStates
+pub mod TokenWords
 pub mod TokenedCodes
 pub mod TokenedForms
 pub mod Tokens

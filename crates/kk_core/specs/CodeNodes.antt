@@ -1,0 +1,144 @@
+-- How many nodes of a text a code stands for, and how many words of an image its forms take at most: by these the nodes of a
+-- function bound its words.
+use Rattle.std.specs.Prelude.{◌≤◌, ℕ, ◌+◌, ◌-◌, ◌*◌, ◌==◌, ◌&&◌, ◌||◌, not, Bool, true, false, List, [], ◌∷◌, ◌++◌, length, if◌then◌else◌}
+use Rattle.kk_syntax.specs.declared.program.Form.{Form}
+use Rattle.kk_syntax.specs.declared.program.Form.TheVariants.{Construct, Call, PrintText}
+use Rattle.kk_syntax.specs.Patterns.{Pattern, constructor, no_part}
+use Rattle.kk_syntax.specs.Programs.{FunctionTree}
+use Rattle.kk_syntax.specs.Shapes.{is_among, nodes_of}
+use Rattle.kk_core.specs.Codes.{Code, give, tail_call, case, compute, use_of, unpack, inside, Arms, no_arm, arm, patterns_of, FunctionCode}
+use Rattle.kk_core.specs.CaseLengths.{tests_length}
+
+-- ---- nodes
+
+-- whether a pattern is that constructor, without parts
+abbrev pub is_plain_pattern : ℕ → Pattern → Bool
+is_plain_pattern c (constructor by no_part) = by == c
+is_plain_pattern c _ = false
+
+-- whether patterns are `True` and `False`, as those of an `if` are
+abbrev pub are_truths : List Pattern → Bool
+are_truths (first ∷ second ∷ []) = is_plain_pattern 1 first && is_plain_pattern 0 second
+are_truths _ = false
+
+-- whether a code ends at once with the value of a variable
+abbrev pub gives : ℕ → Code → Bool
+gives x (give y) = x == y
+gives x _ = false
+
+-- The nodes of patterns: one for each field of an opening, and one for each arm, but for those of an `if`. Of an opened variable
+-- the node is that of the field that it is (`fields`), or that of the arm which begins with the opening (`opens`), or else one
+-- more.
+abbrev mutual
+  pub pattern_nodes : List ℕ → Bool → Code → ℕ
+  pattern_nodes fields opens (give x) = 0
+  pattern_nodes fields opens (tail_call f arguments) = 0
+  pattern_nodes fields opens (case x decisions arms) = arms_pattern_nodes fields (are_truths (patterns_of arms)) arms
+  pattern_nodes fields opens (compute x form arguments rest) = pattern_nodes fields false rest
+  pattern_nodes fields opens (use_of x rest) = pattern_nodes fields false rest
+  pattern_nodes fields opens (unpack x c xs rest) =
+      length xs + (if is_among fields x || opens then 0 else 1)
+      + pattern_nodes (xs ++ fields) (opens && is_among fields x) rest
+  pattern_nodes fields opens (inside x block rest) = pattern_nodes fields false block + pattern_nodes fields false rest
+
+  pub arms_pattern_nodes : List ℕ → Bool → Arms → ℕ
+  arms_pattern_nodes fields truths no_arm = 0
+  arms_pattern_nodes fields truths (arm pattern body rest) =
+      (if truths then 0 else 1) + pattern_nodes fields (not truths) body + arms_pattern_nodes fields truths rest
+
+-- All other nodes: one for each form on values, each case and each end. A form and the end that gives its value have one together.
+abbrev mutual
+  pub other_nodes : Code → ℕ
+  other_nodes (give x) = 1
+  other_nodes (tail_call f arguments) = 1
+  other_nodes (case x decisions arms) = 1 + arms_other_nodes arms
+  other_nodes (compute x form arguments rest) = if gives x rest then 1 else 1 + other_nodes rest
+  other_nodes (use_of x rest) = other_nodes rest
+  other_nodes (unpack x c xs rest) = other_nodes rest
+  other_nodes (inside x block rest) = other_nodes block + other_nodes rest
+
+  pub arms_other_nodes : Arms → ℕ
+  arms_other_nodes no_arm = 0
+  arms_other_nodes (arm pattern body rest) = other_nodes body + arms_other_nodes rest
+
+-- ---- the tests of a case
+
+-- the fields of the openings with which a code begins
+abbrev pub first_fields : Code → ℕ
+first_fields (unpack x c xs rest) = length xs + first_fields rest
+first_fields _ = 0
+
+-- the nodes of the patterns of arms
+abbrev pub case_nodes : Arms → ℕ
+case_nodes no_arm = 0
+case_nodes (arm pattern body rest) = 1 + first_fields body + case_nodes rest
+
+-- the tests of a case are brief, unless it is that of an `if`: by the nodes of its patterns
+abbrev pub AreBriefFor : Bool → ℕ → ℕ → Type 0
+AreBriefFor true nodes tests = Unit {0}
+AreBriefFor false nodes tests = tests ≤ 56 * nodes + 2 * nodes * nodes
+
+-- the tests of each case are brief, and each opening has a field
+abbrev mutual
+  pub HasBriefTests : Code → Type 0
+  HasBriefTests (give x) = Unit {0}
+  HasBriefTests (tail_call f arguments) = Unit {0}
+  HasBriefTests (case x decisions arms) =
+      AreBriefFor (are_truths (patterns_of arms)) (case_nodes arms) (tests_length decisions) × HaveBriefTests arms
+  HasBriefTests (compute x form arguments rest) = HasBriefTests rest
+  HasBriefTests (use_of x rest) = HasBriefTests rest
+  HasBriefTests (unpack x c xs rest) = (1 ≤ length xs) × HasBriefTests rest
+  HasBriefTests (inside x block rest) = HasBriefTests block × HasBriefTests rest
+
+  pub HaveBriefTests : Arms → Type 0
+  HaveBriefTests no_arm = Unit {0}
+  HaveBriefTests (arm pattern body rest) = HasBriefTests body × HaveBriefTests rest
+
+-- ---- words
+
+-- the words of a form on values: those of a string are at most 64, and a call copies its arguments
+abbrev pub form_words : Form → List ℕ → ℕ
+form_words (Call f) arguments = 8 + 6 * length arguments
+form_words (Construct c) [] = 3
+form_words (Construct c) (x ∷ xs) = 30 + 5 * length (x ∷ xs)
+form_words (PrintText how text) arguments = 77
+form_words form arguments = 23
+
+-- The words of a code but for those that grow with pairs of nodes: its forms; a dup and a drop for each argument, and a drop for
+-- each value; the tests of an `if`, and 56 for each node of the patterns of another case; and for each arm but one a drop of each
+-- of eight parameters.
+abbrev mutual
+  pub plain_words : Code → ℕ
+  plain_words (give x) = 13
+  plain_words (tail_call f arguments) = 11 + 13 * length arguments
+  plain_words (case x decisions arms) =
+      12 + (if are_truths (patterns_of arms) then tests_length decisions else 56 * case_nodes arms)
+      + 56 * (length (patterns_of arms) - 1) + arms_plain_words arms
+  plain_words (compute x form arguments rest) = form_words form arguments + 14 * length arguments + 7 + plain_words rest
+  plain_words (use_of x rest) = 7 + plain_words rest
+  plain_words (unpack x c xs rest) = 43 + 15 * length xs + plain_words rest
+  plain_words (inside x block rest) = 7 + plain_words block + plain_words rest
+
+  pub arms_plain_words : Arms → ℕ
+  arms_plain_words no_arm = 0
+  arms_plain_words (arm pattern body rest) = plain_words body + arms_plain_words rest
+
+-- ---- functions
+
+-- the most words of a node, but for those that grow with pairs of nodes
+abbrev pub most_node_words : ℕ
+most_node_words = 119
+
+-- A code stands for a text of so many nodes: it has no more of them, its forms take few words for each, its tests are brief, and its
+-- openings have fields.
+pub record StandsForNodes (number : ℕ) (code : Code) : Type 0 where
+  pub nodes : pattern_nodes [] false code + other_nodes code ≤ number
+  pub words : plain_words code ≤ most_node_words * number
+  pub tests : HasBriefTests code
+
+-- the body of each function stands for the nodes of the body that it is made of
+abbrev pub StandForNodes : List FunctionTree → List FunctionCode → Type 0
+StandForNodes [] [] = Unit {0}
+StandForNodes (function ∷ functions) (core ∷ cores) =
+    StandsForNodes (nodes_of function.body) core.body × StandForNodes functions cores
+StandForNodes _ _ = ⊥
