@@ -8,11 +8,11 @@ use Rattle.byteorder.specs.Numbers.{little_from-bytes}
 use Rattle.elf_image.specs.declared.header.FileHeader.{FileHeader}
 use Rattle.elf_image.specs.declared.header.ProgramHeader.{ProgramHeader}
 use Rattle.elf_image.specs.declared.part.Part.{Part}
-use Rattle.elf_image.specs.Fields.{entry_of, table_offset_of, header_size_of, header_count_of, headers_of, is_load, loads_of}
+use Rattle.elf_image.specs.Fields.{file_header_size, program_header_size, entry_of, table_offset_of, header_size_of, header_count_of, headers_of, is_load, loads_of}
 use Rattle.elf_image.specs.Parts.{greatest_end, are_apart, are_in_reach, is_entry}
 use Rattle.elf_image.specs.Loaded.{is_elf, is_rv32, is_executable, is_inside, has_segments, greatest_file, part_of, parts_of, IsLoaded}
 use Rattle.elf_image.specs.Reading.{IsFileHeader, HasLoads, HasSegments}
-use Rattle.elf_image.specs.Program.{text_start, memory_start, text_part, memory_part, program_parts, text_of, memory_size_of, IsProgramImage, zeros, file_header, segment_header, program_file, text_offset, file_header_size, program_header_size}
+use Rattle.elf_image.specs.Program.{text_start, memory_start, text_part, memory_part, program_parts, text_of, memory_size_of, IsProgramImage, zeros, file_header, segment_header, program_file, text_offset}
 use Rattle.elf_image.proofs.Conditions.{both, headers_tell, inside_tells, segments_are, is_loaded}
 
 zeros-is : (n : ℕ) → replicate n 0 ≡ zeros n
@@ -74,17 +74,17 @@ record Says (file text : List ℕ) (size : ℕ) : Type 0 where
   rv32 : is_rv32 file ≡ true
   executable : is_executable file ≡ true
   entry : entry_of file ≡ text_start
-  table_offset : table_offset_of file ≡ 52
+  table_offset : table_offset_of file ≡ file_header_size
   header_size : header_size_of file ≡ 32
   header_count : header_count_of file ≡ 2
-  table : headers_of 2 (drop 52 file) ≡ text_header (length text) ∷ memory_header (memory_start (length text)) size ∷ []
+  table : headers_of 2 (drop file_header_size file) ≡ text_header (length text) ∷ memory_header (memory_start (length text)) size ∷ []
   behind : drop text_offset file ≡ text
 
 length-front : (text : List ℕ) (size : ℕ) → length (headers text size ++ zeros (text_offset - headers_size)) ≡ text_offset
 length-front text size = omega (arith, length-append (headers text size) (zeros (text_offset - headers_size)), length-headers text size, length-zeros (text_offset - headers_size))
 
 table-is : (text : List ℕ) (size : ℕ) → length text < 2 ^ 32 → memory_start (length text) < 2 ^ 32 → size < 2 ^ 32
-    → headers_of 2 (drop 52 (program_file text size)) ≡ text_header (length text) ∷ memory_header (memory_start (length text)) size ∷ []
+    → headers_of 2 (drop file_header_size (program_file text size)) ≡ text_header (length text) ∷ memory_header (memory_start (length text)) size ∷ []
 unfolding text_header memory_header file_header segment_header program_file
 table-is text size text-lt start-lt size-lt =
     rw (word-again (length text) text-lt, word-again (memory_start (length text)) start-lt, word-again size size-lt) refl

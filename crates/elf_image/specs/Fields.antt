@@ -10,6 +10,13 @@ half_at file offset = little_number 2 (drop offset file)
 abbrev pub word_at : List ℕ → ℕ → ℕ
 word_at file offset = little_number 4 (drop offset file)
 
+-- the bytes of the file header, and of a program header
+abbrev pub file_header_size : ℕ
+file_header_size = 52
+
+abbrev pub program_header_size : ℕ
+program_header_size = 32
+
 -- the bytes that every ELF file begins with
 abbrev pub magic : List ℕ
 magic = 0x7f ∷ 0x45 ∷ 0x4c ∷ 0x46 ∷ []

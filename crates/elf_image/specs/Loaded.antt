@@ -6,8 +6,7 @@ use Rattle.elf_image.specs.declared.bad_image.BadImage.{BadImage}
 use Rattle.elf_image.specs.declared.bad_image.BadImage.TheVariants.{Short, NotElf, NotRv32, NotExec, BadHeaders, PartOutside, PartsOverlap, TooLarge, BadEntry, NoMemory}
 use Rattle.elf_image.specs.declared.header.ProgramHeader.{ProgramHeader}
 use Rattle.elf_image.specs.declared.part.Part.{Part}
-use Rattle.elf_image.specs.declared.reading.TheConstants.{GREATEST_FILE}
-use Rattle.elf_image.specs.Fields.{magic, class_of, encoding_of, identification_version_of, type_of, machine_of, version_of, entry_of, table_offset_of, header_size_of, header_count_of, loads_of}
+use Rattle.elf_image.specs.Fields.{file_header_size, program_header_size, magic, class_of, encoding_of, identification_version_of, type_of, machine_of, version_of, entry_of, table_offset_of, header_size_of, header_count_of, loads_of}
 use Rattle.elf_image.specs.Parts.{memory_of, are_apart, are_in_reach, is_entry}
 
 -- the bytes of a segment
@@ -34,13 +33,13 @@ is_rv32 file = (class_of file == 1) && (encoding_of file == 1) && (identificatio
 abbrev pub is_executable : List ℕ → Bool
 is_executable file = (type_of file == 2) && (version_of file == 1)
 
--- one to 64 program headers of 32 bytes lie in the file, and no segment has more bytes than memory
+-- one to 64 program headers lie in the file, and no segment has more bytes than memory
 abbrev pub has_headers : List ℕ → Bool
 has_headers file =
-    (header_size_of file == 32)
+    (header_size_of file == program_header_size)
     && nat_le 1 (header_count_of file)
     && nat_le (header_count_of file) 64
-    && nat_le (table_offset_of file + 32 * header_count_of file) (length file)
+    && nat_le (table_offset_of file + program_header_size * header_count_of file) (length file)
     && list_all (λ h. nat_le h.filesz h.memsz) (loads_of file)
 
 -- a segment has no bytes, or they lie in a file of so many
@@ -53,12 +52,12 @@ has_segments file = list_all (λ h. is_inside h (length file)) (loads_of file)
 
 -- the greatest number of a file's bytes
 abbrev pub greatest_file : ℕ
-greatest_file = GREATEST_FILE
+greatest_file = 0x80000000
 
 -- what is asked of a file, in the order in which it is looked at, each with the reason that a file which fails it has
 abbrev pub conditions : List ℕ → List (BadImage × Bool)
 conditions file =
-    (Short, nat_le 52 (length file))
+    (Short, nat_le file_header_size (length file))
     ∷ (NotElf, is_elf file)
     ∷ (NotRv32, is_rv32 file)
     ∷ (NotExec, is_executable file)

@@ -2,18 +2,26 @@
 use Rattle.std.specs.Prelude.{ℕ, ◌+◌, ◌%◌, ◌==◌, bit_and, nat_le, nat_lt, min, max, List, [], ◌∷◌, length, map, Bool, true, not, ◌&&◌}
 use Rattle.std.specs.List.{list_any, list_all}
 use Rattle.kk_base.specs.Memory as memory
-use Rattle.elf_image.specs.declared.image.TheConstants.{GREATEST_END}
 use Rattle.elf_image.specs.declared.part.Part.{Part}
-use Rattle.elf_image.specs.declared.part.TheConstants.Part.{READ, WRITE, EXECUTE}
 
--- a part as a machine's memory has it, by the flags of its program header (System V ABI, "Segment Permissions")
+-- the flags of a program header (System V ABI, "Segment Permissions")
+abbrev pub execute_flag : ℕ
+execute_flag = 1
+
+abbrev pub write_flag : ℕ
+write_flag = 2
+
+abbrev pub read_flag : ℕ
+read_flag = 4
+
+-- a part as a machine's memory has it, by the flags of its program header
 abbrev pub loaded : Part → memory.Part
 loaded p = record {
   start = p.vaddr;
   size = p.memsz;
-  readable = not (bit_and p.flags READ == 0);
-  writable = not (bit_and p.flags WRITE == 0);
-  executable = not (bit_and p.flags EXECUTE == 0);
+  readable = not (bit_and p.flags read_flag == 0);
+  writable = not (bit_and p.flags write_flag == 0);
+  executable = not (bit_and p.flags execute_flag == 0);
   bytes = p.bytes;
 }
 
@@ -27,7 +35,7 @@ end_of p = p.vaddr + p.memsz
 
 -- the greatest address behind a part
 abbrev pub greatest_end : ℕ
-greatest_end = GREATEST_END
+greatest_end = 0xf0000000
 
 -- two parts share an address: the one that starts last does so below both ends
 abbrev pub share_address : Part → Part → Bool

@@ -2,44 +2,38 @@
 use Rattle.std.specs.Prelude.{◌≡◌, ◌<◌, ◌≤◌, ℕ, ◌+◌, ◌-◌, ◌*◌, List, [], ◌∷◌, ◌++◌, length, replicate}
 use Rattle.std.specs.Int.{next_multiple_of}
 use Rattle.byteorder.specs.Endian.{little_bytes}
-use Rattle.elf_image.specs.declared.header.TheConstants.{FILE_HEADER_SIZE, PROGRAM_HEADER_SIZE}
-use Rattle.elf_image.specs.declared.image.TheConstants.{TEXT_START, PAGE_SIZE}
 use Rattle.elf_image.specs.declared.part.Part.{Part}
-use Rattle.elf_image.specs.declared.part.TheConstants.Part.{READ, WRITE, EXECUTE}
-use Rattle.elf_image.specs.declared.writing.TheConstants.{TEXT_OFFSET}
-use Rattle.elf_image.specs.Fields.{magic}
+use Rattle.elf_image.specs.Fields.{magic, file_header_size, program_header_size}
 use Rattle.elf_image.specs.Loaded.{greatest_file}
+use Rattle.elf_image.specs.Parts.{read_flag, write_flag, execute_flag}
 
 -- the address of the first byte of the text, where the program begins
 abbrev pub text_start : ℕ
-text_start = TEXT_START
+text_start = 0x10000
 
--- the address of the memory behind a text of so many bytes: the next one that is a multiple of 4096
+-- the bytes of a page
+abbrev pub page_size : ℕ
+page_size = 0x1000
+
+-- the address of the memory behind a text of so many bytes: the next one where a page begins
 abbrev pub memory_start : ℕ → ℕ
-memory_start size = next_multiple_of (text_start + size) PAGE_SIZE
+memory_start size = next_multiple_of (text_start + size) page_size
 
 -- where the text stands in a file, behind the headers; the alignment of segments is the same
 abbrev pub text_offset : ℕ
-text_offset = TEXT_OFFSET
+text_offset = page_size
 
 -- the greatest number of a text's bytes: it stands there up to the end of the file
 abbrev pub greatest_text : ℕ
 greatest_text = greatest_file - text_offset
 
--- the bytes of the file header, and of a program header
-abbrev pub file_header_size : ℕ
-file_header_size = FILE_HEADER_SIZE
-
-abbrev pub program_header_size : ℕ
-program_header_size = PROGRAM_HEADER_SIZE
-
 -- the part of a text, to be read and executed
 abbrev pub text_part : List ℕ → Part
-text_part text = record { vaddr = text_start; memsz = length text; flags = READ + EXECUTE; bytes = text }
+text_part text = record { vaddr = text_start; memsz = length text; flags = read_flag + execute_flag; bytes = text }
 
 -- the part behind it: so many bytes of memory, to be read and written
 abbrev pub memory_part : List ℕ → ℕ → Part
-memory_part text size = record { vaddr = memory_start (length text); memsz = size; flags = READ + WRITE; bytes = [] }
+memory_part text size = record { vaddr = memory_start (length text); memsz = size; flags = read_flag + write_flag; bytes = [] }
 
 -- the parts of a program
 abbrev pub program_parts : List ℕ → ℕ → List Part

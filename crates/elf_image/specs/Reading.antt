@@ -4,7 +4,7 @@ use Rattle.std.specs.List.{list_all}
 use Rattle.elf_image.specs.declared.header.FileHeader.{FileHeader}
 use Rattle.elf_image.specs.declared.header.ProgramHeader.{ProgramHeader}
 use Rattle.elf_image.specs.declared.part.Part.{Part}
-use Rattle.elf_image.specs.Fields.{entry_of, table_offset_of, header_size_of, header_count_of, loads_of}
+use Rattle.elf_image.specs.Fields.{file_header_size, entry_of, table_offset_of, header_size_of, header_count_of, loads_of}
 use Rattle.elf_image.specs.Loaded.{part_of, parts_of, is_elf, is_rv32, is_executable, is_inside, has_headers, has_segments}
 
 -- a segment as a part, its bytes aside
@@ -13,7 +13,7 @@ extent_of h = record { vaddr = h.vaddr; memsz = h.memsz; flags = h.flags; bytes 
 
 -- the file meets the first four conditions, and this is what its header says
 pub record IsFileHeader (header : FileHeader) (file : List ℕ) : Type 0 where
-  pub long : nat_le 52 (length file) ≡ true
+  pub long : nat_le file_header_size (length file) ≡ true
   pub elf : is_elf file ≡ true
   pub rv32 : is_rv32 file ≡ true
   pub executable : is_executable file ≡ true
