@@ -163,6 +163,9 @@ branch_spent : (lent : List ℕ) (d : Draft) (split : Split) (left : Option (Lis
     → Spent d.positions lent left (split.each ++ around) (case split.on split.decisions (arms_of split.arms))
 branch_spent lent d split left around on all = spent_case d.positions lent left (split.each ++ around) split.on split.decisions split.arms on all
 
+true_is_false : true ≡ false → ⊥
+true_is_false same = cc
+
 -- its value takes the place of what its arms spend
 joined_low : (n : ℕ) (each kept out : List ℕ) → AreLow n (each ++ (kept ++ out)) → AreLow (n + 1) ((kept ++ n ∷ []) ++ out)
 joined_low n each kept out low =
@@ -192,9 +195,6 @@ joins_value lent d split splits sound outer is none other =
       quiet = λ isnt. absurd (true_is_false isnt);
     }
   where
-    true_is_false : true ≡ false → ⊥
-    true_is_false same = cc
-
     clash : (code : Counted) → d.ending ≡ None → d.ending ≡ Some code → ⊥
     clash code one two = cc
 
@@ -223,9 +223,6 @@ joins_end lent d split splits sound outer is some =
       quiet = λ isnt. absurd (true_is_false isnt);
     }
   where
-    true_is_false : true ≡ false → ⊥
-    true_is_false same = cc
-
     clash : (block : Counted) → Some block ≡ None → ⊥
     clash block same = cc
 

@@ -30,9 +30,12 @@ mutual
   more_spent_arms no_arm n m less small = tt
   more_spent_arms (arm body rest) n m less small = (more_spent body n m less small.0, more_spent_arms rest n m less small.1)
 
-few_filtered : (test : ℕ → Bool) (xs : List ℕ) → many (filter test xs) ≤ length xs
-few_filtered test xs =
-    let same = total_ones (filter test xs) in let few = filter_few test xs in omega (arith, same, few)
+-- some of a list and another list are as many as both at most
+few_more : (test : ℕ → Bool) (xs ys : List ℕ) → many (filter test xs ++ ys) ≤ length xs + many ys
+few_more test xs ys =
+    let same = total_ones (filter test xs) in
+    let few = filter_few test xs in
+    omega (arith, same, few, total_append (λ x. 1) (filter test xs) ys)
 
 -- the greater of two numbers
 record Greater (a b : ℕ) : Type 0 where
@@ -84,35 +87,13 @@ module _ (positions : PositionTable) (functions : List CountedFunction) where
         let after = spends_gains lent fields left s.0 rest s.1.1.1.1 has in
         (after.0, (omega (arith, after.1.0, s.1.0 (λ x. 1)), after.1.1))
     spends_gains lent readable left owned (open_cell x c fields used rest) s has =
-        let after = spends_gains lent [] left (filter (is_among used) fields ++ s.0) rest s.1.1.1.1.1 has in (
-          suc after.0,
-          (
-            omega (
-              arith,
-              after.1.0,
-              s.1.0 (λ x. 1),
-              total_append (λ x. 1) (filter (is_among used) fields) s.0,
-              few_filtered
-                  (is_among used) fields,
-            ),
-            (after.0, (omega arith, after.1.1)),
-          ),
-        )
+        let after = spends_gains lent [] left (filter (is_among used) fields ++ s.0) rest s.1.1.1.1.1 has in
+        let more = few_more (is_among used) fields s.0 in
+        (suc after.0, (omega (arith, after.1.0, s.1.0 (λ x. 1), more), (after.0, (omega arith, after.1.1))))
     spends_gains lent readable left owned (if_unique x c fields used rest) s has =
-        let after = spends_gains lent [] left (filter (is_among used) fields ++ s.0) rest s.1.1.1.1.1 has in (
-          suc after.0,
-          (
-            omega (
-              arith,
-              after.1.0,
-              s.1.0 (λ x. 1),
-              total_append (λ x. 1) (filter (is_among used) fields) s.0,
-              few_filtered
-                  (is_among used) fields,
-            ),
-            (after.0, (omega arith, after.1.1)),
-          ),
-        )
+        let after = spends_gains lent [] left (filter (is_among used) fields ++ s.0) rest s.1.1.1.1.1 has in
+        let more = few_more (is_among used) fields s.0 in
+        (suc after.0, (omega (arith, after.1.0, s.1.0 (λ x. 1), more), (after.0, (omega arith, after.1.1))))
     spends_gains lent readable left owned (dup x rest) s has =
         let after = spends_gains lent readable left (x ∷ s.0) rest s.1.1.1 has in
         (after.0, (omega (arith, after.1.0, s.1.0 (λ x. 1)), after.1.1))

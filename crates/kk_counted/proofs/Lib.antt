@@ -7,6 +7,7 @@ pub mod SlotMarks
 pub mod TokenChain
 pub mod CellRequests
 pub mod TokenForms
+pub mod FillSteps
 pub mod TokenSteps
 pub mod StillForms
 pub mod TokenRuns

@@ -16,9 +16,9 @@ use Rattle.kk_core.specs.Decisions.{chosen}
 use Rattle.kk_counted.specs.Heaps.{Heap, count_at, cell_at, fields_held, dup_value, drop_value}
 use Rattle.kk_counted.specs.CountedMachine.{Named, cell_named, used_values, other_values, opened_heap, unique_heap}
 use Rattle.kk_counted.specs.TokenedCodes.{Tokened, TokenedFunction}
-use Rattle.kk_counted.specs.Tokens.{Link, Slot, spent, null, token, Mark, plain, token_of, Tokens, marks_with, blanked, released, gained, opened_tokens, by_slot, by_token, freed, moved, held, is_linked, unlinked, with_chain, hold_link, unheld, Room, has_room, request, is_of}
+use Rattle.kk_counted.specs.Tokens.{Link, Slot, spent, null, token, Mark, plain, token_of, Tokens, marks_with, blanked, released, gained, opened_tokens, by_slot, freed, moved, held, is_linked, unlinked, with_chain, hold_link, unheld, Room, request, is_of}
 use Rattle.kk_counted.specs.TokenStates.{TokenSetting, TokenJoin, TokenFrame, TokenControl, TokenConfiguration}
-use Rattle.kk_counted.specs.TokenMachine.{at_code, bound_to, token_at_stuck, to_heap, to_tokens, in_body, tokened_arm_at, token_case_step, token_give_step, token_tail_step, token_read_step, to_opened, token_open_step, make_step, fill_step, filled, token_call_step, token_form_step, token_code_step}
+use Rattle.kk_counted.specs.TokenMachine.{at_code, bound_to, to_heap, to_tokens, in_body, tokened_arm_at, token_case_step, token_give_step, token_tail_step, token_read_step, to_opened, token_open_step, make_step, fill_step, filled, token_call_step, token_form_step, token_code_step}
 use Rattle.kk_counted.specs.TokenSpending.{AreSame, AtForm}
 use Rattle.kk_counted.specs.TokenKeeping.{IsJudged, Lists}
 use Rattle.kk_counted.specs.TokenRuns.{AllLead}
@@ -26,6 +26,7 @@ use Rattle.kk_counted.specs.NumberedPool.{is_alive, Growth, stays, grows}
 use Rattle.kk_counted.proofs.CountChanges.{same}
 use Rattle.kk_counted.proofs.HeapChanges.{Eased, EasedTo, eased_dup, eased_drop, eased_opening, eased_unique}
 use Rattle.kk_counted.proofs.SlotMarks.{released_room, by_null, by_cell}
+use Rattle.kk_counted.proofs.FillSteps.{fill_null, fill_cell}
 use Rattle.kk_counted.proofs.TokenChain.{frames_many}
 use Rattle.kk_counted.proofs.CellRequests.{Asked, full, served, asked, fewer_marks}
 use Rattle.kk_counted.proofs.TokenForms.{AreNow, Has, is_null, has_cell, unspent_has, spent_null_now}
@@ -169,25 +170,13 @@ module _ (setting : TokenSetting) (environment : Environment) (joins : List Toke
         (λ v. bound_to x v rest environment joins from) from)
     fill_grows x y c fields kept others rest among all = by_has (has_slot y among)
       where
-        make : Room → List Value → Action TokenConfiguration
-        make result values = make_step result c values (λ v. bound_to x v rest environment joins from) from
-
-        step : ℕ → Action TokenConfiguration
-        step d =
-            by_token (goes (token_at_stuck from)) (make (request setting.cells others d from.heap (blanked d y spent from.tokens))
-            fields)
-            (λ p. make (has_room (released d y p spent from.tokens)) (filled setting.leaves kept (fields_held from.heap p) fields)) d y
-            from.tokens
-
-        by_has : Has (from.tokens.slots (length lists.older) y) → AllLead (Growth setting.cells from) (step (length from.frames))
+        by_has : Has (from.tokens.slots (length lists.older) y)
+            → AllLead (Growth setting.cells from) (fill_step setting y c fields kept others
+            (λ v. bound_to x v rest environment joins from) from)
         by_has (is_null is) =
             let after = spent_null_now setting.cells lists.unspent lists.older from.frames from.heap from.tokens now y is in
             subst (λ (act : Action TokenConfiguration). AllLead (Growth setting.cells from) act)
-            (sym (ap step many ∙ by_null setting.cells (goes (token_at_stuck from))
-            (make (request setting.cells others (length lists.older) from.heap
-            (blanked (length lists.older) y spent from.tokens)) fields)
-            (λ p. make (has_room (released (length lists.older) y p spent from.tokens))
-            (filled setting.leaves kept (fields_held from.heap p) fields)) (length lists.older) y from.tokens is))
+            (sym (fill_null setting y c fields kept others (λ v. bound_to x v rest environment joins from) from (length lists.older) many is))
             (made_grows x c fields rest (blanked (length lists.older) y spent from.tokens) lists.older
             (request setting.cells others (length lists.older) from.heap (blanked (length lists.older) y spent from.tokens))
             (λ p f z marked_is. marked_is)
@@ -195,12 +184,7 @@ module _ (setting : TokenSetting) (environment : Environment) (joins : List Toke
             (blanked (length lists.older) y spent from.tokens) after.are after.waiting after.slots_are all))
         by_has (has_cell p is) =
             subst (λ (act : Action TokenConfiguration). AllLead (Growth setting.cells from) act)
-            (sym (ap step many ∙ by_cell setting.cells (goes (token_at_stuck from))
-            (make (request setting.cells others (length lists.older) from.heap
-            (blanked (length lists.older) y spent from.tokens)) fields)
-            (λ q. make (has_room (released (length lists.older) y q spent from.tokens))
-            (filled setting.leaves kept (fields_held from.heap q) fields)) (length lists.older) y p from.heap from.tokens
-            now.are.pooled is))
+            (sym (fill_cell setting y c fields kept others (λ v. bound_to x v rest environment joins from) from (length lists.older) many p now.are.pooled is))
             (grows (record {
               count = 1;
               cell = record

@@ -33,21 +33,8 @@ counts_few positions marks holds setting weight input most fields spent fits mar
     (always_bounded setting most spends deep spent.main.0 spent.main.1.0 weight input n)
     (always_fit marks holds setting marked weight input n).0 here at
 
-pub counts_narrow : (positions : PositionTable) (marks : CellMarks) (holds : ℕ → ℕ → Bool) (setting : CountedSetting)
-    (weight : CountedState → ℕ) (input : List ℕ) (most : ℕ) → IsSpent positions setting.program
-    → FitsAlways weight setting input → AreMarked marks holds setting.program → AllSpendAtMost setting.program most
-    → most ≤ greatest_spent → ((c : ℕ) → length (field_marks marks c) ≤ greatest_of Fields) → 1 ≤ setting.depth
-    → setting.depth ≤ greatest_depth → setting.cells ≤ greatest_cells
-    → (n : ℕ) (code : Counted) (environment : Environment) (joins : List CountedJoin)
-    → (counted_after weight setting input n).control ≡ running code environment joins
-    → (at : ℕ) → count_at (counted_after weight setting input n).heap at + 1 < 2 ^ 32
-counts_narrow positions marks holds setting weight input most spent fits marked spends small few deep shallow cells n code
-    environment joins here at =
-    omega (
-      arith,
-      counts_few positions marks holds setting weight input most (greatest_of Fields) spent fits marked spends few deep n code
-          environment joins here at,
-      mul-le-mul_right most shallow,
-      mul-le-mul_left greatest_depth small,
-      cells,
-    )
+-- within the limits such a bound and one more have 32 bits
+pub narrow_bound : (depth cells most count : ℕ) → count ≤ depth * most + greatest_of Fields * cells → most ≤ greatest_spent
+    → depth ≤ greatest_depth → cells ≤ greatest_cells → count + 1 < 2 ^ 32
+narrow_bound depth cells most count few small shallow little =
+    omega (arith, few, mul-le-mul_right most shallow, mul-le-mul_left greatest_depth small, little)

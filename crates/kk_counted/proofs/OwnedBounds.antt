@@ -70,21 +70,11 @@ module _ (positions : PositionTable) (functions : List CountedFunction) where
     owned_few lent readable left owned (read x c fields rest) n s small =
         omega (arith, s.1.0 (λ x. 1), owned_few lent fields left s.0 rest n s.1.1.1.1 small)
     owned_few lent readable left owned (open_cell x c fields used rest) n s small =
-        omega (
-          arith,
-          s.1.0 (λ x. 1),
-          total_append (λ x. 1) (filter (is_among used) fields) s.0,
-          owned_few lent [] left (filter (is_among used) fields ++ s.0) rest small.0 s.1.1.1.1.1 small.1.1,
-          small.1.0,
-        )
+        let after = owned_few lent [] left (filter (is_among used) fields ++ s.0) rest small.0 s.1.1.1.1.1 small.1.1 in
+        omega (arith, s.1.0 (λ x. 1), total_append (λ x. 1) (filter (is_among used) fields) s.0, after, small.1.0)
     owned_few lent readable left owned (if_unique x c fields used rest) n s small =
-        omega (
-          arith,
-          s.1.0 (λ x. 1),
-          total_append (λ x. 1) (filter (is_among used) fields) s.0,
-          owned_few lent [] left (filter (is_among used) fields ++ s.0) rest small.0 s.1.1.1.1.1 small.1.1,
-          small.1.0,
-        )
+        let after = owned_few lent [] left (filter (is_among used) fields ++ s.0) rest small.0 s.1.1.1.1.1 small.1.1 in
+        omega (arith, s.1.0 (λ x. 1), total_append (λ x. 1) (filter (is_among used) fields) s.0, after, small.1.0)
     owned_few lent readable left owned (dup x rest) n s small =
         omega (arith, s.1.0 (λ x. 1), owned_few lent readable left (x ∷ s.0) rest n s.1.1.1 small)
     owned_few lent readable left owned (drop x rest) n s small =

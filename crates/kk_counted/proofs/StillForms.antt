@@ -1,5 +1,5 @@
 -- The forms that only tokens have change nothing but the tokens, which are kept.
-use Rattle.std.proofs.Common.{◌≡◌, ℕ, true, false, List, [], ◌∷◌, length, Option, Some, None, arith, refl, sym, ap, ◌∙◌, subst}
+use Rattle.std.proofs.Common.{◌≡◌, ℕ, Bool, true, false, List, [], ◌∷◌, length, Option, Some, None, arith, refl, sym, ap, ◌∙◌, subst}
 use Rattle.std.specs.Prelude.{if◌then◌else◌}
 use Rattle.kk_syntax.specs.Shapes.{is_among, without}
 use Rattle.kk_source.specs.State.{Environment}
@@ -314,22 +314,25 @@ module _ (setting : TokenSetting) (environment : Environment) (joins : List Toke
       (token_code_step setting (Tokened.unhold y rest) environment joins from) rest environment joins from
   unhold_still lists y rest judged = unhold_one lists.left lists.unspent lists.held lists.older y rest judged
 
-  pub there_still : (lists : Lists) (y : ℕ) (there absent : Tokened)
+  -- a branch goes on by the way of its slot, and the lists stay
+  way_still : (lists : Lists) (y : ℕ) (there absent : Tokened) (test : Bool)
       → IsJudged setting.cells lists.left lists.unspent lists.held lists.older (Tokened.if_token y there absent) joins from.frames
       from.heap from.tokens
-      → is_token (from.tokens.slots (length from.frames) y) ≡ true
+      → SpendsTokens lists.left lists.unspent lists.held (if test then there else absent)
+      → is_token (from.tokens.slots (length from.frames) y) ≡ test
       → IsStill setting.cells (ListsAfter (Tokened.if_token y there absent) joins lists)
-      (token_code_step setting (Tokened.if_token y there absent) environment joins from) there environment joins from
-  there_still lists y there absent judged test =
+      (token_code_step setting (Tokened.if_token y there absent) environment joins from) (if test then there else absent) environment
+      joins from
+  way_still lists y there absent test judged spends is =
       record {
         tokens = from.tokens;
-        is = ap (λ b. goes (at_code (if b then there else absent) environment joins from)) test;
+        is = ap (λ b. goes (at_code (if b then there else absent) environment joins from)) is;
         kept = (
           lists,
           (
             refl,
             record {
-              spends = judged.spends.1.1.0;
+              spends = spends;
               waits = judged.waits;
               slots_are = judged.slots_are;
               apart = judged.apart;
@@ -340,28 +343,18 @@ module _ (setting : TokenSetting) (environment : Environment) (joins : List Toke
         );
       }
 
+  pub there_still : (lists : Lists) (y : ℕ) (there absent : Tokened)
+      → IsJudged setting.cells lists.left lists.unspent lists.held lists.older (Tokened.if_token y there absent) joins from.frames
+      from.heap from.tokens
+      → is_token (from.tokens.slots (length from.frames) y) ≡ true
+      → IsStill setting.cells (ListsAfter (Tokened.if_token y there absent) joins lists)
+      (token_code_step setting (Tokened.if_token y there absent) environment joins from) there environment joins from
+  there_still lists y there absent judged = way_still lists y there absent true judged judged.spends.1.1.0
+
   pub absent_still : (lists : Lists) (y : ℕ) (there absent : Tokened)
       → IsJudged setting.cells lists.left lists.unspent lists.held lists.older (Tokened.if_token y there absent) joins from.frames
       from.heap from.tokens
       → is_token (from.tokens.slots (length from.frames) y) ≡ false
       → IsStill setting.cells (ListsAfter (Tokened.if_token y there absent) joins lists)
       (token_code_step setting (Tokened.if_token y there absent) environment joins from) absent environment joins from
-  absent_still lists y there absent judged test =
-      record {
-        tokens = from.tokens;
-        is = ap (λ b. goes (at_code (if b then there else absent) environment joins from)) test;
-        kept = (
-          lists,
-          (
-            refl,
-            record {
-              spends = judged.spends.1.1.1;
-              waits = judged.waits;
-              slots_are = judged.slots_are;
-              apart = judged.apart;
-              waiting = judged.waiting;
-              are = judged.are;
-            },
-          ),
-        );
-      }
+  absent_still lists y there absent judged = way_still lists y there absent false judged judged.spends.1.1.1

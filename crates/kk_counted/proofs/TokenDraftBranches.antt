@@ -225,10 +225,6 @@ module _ (d : Draft) (t : TokenDraft) (is : IsTokened d t) (code : Counted) (end
   ended_now (split ∷ splits) [] of are in_arm can = absurd are
   ended_now (split ∷ splits) (branch ∷ branches) of are in_arm can =
       record {
-        plain = refl;
-        leads = λ inside open_end. no_two inside refl;
-        leaves = tt;
-        falling = tt;
         splits = (
           record {
             on = are.0.on;
@@ -245,6 +241,10 @@ module _ (d : Draft) (t : TokenDraft) (is : IsTokened d t) (code : Counted) (end
           },
           are.1,
         );
+        plain = refl;
+        leads = λ inside open_end. no_two inside refl;
+        leaves = tt;
+        falling = tt;
         ending = refl;
         closed = λ other ends. absurd (not_closed None other refl ends);
         quiet = λ inside. (refl, refl);

@@ -17,6 +17,7 @@ use Rattle.kk_syntax.specs.PositionsOf.{PositionTable}
 use Rattle.kk_counted.specs.Arms.{HasArms}
 use Rattle.kk_counted.specs.Marks.{CellMarks, CanBeMarked}
 use Rattle.kk_counted.specs.Programs.{IsFunctionOf, function_of}
+use Rattle.kk_counted.proofs.CountChanges.{itself}
 use Rattle.kk_counted.specs.CountedCodes.{Counted, tail_call, compute, inside, read, open_cell, if_unique, dup, drop}
 use Rattle.kk_counted.specs.CountedForms.{computes, reads, dups, plug, block_code}
 use Rattle.kk_counted.specs.Spending.{AreApart}
@@ -237,6 +238,11 @@ leads_plain d spare x (OfForm.Print form) arguments plain falling left rest spen
 leads_plain d spare x (OfForm.Construct c) arguments plain falling left rest spent = leads_construct spare x c arguments falling left rest spent
 leads_plain d spare x (OfForm.Call f) arguments plain falling left rest spent = absurd plain
 
+-- what is behind another slot is among both
+behind : (ys : List ℕ) (t : Bool) (z : ℕ) → is_among ys z ≡ true → (t || is_among ys z) ≡ true
+behind ys true z there = refl
+behind ys false z there = there
+
 -- the tokens are held, and taken back
 module _ (left unspent : List ℕ) where
   holds_spend : (spare : List ℕ) (rest : Tokened) → ((y : ℕ) → is_among spare y ≡ true → is_among unspent y ≡ true) → AreApart spare
@@ -245,15 +251,8 @@ module _ (left unspent : List ℕ) where
   holds_spend (y ∷ ys) rest all apart spent =
       subst (λ (moves : List TokenedMove). SpendsTokens left unspent [] (plug_tokened moves rest)) (sym (one_more y ys))
       (subst (SpendsTokens left unspent []) (sym (plug_more (map TokenedMove.holds (reverse ys)) (TokenedMove.holds y ∷ []) rest))
-      (holds_spend ys (Tokened.hold y rest) (λ z is. all z (behind (y == z) z is)) apart.1 (all y (ap (λ b. b || is_among ys y) (itself y)), (apart.0, spent))))
+      (holds_spend ys (Tokened.hold y rest) (λ z is. all z (behind ys (y == z) z is)) apart.1 (all y (ap (λ b. b || is_among ys y) (itself y)), (apart.0, spent))))
     where
-      behind : (t : Bool) (z : ℕ) → is_among ys z ≡ true → (t || is_among ys z) ≡ true
-      behind true z there = refl
-      behind false z there = there
-
-      itself : (n : ℕ) → (n == n) ≡ true
-      itself n = grind arith
-
       one_more : (y : ℕ) (ys : List ℕ) → map TokenedMove.holds (reverse (y ∷ ys)) ≡ map TokenedMove.holds (reverse ys) ++ TokenedMove.holds y ∷ []
       one_more y ys = ap (map TokenedMove.holds) (reverse_onto ys y []) ∙ map-append TokenedMove.holds (reverse ys) (y ∷ [])
 
@@ -261,14 +260,7 @@ module _ (left unspent : List ℕ) where
       → SpendsTokens left unspent [] rest → SpendsTokens left unspent spare (plug_tokened (map TokenedMove.unholds spare) rest)
   unholds_spend [] rest all spent = spent
   unholds_spend (y ∷ ys) rest all spent =
-      (ys, (refl, (all y (ap (λ b. b || is_among ys y) (itself y)), unholds_spend ys rest (λ z is. all z (behind (y == z) z is)) spent)))
-    where
-      behind : (t : Bool) (z : ℕ) → is_among ys z ≡ true → (t || is_among ys z) ≡ true
-      behind true z there = refl
-      behind false z there = there
-
-      itself : (n : ℕ) → (n == n) ≡ true
-      itself n = grind arith
+      (ys, (refl, (all y (ap (λ b. b || is_among ys y) (itself y)), unholds_spend ys rest (λ z is. all z (behind ys (y == z) z is)) spent)))
 
 pub leads_call : (spare : List ℕ) (x f : ℕ) (arguments others : List ℕ) → AreFalling spare
     → LeadsTokens spare spare (under_holds spare (TokenedMove.computes x (Call f) arguments others))

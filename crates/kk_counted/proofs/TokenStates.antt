@@ -1,6 +1,7 @@
 -- Each state of a run with tokens is, without its tokens, a state of the run of the bare form.
 use Rattle.std.proofs.Common.{◌≡◌, ℕ, zero, suc, Bool, true, false, List, [], ◌∷◌, refl, sym, ap, ◌∙◌}
 use Rattle.kk_base.specs.Machines.{state}
+use Rattle.kk_source.specs.State.{Environment}
 use Rattle.kk_source.specs.Actions.{Action, goes, puts, takes, builds, calls, performed}
 use Rattle.kk_counted.proofs.TokenRuns.{same_run, function_at}
 use Rattle.kk_counted.proofs.TokenSteps.{follows}
@@ -38,52 +39,33 @@ module _ (weight : CountedState → ℕ) (setting : TokenSetting) (spent : AreTo
   last_step zero s = refl
   last_step (suc m) s = last_step m ((counted_machine weight (bare_setting setting)).step s).1
 
-  running_step : (first : CountedState) (code : Tokened) (environment : _) (joins : List TokenJoin) (frames : List TokenFrame)
-      (heap : Heap)
-      (tokens : Tokens) (input : List ℕ)
-      → AreKeptAt setting.cells (record {
-        control = TokenControl.running code environment joins;
-        frames = frames;
-        heap =
-            heap;
-        tokens = tokens;
-      })
-      (TokenControl.running code environment joins)
-      → FillsAt setting.leaves (record {
-        control = TokenControl.running code environment joins;
-        frames = frames;
-        heap =
-            heap;
-        tokens = tokens;
-      })
-      (TokenControl.running code environment joins)
-      → StateOf first (record {
-        machine = record
-            { control = TokenControl.running code environment joins; frames = frames; heap = heap; tokens = tokens };
-        input = input;
-      })
+  -- the configuration that runs a code
+  abbrev at : Tokened → Environment → List TokenJoin → List TokenFrame → Heap → Tokens → TokenConfiguration
+  at code environment joins frames heap tokens =
+      record { control = TokenControl.running code environment joins; frames = frames; heap = heap; tokens = tokens }
+
+  running_step : (first : CountedState) (code : Tokened) (environment : Environment) (joins : List TokenJoin)
+      (frames : List TokenFrame) (heap : Heap) (tokens : Tokens) (input : List ℕ)
+      → AreKeptAt setting.cells (at code environment joins frames heap tokens) (TokenControl.running code environment joins)
+      → FillsAt setting.leaves (at code environment joins frames heap tokens) (TokenControl.running code environment joins)
+      → StateOf first (record { machine = at code environment joins frames heap tokens; input = input })
       → (quiet : Bool) → is_quiet code ≡ quiet
-      → StateOf first (performed (token_code_step setting code environment joins
-      (record { control = TokenControl.running code environment joins; frames = frames; heap = heap; tokens = tokens })) input).1
+      → StateOf first (performed (token_code_step setting code environment joins (at code environment joins frames heap tokens))
+      input).1
   running_step first code environment joins frames heap tokens input kept fills is false quiet = (
     suc is.0,
-    bare_performed (token_code_step setting code environment joins from) input
+    bare_performed (token_code_step setting code environment joins (at code environment joins frames heap tokens)) input
         ∙ (ap (λ action. (performed action input).1)
-        (follows setting spent kept.0 code environment joins from kept.1 fills quiet).does
+        (follows setting spent kept.0 code environment joins
+        (at code environment joins frames heap tokens) kept.1 fills quiet).does
         ∙ (ap (λ s. ((counted_machine weight (bare_setting setting)).step s).1) is.1 ∙ sym (last_step is.0 first))),
   )
-    where
-      from : TokenConfiguration
-      from = record { control = TokenControl.running code environment joins; frames = frames; heap = heap; tokens = tokens }
   running_step first code environment joins frames heap tokens input kept fills is true quiet =
-      let still = unseen setting kept.0 environment joins from code kept.1 quiet in (
+      let still = unseen setting kept.0 environment joins (at code environment joins frames heap tokens) code kept.1 quiet in (
         is.0,
         ap (λ action. bare_state (performed action input).1) still.is
             ∙ (ap (λ (c : CountedConfiguration). record { machine = c; input = input }) still.alike ∙ is.1),
       )
-    where
-      from : TokenConfiguration
-      from = record { control = TokenControl.running code environment joins; frames = frames; heap = heap; tokens = tokens }
 
   one_step : (first : CountedState) (t : TokenState) → AreKept setting.cells t.machine
       → FillsAt setting.leaves t.machine t.machine.control

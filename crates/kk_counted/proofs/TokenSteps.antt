@@ -21,15 +21,16 @@ use Rattle.kk_counted.specs.CountedStates.{CountedConfiguration}
 use Rattle.kk_counted.specs.CountedMachine.{at_counted, bound_then, at_end, in_code, with_heap, arm_at, case_step, give_step, tail_step, Named, cell_named, used_values, other_values, opened_heap, unique_heap, open_step, construct_step, call_step, form_step, counted_code_step}
 use Rattle.kk_counted.specs.TokenedCodes.{Tokened, TokenedArms, TokenedFunction}
 use Rattle.kk_counted.specs.BareForms.{bare, bare_arms, bare_function}
-use Rattle.kk_counted.specs.Tokens.{spent, token, is_unspent, Tokens, marked, blanked, released, opened_tokens, by_token, held, Room, has_room, request}
+use Rattle.kk_counted.specs.Tokens.{spent, token, is_unspent, Tokens, marked, blanked, released, opened_tokens, held, Room, has_room, request}
 use Rattle.kk_counted.specs.TokenStates.{TokenSetting, TokenJoin, TokenFrame, TokenControl, TokenConfiguration, bare_join, bare_frame, bare_configuration, bare_setting}
-use Rattle.kk_counted.specs.TokenMachine.{at_code, bound_to, token_at_end, token_at_stuck, to_heap, tokened_arm_at, token_case_step, token_give_step, in_body, token_tail_step, token_read_step, to_opened, token_open_step, make_step, filled, fill_step, token_call_step, token_form_step, token_code_step}
+use Rattle.kk_counted.specs.TokenMachine.{at_code, bound_to, token_at_end, to_heap, tokened_arm_at, token_case_step, token_give_step, in_body, token_tail_step, token_read_step, to_opened, token_open_step, make_step, filled, fill_step, token_call_step, token_form_step, token_code_step}
 use Rattle.kk_counted.specs.TokenSpending.{AreSame, AtForm, SpendsTokens, SpendAllTokens, AreTokensSpent}
 use Rattle.kk_counted.specs.TokenRuns.{is_quiet, IsFollowed}
 use Rattle.kk_counted.specs.TokenKeeping.{AreTokens, WaitTokens, IsHeldFrame, IsJudged, Lists, ListsAfter, ListsAfterForm, AreKeptBy, FillsAt}
 use Rattle.kk_counted.proofs.CountChanges.{same}
 use Rattle.kk_counted.proofs.HeapChanges.{EasedTo, eased_dup, eased_drop, eased_opening, eased_unique}
-use Rattle.kk_counted.proofs.SlotMarks.{released_room, by_null, by_cell}
+use Rattle.kk_counted.proofs.SlotMarks.{released_room}
+use Rattle.kk_counted.proofs.FillSteps.{fill_null, fill_cell}
 use Rattle.kk_counted.proofs.TokenChain.{frames_many}
 use Rattle.kk_counted.proofs.CellRequests.{Asked, full, served, asked}
 use Rattle.kk_counted.proofs.TokenForms.{AreNow, Has, is_null, has_cell, unspent_has, not_unspent, spent_null_now, spent_now, eased_now, opened_now, made_now, served_now}
@@ -451,26 +452,15 @@ module _ (setting : TokenSetting) (program_spends : AreTokensSpent setting.progr
             (λ v. bound_then x v (bare rest) environment (map bare_join joins) (bare_configuration from))
             (bare_configuration from)
 
-        make : Room → List Value → Action TokenConfiguration
-        make result values = make_step result c values (λ v. bound_to x v rest environment joins from) from
-
-        step : ℕ → Action TokenConfiguration
-        step d =
-            by_token (goes (token_at_stuck from)) (make (request setting.cells others d from.heap (blanked d y spent from.tokens))
-            fields)
-            (λ p. make (has_room (released d y p spent from.tokens)) (filled setting.leaves kept (fields_held from.heap p) fields)) d y
-            from.tokens
-
-        by_has : Has (from.tokens.slots (length older) y) → IsFollowed setting.cells P (step (length from.frames)) below
+        by_has : Has (from.tokens.slots (length older) y)
+            → IsFollowed setting.cells P (fill_step setting y c fields kept others (λ v. bound_to x v rest environment joins from) from)
+            below
         by_has (is_null is) =
             let after = now_same setting.cells (without (y ∷ []) full_unspent) unspent older from.frames from.heap
             (blanked (length older) y spent from.tokens) (λ z. sym (rest_unspent z))
             (spent_null_now setting.cells full_unspent older from.frames from.heap from.tokens now y is) in
             subst (λ (act : Action TokenConfiguration). IsFollowed setting.cells P act below)
-            (sym (ap step many ∙ by_null setting.cells (goes (token_at_stuck from))
-            (make (request setting.cells others (length older) from.heap (blanked (length older) y spent from.tokens)) fields)
-            (λ p. make (has_room (released (length older) y p spent from.tokens))
-            (filled setting.leaves kept (fields_held from.heap p) fields)) (length older) y from.tokens is))
+            (sym (fill_null setting y c fields kept others (λ v. bound_to x v rest environment joins from) from (length older) many is))
             (made_followed P x c fields (blanked (length older) y spent from.tokens) ([] ∷ older)
             (request setting.cells others (length older) from.heap (blanked (length older) y spent from.tokens))
             next now.are spends after
@@ -481,13 +471,10 @@ module _ (setting : TokenSetting) (program_spends : AreTokensSpent setting.progr
             (released (length older) y p spent from.tokens) (λ z. sym (rest_unspent z))
             (spent_now setting.cells full_unspent older from.frames from.heap from.tokens now y p is) in
             subst (λ (act : Action TokenConfiguration). IsFollowed setting.cells P act below)
-            (sym (ap step many ∙ (by_cell setting.cells (goes (token_at_stuck from))
-            (make (request setting.cells others (length older) from.heap (blanked (length older) y spent from.tokens)) fields)
-            (λ p. make (has_room (released (length older) y p spent from.tokens))
-            (filled setting.leaves kept (fields_held from.heap p) fields)) (length older) y p from.heap from.tokens
-            now.are.pooled is
-            ∙ ap (make (has_room (released (length older) y p spent from.tokens)))
-            (fills p (ap (λ d. from.tokens.slots d y) many ∙ is)))))
+            (sym (fill_cell setting y c fields kept others (λ v. bound_to x v rest environment joins from) from (length older) many p now.are.pooled is
+            ∙ ap (λ values. make_step (has_room (released (length older) y p spent from.tokens)) c values (λ v. bound_to x v rest environment joins from)
+            from)
+            (fills p (ap (λ d. from.tokens.slots d y) many ∙ is))))
             (made_followed P x c fields (released (length older) y p spent from.tokens) ([] ∷ older)
             (has_room (released (length older) y p spent from.tokens))
             next now.are spends after

@@ -22,7 +22,7 @@ pub right_false : (a b : Bool) → (a || b) ≡ false → b ≡ false
 right_false false b is = is
 right_false true b is = absurd (cc)
 
-turned : (x y : ℕ) → (x == y) ≡ false → (y == x) ≡ false
+pub turned : (x y : ℕ) → (x == y) ≡ false → (y == x) ≡ false
 turned x y apart = by_test (y == x) refl
   where
     by_test : (t : Bool) → (y == x) ≡ t → t ≡ false
