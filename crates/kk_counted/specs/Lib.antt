@@ -40,5 +40,6 @@ pub mod TokenStates
 pub mod TokenWords
 pub mod TokenedCodes
 pub mod TokenedForms
+pub mod TokenedWords
 pub mod Tokens
 pub mod Works
