@@ -1,5 +1,6 @@
 pub mod Arms
 pub mod BareForms
+pub mod BlockEnds
 pub mod CodePlaces
 pub mod Cost
 pub mod CountedCosts
