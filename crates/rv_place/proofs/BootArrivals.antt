@@ -22,7 +22,7 @@ use Rattle.rv_isa.proofs.ProcessorMachines.{state-run}
 use Rattle.rv_isa.proofs.Runs.{Leads-run}
 use Rattle.cell_heap.specs.Pool.{Pool}
 use Rattle.cell_runtime.specs.Lines.{words_of}
-use Rattle.cell_runtime.specs.declared.process.TheConstants.{TEXT_WORDS}
+use Rattle.cell_runtime.specs.Sizes.{runtime_words}
 use Rattle.rv_world.specs.World.{World, first_world, primitives}
 use Rattle.rv_place.specs.declared.words.Words.{Words}
 use Rattle.rv_place.specs.Addresses.{words_of_lines, forms_of, entry_words}
@@ -109,7 +109,7 @@ module _ {cells depth : ℕ} {runtime program : Placed} {words : Words} {text : 
       → line_address map functions f j ≡ line_address map functions g i → (f ≡ g) × (j ≡ i)
   image-apart = line_alone map (code_in words) functions image.words_are.functions behind_runtime refl
 
-  pub image-outside : (f j : ℕ) → PlacedHasLine functions f j → text_start + 4 * TEXT_WORDS ≤ line_address map functions f j
+  pub image-outside : (f j : ℕ) → PlacedHasLine functions f j → text_start + 4 * runtime_words ≤ line_address map functions f j
   image-outside f j has =
       subst (λ n. text_start + 4 * n ≤ line_address map functions f j) image.runtime_is.words
       (line_behind map (code_in words) functions image.words_are.functions behind_runtime refl f j has)

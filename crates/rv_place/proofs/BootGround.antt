@@ -3,7 +3,7 @@ use Rattle.std.proofs.Common.{◌≡◌, ◌≤◌, ◌<◌, ℕ, ◌+◌, ◌*�
 use Rattle.std.proofs.lemmas.Option.{slice_get_within}
 use Rattle.rv_isa.specs.declared.placed.DataSection.{DataSection}
 use Rattle.rv_isa.specs.Standing.{Has}
-use Rattle.elf_image.specs.declared.image.TheConstants.{PAGE_SIZE}
+use Rattle.elf_image.specs.Program.{page_size}
 use Rattle.elf_image.specs.Program.{text_start}
 use Rattle.rv_isa.specs.declared.routine.Routine.TheVariants as routine
 use Rattle.rv_isa.specs.declared.instr.Instr.{Instr}
@@ -19,7 +19,7 @@ use Rattle.cell_runtime.specs.Lines.{words_of}
 use Rattle.cell_runtime.proofs.AddressReach.{below_most}
 use Rattle.cell_runtime.specs.Texts.{IsRuntime, runtime_labels, IsText}
 use Rattle.kk_base.specs.Sizes.{greatest_cells, greatest_depth}
-use Rattle.cell_runtime.specs.declared.process.TheConstants.{TEXT_WORDS}
+use Rattle.cell_runtime.specs.Sizes.{runtime_words}
 use Rattle.cell_runtime.specs.declared.process.Ending.TheVariants as ending
 use Rattle.cell_runtime.specs.Prints.{buffer_bytes, IsPrintInt, IsPrintText, IsReadByte}
 use Rattle.cell_runtime.specs.Stops.{IsStop}
@@ -67,8 +67,8 @@ behind_read_byte =
 pub record HasRoom (cells depth frame text memory bottom size : ℕ) : Type 0 where
   pub few_text : text ≤ 4 * most_text_words + most_constant_bytes
   pub behind : text_start + text ≤ memory
-  pub near : memory < text_start + 4 * most_text_words + most_constant_bytes + PAGE_SIZE
-  pub memory_page : memory % PAGE_SIZE ≡ 0
+  pub near : memory < text_start + 4 * most_text_words + most_constant_bytes + page_size
+  pub memory_page : memory % page_size ≡ 0
   pub some_cells : bottom ≡ 32 + 32 * cells + below_pointer frame
   pub few_cells : bottom ≤ 32 + 32 * greatest_cells + reach_down
   pub size_is : size ≡ bottom + depth * frame
@@ -108,7 +108,7 @@ module _ {cells depth : ℕ} {runtime program : Placed} {words : Words} (is_runt
       let place = code_of-place text_start placed.own at i here in
       subst (λ a. code a ≡ Some i) (sym place.1) (Has-get code text_start placed.own place.0 i (Has-front code text_start placed.own placed.rest whole) place.2)
 
-  pub own-inside : (at : ℕ) (i : Instr) → own_code at ≡ Some i → (text_start ≤ at) × (at < text_start + 4 * TEXT_WORDS)
+  pub own-inside : (at : ℕ) (i : Instr) → own_code at ≡ Some i → (text_start ≤ at) × (at < text_start + 4 * runtime_words)
   own-inside at i here =
       let place = code_of-place text_start placed.own at i here in
       let where_is = place.1 in

@@ -2,7 +2,7 @@
 use Rattle.std.proofs.Common.{◌≡◌, ◌<◌, ◌≤◌, ℕ, ◌+◌, ◌*◌, ◌%◌, Bool, true, false, cond, List, [], ◌∷◌, length, ap, ◌∙◌, arith}
 use Rattle.std.proofs.lemmas.Nat.{mul-le}
 use Rattle.kk_base.specs.Sizes.{greatest_depth}
-use Rattle.elf_image.specs.declared.image.TheConstants.{PAGE_SIZE}
+use Rattle.elf_image.specs.Program.{page_size}
 use Rattle.elf_image.specs.Program.{text_start, memory_start}
 use Rattle.rv_isa.specs.declared.asm.Action.{Action}
 use Rattle.rv_isa.specs.declared.asm.Action.TheVariants.{Compute, Label, Jump, Branch, Call, TailCall, Return, Routine, Hold, Unhold}
@@ -61,10 +61,10 @@ functions_most jumps (function ∷ functions) = omega (arith, jump_most jumps, s
 pub memory_behind : (n : ℕ) → text_start + n ≤ memory_start n
 memory_behind n = omega arith
 
-pub memory_near : (n : ℕ) → memory_start n < text_start + n + PAGE_SIZE
+pub memory_near : (n : ℕ) → memory_start n < text_start + n + page_size
 memory_near n = omega arith
 
-pub memory_page : (n : ℕ) → memory_start n % PAGE_SIZE ≡ 0
+pub memory_page : (n : ℕ) → memory_start n % page_size ≡ 0
 memory_page n = omega arith
 
 -- all frames
@@ -81,7 +81,7 @@ module _ {runtime program : Placed} (placeable : ArePlaceable runtime program) w
   pub bytes_most : text_bytes runtime program ≤ 4 * most_text_words + most_constant_bytes
   bytes_most = omega (arith, words_most, placeable.few_bytes)
 
-  pub memory_most : memory_of runtime program < text_start + 4 * most_text_words + most_constant_bytes + PAGE_SIZE
+  pub memory_most : memory_of runtime program < text_start + 4 * most_text_words + most_constant_bytes + page_size
   memory_most = omega (arith, bytes_most, memory_near (text_bytes runtime program))
 
 -- the bytes of a text are as many as its instructions and constants take

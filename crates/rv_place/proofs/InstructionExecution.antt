@@ -1,6 +1,6 @@
 -- Instructions of placed code, executed: what they change is told by facts, so that no state of the machine stands in what follows.
 use Rattle.std.proofs.Common.{◌≡◌, ◌≢◌, ◌<◌, All, ℕ, ◌+◌, ◌%◌, ◌^◌, List, [], ◌∷◌, ◌++◌, Some, Bool, true, false, not, refl, sym, ap, ◌∙◌, subst, arith}
-use Rattle.rv_isa.specs.declared.environment.TheConstants.{CELL_SIZE}
+use Rattle.rv_isa.specs.Numbers.{cell_size}
 use Rattle.rv_isa.specs.declared.act.Effect.{Effect}
 use Rattle.rv_isa.specs.declared.immediate.JumpOffset.{JumpOffset}
 use Rattle.rv_isa.specs.declared.register.Register.{Register}
@@ -140,7 +140,7 @@ pub record Goes (cells : ℕ) (code : Code) (steps : ℕ) (changed : List ℕ) (
 
 -- a word is apart from each free cell
 abbrev pub MissesFree : ℕ → Processor → ℕ → Type 0
-MissesFree cells s at = All (λ cell. Apart at 4 cell CELL_SIZE) (free_list cells s)
+MissesFree cells s at = All (λ cell. Apart at 4 cell cell_size) (free_list cells s)
 
 pub outside_front : (x : ℕ) (front back : List ℕ) → IsOutside x (front ++ back) → IsOutside x front
 outside_front x [] back out = tt
@@ -198,7 +198,7 @@ pub misses_done : {cells : ℕ} {code : Code} {n : ℕ} {changed : List ℕ} {ne
     → IsOutside 8 changed → IsOutside 18 changed → IsOutside 19 changed → MissesFree cells s at → MissesFree cells t at
 misses_done {cells} {s = s} {t = t} at done chain border end misses =
     let same : free_list cells t ≡ free_list cells s = rw (done.memory_is, done.parts_are, done.kept 8 chain, done.kept 18 border, done.kept 19 end) refl in
-    subst (All (λ cell. Apart at 4 cell CELL_SIZE)) (sym same) misses
+    subst (All (λ cell. Apart at 4 cell cell_size)) (sym same) misses
 
 -- a part that was done in a state with the memory of another
 pub done_on : {cells : ℕ} {code : Code} {n k : ℕ} {front back : List ℕ} {m : ℕ → ℕ} {next next' : ℕ} {s t u : Processor}

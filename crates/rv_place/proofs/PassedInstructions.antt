@@ -10,7 +10,7 @@ use Rattle.rv_isa.specs.Standing.{Code, Stands, Inside}
 use Rattle.rv_isa.specs.Execution.{run, Leads, Along}
 use Rattle.rv_isa.proofs.Runs.{Leads-then, Leads-each}
 use Rattle.cell_heap.specs.Pool.{Pool}
-use Rattle.cell_runtime.specs.declared.process.TheConstants.{TEXT_WORDS}
+use Rattle.cell_runtime.specs.Sizes.{runtime_words}
 use Rattle.cell_runtime.specs.Calls.{Returns, Exits}
 use Rattle.cell_runtime.specs.Starts.{AfterStart}
 use Rattle.rv_place.specs.Lines.{Map}
@@ -53,12 +53,12 @@ stands_part part stands = record {
 
 -- what stands within the runtime's words is passed
 pub inside_passes : (map : Map) (pool : Pool) (progress : Progress) → map.runtime ≤ progress.processor.pc
-    → progress.processor.pc < map.runtime + 4 * TEXT_WORDS → Passing map pool progress
+    → progress.processor.pc < map.runtime + 4 * runtime_words → Passing map pool progress
 inside_passes map pool progress low high going (inl before) = absurd (omega arith)
 inside_passes map pool progress low high going (inr behind) = absurd (omega arith)
 
 module _ (map : Map) (pool : Pool) (own : Code)
-    (own_inside : (at : ℕ) (i : Instr) → own at ≡ Some i → (map.runtime ≤ at) × (at < map.runtime + 4 * TEXT_WORDS)) where
+    (own_inside : (at : ℕ) (i : Instr) → own at ≡ Some i → (map.runtime ≤ at) × (at < map.runtime + 4 * runtime_words)) where
   stays_passes : (at : ℕ) (o : Option Instr) → own at ≡ o → IsSome o → (progress : Progress) → progress.processor.pc ≡ at
       → Passing map pool progress
   stays_passes at None here some progress pc_is = absurd (false≢true some)

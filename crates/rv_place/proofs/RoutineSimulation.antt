@@ -7,7 +7,7 @@ use Rattle.std.proofs.lemmas.Bool.Decides.{nat_tests}
 use Rattle.std.proofs.lemmas.List.Elements.{All-head, All-tail}
 use Rattle.kk_base.specs.Memory.{Part}
 use Rattle.kk_base.specs.Trace.{output, input, input_end}
-use Rattle.kk_base.specs.declared.exits.TheConstants.{HEAP_FULL_EXIT}
+use Rattle.kk_base.specs.Exits.{heap_full_exit}
 use Rattle.rv_isa.specs.declared.asm.Action.{Action}
 use Rattle.rv_isa.specs.declared.asm.Action.TheVariants.{Routine}
 use Rattle.rv_isa.specs.declared.routine.Routine.{Routine as Called}
@@ -574,7 +574,7 @@ module _ {map_of : Map} {pool : Pool} {functions : List PlacedLines} {depth buff
             (λ known' agrees. cells_come 10 next t (g ∷ gs) known' back_at refl (omega arith) stand size constants trace left agrees holds) into gives is
 
     -- there is no cell
-    take_full : (start : Begins ground.take.0) → IsFull pool (view_of world.cells links_here) → Exits ground.own HEAP_FULL_EXIT 6 start.called.after
+    take_full : (start : Begins ground.take.0) → IsFull pool (view_of world.cells links_here) → Exits ground.own heap_full_exit 6 start.called.after
         → placed_served into (behind ∷ fs) (kept_by (Routine Take) known) (takes_cell (request pool (top (f ∷ fs)) world.cells) world) ≡ turn → Comes map_of pool functions depth stop code parts 10 old turn s
     take_full start full exits is =
         let done = start.called.done in
@@ -582,7 +582,7 @@ module _ {map_of : Map} {pool : Pool} {functions : List PlacedLines} {depth buff
         let test : nat_lt world.cells.border (end_of pool) ≡ false = (let border = full.border in grind (arith, nat_tests)) in
         let asked : request pool (top (f ∷ fs)) world.cells ≡ None = ap (λ newest. request pool newest world.cells) none ∙ no_cell pool world.cells full.chain test in
         subst (λ t. Comes map_of pool functions depth stop code parts 10 old t s) (ap (λ r. placed_served into (behind ∷ fs) (kept_by (Routine Take) known) (takes_cell r world)) (sym asked) ∙ is)
-        (comes_ended map_of pool functions depth stop code parts 10 old (exited HEAP_FULL_EXIT) world s (words_of_jump forms.jumps + 6) (record { processor = exits.last; ending = exited HEAP_FULL_EXIT }) (exit_runs s start.called.after done.leads exits)
+        (comes_ended map_of pool functions depth stop code parts 10 old (exited heap_full_exit) world s (words_of_jump forms.jumps + 6) (record { processor = exits.last; ending = exited heap_full_exit }) (exit_runs s start.called.after done.leads exits)
         (passes_to_exit ground done exits)
         (refl, exits.trace ∙ (done.trace_is ∙ running.trace), (links_here, cells_ended (cells_begin start) exits)) (omega arith) (omega (arith, jump_most forms.jumps)))
 

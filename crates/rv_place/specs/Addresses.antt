@@ -23,7 +23,6 @@ use Rattle.rv_place.specs.Instructions.{words_of_operation, words_of_jump, words
 use Rattle.rv_place.specs.declared.reach.Forms.{Forms}
 use Rattle.rv_place.specs.declared.reach.Reach.{Reach}
 use Rattle.rv_place.specs.declared.reach.Reach.TheVariants.{Near, Far, Wide}
-use Rattle.rv_place.specs.declared.sizes.TheConstants.{BRANCH_WORDS, JUMP_WORDS}
 
 -- ---- functions that take a frame
 
@@ -127,12 +126,14 @@ label_address forms l at (line ∷ lines) = cond (is_label_line l line) (Some at
 abbrev pub reach_of : ℕ → ℕ → Reach
 reach_of limit words = cond (nat_lt words limit) Near Far
 
--- a near branch leads everywhere within fewer instructions than these, 4 KiB; and a near jump within fewer than those, 1 MiB
+-- a near branch leads everywhere within fewer instructions than these: its distance of 13 bits, sign-extended, reaches 4 KiB
+-- (RISC-V Unprivileged ISA, 2.5)
 abbrev pub branch_words : ℕ
-branch_words = BRANCH_WORDS
+branch_words = 1024
 
+-- a near jump within fewer than these: its distance has 21 bits, and reaches 1 MiB
 abbrev pub jump_words : ℕ
-jump_words = JUMP_WORDS
+jump_words = 262144
 
 -- the forms of a function in a text whose jumps lead so far: where its lines are few instructions with near branches, they are near
 abbrev pub forms_of : Reach → List PlacedLine → Forms

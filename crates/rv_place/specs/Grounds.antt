@@ -10,7 +10,7 @@ use Rattle.rv_isa.specs.PlacedCode.{PlacedLines}
 use Rattle.rv_isa.specs.Bytes.{Apart, bytes_at}
 use Rattle.rv_isa.specs.Processor.{Processor, can_load, can_store}
 use Rattle.rv_isa.specs.Standing.{Code, Stands}
-use Rattle.cell_runtime.specs.declared.process.TheConstants.{TEXT_WORDS}
+use Rattle.cell_runtime.specs.Sizes.{runtime_words}
 use Rattle.cell_runtime.specs.declared.process.Ending.TheVariants as ending
 use Rattle.cell_runtime.specs.Prints.{buffer_bytes, IsPrintInt, IsPrintText, IsReadByte}
 use Rattle.cell_runtime.specs.Stops.{IsStop}
@@ -65,7 +65,7 @@ pub record Ground (map : Map) (pool : Pool) (functions : List PlacedLines) (dept
   pub runtime_word : map.runtime % 4 ≡ 0
   pub own : Code
   pub own_part : (at : ℕ) (i : Instr) → own at ≡ Some i → code at ≡ Some i
-  pub own_inside : (at : ℕ) (i : Instr) → own at ≡ Some i → (map.runtime ≤ at) × (at < map.runtime + 4 * TEXT_WORDS)
+  pub own_inside : (at : ℕ) (i : Instr) → own at ≡ Some i → (map.runtime ≤ at) × (at < map.runtime + 4 * runtime_words)
   pub take : HasRoutine map (symbol.Routine routine.Take) (IsTake pool own)
   pub give_up : HasRoutine map (symbol.Routine routine.Drop) (IsDrop own)
   pub print_int : HasRoutine map (symbol.Routine routine.PrintInt) (IsPrintInt buffer own)

@@ -10,7 +10,7 @@ use Rattle.rv_isa.specs.Processor.{Processor, Ending, Progress, start, bare}
 use Rattle.rv_isa.specs.ProcessorMachine.{ended}
 use Rattle.rv_isa.specs.FreeCells.{free_list}
 use Rattle.rv_isa.specs.Standing.{Code, code_of}
-use Rattle.cell_runtime.specs.declared.process.TheConstants.{TEXT_WORDS}
+use Rattle.cell_runtime.specs.Sizes.{runtime_words}
 use Rattle.cell_heap.specs.Pool.{Pool}
 use Rattle.cell_heap.specs.Blocks.{seen_cells}
 use Rattle.cell_heap.specs.FreeCells.{ListsFree}
@@ -39,7 +39,7 @@ code_in words = code_of text_start words.instructions.items
 
 -- the entry of the first function, which stands behind the runtime
 abbrev pub main_entry : ℕ
-main_entry = text_start + 4 * TEXT_WORDS
+main_entry = text_start + 4 * runtime_words
 
 -- a run has ended as the machine of the placed form, memory has the cells of the world, and the free cells of the image are
 -- those of the world,

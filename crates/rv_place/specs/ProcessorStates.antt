@@ -23,7 +23,7 @@ use Rattle.cell_heap.specs.Pool.{Pool}
 use Rattle.cell_heap.specs.View.{Link}
 use Rattle.cell_heap.specs.Blocks.{Cells}
 use Rattle.cell_heap.specs.ProgramMemory.{HoldsCells}
-use Rattle.cell_runtime.specs.declared.process.TheConstants.{TEXT_WORDS}
+use Rattle.cell_runtime.specs.Sizes.{runtime_words}
 use Rattle.rv_world.specs.World.{World, primitives}
 use Rattle.rv_place.specs.Addresses.{words_of_lines, forms_of, entry_words, takes_frame, frame_bias, slot_offset}
 use Rattle.rv_place.specs.Lines.{Map, LinesAt}
@@ -197,4 +197,4 @@ Related map pool functions depth stop code parts credit idle turn progress =
 
 -- what a run may pass: while it goes on outside of the runtime's words, it touches no free cell
 abbrev pub Passing : Map → Pool → Progress → Type 0
-Passing map pool progress = TouchesNoFreeCell map.runtime TEXT_WORDS pool.cells progress
+Passing map pool progress = TouchesNoFreeCell map.runtime runtime_words pool.cells progress

@@ -11,7 +11,7 @@ ghost use Rattle.rv_isa.specs.Primitives.{go};
 ghost use Rattle.rv_isa.specs.Processor.{Processor, goes};
 ghost use Rattle.rv_isa.specs.ProcessorMachine.{processor_machine};
 ghost use Rattle.elf_image.specs.Program.{text_start};
-ghost use Rattle.cell_runtime.specs.declared.process.TheConstants.{TEXT_WORDS};
+ghost use Rattle.cell_runtime.specs.Sizes.{runtime_words};
 ghost use Rattle.rv_world.specs.World.{World, first_world, primitives};
 ghost use Rattle.rv_place.specs.declared.words.Words.{Words};
 ghost use Rattle.rv_place.specs.Images.{first_processor, IsPlacedImage};
@@ -61,7 +61,7 @@ pub fn placed_text_comes_to_its_lines()
     ensures outside { (cells depth : ℕ) (runtime program : Placed) (words : Words) (text : List ℕ) (main : PlacedLines)
         → IsPlacedImage cells depth runtime program words text main
         → (f j : ℕ) → PlacedHasLine (placed_functions program) f j
-        → text_start + 4 * TEXT_WORDS ≤ line_address (map_of runtime program) (placed_functions program) f j }
+        → text_start + 4 * runtime_words ≤ line_address (map_of runtime program) (placed_functions program) f j }
     ensures inside { (cells depth : ℕ) (runtime program : Placed) (words : Words) (text : List ℕ) (main : PlacedLines)
         → IsPlacedImage cells depth runtime program words text main
         → (f j : ℕ) → PlacedHasLine (placed_functions program) f j

@@ -12,7 +12,7 @@ ghost use Rattle.rv_isa.specs.PlacedMachine.{placed_machine, placed_start};
 ghost use Rattle.rv_isa.specs.Processor.{Ending, goes};
 ghost use Rattle.rv_isa.specs.ProcessorMachine.{processor_machine};
 ghost use Rattle.elf_image.specs.Program.{text_start};
-ghost use Rattle.cell_runtime.specs.declared.process.TheConstants.{TEXT_WORDS};
+ghost use Rattle.cell_runtime.specs.Sizes.{runtime_words};
 ghost use Rattle.rv_world.specs.World.{World, first_world, primitives};
 ghost use Rattle.rv_place.specs.declared.words.Words.{Words};
 ghost use Rattle.rv_place.specs.Images.{first_processor, outside_lines, IsPlacedImage, EndsWithCells};
@@ -48,5 +48,5 @@ pub fn placed_text_touches_no_free_cell()
     ensures { (cells depth : ℕ) (runtime program : Placed) (words : Words) (text input : List ℕ) (main : PlacedLines)
         → IsPlacedImage cells depth runtime program words text main → All (λ byte. byte < 256) input
         → NeverStuck (map_of runtime program) (pool_in cells runtime program) (placed_functions program) depth (placed_start main (first_world (pool_in cells runtime program) input))
-        → (count : ℕ) → TouchesNoFreeCell text_start TEXT_WORDS cells (run count (first_processor text runtime.memory.size input)) }
+        → (count : ℕ) → TouchesNoFreeCell text_start runtime_words cells (run count (first_processor text runtime.memory.size input)) }
 {}
