@@ -5,12 +5,14 @@ use Rattle.std.specs.Prelude.{◌<◌, slice_get, option_map, length}
 use Rattle.std.proofs.Math.Logic.{∥∥₁_map}
 use Rattle.std.proofs.lemmas.Option.{slice_get-map, slice_get_read}
 use Rattle.kk_syntax.specs.declared.program.Form.{Form}
-use Rattle.kk_syntax.specs.declared.program.Form.TheVariants.{Number, Unit as Nothing, ReadByte, PrintText, Unary, Binary, Print, Construct, Call}
+use Rattle.kk_syntax.specs.declared.program.Form.TheVariants.{Number, Unit as Nothing, ReadByte, PrintText, Unary, Binary, Print}
+use Rattle.kk_syntax.specs.declared.program.Form.TheVariants.{Construct, Call}
 use Rattle.kk_syntax.specs.PositionsOf.{PositionTable}
 use Rattle.kk_counted.specs.declared.counted.CountedFun.{CountedFun}
 use Rattle.kk_counted.specs.Arms.{HasArms}
 use Rattle.kk_counted.specs.CountedCodes.{Counted, CountedFunction, CountedProgram}
 use Rattle.kk_counted.specs.CountedForms.{block_code}
+use Rattle.kk_counted.specs.Keeping.{IsThere, CallsOne}
 use Rattle.kk_counted.specs.Programs.{function_of, IsFunctionOf, AreFunctions}
 use Rattle.kk_counted.specs.Spending.{HasAsMany, FitsForm, SpendsParameters, IsSpent}
 use Rattle.kk_dropspec.specs.Changed.{changed_function, changed_program}
@@ -55,6 +57,17 @@ module _ (change : Counted → Counted) where
         → (function : CountedFunction) × ((slice_get functions f ≡ Some function) × (changed_function change function ≡ other))
     found_before f other is =
         found f other (slice_get functions f) refl (sym (slice_get-map (changed_function change) functions f) ∙ is)
+
+    -- it is there where the function is, so forms still call one
+    pub is_there : (f : ℕ) → IsThere functions f → IsThere (map (changed_function change) functions) f
+    is_there f there = (
+      changed_function change there.0,
+      slice_get-map (changed_function change) functions f ∙ ap (option_map (changed_function change)) there.1,
+    )
+
+    pub calls_one : (form : Form) → CallsOne functions form → CallsOne (map (changed_function change) functions) form
+    calls_one (Call f) calls = is_there f calls
+    calls_one _ calls = tt
 
     -- it is called with as many arguments
     as_many : (positions : PositionTable) → HaveAsMany positions functions (map (changed_function change) functions)

@@ -11,7 +11,8 @@ use Rattle.kk_core.specs.CoreMachine.{bind_fields}
 use Rattle.kk_counted.specs.CountedCodes.{Counted, CountedArms, CountedFunction}
 use Rattle.kk_counted.specs.Heaps.{Heap, busy}
 use Rattle.kk_counted.specs.CountedStates.{CountedSetting, CountedJoin, CountedFrame, CountedConfiguration}
-use Rattle.kk_counted.specs.CountedMachine.{at_counted, bound_then, at_end, with_heap, arm_at, case_step, give_step, in_code, tail_step, Named, open_step, construct_step, call_step}
+use Rattle.kk_counted.specs.CountedMachine.{at_counted, bound_then, at_end, with_heap, arm_at, case_step, give_step, in_code}
+use Rattle.kk_counted.specs.CountedMachine.{tail_step, Named, open_step, construct_step, call_step}
 use Rattle.kk_dropspec.specs.Changed.{changed_function, changed_setting, changed_join, changed_frame, changed_configuration}
 
 module _ (change : Counted → Counted) where

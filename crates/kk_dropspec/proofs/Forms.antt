@@ -6,7 +6,8 @@ use Rattle.kk_counted.specs.declared.form.Block.{Block}
 use Rattle.kk_counted.specs.declared.form.Last.{Last}
 use Rattle.kk_counted.specs.declared.form.Last.TheVariants as OfLast
 use Rattle.kk_counted.specs.CountedCodes.{Counted, arm, case}
-use Rattle.kk_counted.specs.CountedForms.{Move, computes, runs, reads, opens, opens_unique, dups, drops, put, plug, arms_of, step_move, last_code, block_code, decisions_of}
+use Rattle.kk_counted.specs.CountedForms.{Move, computes, runs, reads, opens, opens_unique, dups, drops, put, plug, arms_of}
+use Rattle.kk_counted.specs.CountedForms.{step_move, last_code, block_code, decisions_of}
 use Rattle.kk_counted.proofs.FormViews.{block_is, case_code}
 use Rattle.kk_dropspec.specs.Specialised.{special, special_arms}
 use Rattle.kk_dropspec.specs.SpecialForms.{special_move}

@@ -1,5 +1,6 @@
 pub mod ChangedSteps
 pub mod ChangedFunctions
+pub mod CodeChanges
 pub mod Spending
 pub mod Steps
 pub mod Runs
@@ -7,6 +8,7 @@ pub mod Tokens
 pub mod Forms
 pub mod SpecialKinds
 pub mod Lowerability
-pub mod SpecialLengths
+pub mod CodeLengths
 pub mod NumberForms
-mod Openings
+pub mod FunctionLoop
+pub mod Openings

@@ -1,5 +1,6 @@
 -- The numbers of code, by those of its steps, its arms and its end.
-use Rattle.std.proofs.Common.{◌≡◌, ◌+◌, ◌<◌, ℕ, zero, suc, List, [], ◌∷◌, ◌++◌, length, take, get_or, map, Some, arith, sym, ◌∙◌, ap, subst}
+use Rattle.std.proofs.Common.{◌≡◌, ◌+◌, ◌<◌, ℕ, zero, suc, List, [], ◌∷◌, ◌++◌, length, take, get_or, map, Some, arith, sym, ◌∙◌}
+use Rattle.std.proofs.Common.{ap, subst}
 use Rattle.std.proofs.lemmas.List.{length-append, map-append}
 use Rattle.std.specs.Global.{Vec}
 use Rattle.kk_syntax.specs.declared.program.Form.{Form}
@@ -10,7 +11,8 @@ use Rattle.kk_counted.specs.declared.form.Last.TheVariants as OfLast
 use Rattle.kk_counted.specs.declared.form.Step.{Step}
 use Rattle.kk_counted.specs.declared.form.Step.TheVariants as OfStep
 use Rattle.kk_counted.specs.CountedCodes.{Counted, CountedFunction}
-use Rattle.kk_counted.specs.CountedForms.{Move, computes, runs, reads, opens, opens_unique, dups, drops, plug, arms_of, step_move, last_code, block_code, decisions_of}
+use Rattle.kk_counted.specs.CountedForms.{Move, computes, runs, reads, opens, opens_unique, dups, drops, plug, arms_of, step_move}
+use Rattle.kk_counted.specs.CountedForms.{last_code, block_code, decisions_of}
 use Rattle.kk_counted.specs.Int32.{IsFormInt32, HasInt32, HaveInt32, AreNodesInt32, AllHaveInt32}
 use Rattle.kk_counted.specs.Programs.{function_of}
 use Rattle.kk_counted.proofs.FormViews.{block_is, case_code, step_let}

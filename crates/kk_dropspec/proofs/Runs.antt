@@ -6,10 +6,12 @@ use Rattle.kk_syntax.specs.PositionsOf.{PositionTable}
 use Rattle.kk_source.specs.Notes.{Note}
 use Rattle.kk_source.specs.State.{Environment}
 use Rattle.kk_source.specs.Actions.{Action, goes, puts, takes, builds, calls, performed}
-use Rattle.kk_counted.specs.CountedCodes.{Counted, give, tail_call, case, compute, inside, read, open_cell, if_unique, dup, drop, CountedFunction}
+use Rattle.kk_counted.specs.CountedCodes.{Counted, give, tail_call, case, compute, inside, read, open_cell, if_unique, dup, drop}
+use Rattle.kk_counted.specs.CountedCodes.{CountedFunction}
 use Rattle.kk_counted.specs.CountedCosts.{code_cost, room_at, roomy_control_cost, roomy_cost}
 use Rattle.kk_counted.specs.Heaps.{Heap}
-use Rattle.kk_counted.specs.CountedStates.{CountedSetting, CountedFrame, CountedControl, running, stopped, stuck, CountedConfiguration, CountedState, no_function, counted_first_state, counted_end_at}
+use Rattle.kk_counted.specs.CountedStates.{CountedSetting, CountedFrame, CountedControl, running, stopped, stuck}
+use Rattle.kk_counted.specs.CountedStates.{CountedConfiguration, CountedState, no_function, counted_first_state, counted_end_at}
 use Rattle.kk_counted.specs.CountedMachine.{counted_code_step, counted_machine}
 use Rattle.kk_counted.specs.Spending.{IsSpent}
 use Rattle.kk_counted.specs.Keeping.{IsKept, FitsAlways}

@@ -1,46 +1,31 @@
 -- Specialised code has the shape of the code that it is made of, and takes the same values.
 use Rattle.std.proofs.Common.{ℕ, List, map, sym, ap, subst, ◌∙◌}
 use Rattle.std.specs.Prelude.{option_map}
-use Rattle.std.proofs.lemmas.Option.{slice_get-map}
-use Rattle.kk_syntax.specs.declared.program.Form.{Form}
-use Rattle.kk_syntax.specs.declared.program.Form.TheVariants.{Number, Unit as Nothing, ReadByte, PrintText, Unary, Binary, Print, Construct, Call}
 use Rattle.kk_syntax.specs.PositionsOf.{PositionTable}
 use Rattle.kk_source.specs.State.{Store, Environment}
-use Rattle.kk_counted.specs.CountedCodes.{Counted, give, tail_call, case, compute, inside, read, open_cell, if_unique, dup, drop, CountedFunction}
+use Rattle.kk_counted.specs.CountedCodes.{Counted, give, tail_call, case, compute, inside, read, open_cell, if_unique, dup, drop}
+use Rattle.kk_counted.specs.CountedCodes.{CountedFunction}
 use Rattle.kk_counted.specs.Heaps.{Heap, forwards}
-use Rattle.kk_counted.specs.CountedStates.{CountedSetting, CountedJoin, CountedControl, running, stopped, stuck, CountedConfiguration, CountedState}
-use Rattle.kk_counted.specs.Keeping.{IsThere, CallsOne, HasShape, counted_after, FitsAlways, HasShapeAlways}
+use Rattle.kk_counted.specs.CountedStates.{CountedSetting, CountedJoin, CountedControl, running, stopped, stuck}
+use Rattle.kk_counted.specs.CountedStates.{CountedConfiguration, CountedState}
+use Rattle.kk_counted.specs.Keeping.{HasShape, counted_after, FitsAlways, HasShapeAlways}
 use Rattle.kk_counted.specs.Kinds.{HasKinds, HasKindsAlways}
 use Rattle.kk_counted.specs.Spending.{IsSpent}
 use Rattle.kk_dropspec.specs.Specialised.{special, special_function, special_setting, special_control}
+use Rattle.kk_dropspec.proofs.ChangedFunctions.{is_there, calls_one}
 use Rattle.kk_dropspec.proofs.Runs.{runs_same}
 use Rattle.kk_dropspec.proofs.Steps.{arm_same}
 
 module _ (functions : List CountedFunction) where
-  is_there : (f : ℕ) → IsThere functions f → IsThere (map special_function functions) f
-  is_there f there =
-      (special_function there.0, slice_get-map special_function functions f ∙ ap (option_map special_function) there.1)
-
-  calls_one : (form : Form) → CallsOne functions form → CallsOne (map special_function functions) form
-  calls_one (Number n) calls = tt
-  calls_one Nothing calls = tt
-  calls_one ReadByte calls = tt
-  calls_one (PrintText form text) calls = tt
-  calls_one (Unary operator) calls = tt
-  calls_one (Binary operator) calls = tt
-  calls_one (Print form) calls = tt
-  calls_one (Construct c) calls = tt
-  calls_one (Call f) calls = is_there f calls
-
   module _ (store : Store) where
     code_shape : (code : Counted) (environment : Environment) (joins : List CountedJoin)
         → HasShape functions store (running code environment joins)
         → HasShape (map special_function functions) store (special_control (running code environment joins))
     code_shape (give x) environment joins shape = tt
-    code_shape (tail_call f arguments) environment joins shape = is_there f shape
+    code_shape (tail_call f arguments) environment joins shape = is_there special functions f shape
     code_shape (case x decisions arms) environment joins shape =
         (shape.0, (special shape.1.0, (shape.1.1.0, arm_same arms shape.0 ∙ ap (option_map special) shape.1.1.1)))
-    code_shape (compute x form arguments rest) environment joins shape = calls_one form shape
+    code_shape (compute x form arguments rest) environment joins shape = calls_one special functions form shape
     code_shape (inside x block rest) environment joins shape = tt
     code_shape (read x c fields rest) environment joins shape = shape
     code_shape (open_cell x c fields used rest) environment joins shape = shape
@@ -62,12 +47,7 @@ module _ (alike : ℕ → ℕ → Type 0) (fields : ℕ → ℕ) (heap : Heap) w
   code_kinds (tail_call f arguments) environment joins kinds = tt
   code_kinds (case x decisions arms) environment joins kinds = kinds
   code_kinds (compute x form arguments rest) environment joins kinds = kinds
-  code_kinds (inside x block rest) environment joins kinds = tt
-  code_kinds (read x c fields rest) environment joins kinds = tt
-  code_kinds (open_cell x c fields used rest) environment joins kinds = tt
-  code_kinds (if_unique x c fields used rest) environment joins kinds = tt
-  code_kinds (dup x rest) environment joins kinds = tt
-  code_kinds (drop x rest) environment joins kinds = tt
+  code_kinds _ environment joins kinds = tt
 
   control_kinds : (control : CountedControl) → HasKinds alike fields heap control
       → HasKinds alike fields heap (special_control control)

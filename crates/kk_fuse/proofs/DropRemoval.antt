@@ -4,8 +4,11 @@ use Rattle.std.specs.Prelude.{option_map, if◌then◌else◌}
 use Rattle.kk_syntax.specs.declared.program.Form.{Form}
 use Rattle.kk_syntax.specs.Shapes.{is_among}
 use Rattle.kk_counted.specs.CountedCodes.{Counted, give, tail_call, case, compute, inside, read, open_cell, if_unique, dup, drop}
+use Rattle.kk_counted.specs.CountedCodes.{CountedArms, no_arm, arm}
 use Rattle.kk_counted.proofs.CountChanges.{same}
-use Rattle.kk_fuse.specs.Fused.{is_plain, without_drop, fused_dup}
+use Rattle.kk_dropspec.proofs.CodeChanges.{Changes, gives, calls, decides, computes, runs, reads, opens, opens_unique, dups}
+use Rattle.kk_dropspec.proofs.CodeChanges.{dups_less, drops, ArmsChange, no_arms, one_more}
+use Rattle.kk_fuse.specs.Fused.{is_plain, without_drop, fused_dup, fuse, fuse_arms}
 
 -- what is mapped is there
 mapped : (f : Counted → Counted) (here : Option Counted) (less : Counted) → option_map f here ≡ Some less
@@ -83,3 +86,27 @@ by_fused P x code whole fewer = by_case (without_drop x code) refl
     by_case : (found : Option Counted) → without_drop x code ≡ found → P (fused_dup x code)
     by_case None is = rw is whole
     by_case (Some less) is = rw is (fewer less is)
+
+-- a dup that is gone leaves the code without its next drop
+abbrev pub Without : ℕ → Counted → Counted → Type 0
+Without x code less = without_drop x code ≡ Some less
+
+-- fusion changes code by that alone
+mutual
+  pub fuse_changes : (code : Counted) → Changes Without code (fuse code)
+  fuse_changes (give x) = gives x
+  fuse_changes (tail_call f arguments) = calls f arguments
+  fuse_changes (case x decisions arms) = decides x decisions (fuse_arms_change arms)
+  fuse_changes (compute x form arguments rest) = computes x form arguments (fuse_changes rest)
+  fuse_changes (inside x block rest) = runs x (fuse_changes block) (fuse_changes rest)
+  fuse_changes (read x c fields rest) = reads x c fields (fuse_changes rest)
+  fuse_changes (open_cell x c fields used rest) = opens x c fields used (fuse_changes rest)
+  fuse_changes (if_unique x c fields used rest) = opens_unique x c fields used (fuse_changes rest)
+  fuse_changes (dup x rest) =
+      let later = fuse_changes rest in
+      by_fused (Changes Without (dup x rest)) x (fuse rest) (dups x later) (λ less is. dups_less x (fuse rest) less later is)
+  fuse_changes (drop x rest) = drops x (fuse_changes rest)
+
+  fuse_arms_change : (arms : CountedArms) → ArmsChange Without arms (fuse_arms arms)
+  fuse_arms_change no_arm = no_arms
+  fuse_arms_change (arm body rest) = one_more (fuse_changes body) (fuse_arms_change rest)

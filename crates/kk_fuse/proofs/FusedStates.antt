@@ -1,27 +1,30 @@
 -- What is true of each state of the code's run is true of each state of that of the fused code.
-use Rattle.std.proofs.Common.{◌≡◌, ◌⊎◌, inl, inr, ℕ, zero, suc, ◌+◌, ◌-◌, ◌*◌, ◌≤◌, List, [], map, arith, refl, sym, ap, ◌∙◌, subst, ◌++◌}
+use Rattle.std.proofs.Common.{◌≡◌, ◌⊎◌, inl, inr, ℕ, zero, suc, ◌+◌, ◌-◌, ◌*◌, ◌≤◌, List, [], map, arith, refl, sym, ap, ◌∙◌, subst}
+use Rattle.std.proofs.Common.{◌++◌}
 use Rattle.std.specs.Prelude.{slice_index_or, option_map}
 use Rattle.std.proofs.lemmas.Option.{get_or_from_slice_get, slice_get-map}
 use Rattle.kk_base.specs.Machines.{state, trace}
 use Rattle.kk_base.specs.Agreements.{Agree, IsFollowedBy}
 use Rattle.kk_base.proofs.Simulations.{simulates_agree}
-use Rattle.kk_syntax.specs.declared.program.Form.{Form}
-use Rattle.kk_syntax.specs.declared.program.Form.TheVariants.{Number, Unit as Nothing, ReadByte, PrintText, Unary, Binary, Print, Construct, Call}
 use Rattle.kk_syntax.specs.PositionsOf.{PositionTable}
 use Rattle.kk_source.specs.Notes.{Note}
 use Rattle.kk_source.specs.State.{Store, Environment, End, ended}
-use Rattle.kk_counted.specs.CountedCodes.{Counted, give, tail_call, case, compute, inside, read, open_cell, if_unique, dup, drop, CountedFunction}
+use Rattle.kk_counted.specs.CountedCodes.{Counted, give, tail_call, case, compute, inside, read, open_cell, if_unique, dup, drop}
+use Rattle.kk_counted.specs.CountedCodes.{CountedFunction}
 use Rattle.kk_counted.specs.CountedCosts.{roomy_cost}
 use Rattle.kk_counted.specs.Heaps.{Heap, forwards, busy}
-use Rattle.kk_counted.specs.CountedStates.{CountedSetting, CountedJoin, CountedControl, running, stopped, stuck, CountedState, no_function, counted_start, counted_first_state}
+use Rattle.kk_counted.specs.CountedStates.{CountedSetting, CountedJoin, CountedControl, running, stopped, stuck, CountedState}
+use Rattle.kk_counted.specs.CountedStates.{no_function, counted_start, counted_first_state}
 use Rattle.kk_counted.specs.CountedMachine.{counted_machine, NotStuck}
 use Rattle.kk_counted.specs.Spending.{IsSpent}
-use Rattle.kk_counted.specs.Keeping.{FitsAt, IsThere, CallsOne, HasShape, counted_after, FitsAlways, HasShapeAlways}
+use Rattle.kk_counted.specs.Keeping.{FitsAt, HasShape, counted_after, FitsAlways, HasShapeAlways}
 use Rattle.kk_counted.specs.Kinds.{HasKinds, HasKindsAlways}
 use Rattle.kk_counted.proofs.Reachability.{same_store}
 use Rattle.kk_counted.proofs.Progress.{never_stuck}
+use Rattle.kk_dropspec.proofs.ChangedFunctions.{is_there, calls_one}
 use Rattle.kk_fuse.specs.Fused.{fuse, fused_function, fused_setting}
-use Rattle.kk_fuse.specs.FusedRuns.{steps_in, HasFewSteps, fused_join, IsAtForm, IsBetween, AreAtOne, AreFusedStates, IsSameTest, IsFusedRun}
+use Rattle.kk_fuse.specs.FusedRuns.{steps_in, HasFewSteps, fused_join, IsAtForm, IsBetween, AreAtOne, AreFusedStates, IsSameTest}
+use Rattle.kk_fuse.specs.FusedRuns.{IsFusedRun}
 use Rattle.kk_fuse.proofs.Steps.{fused_configuration, arm_same}
 use Rattle.kk_fuse.proofs.FormBounds.{start_few}
 use Rattle.kk_fuse.proofs.Simulation.{one_step}
@@ -53,21 +56,6 @@ form_fits (drop x rest) less environment joins others is fits =
     subst (λ code. FitsAt (running code environment others)) (sym is.1) tt
 
 module _ (functions : List CountedFunction) where
-  is_there : (f : ℕ) → IsThere functions f → IsThere (map fused_function functions) f
-  is_there f there =
-      (fused_function there.0, slice_get-map fused_function functions f ∙ ap (option_map fused_function) there.1)
-
-  calls_one : (form : Form) → CallsOne functions form → CallsOne (map fused_function functions) form
-  calls_one (Number n) calls = tt
-  calls_one Nothing calls = tt
-  calls_one ReadByte calls = tt
-  calls_one (PrintText form text) calls = tt
-  calls_one (Unary operator) calls = tt
-  calls_one (Binary operator) calls = tt
-  calls_one (Print form) calls = tt
-  calls_one (Construct c) calls = tt
-  calls_one (Call f) calls = is_there f calls
-
   module _ (store : Store) (environment : Environment) (joins others : List CountedJoin) where
     abbrev ShapeOf : Counted → Type 0
     ShapeOf code = HasShape (map fused_function functions) store (running code environment others)
@@ -75,11 +63,11 @@ module _ (functions : List CountedFunction) where
     form_shape : (code less : Counted) → IsAtForm code less → HasShape functions store (running code environment joins)
         → HasShape (map fused_function functions) store (running less environment others)
     form_shape (give x) less is shape = subst ShapeOf (sym is) tt
-    form_shape (tail_call f arguments) less is shape = subst ShapeOf (sym is) (is_there f shape)
+    form_shape (tail_call f arguments) less is shape = subst ShapeOf (sym is) (is_there fuse functions f shape)
     form_shape (case x decisions arms) less is shape =
         subst ShapeOf (sym is)
         (shape.0, (fuse shape.1.0, (shape.1.1.0, arm_same arms shape.0 ∙ ap (option_map fuse) shape.1.1.1)))
-    form_shape (compute x form arguments rest) less is shape = subst ShapeOf (sym is.1) (calls_one form shape)
+    form_shape (compute x form arguments rest) less is shape = subst ShapeOf (sym is.1) (calls_one fuse functions form shape)
     form_shape (inside x block rest) less is shape = subst ShapeOf (sym is) tt
     form_shape (read x c fields rest) less is shape = subst ShapeOf (sym is.1) shape
     form_shape (open_cell x c fields used rest) less is shape = subst ShapeOf (sym is) shape

@@ -1,11 +1,13 @@
 -- Fused code has as many openings on a path as the code that it is made of, and they go by the count of the cell where those do.
-use Rattle.std.proofs.Common.{◌≡◌, ℕ, ◌≤◌, suc, List, map, Some, refl, ap, ◌∙◌, subst, arith}
-use Rattle.kk_counted.specs.CountedCodes.{Counted, give, tail_call, case, compute, inside, read, open_cell, if_unique, dup, drop, CountedArms, no_arm, arm, CountedFunction, CountedProgram}
+use Rattle.std.proofs.Common.{◌≡◌, ℕ, List, map, Some, refl, subst}
+use Rattle.kk_counted.specs.CountedCodes.{Counted, give, tail_call, case, compute, inside, read, open_cell, if_unique, dup, drop}
+use Rattle.kk_counted.specs.CountedCodes.{CountedArms, no_arm, arm, CountedFunction, CountedProgram}
 use Rattle.kk_counted.specs.Lowerable.{OpensByCount, OpenByCount, AllOpenByCount}
-use Rattle.kk_counted.specs.TokenCosts.{openings, openings_of, OpenAtMost}
+use Rattle.kk_counted.specs.TokenCosts.{openings, OpenAtMost}
 use Rattle.kk_dropspec.proofs.ChangedFunctions.{found_before}
+use Rattle.kk_dropspec.proofs.Openings.{changed_opens}
 use Rattle.kk_fuse.specs.Fused.{without_drop, fuse, fuse_arms, fused_function, fused_program}
-use Rattle.kk_fuse.proofs.DropRemoval.{by_without, by_fused}
+use Rattle.kk_fuse.proofs.DropRemoval.{by_without, by_fused, Without, fuse_changes}
 
 -- the code without a drop has as many openings
 less_openings : (x : ℕ) (code less : Counted) → without_drop x code ≡ Some less → openings less ≡ openings code
@@ -14,34 +16,9 @@ less_openings x =
     (λ y rest less apart later. later) (λ y c fields rest less apart named later. later)
     (λ y form arguments rest less apart named plain later. later)
 
--- fused code has as many openings
-mutual
-  same_openings : (code : Counted) → openings (fuse code) ≡ openings code
-  same_openings (give x) = refl
-  same_openings (tail_call f arguments) = refl
-  same_openings (case x decisions arms) = same_arms_openings arms
-  same_openings (compute x form arguments rest) = same_openings rest
-  same_openings (inside x block rest) = let one = same_openings block in let two = same_openings rest in omega (arith, one, two)
-  same_openings (read x c fields rest) = same_openings rest
-  same_openings (open_cell x c fields used rest) = ap suc (same_openings rest)
-  same_openings (if_unique x c fields used rest) = ap suc (same_openings rest)
-  same_openings (dup x rest) =
-      let later = same_openings rest in
-      by_fused (λ code. openings code ≡ openings rest) x (fuse rest) later
-      (λ less is. less_openings x (fuse rest) less is ∙ later)
-  same_openings (drop x rest) = same_openings rest
-
-  same_arms_openings : (arms : CountedArms) → openings_of (fuse_arms arms) ≡ openings_of arms
-  same_arms_openings no_arm = refl
-  same_arms_openings (arm body rest) =
-      let one = same_openings body in let two = same_arms_openings rest in omega (arith, one, two)
-
 -- a fused program has no more openings
 pub fused_opens : (most : ℕ) (program : CountedProgram) → OpenAtMost most program → OpenAtMost most (fused_program program)
-fused_opens most program few f function is =
-    let before = found_before fuse program.functions f function is in
-    subst (λ (one : CountedFunction). openings one.body ≤ most) before.1.1
-    (let same = same_openings before.0.body in let less = few f before.0 before.1.0 in omega (arith, same, less))
+fused_opens = changed_opens Without less_openings fuse fuse_changes
 
 -- the code without a drop opens by count
 less_by_count : (x : ℕ) (code less : Counted) → without_drop x code ≡ Some less → OpensByCount code → OpensByCount less

@@ -1,20 +1,22 @@
 -- Fused code spends what the code spends that it is made of.
-use Rattle.std.proofs.Common.{◌≡◌, ◌⊎◌, inl, inr, ◌==◌, ◌||◌, ℕ, Bool, true, false, List, [], ◌∷◌, ◌++◌, map, Option, Some, None, arith, refl, sym, ap, ◌∙◌, subst}
-use Rattle.std.proofs.lemmas.Option.{slice_get-map}
-use Rattle.std.specs.Prelude.{slice_get, option_map}
+use Rattle.std.proofs.Common.{◌≡◌, ◌⊎◌, inl, inr, ◌==◌, ◌||◌, ℕ, Bool, true, false, List, [], ◌∷◌, ◌++◌, Option, Some, arith, refl}
+use Rattle.std.proofs.Common.{sym, ◌∙◌}
 use Rattle.kk_syntax.specs.declared.program.Form.{Form}
-use Rattle.kk_syntax.specs.declared.program.Form.TheVariants.{Number, Unit as Nothing, ReadByte, PrintText, Unary, Binary, Print, Construct, Call}
+use Rattle.kk_syntax.specs.declared.program.Form.TheVariants.{Number, Unit as Nothing, ReadByte, PrintText, Unary, Binary, Print}
+use Rattle.kk_syntax.specs.declared.program.Form.TheVariants.{Construct, Call}
 use Rattle.kk_syntax.specs.PositionsOf.{PositionTable}
 use Rattle.kk_syntax.specs.Shapes.{is_among}
-use Rattle.kk_counted.specs.CountedCodes.{Counted, give, tail_call, case, compute, inside, read, open_cell, if_unique, dup, drop, CountedArms, no_arm, arm, CountedFunction, CountedProgram}
+use Rattle.kk_counted.specs.CountedCodes.{Counted, give, tail_call, case, compute, inside, read, open_cell, if_unique, dup, drop}
+use Rattle.kk_counted.specs.CountedCodes.{CountedFunction}
 use Rattle.kk_counted.specs.Drafts.{minus}
-use Rattle.kk_counted.specs.Spending.{AreEven, AllAmong, AreFresh, HasAsMany, FitsForm, used_by, lent_by, Spends, SpendsAll, SpendsParameters, IsSpent}
+use Rattle.kk_counted.specs.Spending.{AreEven, AllAmong, AreFresh, used_by, lent_by, Spends, SpendsParameters}
 use Rattle.kk_counted.proofs.Evenness.{total_append, even_among, even_back, even_same, minus_even, among_front, among_behind}
 use Rattle.kk_counted.proofs.Order.{spends_even}
 use Rattle.kk_counted.proofs.Variables.{among_cases}
-use Rattle.kk_dropspec.proofs.ChangedFunctions.{HaveAsMany, fits}
-use Rattle.kk_fuse.specs.Fused.{is_plain, without_drop, fused_dup, fuse, fuse_arms, fused_function, fused_program}
-use Rattle.kk_fuse.proofs.DropRemoval.{by_without, by_fused}
+use Rattle.kk_dropspec.proofs.ChangedFunctions.{HaveAsMany}
+use Rattle.kk_dropspec.proofs.Spending.{changed_spends_parameters}
+use Rattle.kk_fuse.specs.Fused.{is_plain, without_drop, fuse, fused_function}
+use Rattle.kk_fuse.proofs.DropRemoval.{by_without, Without, fuse_changes}
 
 -- ---- lists of variables
 
@@ -249,70 +251,14 @@ module _ (positions : PositionTable) (functions : List CountedFunction) (lent : 
 -- by functions that may be called with as many arguments as others
 module _ (positions : PositionTable) (functions others : List CountedFunction) (many : HaveAsMany positions functions others) where
   -- a dup spends what it spends where it cancels with the next drop too
-  dup_spends : (x : ℕ) (code : Counted) (lent readable : List ℕ) (left : Option (List ℕ)) (owned now : List ℕ)
-      → AreEven owned now → is_among (lent ++ (readable ++ now)) x ≡ true
-      → Spends positions others lent readable left (x ∷ now) code
-      → Spends positions others lent readable left owned (fused_dup x code)
-  dup_spends x code lent readable left owned now even there s =
-      by_fused (Spends positions others lent readable left owned) x code (now, (even, (there, s)))
-      (λ less is.
-      spends_even positions others lent readable left now owned even less
-      (spends_less positions others lent x code less is readable left (x ∷ now) now (even_same (x ∷ now)) s))
-
-  -- fused code spends what the code spends
-  mutual
-    pub spends : (code : Counted) (lent readable : List ℕ) (left : Option (List ℕ)) (owned : List ℕ)
-        → Spends positions functions lent readable left owned code
-        → Spends positions others lent readable left owned (fuse code)
-    spends (give x) lent readable left owned s = s
-    spends (tail_call f arguments) lent readable left owned s = (s.0, (many f arguments s.1.0, s.1.1))
-    spends (case x decisions arms) lent readable left owned s = (s.0, (s.1.0, (s.1.1.0, spend_all arms lent left s.0 s.1.1.1)))
-    spends (compute x form arguments rest) lent readable left owned s = (
-      s.0,
-      (
-        s.1.0,
-        (
-          s.1.1.0,
-          (
-            fits positions functions others many form arguments s.1.1.1.0,
-            (s.1.1.1.1.0, (s.1.1.1.1.1.0, spends rest lent [] left (x ∷ s.0) s.1.1.1.1.1.1)),
-          ),
-        ),
-      ),
-    )
-    spends (inside x block rest) lent readable left owned s = (
-      s.0,
-      (
-        s.1.0,
-        (
-          s.1.1.0,
-          (
-            s.1.1.1.0,
-            (
-              s.1.1.1.1.0,
-              (spends block lent [] (Some s.1.0) s.0 s.1.1.1.1.1.0, spends rest lent [] left (x ∷ s.1.0) s.1.1.1.1.1.1),
-            ),
-          ),
-        ),
-      ),
-    )
-    spends (read x c fields rest) lent readable left owned s =
-        (s.0, (s.1.0, (s.1.1.0, (s.1.1.1.0, spends rest lent fields left s.0 s.1.1.1.1))))
-    spends (open_cell x c fields used rest) lent readable left owned s =
-        (s.0, (s.1.0, (s.1.1.0, (s.1.1.1.0, (s.1.1.1.1.0, spends rest lent [] left _ s.1.1.1.1.1)))))
-    spends (if_unique x c fields used rest) lent readable left owned s =
-        (s.0, (s.1.0, (s.1.1.0, (s.1.1.1.0, (s.1.1.1.1.0, spends rest lent [] left _ s.1.1.1.1.1)))))
-    spends (dup x rest) lent readable left owned s =
-        dup_spends x (fuse rest) lent readable left owned s.0 s.1.0 s.1.1.0 (spends rest lent readable left (x ∷ s.0) s.1.1.1)
-    spends (drop x rest) lent readable left owned s = (s.0, (s.1.0, spends rest lent [] left s.0 s.1.1))
-
-    spend_all : (arms : CountedArms) (lent : List ℕ) (left : Option (List ℕ)) (owned : List ℕ)
-        → SpendsAll positions functions lent left owned arms
-        → SpendsAll positions others lent left owned (fuse_arms arms)
-    spend_all no_arm lent left owned s = tt
-    spend_all (arm body rest) lent left owned s = (spends body lent [] left owned s.0, spend_all rest lent left owned s.1)
+  leaves_spent : (x : ℕ) (code less : Counted) → Without x code less → (lent readable : List ℕ) (left : Option (List ℕ))
+      (owned : List ℕ) → Spends positions others lent readable left owned (dup x code)
+      → Spends positions others lent readable left owned less
+  leaves_spent x code less is lent readable left owned s =
+      spends_even positions others lent readable left s.0 owned s.1.0 less
+      (spends_less positions others lent x code less is readable left (x ∷ s.0) s.0 (even_same (x ∷ s.0)) s.1.1.1)
 
   -- a fused function spends its parameters
   pub spends_parameters : (f : ℕ) (function : CountedFunction) → SpendsParameters positions functions f function
       → SpendsParameters positions others f (fused_function function)
-  spends_parameters f function s = (s.0, (s.1.0, spends function.body s.0 [] None _ s.1.1))
+  spends_parameters = changed_spends_parameters Without positions functions others many leaves_spent fuse fuse_changes

@@ -1,5 +1,6 @@
 -- Code without the next drops of some variables, by its first form.
-use Rattle.std.proofs.Common.{◌≡◌, ◌⊎◌, inl, inr, ℕ, ◌==◌, ◌||◌, Bool, true, false, List, [], ◌∷◌, ◌++◌, Option, Some, None, arith, refl, sym, ap, ◌∙◌, subst}
+use Rattle.std.proofs.Common.{◌≡◌, ◌⊎◌, inl, inr, ℕ, ◌==◌, ◌||◌, Bool, true, false, List, [], ◌∷◌, ◌++◌, Option, Some, None, arith}
+use Rattle.std.proofs.Common.{refl, sym, ap, ◌∙◌, subst}
 use Rattle.std.specs.Prelude.{if◌then◌else◌, option_map}
 use Rattle.kk_syntax.specs.declared.program.Form.{Form}
 use Rattle.kk_syntax.specs.Shapes.{is_among}
@@ -8,7 +9,7 @@ use Rattle.kk_counted.specs.CountedCodes.{Counted, compute, read, dup, drop}
 use Rattle.kk_counted.specs.Drafts.{minus}
 use Rattle.kk_counted.specs.Spending.{AreEven}
 use Rattle.kk_counted.proofs.CountChanges.{same, itself}
-use Rattle.kk_counted.proofs.Variables.{among_cases}
+use Rattle.kk_counted.proofs.Variables.{among_cases, turned}
 use Rattle.kk_counted.proofs.Evenness.{minus_even, even_among, total_append}
 use Rattle.kk_fuse.specs.Fused.{is_plain, without_drop}
 
@@ -23,13 +24,6 @@ ArePast xs ys = (x : ℕ) → is_among xs x ≡ true → is_among ys x ≡ false
 
 some_is : {A : Type 0} (a b : A) → Some a ≡ Some b → a ≡ b
 some_is a b is = cc
-
-turned : (x y : ℕ) → (x == y) ≡ false → (y == x) ≡ false
-turned x y apart = by_test (y == x) refl
-  where
-    by_test : (t : Bool) → (y == x) ≡ t → t ≡ false
-    by_test false is = refl
-    by_test true is = sym (itself y) ∙ (ap (λ z. z == y) (same y x is) ∙ apart)
 
 past_first : (x : ℕ) (xs ys : List ℕ) → is_among ys x ≡ false → ArePast xs ys → (z : ℕ) → is_among (x ∷ xs) z ≡ true
     → is_among ys z ≡ false

@@ -1,5 +1,5 @@
 use Rattle.kk_dropspec.proofs.Lowerability.{special_marked, specials_are, special_spends}
-use Rattle.kk_dropspec.proofs.SpecialLengths.{special_short}
+use Rattle.kk_dropspec.proofs.CodeLengths.{special_short}
 use Rattle.kk_dropspec.proofs.law.specialised_code_can_be_lowered.Goals as goal
 
 pub returns : goal.returns

@@ -1,13 +1,13 @@
 use Rattle.std.proofs.Common.{ap, sym, subst, ◌∙◌}
 use Rattle.kk_counted.specs.CountedForms.{block_code}
 use Rattle.kk_counted.specs.Int32.{HasInt32}
-use Rattle.kk_counted.specs.Programs.{function_of}
 use Rattle.kk_counted.specs.InstancePositions.{positions_in}
 use Rattle.kk_counted.specs.declared.form.Block.{Block}
-use Rattle.kk_dropspec.specs.Specialised.{special, special_function}
-use Rattle.kk_dropspec.proofs.NumberForms.{functions_pushed, made_more, one_longer}
-use Rattle.kk_dropspec.proofs.ChangedFunctions.{function_made, next_is_function}
-use Rattle.kk_dropspec.proofs.Spending.{spends_parameters, special_has_arms}
+use Rattle.kk_dropspec.specs.Specialised.{special}
+use Rattle.kk_dropspec.proofs.FunctionLoop.{one_made_more}
+use Rattle.kk_dropspec.proofs.ChangedFunctions.{next_is_function}
+use Rattle.kk_dropspec.proofs.Lowerability.{special_has_arms}
+use Rattle.kk_dropspec.proofs.Spending.{spends_parameters}
 use Rattle.kk_dropspec.proofs.special.run.Goals as goal
 
 pub add-requires : goal.add-requires
@@ -15,34 +15,21 @@ add-requires c =
     next_is_function special spends_parameters special_has_arms (positions_in c.args.counted.shape.instances.items) _
     c.args.counted.functions.items
     c.deref-function-items.result.now c.function-item.result c.new.result c.loop-function.function-index _ c.args.counted.spent
-    (ap (λ shape. positions_in shape.instances.items) (c.loop-function.invariant.1.1.0 ∙ c.new-made.ensures.shape ∙ ap (λ parts. parts.0) c.parts-shape.ensures))
-    (c.deref-function-items.ensures.value ∙ ap (λ parts. parts.1.items) c.parts-shape.ensures) c.loop-function-test.true c.function-item.is c.loop-function.invariant.1.0
+    (ap (λ shape. positions_in shape.instances.items) (c.loop-function.invariant.1.1.0 ∙ c.new-made.ensures.shape
+    ∙ ap (λ parts. parts.0) c.parts-shape.ensures))
+    (c.deref-function-items.ensures.value ∙ ap (λ parts. parts.1.items) c.parts-shape.ensures) c.loop-function-test.true
+    c.function-item.is c.loop-function.invariant.1.0
     (ap (λ fun. fun.instance) c.new.ensures ∙ c.instance.ensures) (ap (λ fun. fun.parameters) c.new.ensures ∙ c.parameters.ensures)
-    (ap (λ fun. block_code fun.body) c.new.ensures ∙ c.in_ok-body.ensures.same ∙ ap (λ body. special (block_code body)) c.body.ensures)
+    (ap (λ fun. block_code fun.body) c.new.ensures ∙ c.in_ok-body.ensures.same
+    ∙ ap (λ body. special (block_code body)) c.body.ensures)
 
 pub loop-function-preserved : goal.loop-function-preserved
-loop-function-preserved c = (
-  made_more function_of function_of special_function c.loop-function.made.functions.items c.add.new.self.functions.items c.new.result
-      c.deref-function-items.result.now c.loop-function.function-index c.function-item.result c.loop-function-test.true c.function-item.is
-      c.in_ok-add.ensures.ok
-      (function_made special c.new.result c.function-item.result (ap (λ fun. fun.parameters) c.new.ensures ∙ c.parameters.ensures)
-      (ap (λ fun. block_code fun.body) c.new.ensures ∙ c.in_ok-body.ensures.same ∙ ap (λ body. special (block_code body)) c.body.ensures))
-      c.loop-function.invariant.0,
-  (
-    one_longer c.loop-function.made.functions.items c.add.new.self.functions.items c.new.result c.loop-function.function-index
-        c.in_ok-add.ensures.ok c.loop-function.invariant.1.0,
-    (
-      c.in_ok-add.ensures.shape ∙ c.loop-function.invariant.1.1.0,
-      (
-        c.in_ok-add.ensures.body_nodes ∙ c.loop-function.invariant.1.1.1.0,
-        (
-          c.in_ok-add.ensures.nodes ∙ c.loop-function.invariant.1.1.1.1.0,
-          functions_pushed c.loop-function.made.functions.items c.add.new.self.functions.items c.new.result c.in_ok-add.ensures.ok
-              c.loop-function.invariant.1.1.1.1.1
-              (subst (λ (body : Block). HasInt32 (block_code body)) (sym (ap (λ fun. fun.body) c.new.ensures))
-              c.in_ok-body.ensures.numbers),
-        ),
-      ),
-    ),
-  ),
-)
+loop-function-preserved c =
+    one_made_more special c.deref-function-items.result.now c.loop-function.function-index c.new-made.result c.loop-function.made
+    c.add.new.self c.new.result c.function-item.result c.loop-function-test.true c.function-item.is
+    (ap (λ fun. fun.parameters) c.new.ensures ∙ c.parameters.ensures)
+    (ap (λ fun. block_code fun.body) c.new.ensures ∙ c.in_ok-body.ensures.same
+    ∙ ap (λ body. special (block_code body)) c.body.ensures)
+    (subst (λ (body : Block). HasInt32 (block_code body)) (sym (ap (λ fun. fun.body) c.new.ensures)) c.in_ok-body.ensures.numbers)
+    c.in_ok-add.ensures.ok c.in_ok-add.ensures.shape c.in_ok-add.ensures.body_nodes c.in_ok-add.ensures.nodes
+    c.loop-function.invariant

@@ -1,12 +1,11 @@
 use Rattle.std.proofs.Common.{ap, sym, subst, ◌∙◌}
 use Rattle.kk_counted.specs.CountedForms.{block_code}
 use Rattle.kk_counted.specs.Int32.{HasInt32}
-use Rattle.kk_counted.specs.Programs.{function_of}
 use Rattle.kk_counted.specs.InstancePositions.{positions_in}
 use Rattle.kk_counted.specs.declared.form.Block.{Block}
-use Rattle.kk_fuse.specs.Fused.{fuse, fused_function}
-use Rattle.kk_dropspec.proofs.ChangedFunctions.{function_made, next_is_function}
-use Rattle.kk_dropspec.proofs.NumberForms.{functions_pushed, made_more, one_longer}
+use Rattle.kk_fuse.specs.Fused.{fuse}
+use Rattle.kk_dropspec.proofs.ChangedFunctions.{next_is_function}
+use Rattle.kk_dropspec.proofs.FunctionLoop.{one_made_more}
 use Rattle.kk_fuse.proofs.Lowerability.{has_arms}
 use Rattle.kk_fuse.proofs.Spending.{spends_parameters}
 use Rattle.kk_fuse.proofs.fuse.run.Goals as goal
@@ -24,29 +23,12 @@ add-requires c =
     (ap (λ fun. block_code fun.body) c.new.ensures ∙ c.in_ok-body.ensures.same ∙ ap (λ body. fuse (block_code body)) c.body.ensures)
 
 pub loop-function-preserved : goal.loop-function-preserved
-loop-function-preserved c = (
-  made_more function_of function_of fused_function c.loop-function.made.functions.items c.add.new.self.functions.items c.new.result
-      c.deref-function-items.result.now c.loop-function.function-index c.function-item.result
-      c.loop-function-test.true c.function-item.is c.in_ok-add.ensures.ok
-      (function_made fuse c.new.result c.function-item.result (ap (λ fun. fun.parameters) c.new.ensures ∙ c.parameters.ensures)
-      (ap (λ fun. block_code fun.body) c.new.ensures ∙ c.in_ok-body.ensures.same
-      ∙ ap (λ body. fuse (block_code body)) c.body.ensures))
-      c.loop-function.invariant.0,
-  (
-    one_longer c.loop-function.made.functions.items c.add.new.self.functions.items c.new.result c.loop-function.function-index
-        c.in_ok-add.ensures.ok c.loop-function.invariant.1.0,
-    (
-      c.in_ok-add.ensures.shape ∙ c.loop-function.invariant.1.1.0,
-      (
-        c.in_ok-add.ensures.body_nodes ∙ c.loop-function.invariant.1.1.1.0,
-        (
-          c.in_ok-add.ensures.nodes ∙ c.loop-function.invariant.1.1.1.1.0,
-          functions_pushed c.loop-function.made.functions.items c.add.new.self.functions.items c.new.result c.in_ok-add.ensures.ok
-              c.loop-function.invariant.1.1.1.1.1
-              (subst (λ (body : Block). HasInt32 (block_code body)) (sym (ap (λ fun. fun.body) c.new.ensures))
-              c.in_ok-body.ensures.numbers),
-        ),
-      ),
-    ),
-  ),
-)
+loop-function-preserved c =
+    one_made_more fuse c.deref-function-items.result.now c.loop-function.function-index c.new-made.result c.loop-function.made
+    c.add.new.self c.new.result c.function-item.result c.loop-function-test.true c.function-item.is
+    (ap (λ fun. fun.parameters) c.new.ensures ∙ c.parameters.ensures)
+    (ap (λ fun. block_code fun.body) c.new.ensures ∙ c.in_ok-body.ensures.same
+    ∙ ap (λ body. fuse (block_code body)) c.body.ensures)
+    (subst (λ (body : Block). HasInt32 (block_code body)) (sym (ap (λ fun. fun.body) c.new.ensures)) c.in_ok-body.ensures.numbers)
+    c.in_ok-add.ensures.ok c.in_ok-add.ensures.shape c.in_ok-add.ensures.body_nodes c.in_ok-add.ensures.nodes
+    c.loop-function.invariant
