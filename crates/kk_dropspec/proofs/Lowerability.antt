@@ -4,7 +4,9 @@ use Rattle.kk_core.specs.Decisions.{AreOrderly}
 use Rattle.kk_counted.specs.Arms.{arm_count, HasArms, HaveArms}
 use Rattle.kk_counted.specs.CountBounds.{HasAnArm, EachHasAnArm, AllHaveAnArm, SpendsAtMost, SpendAtMost, AllSpendAtMost}
 use Rattle.kk_counted.specs.CountedCodes.{Counted, give, tail_call, case, compute, inside, read, open_cell, if_unique, dup, drop, CountedArms, no_arm, arm, CountedFunction, CountedProgram}
+use Rattle.kk_counted.specs.FunctionSizes.{HasVariablesBelow, AllHaveVariablesBelow}
 use Rattle.kk_counted.specs.Lowerable.{first_of, given_by, given_by_arms, BlocksGive, BlocksOfArmsGive, HasArities, HaveArities, AreNumbered, AreArmsNumbered, IsLowerable, AreLowerable}
+use Rattle.kk_counted.specs.Spending.{numbers_from}
 use Rattle.kk_counted.specs.Marks.{CellMarks, result_mark, HasMark, HaveMark, IsMarked}
 use Rattle.kk_dropspec.specs.Specialised.{special, special_arms, special_function, special_program}
 use Rattle.kk_dropspec.proofs.ChangedFunctions.{found_before}
@@ -212,3 +214,12 @@ pub specials_are : (table : CellMarks) (functions : List CountedFunction) → Ar
 specials_are table functions each f function there =
     let before = found_before special functions f function there in
     subst (IsLowerable table f) before.1.1 (special_is table f before.0 (each f before.0 before.1.0))
+
+-- and have no more variables
+pub special_variables : (most : ℕ) (functions : List CountedFunction) → AllHaveVariablesBelow most functions
+    → AllHaveVariablesBelow most (map special_function functions)
+special_variables most functions each f function there =
+    let before = found_before special functions f function there in
+    let own = each f before.0 before.1.0 in
+    subst (HasVariablesBelow most) before.1.1
+    (record { parameters = own.parameters; numbered = numbered most (numbers_from 0 before.0.parameters) before.0.body own.numbered })

@@ -4,7 +4,9 @@ use Rattle.kk_core.specs.Decisions.{AreOrderly}
 use Rattle.kk_counted.specs.Arms.{arm_count, HasArms, HaveArms}
 use Rattle.kk_counted.specs.CountBounds.{HasAnArm, EachHasAnArm, AllHaveAnArm, SpendsAtMost, SpendAtMost, AllSpendAtMost}
 use Rattle.kk_counted.specs.CountedCodes.{Counted, give, tail_call, case, compute, inside, read, open_cell, if_unique, dup, drop, CountedArms, no_arm, arm, CountedFunction, CountedProgram}
+use Rattle.kk_counted.specs.FunctionSizes.{HasVariablesBelow, AllHaveVariablesBelow}
 use Rattle.kk_counted.specs.Lowerable.{first_of, given_by, given_by_arms, BlocksGive, BlocksOfArmsGive, HasArities, HaveArities, AreNumbered, AreArmsNumbered, IsLowerable, AreLowerable}
+use Rattle.kk_counted.specs.Spending.{numbers_from}
 use Rattle.kk_counted.specs.Marks.{CellMarks, result_mark, HasMark, HaveMark, IsMarked}
 use Rattle.kk_counted.proofs.GainBounds.{more_spent}
 use Rattle.kk_dropspec.proofs.ChangedFunctions.{found_before}
@@ -317,3 +319,12 @@ pub fused_are : (table : CellMarks) (functions : List CountedFunction) → AreLo
 fused_are table functions each f function there =
     let before = found_before fuse functions f function there in
     subst (IsLowerable table f) before.1.1 (fused_is table f before.0 (each f before.0 before.1.0))
+
+-- and have no more variables
+pub fused_variables : (most : ℕ) (functions : List CountedFunction) → AllHaveVariablesBelow most functions
+    → AllHaveVariablesBelow most (map fused_function functions)
+fused_variables most functions each f function there =
+    let before = found_before fuse functions f function there in
+    let own = each f before.0 before.1.0 in
+    subst (HasVariablesBelow most) before.1.1
+    (record { parameters = own.parameters; numbered = numbered most (numbers_from 0 before.0.parameters) before.0.body own.numbered })

@@ -31,3 +31,4 @@ pub mod Sizes
 pub mod WellFormed
 pub mod LinePlaces
 pub mod Opposites
+pub mod ValueBounds
