@@ -25,6 +25,9 @@ use Rattle.rv_isa.specs.Execution.{rv32im, run}
 use Rattle.rv_isa.specs.ProcessorMachine.{processor_machine}
 use Rattle.rv_isa.specs.Costs.{functions_length, placed_functions_length}
 use Rattle.rv_isa.specs.Sizes.{wide_frame}
+use Rattle.rv_isa.specs.ValueBounds.{HaveValuesBelow}
+use Rattle.rv_isa.specs.WellFormed.{AreWellFormed, most_values}
+use Rattle.rv_isa.proofs.ValueBounds.{all_values_below}
 use Rattle.elf_image.specs.Parts.{memory_of}
 use Rattle.elf_image.specs.Program.{IsProgramImage, program_parts, memory_size_of, text_start, memory_start}
 use Rattle.elf_image.specs.declared.part.Part.{Part}
@@ -36,7 +39,7 @@ use Rattle.cell_runtime.specs.Texts.{IsText}
 use Rattle.rv_world.specs.Operations.{Constants, all_bytes}
 use Rattle.rv_world.specs.World.{World, first_world, primitives}
 use Rattle.rv_regs.specs.Valid.{IsValid}
-use Rattle.rv_regs.specs.Shape.{IsPlainlyPlaced}
+use Rattle.rv_regs.specs.Shape.{HaveSlotsBelow, IsPlainlyPlaced}
 use Rattle.rv_regs.specs.Relation.{NeverStuck as RegsNeverStuck, StandsFor as RegsStandsFor}
 use Rattle.rv_regs.specs.StatementLines.{line_of}
 use Rattle.rv_regs.proofs.StatementLines.{own_lines_there, lines_apart}
@@ -80,11 +83,19 @@ constants_kept : (asm : Asm) (placed looped : Placed) → IsValid asm placed →
     → placed_constants looped ≡ asm_constants asm
 constants_kept asm placed looped valid loops = ap (λ (constants : Vec (List ℕ) Global). constants.items) loops.constants ∙ valid.constants
 
+-- there are no more slots than values
+pub few_slots : (asm : Asm) (placed looped : Placed) → IsPlainlyPlaced (asm_functions asm) placed → IsLooped placed looped
+    → (most : ℕ) → HaveValuesBelow most (asm_functions asm) → HaveSlotsBelow most (placed_functions looped)
+few_slots asm placed looped plain loops most below =
+    slots_below most 0 (placed_functions placed) (placed_functions looped) loops.rotated (plain.slots most below)
+
 -- the frames are small
-pub frames_small : (asm : Asm) (placed looped : Placed) → IsPlainlyPlaced (asm_functions asm) placed → IsLooped placed looped
-    → frame_size (placed_functions looped) ≤ wide_frame
-frames_small asm placed looped plain loops =
-    frame_most (placed_functions looped) (slots_below 0 (placed_functions placed) (placed_functions looped) loops.rotated plain.slots)
+pub frames_small : (asm : Asm) (placed looped : Placed) → AreWellFormed (asm_functions asm)
+    → IsPlainlyPlaced (asm_functions asm) placed → IsLooped placed looped → frame_size (placed_functions looped) ≤ wide_frame
+frames_small asm placed looped formed plain loops =
+    let frame = frame_most most_values (placed_functions looped)
+    (few_slots asm placed looped plain loops most_values (all_values_below (asm_functions asm) formed)) in
+    omega (arith, frame)
 
 -- what the layers before the placing promise can be placed behind the runtime
 pub placeable : (cells depth : ℕ) (asm : Asm) (placed looped runtime : Placed) → IsPlaceable (asm_functions asm) (asm_constants asm)
@@ -97,7 +108,7 @@ placeable cells depth asm placed looped runtime made valid plain loops runtime_i
     let looped_are : List PlacedLines = placed_functions looped in
     let same : length placed_are ≡ length functions = as_many functions placed_are valid.functions in
     let rotated : length looped_are ≡ length placed_are = as_many_rotated 0 placed_are looped_are loops.rotated in
-    let frame : frame_size looped_are ≤ wide_frame = frames_small asm placed looped plain loops in
+    let frame : frame_size looped_are ≤ wide_frame = frames_small asm placed looped made.formed plain loops in
     let few : length functions ≤ most_functions = made.few in
     let fits : functions_length functions ≤ most_text_length = made.fits.instructions in
     let shorter : placed_functions_length placed_are ≤ functions_length functions = plain.short in
@@ -560,10 +571,20 @@ image_of {cells} {depth} {asm} {placed} {looped} {runtime} {words} {text} makes 
     record {
       program = program;
       memory = record {
-        frame = frame_size (placed_functions looped);
-        small = frame_most (placed_functions looped)
-            (slots_below 0 (placed_functions placed) (placed_functions looped) makes.loops.rotated makes.plain.slots);
-        size = ap memory_size_of parts_are ∙ ap (λ (memory : DataSection). memory.size) makes.runtime_is.memory;
+        placed = looped;
+        is = record {
+          runtime = runtime;
+          runtime_is = makes.runtime_is;
+          words = words;
+          words_are = makes.words_are;
+          text = text;
+          text_is = makes.text_is;
+          parts_are = parts_are;
+          small = frames_small asm placed looped makes.made.formed makes.plain makes.loops;
+          size = ap memory_size_of parts_are ∙ ap (λ (memory : DataSection). memory.size) makes.runtime_is.memory;
+        };
+        few = λ most below.
+            frame_most most (placed_functions looped) (few_slots asm placed looped makes.plain makes.loops most below);
       };
       pool = pool makes;
       cells_are = refl;

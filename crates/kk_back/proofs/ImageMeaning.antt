@@ -10,6 +10,7 @@ use Rattle.kk_counted.specs.CountedCosts.{roomy_cost}
 use Rattle.kk_counted.specs.CountedStates.{CountedSetting, stopped, counted_first_state}
 use Rattle.kk_counted.specs.Heaps.{busy}
 use Rattle.kk_counted.specs.Keeping.{counted_after}
+use Rattle.kk_counted.specs.FunctionSizes.{AllHaveVariablesBelow, AllHaveSlotsBelow}
 use Rattle.kk_counted.specs.Lowerable.{AreLowerable}
 use Rattle.kk_counted.specs.Marks.{CellMarks}
 use Rattle.kk_counted.specs.TokenCosts.{HasRoom}
@@ -25,6 +26,7 @@ use Rattle.elf_image.specs.declared.part.Part.{Part}
 use Rattle.rv_isa.specs.AsmCode.{Lines}
 use Rattle.rv_isa.specs.AsmMachine.{asm_machine, asm_start}
 use Rattle.rv_isa.specs.Costs as Costs
+use Rattle.rv_isa.specs.ValueBounds.{HaveValuesBelow}
 use Rattle.rv_isa.specs.Execution.{rv32im, run}
 use Rattle.rv_isa.specs.Primitives.{stuck}
 use Rattle.rv_isa.specs.Processor.{start, goes}
@@ -35,6 +37,7 @@ use Rattle.rv_cells.specs.FormLines.{HaveOwnLines, ComesToItsLines, FollowsEachS
 use Rattle.rv_cells.specs.Layout.{Layout, IsNarrow}
 use Rattle.rv_cells.specs.Meaning.{setting_on}
 use Rattle.rv_cells.specs.Tables.{table_of, layout_in}
+use Rattle.rv_cells.specs.TokenedFunctions.{most_values_of}
 use Rattle.rv_cells.specs.TokenedLowered.{IsTokenedForm}
 use Rattle.rv_cells.specs.TokenedMeaning.{roomy_outside, IsTokenedLowered, TokenedRunsTheSame}
 use Rattle.rv_place.specs.Images.{outside_lines}
@@ -43,7 +46,8 @@ use Rattle.rv_world.specs.World.{first_world, primitives}
 use Rattle.kk_back.specs.Assembled.{IsPlaceable, IsAsmImage, IsImageOfAsm}
 use Rattle.kk_back.specs.Images.{counted_setting, IsRunnable, IsImageOf, HasOwnAddresses}
 use Rattle.kk_back.specs.FreeCells.{AreAllFree}
-use Rattle.kk_back.specs.Sizes.{FitsText, HasMemory}
+use Rattle.kk_back.specs.Memory.{HasMemory}
+use Rattle.kk_back.specs.Sizes.{FitsText}
 use Rattle.kk_back.proofs.ImageLayers.{same_some}
 use Rattle.kk_back.proofs.FreeCells.{all_are_free}
 use Rattle.kk_back.proofs.OwnAddresses.{own_addresses}
@@ -90,6 +94,15 @@ AreShortLowered =
     → IsTokenedForm shape code.texts code.functions each texts → IsNarrow (layout_in shape)
     → (Costs.functions_length each ≤ tokened_functions_length code.functions)
     × (length (all_bytes texts) ≤ 256 * all_tokened_computes code.functions)
+
+-- the law that the assembler code of a program with tokens names no more values than its variables, its slots and its temporaries
+abbrev pub HaveFewValues : Type 0
+HaveFewValues =
+    (shape : Shape) (code : TokenedProgram) (texts : List (List ℕ)) (each : List Lines)
+    → AreLowerable (table_of shape) (bare_program code).functions → AreTokensSpent code
+    → IsTokenedForm shape code.texts code.functions each texts → (variables slots : ℕ)
+    → AllHaveVariablesBelow variables (bare_program code).functions → AllHaveSlotsBelow slots code.functions
+    → HaveValuesBelow (most_values_of variables slots) each
 
 no_params : (names : List ℕ) (n : ℕ) → names ≡ from_to 0 n → n ≡ 0 → names ≡ []
 no_params names n are none = are ∙ ap (from_to 0) none
@@ -143,8 +156,15 @@ module _ (shape : Shape) (code : TokenedProgram) (functions : List Lines) (texts
     is_program = image.program
 
     -- and the memory has this room
-    pub has_memory : HasMemory cells depth parts
-    has_memory = image.memory
+    pub has_memory : HaveFewValues → HasMemory code cells depth parts
+    has_memory have_few_values = record {
+      placed = image.memory.placed;
+      is = image.memory.is;
+      few = λ variables slots few_variables few_slots.
+          image.memory.few (most_values_of variables slots)
+          (have_few_values shape code texts functions runnable.lowerable runnable.spends form variables slots few_variables
+          few_slots);
+    }
 
     abbrev constants : Constants
     constants = record { first = image.first; texts = texts }

@@ -14,14 +14,13 @@ use Rattle.rv_isa.specs.Frames.{found}
 use Rattle.rv_isa.specs.Opposites.{opposite}
 use Rattle.rv_isa.specs.PlacedCode.{PlacedLine, does, moves, PlacedLines}
 use Rattle.rv_isa.specs.PlacedMachine.{is_label_line}
-use Rattle.rv_isa.specs.WellFormed.{most_values}
 use Rattle.cell_heap.specs.Pool.{Pool}
 use Rattle.rv_loops.specs.Rotation.{HasOpposites, ComputesAlone, is_straight_action, Loop, is_call_of, test, mark, goes_on, leaves}
 use Rattle.rv_loops.specs.Rotation.{rotated_line, rotated_lines, IsRotated, AreRotated}
 use Rattle.rv_loops.proofs.Places.{found_both, found_again}
 use Rattle.rv_place.specs.ProcessorStates.{HasLabel, IsPlain, ArePlain, AllPlain}
 use Rattle.rv_place.proofs.InstructionExecution.{opposite_compares}
-use Rattle.rv_regs.specs.Shape.{IsBelow, HasSlotsBelow, AllSlotsBelow}
+use Rattle.rv_regs.specs.Shape.{IsBelow, HasSlotsBelow, AllSlotsBelow, HaveSlotsBelow}
 use Rattle.rv_world.specs.Operations.{Constants, computed}
 use Rattle.rv_world.specs.World.{World, computed_in, primitives}
 
@@ -60,25 +59,22 @@ module _ (P : PlacedLine → Type 0) where
 
 -- ---- slots
 
-slots_kept : (f : ℕ) (old new : List PlacedLine) → IsRotated f old new → AllSlotsBelow most_values old
-    → AllSlotsBelow most_values new
-slots_kept f old new is all =
-    rotated_has (HasSlotsBelow most_values) f old new is (λ has. has)
-    (All-nil (λ (l : Listed). IsBelow most_values l.place), (All-nil (λ arg. IsBelow most_values arg.place), tt))
-    (All-nil (λ (l : Listed). IsBelow most_values l.place), (All-nil (λ arg. IsBelow most_values arg.place), tt)) all
+slots_kept : (most f : ℕ) (old new : List PlacedLine) → IsRotated f old new → AllSlotsBelow most old → AllSlotsBelow most new
+slots_kept most f old new is all =
+    rotated_has (HasSlotsBelow most) f old new is (λ has. has)
+    (All-nil (λ (l : Listed). IsBelow most l.place), (All-nil (λ arg. IsBelow most arg.place), tt))
+    (All-nil (λ (l : Listed). IsBelow most l.place), (All-nil (λ arg. IsBelow most arg.place), tt)) all
 
--- rotated functions have no more slots than the functions may have
-pub slots_below : (f : ℕ) (q q' : List PlacedLines) → AreRotated f q q'
-    → AllByRecursion (λ (function : PlacedLines). AllSlotsBelow most_values function.code) q
-    → AllByRecursion (λ (function : PlacedLines). AllSlotsBelow most_values function.code) q'
-slots_below f [] [] all below = tt
-slots_below f [] (new ∷ news) all below = absurd all
-slots_below f (old ∷ olds) [] all below = absurd all
-slots_below f (old ∷ olds) (new ∷ news) all below = (by all.0, slots_below (suc f) olds news all.1 below.1)
+-- rotated functions have no more slots than the functions have
+pub slots_below : (most f : ℕ) (q q' : List PlacedLines) → AreRotated f q q' → HaveSlotsBelow most q → HaveSlotsBelow most q'
+slots_below most f [] [] all below = tt
+slots_below most f [] (new ∷ news) all below = absurd all
+slots_below most f (old ∷ olds) [] all below = absurd all
+slots_below most f (old ∷ olds) (new ∷ news) all below = (by all.0, slots_below most (suc f) olds news all.1 below.1)
   where
-    by : (new.code ≡ old.code) ⊎ IsRotated f old.code new.code → AllSlotsBelow most_values new.code
-    by (inl same) = subst (AllSlotsBelow most_values) (sym same) below.0
-    by (inr is) = slots_kept f old.code new.code is below.0
+    by : (new.code ≡ old.code) ⊎ IsRotated f old.code new.code → AllSlotsBelow most new.code
+    by (inl same) = subst (AllSlotsBelow most) (sym same) below.0
+    by (inr is) = slots_kept most f old.code new.code is below.0
 
 -- ---- plain code
 

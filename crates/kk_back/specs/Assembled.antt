@@ -21,7 +21,8 @@ use Rattle.rv_place.specs.ProcessorStates.{HasCells}
 use Rattle.rv_place.specs.Texts.{most_functions}
 use Rattle.rv_world.specs.Operations.{Constants, all_bytes}
 use Rattle.rv_world.specs.World.{World, first_world, primitives}
-use Rattle.kk_back.specs.Sizes.{FitsText, HasMemory}
+use Rattle.kk_back.specs.Memory.{HasAsmMemory}
+use Rattle.kk_back.specs.Sizes.{FitsText}
 
 -- Assembler code that can be placed: it is well formed and small, its functions are few, and the first one takes no arguments.
 pub record IsPlaceable (functions : List Lines) (texts : List (List ℕ)) : Type 0 where
@@ -73,7 +74,7 @@ pub record HasLineAddresses (functions : List Lines) (main : Lines) (constants :
 pub record IsAsmImage (functions : List Lines) (texts : List (List ℕ)) (main : Lines) (cells depth entry : ℕ) (parts : List Part)
     : Type 0 where
   pub program : IsProgramImage entry parts
-  pub memory : HasMemory cells depth parts
+  pub memory : HasAsmMemory functions cells depth parts
   pub pool : Pool
   pub cells_are : pool.cells ≡ cells
   pub aligned : pool.first % 32 ≡ 0

@@ -1,4 +1,5 @@
 pub mod Sizes
+pub mod Memory
 pub mod Assembled
 pub mod FreeCells
 pub mod Images

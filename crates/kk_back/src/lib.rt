@@ -8,7 +8,7 @@ ghost use Rattle.kk_base.specs.Sizes.{AreSizes};
 ghost use Rattle.kk_counted.specs.TokenedForms.{tokened_program};
 ghost use Rattle.elf_image.specs.Program.{IsProgramImage};
 ghost use Rattle.rv_cells.specs.Tables.{layout_in};
-ghost use Rattle.kk_back.specs.Sizes.{HasMemory};
+ghost use Rattle.kk_back.specs.Memory.{HasMemory};
 ghost use Rattle.kk_back.specs.Images.{IsRunnable, IsImageOfTokened, HasOwnAddresses};
 
 use assembled::assembled;
@@ -18,15 +18,17 @@ use kk_counted::Tokened;
 use kk_syntax::StringLiteral;
 use rv_cells::{
     lower_tokened, lowered_tokened_programs_are_short, lowered_tokened_programs_are_well_formed,
-    lowered_tokened_programs_come_to_their_lines, lowered_tokened_programs_run_the_same,
+    lowered_tokened_programs_come_to_their_lines, lowered_tokened_programs_have_few_values,
+    lowered_tokened_programs_run_the_same,
 };
 use std::alloc::Global;
 
 /// The image of a program in counted form with its tokens and with these string literals, with a heap of `cells` cells, of whose
 /// calls at most `depth` are open at a time.
 ///
-/// Behind its text the image has memory for the runtime's buffer, the cells, and `depth` frames of one size, which is at most 4,088
-/// bytes; where it is over 2,044, for 2,048 bytes more.
+/// Behind its text the image has memory for the runtime's buffer, the cells, and `depth` frames of one size: that which the functions
+/// need that are placed in it. A frame has a word for each variable and each slot of a function, eight for the arguments of a call, and
+/// one for the way back, and no more; and it is at most 4,088 bytes. Where it is over 2,044, there is memory for 2,048 bytes more.
 ///
 /// The loaded image does what the program does without its tokens: on every input it tells the same events, and exits with 0, 101
 /// or 102 as the program ends by itself, with the heap full or with the stack full. Where it ends by itself and no cell is counted
@@ -47,7 +49,7 @@ pub fn image(
     requires runnable { IsRunnable tokened.now.shape (tokened_program tokened.now.functions.items texts.now) cells depth }
     requires sizes { AreSizes cells depth }
     ensures program { IfOk result (λ image. IsProgramImage image.entry image.parts) }
-    ensures memory { IfOk result (λ image. HasMemory cells depth image.parts) }
+    ensures memory { IfOk result (λ image. HasMemory (tokened_program tokened.now.functions.items texts.now) cells depth image.parts) }
     ensures does { IfOk result (λ image. IsImageOfTokened (tokened_program tokened.now.functions.items texts.now) cells depth
         image.entry image.parts) }
     ensures own { IfOk result (λ image. HasOwnAddresses (layout_in tokened.now.shape)
@@ -58,6 +60,7 @@ pub fn image(
     lowered_tokened_programs_are_short();
     lowered_tokened_programs_run_the_same();
     lowered_tokened_programs_come_to_their_lines();
+    lowered_tokened_programs_have_few_values();
     let made = assembled(alloc, &asm, cells, depth)?;
     Ok(made)
 }

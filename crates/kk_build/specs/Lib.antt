@@ -2,5 +2,6 @@ pub mod Agreement
 pub mod Built
 pub mod ImageAfter
 pub mod Images
+pub mod Memory
 pub mod SourceMeaning
 pub mod WithoutLimits

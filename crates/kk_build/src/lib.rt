@@ -35,7 +35,8 @@ use std::alloc::Global;
 /// every input it does on the outside what the program means, never traps, and exits exactly when and as the program ends; where
 /// it ends by itself, all cells are free. Outside of the runtime's words, which are the first ones of the image, no instruction
 /// loads or stores a byte of a free cell. It does what it does within a number of instructions that is bounded by the program's
-/// steps and the nodes of its greatest body.
+/// steps and the nodes of its greatest body. Its memory has room for the cells and for `depth` frames, each of at most eight bytes for a
+/// node of the greatest body, and 64.
 pub fn build(alloc: Global, text: &[u8], cells: u32, depth: u32) -> Result<Bytes, Refusal>
     requires { AreSizes cells depth }
     ensures ok { IfOk result (IsBuilt text.now cells depth) }

@@ -18,3 +18,4 @@ pub mod NeverStuck
 pub mod Sizes
 pub mod Truths
 pub mod Unpackings
+pub mod VariableBounds

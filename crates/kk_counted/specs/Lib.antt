@@ -13,6 +13,7 @@ pub mod CountedStates
 pub mod Drafts
 pub mod Emissions
 pub mod Emitting
+pub mod FunctionSizes
 pub mod Heaps
 pub mod Int32
 pub mod Keeping

@@ -5,6 +5,8 @@ use Rattle.kk_core.specs.Decisions.{AreOrderly}
 use Rattle.kk_counted.specs.Arms.{arm_count, HasArms, HaveArms}
 use Rattle.kk_counted.specs.CountBounds.{HasAnArm, EachHasAnArm, AllHaveAnArm, SpendsAtMost, SpendAtMost, AllSpendAtMost}
 use Rattle.kk_counted.specs.CountedCodes.{Counted, CountedArms, CountedFunction, CountedProgram}
+use Rattle.kk_counted.specs.FunctionSizes.{HasVariablesBelow, AllHaveVariablesBelow}
+use Rattle.kk_counted.specs.Spending.{numbers_from}
 use Rattle.kk_counted.specs.Lowerable.{first_of, given_by, given_by_arms, BlocksGive, BlocksOfArmsGive, HasArities, HaveArities}
 use Rattle.kk_counted.specs.Lowerable.{AreNumbered, AreArmsNumbered, IsLowerable, AreLowerable}
 use Rattle.kk_counted.specs.Marks.{CellMarks, result_mark, HasMark, HaveMark, IsMarked}
@@ -315,3 +317,16 @@ specials_are = changed_are Never never_leaves special special_changes
 
 pub special_spends : (program : CountedProgram) (n : ℕ) → AllSpendAtMost program n → AllSpendAtMost (special_program program) n
 special_spends = changed_spends Never never_leaves special special_changes
+
+-- and have no more variables
+pub special_variables : (most : ℕ) (functions : List CountedFunction) → AllHaveVariablesBelow most functions
+    → AllHaveVariablesBelow most (map special_function functions)
+special_variables most functions each f function there =
+    let before = found_before special functions f function there in
+    let own = each f before.0 before.1.0 in
+    subst (HasVariablesBelow most) before.1.1
+    (record {
+      parameters = own.parameters;
+      numbered = numbers_stay Never most (never_leaves.numbers most) (special_changes before.0.body)
+          (numbers_from 0 before.0.parameters) own.numbered;
+    })

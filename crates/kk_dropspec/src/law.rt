@@ -9,6 +9,7 @@ ghost use Rattle.kk_counted.specs.Keeping.{FitsAlways, HasShapeAlways};
 ghost use Rattle.kk_counted.specs.Kinds.{HasKindsAlways};
 ghost use Rattle.kk_counted.specs.Lengths.{AreShort};
 ghost use Rattle.kk_counted.specs.Lowerable.{AreLowerable, AllOpenByCount};
+ghost use Rattle.kk_counted.specs.FunctionSizes.{AllHaveVariablesBelow};
 ghost use Rattle.kk_counted.specs.Marks.{CellMarks, IsMarked};
 ghost use Rattle.kk_counted.specs.Spending.{IsSpent};
 ghost use Rattle.kk_counted.specs.TokenCosts.{OpenAtMost};
@@ -58,8 +59,8 @@ pub fn specialised_code_spends_its_tokens()
         → SpendsTokens left unspent held (special_tokened code) }
 {}
 
-/// Specialised code is marked as the code is that it is made of, can be lowered where that can, spends as few references, and is
-/// as short. It is a law, and does nothing.
+/// Specialised code is marked as the code is that it is made of, can be lowered where that can, spends as few references, is as
+/// short, and has as few variables. It is a law, and does nothing.
 pub fn specialised_code_can_be_lowered()
     ensures marked { (marks : CellMarks) (holds : ℕ → Bool) (f : ℕ) (function : CountedFunction) → IsMarked marks holds f function
         → IsMarked marks holds f (special_function function) }
@@ -67,6 +68,8 @@ pub fn specialised_code_can_be_lowered()
         → AreLowerable table (map special_function functions) }
     ensures little { (program : CountedProgram) (n : ℕ) → AllSpendAtMost program n → AllSpendAtMost (special_program program) n }
     ensures short { (functions : List CountedFunction) → AreShort functions → AreShort (map special_function functions) }
+    ensures variables { (most : ℕ) (functions : List CountedFunction) → AllHaveVariablesBelow most functions
+        → AllHaveVariablesBelow most (map special_function functions) }
 {}
 
 /// Specialised code has no more openings on a path than the code that it is made of. It is a law, and does nothing.

@@ -1,12 +1,15 @@
 -- Fused code can be lowered where the code can that it is made of, and spends as little.
-use Rattle.std.proofs.Common.{◌≡◌, ℕ, Bool, List, ◌∷◌, ◌++◌, map, Some, arith, refl}
+use Rattle.std.proofs.Common.{◌≡◌, ℕ, Bool, List, ◌∷◌, ◌++◌, map, Some, arith, refl, subst}
 use Rattle.kk_counted.specs.Arms.{HasArms}
 use Rattle.kk_counted.specs.CountBounds.{EachHasAnArm, SpendsAtMost, AllSpendAtMost}
 use Rattle.kk_counted.specs.CountedCodes.{Counted, CountedFunction, CountedProgram}
+use Rattle.kk_counted.specs.FunctionSizes.{HasVariablesBelow, AllHaveVariablesBelow}
+use Rattle.kk_counted.specs.Spending.{numbers_from}
 use Rattle.kk_counted.specs.Lowerable.{given_by, BlocksGive, HasArities, AreNumbered, AreLowerable}
 use Rattle.kk_counted.specs.Marks.{CellMarks, HasMark, IsMarked}
 use Rattle.kk_counted.proofs.GainBounds.{more_spent}
-use Rattle.kk_dropspec.proofs.Lowerability.{Leaves, arms_stay, changed_marked, changed_are, changed_spends}
+use Rattle.kk_dropspec.proofs.ChangedFunctions.{found_before}
+use Rattle.kk_dropspec.proofs.Lowerability.{Leaves, numbers_stay, arms_stay, changed_marked, changed_are, changed_spends}
 use Rattle.kk_fuse.specs.Fused.{without_drop, fuse, fused_function, fused_program}
 use Rattle.kk_fuse.proofs.DropRemoval.{by_without, Without, fuse_changes}
 
@@ -130,3 +133,16 @@ fused_are = changed_are Without leaves fuse fuse_changes
 -- a fused program spends as little
 pub fused_spends : (program : CountedProgram) (n : ℕ) → AllSpendAtMost program n → AllSpendAtMost (fused_program program) n
 fused_spends = changed_spends Without leaves fuse fuse_changes
+
+-- and have no more variables
+pub fused_variables : (most : ℕ) (functions : List CountedFunction) → AllHaveVariablesBelow most functions
+    → AllHaveVariablesBelow most (map fused_function functions)
+fused_variables most functions each f function there =
+    let before = found_before fuse functions f function there in
+    let own = each f before.0 before.1.0 in
+    subst (HasVariablesBelow most) before.1.1
+    (record {
+      parameters = own.parameters;
+      numbered = numbers_stay Without most (leaves.numbers most) (fuse_changes before.0.body)
+          (numbers_from 0 before.0.parameters) own.numbered;
+    })

@@ -4,6 +4,7 @@ ghost use Rattle.kk_counted.specs.CountBounds.{AllSpendAtMost};
 ghost use Rattle.kk_counted.specs.CountedCodes.{CountedProgram, CountedFunction};
 ghost use Rattle.kk_counted.specs.Lengths.{AreShort};
 ghost use Rattle.kk_counted.specs.Lowerable.{AreLowerable, AllOpenByCount};
+ghost use Rattle.kk_counted.specs.FunctionSizes.{AllHaveVariablesBelow};
 ghost use Rattle.kk_counted.specs.Marks.{CellMarks, IsMarked};
 ghost use Rattle.kk_counted.specs.Spending.{IsSpent};
 ghost use Rattle.kk_counted.specs.TokenCosts.{OpenAtMost};
@@ -16,8 +17,8 @@ pub fn fused_code_is_spent()
         → IsSpent positions (fused_program program) }
 {}
 
-/// Fused code is marked as the code is that it is made of, can be lowered where that can, spends no more references, and is short
-/// where that is. It is a law, and does nothing.
+/// Fused code is marked as the code is that it is made of, can be lowered where that can, spends no more references, is short where
+/// that is, and has no more variables. It is a law, and does nothing.
 pub fn fused_code_can_be_lowered()
     ensures marked { (marks : CellMarks) (holds : ℕ → Bool) (f : ℕ) (function : CountedFunction) → IsMarked marks holds f function
         → IsMarked marks holds f (fused_function function) }
@@ -25,6 +26,8 @@ pub fn fused_code_can_be_lowered()
         → AreLowerable table (map fused_function functions) }
     ensures little { (program : CountedProgram) (n : ℕ) → AllSpendAtMost program n → AllSpendAtMost (fused_program program) n }
     ensures short { (functions : List CountedFunction) → AreShort functions → AreShort (map fused_function functions) }
+    ensures variables { (most : ℕ) (functions : List CountedFunction) → AllHaveVariablesBelow most functions
+        → AllHaveVariablesBelow most (map fused_function functions) }
 {}
 
 /// Fused code has no more openings on a path than the code that it is made of. It is a law, and does nothing.

@@ -9,9 +9,11 @@ use Rattle.kk_syntax.specs.Programs.{ConstructorTree}
 use Rattle.kk_syntax.specs.Types.{TypeTree, TypeTrees, int32, unit_type, type_variable, named}
 use Rattle.kk_core.specs.Codes.{FunctionCode, ProgramCode}
 use Rattle.kk_core.specs.CoreTyping.{IsCoreTyped, IsFunctionSmall, AreSmall, IsSmall, typing_parameters}
-use Rattle.kk_core.specs.Sizes.{most_variables, most_parameters}
+use Rattle.kk_core.specs.Sizes.{most_variables, most_parameters, below}
+use Rattle.kk_core.specs.VariableBounds.{HaveVariablesAtMost}
 use Rattle.kk_counted.specs.CountBounds.{SpendsAtMost, gains, AllSpendAtMost}
 use Rattle.kk_counted.specs.CountedCodes.{CountedFunction}
+use Rattle.kk_counted.specs.FunctionSizes.{HasVariablesBelow, AllHaveVariablesBelow}
 use Rattle.kk_counted.specs.Lengths.{AreShort}
 use Rattle.kk_counted.specs.Lowerable.{IsLowerable, AreLowerable}
 use Rattle.kk_counted.specs.Marks.{CellMarks, IsMarked, AreMarked}
@@ -24,6 +26,7 @@ use Rattle.kk_insert.specs.Promise.{AllHaveRows}
 use Rattle.kk_insert.proofs.Gains.{HasFew, function_gains}
 use Rattle.kk_insert.proofs.BlockValues.{function_well}
 use Rattle.kk_insert.proofs.MarkedPrograms.{typed_is_marked}
+use Rattle.kk_insert.proofs.VariableBindings.{ordered_high}
 use Rattle.kk_insert.proofs.VariableNumbers.{function_numbered}
 use Rattle.kk_insert.proofs.Rows.{function_has_arms}
 use Rattle.kk_insert.proofs.LengthBounds.{inserted_short}
@@ -152,3 +155,17 @@ pub typed_is_short : (positions : PositionTable) (table : Table) (code : Program
     → HaveFewFields table.constructors → AreShort (inserted positions code).functions
 typed_is_short positions table code typed small fields =
     inserted_short positions table code typed small (has_few table code typed small fields)
+
+-- it has no more variables than the core code
+pub variables_below : (positions : PositionTable) (table : Table) (code : ProgramCode) → IsCoreTyped table code → (most : ℕ)
+    → HaveVariablesAtMost most code → AllHaveVariablesBelow most (inserted positions code).functions
+variables_below positions table code typed most few f made there =
+    let from = inserted_at positions f code.functions made there in
+    let signed = signature_there table code.functions table.functions f from.0 typed.functions from.1.0 in
+    let ordered = signed.1.1.ordered in
+    let le = few f from.0 from.1.0 in
+    let high = ordered_high (below from.0.parameters) from.0.parameters from.0.body from.0.variables ordered in
+    subst (HasVariablesBelow most) from.1.1 (record {
+      parameters = omega (arith, high, le);
+      numbered = function_numbered positions f most from.0 ordered le;
+    })

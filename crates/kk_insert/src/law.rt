@@ -9,6 +9,7 @@ ghost use Rattle.kk_core.specs.declared.form.Core.{Core};
 ghost use Rattle.kk_core.specs.Codes.{ProgramCode};
 ghost use Rattle.kk_core.specs.CoreStates.{CoreSetting, CoreState};
 ghost use Rattle.kk_core.specs.CoreTyping.{IsCoreTyped, IsSmall};
+ghost use Rattle.kk_core.specs.VariableBounds.{HaveVariablesAtMost};
 ghost use Rattle.kk_core.specs.Kinds as Core;
 ghost use Rattle.kk_core.specs.Kinds.{MakeOneType, field_count};
 ghost use Rattle.kk_core.specs.NeverStuck.{NeverStuck};
@@ -18,6 +19,7 @@ ghost use Rattle.kk_counted.specs.Keeping.{FitsAlways, HasShapeAlways};
 ghost use Rattle.kk_counted.specs.Kinds.{HasKindsAlways};
 ghost use Rattle.kk_counted.specs.CountBounds.{AllSpendAtMost};
 ghost use Rattle.kk_counted.specs.Lengths.{AreShort};
+ghost use Rattle.kk_counted.specs.FunctionSizes.{AllHaveVariablesBelow};
 ghost use Rattle.kk_counted.specs.Lowerable.{AreLowerable};
 ghost use Rattle.kk_counted.specs.Marks.{AreMarked};
 ghost use Rattle.kk_counted.specs.Spending.{IsSpent};
@@ -94,7 +96,7 @@ pub fn typed_code_is_marked()
 
 /// The insertion of a typed program within the limits can be lowered: its variables are few and numbered in order, each case has an
 /// arm for each row, each block inside gives a value, and each form has as many arguments as it takes. And each function spends few
-/// references on a path. It is a law, and does nothing.
+/// references on a path. It has no more variables than the core code. It is a law, and does nothing.
 pub fn inserted_code_can_be_lowered()
     ensures lowerable { (positions : PositionTable) (table : Table) (code : ProgramCode) → IsCoreTyped table code → IsSmall code
         → AllHaveRows code → AreGround table.constructors → HaveFewFields table.constructors
@@ -102,6 +104,8 @@ pub fn inserted_code_can_be_lowered()
     ensures little { (positions : PositionTable) (table : Table) (code : ProgramCode) → IsCoreTyped table code → IsSmall code
         → HaveFewFields table.constructors → IsSpent positions (inserted positions code)
         → AllSpendAtMost (inserted positions code) most_spent }
+    ensures variables { (positions : PositionTable) (table : Table) (code : ProgramCode) → IsCoreTyped table code
+        → (most : ℕ) → HaveVariablesAtMost most code → AllHaveVariablesBelow most (inserted positions code).functions }
 {}
 
 /// The insertion of a typed program within the limits is short, and has few forms on values: before and behind each form of the

@@ -4,6 +4,7 @@ use Rattle.kk_syntax.specs.declared.ground.Ground.{Ground}
 use Rattle.kk_syntax.specs.GroundPrograms.{ground_program}
 use Rattle.kk_syntax.specs.Shapes.{greatest_nodes}
 use Rattle.kk_counted.specs.BareForms.{bare_program}
+use Rattle.kk_counted.specs.FunctionSizes.{AllHaveSlotsBelow}
 use Rattle.kk_counted.specs.Programs.{program_of}
 use Rattle.kk_counted.specs.TokenCosts.{HasRoom}
 use Rattle.kk_counted.specs.TokenLengths.{AreTokensShort}
@@ -24,12 +25,13 @@ tokened_of made given = tokened_program made.functions.items given.texts.items
 abbrev pub token_room : Ground → ℕ
 token_room given = 36 * (greatest_nodes (ground_program given) - 1)
 
--- Without its tokens it is its counted form. Its slots are few, its tokens are held at calls alone, and constructions leave only
--- fields that are known to be their arguments. It spends each token once on each path, is paired, is short with its tokens, and
+-- Without its tokens it is its counted form. A function has fewer slots than the greatest body of the instances has nodes; its tokens
+-- are held at calls alone, and constructions leave only fields that are known to be their arguments. It spends each token once on each path, is paired, is short with its tokens, and
 -- there is room for them.
 pub record TokensCanBeLowered (counted : Counted) (made : Tokened) (given : Ground) : Type 0 where
   pub form : bare_program (tokened_of made given) ≡ program_of counted.functions.items given.texts.items
   pub lowerable : AreTokensLowerable (tokened_of made given).functions
+  pub slots : AllHaveSlotsBelow (greatest_nodes (ground_program given) - 1) (tokened_of made given).functions
   pub spends : AreTokensSpent (tokened_of made given)
   pub paired : AllPaired (tokened_of made given)
   pub short : AreTokensShort (tokened_of made given).functions

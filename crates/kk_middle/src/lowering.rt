@@ -26,10 +26,13 @@ use kk_insert::{
     inserted_code_can_be_lowered, inserted_code_is_short, inserted_code_is_spent,
     inserted_code_opens_no_more, typed_code_is_marked,
 };
-use kk_norm::{core_forms_are_small, core_forms_are_whole, core_forms_open_few_cells};
+use kk_norm::{
+    core_forms_are_small, core_forms_are_whole, core_forms_have_few_variables,
+    core_forms_open_few_cells,
+};
 
-/// The counted form of an accepted program can be lowered: its functions are few, their variables are few and numbered in order, and
-/// each spends few references on a path; constructors have few fields and small tags. It is a law, and does nothing.
+/// The counted form of an accepted program can be lowered: its functions are few, their variables are numbered in order, and no more
+/// than nodes and parameters, and each spends few references on a path; constructors have few fields and small tags. It is a law, and does nothing.
 pub fn compiled_programs_can_be_lowered()
     ensures { (typed : Typed) (given : Ground) (made : Counted) → IsChecked (program_tree typed.program) (typings_of typed)
         → AreGiven typed given → (compiled : IsCompiled typed given made)
@@ -38,6 +41,7 @@ pub fn compiled_programs_can_be_lowered()
     compiled_core_forms_are_insertable();
     core_forms_are_small();
     core_forms_are_whole();
+    core_forms_have_few_variables();
     typed_code_is_marked();
     inserted_code_is_spent();
     inserted_code_can_be_lowered();

@@ -12,8 +12,8 @@ ghost use Rattle.kk_middle.specs.TokenLowerings.{TokensCanBeLowered};
 use crate::lowering::{compiled_programs_are_short, compiled_programs_open_few_cells};
 use kk_respec::{respecialised_code_can_be_lowered, respecialised_code_has_its_form};
 use kk_reuse::{
-    paired_code_can_be_lowered, paired_code_costs_what_it_has_room_for, paired_code_is_short,
-    paired_code_spends_its_tokens,
+    paired_code_can_be_lowered, paired_code_costs_what_it_has_room_for, paired_code_has_few_slots,
+    paired_code_is_short, paired_code_spends_its_tokens,
 };
 
 /// The tokens of a compiled program can be lowered: without them it is its counted form, of which the other laws speak; its slots
@@ -29,6 +29,7 @@ pub fn compiled_tokens_can_be_lowered()
     paired_code_spends_its_tokens();
     paired_code_costs_what_it_has_room_for();
     paired_code_can_be_lowered();
+    paired_code_has_few_slots();
     paired_code_is_short();
     respecialised_code_has_its_form();
     respecialised_code_can_be_lowered();

@@ -1,4 +1,4 @@
-ghost use Rattle.std.specs.Prelude.{◌-◌, ◌≤◌, ℕ};
+ghost use Rattle.std.specs.Prelude.{◌+◌, ◌-◌, ◌≤◌, ℕ};
 ghost use Rattle.kk_syntax.specs.GroundTyping.{table_of, IsGroundTyped};
 ghost use Rattle.kk_syntax.specs.Programs.{ProgramTree};
 ghost use Rattle.kk_syntax.specs.Shapes.{greatest_nodes};
@@ -6,7 +6,9 @@ ghost use Rattle.kk_core.specs.Kinds.{AllAskTyped};
 ghost use Rattle.kk_core.specs.Cases.{CasesAreWhole};
 ghost use Rattle.kk_core.specs.Codes.{ProgramCode};
 ghost use Rattle.kk_core.specs.CoreTyping.{IsCoreTyped, IsSmall};
+ghost use Rattle.kk_core.specs.Sizes.{most_parameters};
 ghost use Rattle.kk_core.specs.Unpackings.{UnpackAtMost};
+ghost use Rattle.kk_core.specs.VariableBounds.{HaveVariablesAtMost};
 ghost use Rattle.kk_norm.specs.Meaning.{KeepsMeaningByCells, CostsLittle};
 ghost use Rattle.kk_norm.specs.Normal.{IsWithin};
 ghost use Rattle.kk_norm.specs.Normalized.{IsCoreForm};
@@ -37,6 +39,13 @@ pub fn core_forms_of_typed_programs_cost_little()
 /// two forms; and the tests of its matches are short together. It is a law, and does nothing.
 pub fn core_forms_are_small()
     ensures { (program : ProgramTree) (code : ProgramCode) → IsCoreForm program code → IsWithin program → IsSmall code }
+{}
+
+/// No function of a core form has more variables than the greatest body has nodes, and a parameter for each that a function may have.
+/// It is a law, and does nothing.
+pub fn core_forms_have_few_variables()
+    ensures { (program : ProgramTree) (code : ProgramCode) → IsCoreForm program code → IsWithin program
+        → (nodes : ℕ) → greatest_nodes program ≤ nodes → HaveVariablesAtMost (nodes + most_parameters) code }
 {}
 
 /// A core form of a program that is typed, and whose matches are covered, is typed by what is known of its variables, and its

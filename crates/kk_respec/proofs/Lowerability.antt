@@ -4,8 +4,9 @@ use Rattle.std.specs.Prelude.{if◌then◌else◌, slice_get}
 use Rattle.kk_syntax.specs.declared.program.Form.{Form}
 use Rattle.kk_syntax.specs.declared.program.Form.TheVariants.{Number, Unit as Nothing, ReadByte, PrintText, Unary, Binary, Print, Construct, Call}
 use Rattle.kk_syntax.specs.Shapes.{is_among}
+use Rattle.kk_counted.specs.FunctionSizes.{AllHaveSlotsBelow}
 use Rattle.kk_counted.specs.KeptFields.{KnownFields, fields_in, forget_slot, forget_variable, forget_variables, known_opened, KeepsKnown, LeavesKnown, LeaveKnown}
-use Rattle.kk_counted.specs.TokenLowerable.{most_slots, HoldsAtCalls, HoldAtCalls, IsTokenLowerable, AreTokensLowerable}
+use Rattle.kk_counted.specs.TokenLowerable.{slots_in, most_slots, HoldsAtCalls, HoldAtCalls, IsTokenLowerable, AreTokensLowerable}
 use Rattle.kk_counted.specs.TokenedCodes.{Tokened, TokenedArms, TokenedFunction, TokenedProgram}
 use Rattle.kk_respec.specs.Respecialised.{kept_from, respec, respec_arms, respecialised_program}
 use Rattle.kk_respec.proofs.Forms.{each_function}
@@ -162,3 +163,10 @@ program_lowerable program lowerable =
       straight = straight_same [] function.body [] (lowerable f function is).straight;
       leaves = leaves_known [] function.body;
     })
+
+-- it has no more slots
+pub program_slots : (most : ℕ) (program : TokenedProgram) → AllHaveSlotsBelow most program.functions
+    → AllHaveSlotsBelow most (respecialised_program program).functions
+program_slots most program few =
+    each_function (λ (function : TokenedFunction). slots_in function.body ≤ most) program.functions
+    (λ f function is. subst (λ n. n ≤ most) (sym (slots_same [] function.body)) (few f function is))

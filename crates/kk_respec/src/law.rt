@@ -2,6 +2,7 @@ ghost use Rattle.std.specs.Prelude.{◌≡◌, Bool, true, false, ℕ, List, [],
 ghost use Rattle.kk_counted.specs.BareForms.{bare_program};
 ghost use Rattle.kk_counted.specs.CountedMachine.{NotStuck};
 ghost use Rattle.kk_counted.specs.CountedStates.{CountedState};
+ghost use Rattle.kk_counted.specs.FunctionSizes.{AllHaveSlotsBelow};
 ghost use Rattle.kk_counted.specs.Keeping.{counted_after};
 ghost use Rattle.kk_counted.specs.TokenCosts.{HasRoom};
 ghost use Rattle.kk_counted.specs.TokenKeeping.{FillsAlways, token_after};
@@ -26,13 +27,15 @@ pub fn respecialised_code_has_its_form()
     ensures room { (room : ℕ) (program : TokenedProgram) → HasRoom room program → HasRoom room (respecialised_program program) }
 {}
 
-/// Respecialised code can be lowered where the code can that it is made of, and is short where that is. It is a law, and does
-/// nothing.
+/// Respecialised code can be lowered where the code can that it is made of, is short where that is, and has no more slots. It is a
+/// law, and does nothing.
 pub fn respecialised_code_can_be_lowered()
     ensures lowerable { (program : TokenedProgram) → AreTokensLowerable program.functions
         → AreTokensLowerable (respecialised_program program).functions }
     ensures short { (program : TokenedProgram) → AreTokensShort program.functions
         → AreTokensShort (respecialised_program program).functions }
+    ensures slots { (most : ℕ) (program : TokenedProgram) → AllHaveSlotsBelow most program.functions
+        → AllHaveSlotsBelow most (respecialised_program program).functions }
 {}
 
 /// Each construction of respecialised code in a token's cell leaves all fields that are known to be its arguments. It is a law, and

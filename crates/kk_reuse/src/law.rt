@@ -5,6 +5,7 @@ ghost use Rattle.kk_counted.specs.CountedCodes.{CountedProgram};
 ghost use Rattle.kk_counted.specs.CountedCosts.{roomy_cost};
 ghost use Rattle.kk_counted.specs.CountedMachine.{counted_machine, NotStuck};
 ghost use Rattle.kk_counted.specs.CountedStates.{CountedSetting, CountedState, counted_first_state};
+ghost use Rattle.kk_counted.specs.FunctionSizes.{AllHaveSlotsBelow};
 ghost use Rattle.kk_counted.specs.Keeping.{counted_after};
 ghost use Rattle.kk_counted.specs.Lengths.{AreShort};
 ghost use Rattle.kk_counted.specs.TokenCosts.{token_cost, HasRoom, OpenAtMost, AreStatesKept};
@@ -63,6 +64,12 @@ pub fn paired_code_costs_what_it_has_room_for()
 pub fn paired_code_can_be_lowered()
     ensures { (most : ℕ) (program : CountedProgram) → OpenAtMost most program → most ≤ most_slots
         → AreTokensLowerable (paired_program program).functions }
+{}
+
+/// Paired code has no more slots in a function than the code has openings on a path. It is a law, and does nothing.
+pub fn paired_code_has_few_slots()
+    ensures { (most : ℕ) (program : CountedProgram) → OpenAtMost most program
+        → AllHaveSlotsBelow most (paired_program program).functions }
 {}
 
 /// Paired code is short where the code is that it is made of, which has few openings on a path: in all, its tokens add no more than

@@ -77,6 +77,7 @@ use Rattle.kk_counted.specs.Marks.{
   IsMarked,
 }
 use Rattle.kk_counted.specs.Spending.{numbers_from}
+use Rattle.kk_counted.specs.FunctionSizes.{HasVariablesBelow}
 use Rattle.kk_counted.specs.Lowerable.{AreBelow, AreNumbered, AreArmsNumbered, first_of, given_by, given_by_arms, BlocksGive, BlocksOfArmsGive, IsLowerable}
 use Rattle.rv_cells.specs.Marking.{marked, all_marked, mark_given, mark_of_form, marks_behind, marks_behind_arms, function_marks}
 use Rattle.rv_cells.specs.Written.{holds_in}
@@ -534,6 +535,7 @@ pub record IsKnown (table : CellMarks) (f : ℕ) (function : CountedFunction) (m
   pub marked : IsMarked table (holds_in marks) f function
   pub few : function.parameters ≤ length marks
   pub low : length marks ≤ most_variables
+  pub fewest : (most : ℕ) → HasVariablesBelow most function → length marks ≤ most
   pub numbered : AreNumbered (length marks) (numbers_from 0 function.parameters) function.body
 
 pub known : (table : CellMarks) (f : ℕ) (function : CountedFunction) → IsLowerable table f function
@@ -546,7 +548,9 @@ known table f function is = record {
     body_marked = at_last.0;
   };
   few = omega (arith, right.1, behind.keeps.0);
-  low = omega (arith, short, is.few);
+  low = let short = fewest is.base (record { parameters = is.parameters_below; numbered = is.numbered }) in
+      omega (arith, short, is.few);
+  fewest = fewest;
   numbered = at_last.1 is.base is.numbered;
 }
   where
@@ -568,8 +572,9 @@ known table f function is = record {
     behind : Found is.holds table result result (given_by function.body) each last
     behind = found is.holds table result function.body params result each is.marked.body_marked is.gives right.0
 
-    short : length last ≤ is.base
-    short = behind_short table is.base function.body params each is.numbered (omega (arith, right.1, is.parameters_below))
+    fewest : (most : ℕ) → HasVariablesBelow most function → length last ≤ most
+    fewest most below =
+        behind_short table most function.body params each below.numbered (let few = below.parameters in omega (arith, right.1, few))
 
     at_last : IsNow is.holds last table result params result function.body
     at_last = now is.holds last table result function.body params result each is.marked.body_marked is.gives right.0

@@ -99,3 +99,5 @@ pub mod Standings
 pub mod TokenCodeGrowth
 pub mod TokenJoins
 pub mod TokenFunctions
+pub mod FormValues
+pub mod FunctionValues

@@ -170,6 +170,8 @@ tokened_form shape literals functions each texts lowerable tokens are = record {
           marked = found.marked;
           few = found.few;
           low = omega (arith, found.low, (tokens f function is).slots);
+          fewest = found.fewest;
+          least = omega arith;
           numbered = found.numbered;
           has = has_slots (slots_in function.body) function.body (omega arith);
         },

@@ -1,5 +1,6 @@
 -- Functions of a program with tokens, as they are lowered one after the other.
 use Rattle.std.specs.Prelude.{◌≡◌, ℕ, ◌+◌, ◌*◌, ◌≤◌, List, ◌++◌, length, Some, slice_get}
+use Rattle.kk_core.specs.Sizes.{most_parameters}
 use Rattle.kk_counted.specs.BareForms.{bare_function}
 use Rattle.kk_counted.specs.CountedCodes.{CountedFunction}
 use Rattle.kk_counted.specs.TokenLengths.{tokened_computes, all_tokened_computes}
@@ -27,6 +28,11 @@ facts_for shape literals f function standing = record {
 -- how many variables the function of a number has
 abbrev pub variables_for : Shape → ℕ → TokenedFunction → ℕ
 variables_for shape f function = length (function_marks (table_of shape) f (bare_function function))
+
+-- how many values a function with so many variables and slots names at most: behind both come temporaries, one for each argument
+-- of a call
+abbrev pub most_values_of : ℕ → ℕ → ℕ
+most_values_of variables slots = variables + slots + most_parameters
 
 -- The lines of the function of a number, by its marks, with its slots behind its variables and its temporaries behind these, where
 -- these constant bytes stand.

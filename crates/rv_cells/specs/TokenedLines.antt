@@ -7,10 +7,11 @@ use Rattle.kk_core.specs.Decisions.{NodeTree}
 use Rattle.kk_core.specs.Sizes.{most_variables}
 use Rattle.kk_counted.specs.Arms.{arm_count}
 use Rattle.kk_counted.specs.BareForms.{bare, bare_arms, bare_function}
+use Rattle.kk_counted.specs.FunctionSizes.{HasVariablesBelow}
 use Rattle.kk_counted.specs.Lowerable.{AreBelow, AreNumbered}
 use Rattle.kk_counted.specs.Marks.{CellMarks, IsMarked}
 use Rattle.kk_counted.specs.Spending.{numbers_from}
-use Rattle.kk_counted.specs.TokenLowerable.{most_slots}
+use Rattle.kk_counted.specs.TokenLowerable.{most_slots, slots_in}
 use Rattle.kk_counted.specs.TokenedCodes.{Tokened, TokenedArms, TokenedFunction}
 use Rattle.rv_isa.specs.declared.asm.Action.TheVariants.{Compute, Label, Branch, TailCall, Hold, Unhold}
 use Rattle.rv_isa.specs.declared.asm.Condition.TheVariants.{Equal}
@@ -246,13 +247,15 @@ pub record IsFunctionLowered (layout : Layout) (texts : Texts) (function : Token
       function.body lines.code labels
 
 -- The assembler code of a function of a number: its variables are of types with cells as marked, the values of its slots are above
--- all of its variables and its temporaries above these, and they are few.
+-- all of its variables and its temporaries above these, and they are few: no more variables and slots than the function has.
 pub record IsFunctionOf (layout : Layout) (texts : Texts) (marks : CellMarks) (f : ℕ) (function : TokenedFunction) (lines : Lines)
     : Type 0 where
   pub lowered : IsFunctionLowered layout texts function lines
   pub marked : IsMarked marks lowered.holds f (bare_function function)
   pub few : function.parameters ≤ lowered.variables
   pub low : lowered.variables + lowered.slots ≤ most_variables + most_slots
+  pub fewest : (most : ℕ) → HasVariablesBelow most (bare_function function) → lowered.variables ≤ most
+  pub least : lowered.slots ≤ slots_in function.body
   pub numbered : AreNumbered lowered.variables (numbers_from 0 function.parameters) (bare function.body)
   pub has : HasSlots lowered.slots function.body
 

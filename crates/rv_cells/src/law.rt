@@ -11,6 +11,7 @@ ghost use Rattle.kk_counted.specs.BareForms.{bare_program};
 ghost use Rattle.kk_counted.specs.declared.shape.Shape.{Shape};
 ghost use Rattle.kk_counted.specs.Lowerable.{AreLowerable};
 ghost use Rattle.kk_counted.specs.CountBounds.{AllSpendAtMost};
+ghost use Rattle.kk_counted.specs.FunctionSizes.{AllHaveVariablesBelow, AllHaveSlotsBelow};
 ghost use Rattle.kk_counted.specs.TokenLengths.{tokened_functions_length, all_tokened_computes};
 ghost use Rattle.kk_counted.specs.TokenLowerable.{AreTokensLowerable};
 ghost use Rattle.kk_counted.specs.TokenSpending.{AreTokensSpent};
@@ -28,6 +29,7 @@ ghost use Rattle.rv_isa.specs.AsmCode.{Lines};
 ghost use Rattle.kk_counted.specs.CountedCosts.{roomy_cost};
 ghost use Rattle.kk_counted.specs.TokenCosts.{HasRoom};
 ghost use Rattle.rv_cells.specs.Fitting.{AreTagged, count_of_fields, IsFit};
+ghost use Rattle.rv_cells.specs.TokenedFunctions.{most_values_of};
 ghost use Rattle.rv_cells.specs.TokenedLowered.{IsTokenedForm};
 ghost use Rattle.rv_cells.specs.FormLines.{HaveOwnLines, ComesToItsLines, FollowsEachState};
 ghost use Rattle.rv_cells.specs.Meaning.{setting_on};
@@ -37,6 +39,7 @@ ghost use Rattle.kk_counted.specs.TokenedCodes.{TokenedFunction, TokenedProgram}
 ghost use Rattle.kk_counted.specs.CountLimits.{greatest_spent};
 ghost use Rattle.rv_cells.specs.Tables.{table_of, layout_in};
 ghost use Rattle.rv_isa.specs.Costs.{functions_length};
+ghost use Rattle.rv_isa.specs.ValueBounds.{HaveValuesBelow};
 ghost use Rattle.rv_world.specs.Operations.{all_bytes};
 
 /// At the start the cells of a pool hold the empty heap. It is a law, and does nothing.
@@ -160,6 +163,16 @@ pub fn lowered_tokened_programs_are_short()
         → IsTokenedForm shape code.texts code.functions each texts → IsNarrow (layout_in shape)
         → (functions_length each ≤ tokened_functions_length code.functions)
         × (length (all_bytes texts) ≤ 256 * all_tokened_computes code.functions) }
+{}
+
+/// The assembler code of a program with tokens whose bare form can be lowered, which spends its tokens, and is lowered, names no more
+/// values in a function than the program has variables and slots, and eight temporaries. It is a law, and does nothing.
+pub fn lowered_tokened_programs_have_few_values()
+    ensures { (shape : Shape) (code : TokenedProgram) (texts : List (List ℕ)) (each : List Lines)
+        → AreLowerable (table_of shape) (bare_program code).functions → AreTokensSpent code
+        → IsTokenedForm shape code.texts code.functions each texts → (variables slots : ℕ)
+        → AllHaveVariablesBelow variables (bare_program code).functions → AllHaveSlotsBelow slots code.functions
+        → HaveValuesBelow (most_values_of variables slots) each }
 {}
 
 /// A program with tokens whose functions are all lowered runs the same as its assembler code, where its bare form has room for the

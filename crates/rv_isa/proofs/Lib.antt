@@ -21,3 +21,4 @@ pub mod Standing
 pub mod Steps
 pub mod Calls
 pub mod HeldTokens
+pub mod ValueBounds

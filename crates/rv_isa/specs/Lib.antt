@@ -32,3 +32,4 @@ pub mod WellFormed
 pub mod LinePlaces
 pub mod Numbers
 pub mod Opposites
+pub mod ValueBounds

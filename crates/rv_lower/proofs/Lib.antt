@@ -13,3 +13,4 @@ pub mod PrintCosts
 pub mod Runs
 pub mod Words
 pub mod WrittenLines
+pub mod ValueBounds

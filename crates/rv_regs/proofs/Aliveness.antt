@@ -1,4 +1,4 @@
--- The lists of alive values are exact, have each value once, and have small values only.
+-- The lists of alive values are exact, have each value once, and have values of the code only.
 use Rattle.std.proofs.Common.{◌≡◌, ◌||◌, ◌&&◌, ◌⊎◌, ◌<◌, ℕ, List, [], ◌∷◌, Option, Bool, true, false, not, cond, refl, sym, ◌∙◌, ap, inl, inr}
 use Rattle.std.proofs.lemmas.Bool.{or_cases, and_parts, false≢true, cond_both}
 use Rattle.rv_isa.specs.declared.asm.Action.{Action}
@@ -6,7 +6,8 @@ use Rattle.rv_isa.specs.declared.asm.Action.TheVariants.{Compute, Label, Jump, B
 use Rattle.rv_isa.specs.AsmCode.{Line}
 use Rattle.rv_isa.specs.AsmMachine.{is_label}
 use Rattle.rv_isa.specs.Frames.{is_among}
-use Rattle.rv_isa.specs.WellFormed.{is_written, is_alive_after, is_alive, is_alive_at, is_alive_behind, AreDistinct, AreLinesFormed, most_values}
+use Rattle.rv_isa.specs.ValueBounds.{AreLinesBelow}
+use Rattle.rv_isa.specs.WellFormed.{is_written, is_alive_after, is_alive, is_alive_at, is_alive_behind, AreDistinct}
 use Rattle.rv_regs.specs.Alive.{without, values_before, values_behind, alive_values, alive_values_at}
 use Rattle.rv_regs.proofs.Lists.{each_among, among_with_values, among_without, distinct_with, distinct_without}
 
@@ -102,21 +103,21 @@ cond_cases : (P : Type 0) (b x y : Bool) → (x ≡ true → P) → (y ≡ true 
 cond_cases P true x y h k t = h t
 cond_cases P false x y h k t = k t
 
-small_both : (v : ℕ) (code : List Line) → AreLinesFormed code → (is_alive v code ≡ true → v < most_values) × ((l : ℕ) → is_alive_at l v code ≡ true → v < most_values)
-small_both v [] formed = (λ t. absurd (false≢true t), λ l t. absurd (false≢true t))
-small_both v (line ∷ rest) formed =
-    let later = small_both v rest formed.1 in (
+small_both : (most v : ℕ) (code : List Line) → AreLinesBelow most code → (is_alive v code ≡ true → v < most) × ((l : ℕ) → is_alive_at l v code ≡ true → v < most)
+small_both most v [] below = (λ t. absurd (false≢true t), λ l t. absurd (false≢true t))
+small_both most v (line ∷ rest) below =
+    let later = small_both most v rest below.1 in (
       λ t. go later (or_cases (is_among v line.args) (not (is_written line.into v) && is_alive_behind v line.action rest) t),
-      λ l t. cond_cases (v < most_values) (is_label l line.action) (is_alive v rest) (is_alive_at l v rest) later.0 (later.1 l) t,
+      λ l t. cond_cases (v < most) (is_label l line.action) (is_alive v rest) (is_alive_at l v rest) later.0 (later.1 l) t,
     )
   where
-    go : (is_alive v rest ≡ true → v < most_values) × ((l : ℕ) → is_alive_at l v rest ≡ true → v < most_values)
-        → (is_among v line.args ≡ true) ⊎ ((not (is_written line.into v) && is_alive_behind v line.action rest) ≡ true) → v < most_values
-    go later (inl t) = each_among (λ u. u < most_values) line.args v formed.0.args_small t
+    go : (is_alive v rest ≡ true → v < most) × ((l : ℕ) → is_alive_at l v rest ≡ true → v < most)
+        → (is_among v line.args ≡ true) ⊎ ((not (is_written line.into v) && is_alive_behind v line.action rest) ≡ true) → v < most
+    go later (inl t) = each_among (λ (u : ℕ). u < most) line.args v below.0.0 t
     go later (inr t) =
-        after_cases line.action (v < most_values) (is_alive v rest) (λ l. is_alive_at l v rest) later.0 later.1
+        after_cases line.action (v < most) (is_alive v rest) (λ l. is_alive_at l v rest) later.0 later.1
         (and_parts (not (is_written line.into v)) (is_alive_behind v line.action rest) t).1
 
--- what is alive in code that is formed is small
-pub alive_small : (v : ℕ) (code : List Line) → AreLinesFormed code → is_among v (alive_values code) ≡ true → v < most_values
-alive_small v code formed t = (small_both v code formed).0 (sym (alive_exact v code) ∙ t)
+-- what is alive in code is among its values
+pub alive_small : (most v : ℕ) (code : List Line) → AreLinesBelow most code → is_among v (alive_values code) ≡ true → v < most
+alive_small most v code below t = (small_both most v code below).0 (sym (alive_exact v code) ∙ t)

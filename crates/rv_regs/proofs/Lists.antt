@@ -1,7 +1,8 @@
 -- Lists of values: what is among them.
 use Rattle.std.proofs.Common.{◌≡◌, ◌==◌, ◌||◌, ◌&&◌, ◌⊎◌, ℕ, List, [], ◌∷◌, ◌++◌, Option, None, Bool, true, false, not, cond, All, refl, sym, ◌∙◌, ap, subst, inl, inr, eq-eqb, map}
+use Rattle.std.specs.List.{AllByRecursion}
 use Rattle.std.proofs.lemmas.Bool.{eqb-true, eqb-false, ne_eqb, or_cases, or_parts, or_right, or_left, or_from, false≢true, cases_Bool}
-use Rattle.std.proofs.lemmas.List.Elements.{All-nil, All-cons, All-head, All-tail}
+use Rattle.std.proofs.lemmas.List.Elements.{All-nil, All-cons}
 use Rattle.std.proofs.lemmas.List.Folds.{list_any-append}
 use Rattle.rv_isa.specs.Frames.{is_among}
 use Rattle.rv_isa.specs.WellFormed.{is_written, AreDistinct}
@@ -14,12 +15,12 @@ all_made P f (v ∷ vs) h =
     All-cons P (f v) (map f vs) (h v (or_left (v == v) (is_among v vs) (eq-eqb v v refl))) (all_made P f vs (λ u t. h u (or_right (v == u) (is_among u vs) t)))
 
 -- and what holds of all holds of each
-pub each_among : (P : ℕ → Type 0) (values : List ℕ) (v : ℕ) → All P values → is_among v values ≡ true → P v
+pub each_among : (P : ℕ → Type 0) (values : List ℕ) (v : ℕ) → AllByRecursion P values → is_among v values ≡ true → P v
 each_among P [] v all t = absurd (false≢true t)
-each_among P (x ∷ xs) v all t = go (each_among P xs v (All-tail P x xs all)) (or_cases (x == v) (is_among v xs) t)
+each_among P (x ∷ xs) v all t = go (each_among P xs v all.1) (or_cases (x == v) (is_among v xs) t)
   where
     go : (is_among v xs ≡ true → P v) → ((x == v) ≡ true) ⊎ (is_among v xs ≡ true) → P v
-    go later (inl same) = subst P (eqb-true x v same) (All-head P x xs all)
+    go later (inl same) = subst P (eqb-true x v same) all.0
     go later (inr there) = later there
 
 -- ---- a value more

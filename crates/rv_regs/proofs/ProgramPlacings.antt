@@ -1,15 +1,15 @@
 -- Programs whose functions with places are right, each by itself.
-use Rattle.std.proofs.Common.{◌≡◌, ◌≤◌, List, [], ◌∷◌, ◌++◌, arith}
-use Rattle.std.specs.List.{AllByRecursion}
+use Rattle.std.proofs.Common.{◌≡◌, ◌≤◌, ℕ, List, [], ◌∷◌, ◌++◌, arith}
 use Rattle.rv_isa.specs.declared.placed.Placed.{Placed}
 use Rattle.rv_isa.specs.AsmCode.{Lines}
 use Rattle.rv_isa.specs.Costs.{functions_length, placed_functions_length}
 use Rattle.rv_isa.specs.PlacedCode.{PlacedLines, placed_functions}
-use Rattle.rv_isa.specs.WellFormed.{IsWellFormed, most_values}
+use Rattle.rv_isa.specs.ValueBounds.{HaveValuesBelow}
+use Rattle.rv_isa.specs.WellFormed.{IsWellFormed}
 use Rattle.rv_regs.specs.Conditions.{ArePlacings}
 use Rattle.rv_regs.specs.Plain.{placed_function}
 use Rattle.rv_regs.specs.Relation.{AllFewMoves}
-use Rattle.rv_regs.specs.Shape.{AllSlotsBelow, IsRight, AreRight, IsPlainlyPlaced}
+use Rattle.rv_regs.specs.Shape.{HaveSlotsBelow, IsRight, AreRight, IsPlainlyPlaced}
 use Rattle.rv_regs.proofs.PlainPlaces.{is_placing}
 use Rattle.rv_regs.proofs.Shapes.{plain_modest}
 
@@ -31,12 +31,12 @@ right_moves [] (p ∷ ps) right = absurd right
 right_moves (f ∷ fs) [] right = absurd right
 right_moves (f ∷ fs) (p ∷ ps) right = (right.0.modest.few_moves, right_moves fs ps right.1)
 
-right_slots : (functions : List Lines) (placed : List PlacedLines) → AreRight functions placed
-    → AllByRecursion (λ (function : PlacedLines). AllSlotsBelow most_values function.code) placed
-right_slots [] [] right = tt
-right_slots [] (p ∷ ps) right = absurd right
-right_slots (f ∷ fs) [] right = absurd right
-right_slots (f ∷ fs) (p ∷ ps) right = (right.0.modest.slots, right_slots fs ps right.1)
+right_slots : (most : ℕ) (functions : List Lines) (placed : List PlacedLines) → AreRight functions placed
+    → HaveValuesBelow most functions → HaveSlotsBelow most placed
+right_slots most [] [] right below = tt
+right_slots most [] (p ∷ ps) right below = absurd right
+right_slots most (f ∷ fs) [] right below = absurd right
+right_slots most (f ∷ fs) (p ∷ ps) right below = (right.0.modest.slots.below most below.0, right_slots most fs ps right.1 below.1)
 
 right_length : (functions : List Lines) (placed : List PlacedLines) → AreRight functions placed → placed_functions_length placed ≤ functions_length functions
 right_length [] [] right = omega arith
@@ -49,7 +49,7 @@ pub right_shape : (functions : List Lines) (placed : Placed) → AreRight functi
 right_shape functions placed right memory =
     record {
       few_moves = right_moves functions (placed_functions placed) right;
-      slots = right_slots functions (placed_functions placed) right;
+      slots = λ most below. right_slots most functions (placed_functions placed) right below;
       short = right_length functions (placed_functions placed) right;
       memory = memory;
     }

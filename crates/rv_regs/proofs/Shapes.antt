@@ -3,25 +3,28 @@ use Rattle.std.proofs.Common.{◌≡◌, ◌<◌, ◌≤◌, ◌+◌, ◌*◌, �
 use Rattle.std.specs.List.{filter}
 use Rattle.std.proofs.lemmas.Bool.{cond_both}
 use Rattle.std.proofs.lemmas.List.{length-map}
+use Rattle.std.proofs.lemmas.List.Elements.{All-weaker}
 use Rattle.kk_base.specs.Limits.{greatest_of}
 use Rattle.kk_base.specs.declared.limit.LimitKind.TheVariants.{Parameters}
 use Rattle.rv_isa.specs.declared.asm.Action.{Action}
 use Rattle.rv_isa.specs.declared.asm.Action.TheVariants.{Compute, Call, TailCall, Hold, Unhold}
-use Rattle.rv_isa.specs.declared.placed.Place.TheVariants.{Register as register}
+use Rattle.rv_isa.specs.declared.placed.Place.{Place}
+use Rattle.rv_isa.specs.declared.placed.Place.TheVariants.{Register as register, Slot as slot}
 use Rattle.rv_isa.specs.declared.placed.Operand.{Operand}
 use Rattle.rv_isa.specs.declared.placed.Listed.{Listed}
 use Rattle.rv_isa.specs.declared.placed.Way.TheVariants.{Load}
 use Rattle.rv_isa.specs.AsmCode.{Line, Lines}
 use Rattle.rv_isa.specs.Conventions.{argument}
 use Rattle.rv_isa.specs.Frames.{is_among}
-use Rattle.rv_isa.specs.PlacedCode.{PlacedLine, moves}
-use Rattle.rv_isa.specs.WellFormed.{AreLinesFormed, IsWellFormed, most_args, most_values}
+use Rattle.rv_isa.specs.PlacedCode.{PlacedLine, does, moves, from_of, to_of}
+use Rattle.rv_isa.specs.ValueBounds.{AreLinesBelow}
+use Rattle.rv_isa.specs.WellFormed.{AreLinesFormed, IsWellFormed, most_args}
 use Rattle.rv_isa.specs.Costs.{argument_moves, result_moves, move_instructions, code_length, placed_code_length}
 use Rattle.rv_regs.specs.declared.slots.Loaded.{Loaded}
 use Rattle.rv_regs.specs.Alive.{alive_values, PointLists, lists_before}
 use Rattle.rv_regs.specs.Plain.{numbered, place_in, copy_in, listing_at, listings, copied_in, operand_at, first_register, result_register, load_from, loaded_for, pending, alive_params, loads, stores, line_and_stores, placed_code, placed_function}
 use Rattle.rv_regs.specs.Relation.{leading, first_args, stores_behind, FewMoves}
-use Rattle.rv_regs.specs.Shape.{IsBelow, IsResultBelow, AllSlotsBelow, IsModest}
+use Rattle.rv_regs.specs.Shape.{IsBelow, IsResultBelow, HasSlotsBelow, AllSlotsBelow, IsModest}
 use Rattle.rv_regs.proofs.Lists.{all_made, each_among}
 use Rattle.rv_regs.proofs.Aliveness.{alive_small}
 use Rattle.rv_regs.proofs.RegisterPlaces.{AreAmong, params_among}
@@ -187,22 +190,56 @@ below_result : (most : ℕ) (action : Action) (into : Option ℕ) → IsResultBe
 below_result most action None = tt
 below_result most action (Some v) = tt
 
-below_code : (code : List Line) → AreLinesFormed code → AllSlotsBelow most_values (placed_code code)
-below_code [] formed = tt
-below_code (line ∷ rest) formed =
-    let small : (v : ℕ) → is_among v (alive_values rest) ≡ true → v < most_values = λ v there. alive_small v rest formed.1 there in
-    let small_before : (v : ℕ) → is_among v (alive_values (line ∷ rest)) ≡ true → v < most_values = λ v there. alive_small v (line ∷ rest) formed there in
+below_code : (most : ℕ) (code : List Line) → AreLinesBelow most code → AllSlotsBelow most (placed_code code)
+below_code most [] below = tt
+below_code most (line ∷ rest) below =
+    let small : (v : ℕ) → is_among v (alive_values rest) ≡ true → v < most = λ v there. alive_small most v rest below.1 there in
+    let small_before : (v : ℕ) → is_among v (alive_values (line ∷ rest)) ≡ true → v < most = λ v there. alive_small most v (line ∷ rest) below there in
     let loaded : List Loaded = loaded_for line.action line.args in
-    below_loads most_values (lists_before (line ∷ rest)) loaded (line_and_more line rest) small_before (args_alive line rest) (
+    below_loads most (lists_before (line ∷ rest)) loaded (line_and_more line rest) small_before (args_alive line rest) (
       (
-        below_listed most_values [] loaded (lists_before (line ∷ rest)) small_before,
+        below_listed most [] loaded (lists_before (line ∷ rest)) small_before,
         (
-          all_made (λ (arg : Operand). IsBelow most_values arg.place) (operand_at (place_in loaded)) line.args (λ v arg. below_place most_values loaded v (each_among (λ u. u < most_values) line.args v formed.0.args_small arg)),
-          below_result most_values line.action line.into,
+          all_made (λ (arg : Operand). IsBelow most arg.place) (operand_at (place_in loaded)) line.args
+              (λ v arg. below_place most loaded v (each_among (λ (u : ℕ). u < most) line.args v below.0.0 arg)),
+          below_result most line.action line.into,
         ),
       ),
-      below_stores most_values (lists_before rest) (pending line.action line.into (alive_values rest)) (placed_code rest) small (pending_among line.action line.into (alive_values rest)) (below_code rest formed.1),
+      below_stores most (lists_before rest) (pending line.action line.into (alive_values rest)) (placed_code rest) small
+          (pending_among line.action line.into (alive_values rest)) (below_code most rest below.1),
     )
+
+-- what is below a number is below a greater one
+place_more : (most more : ℕ) (place : Place) → most ≤ more → IsBelow most place → IsBelow more place
+place_more most more (register r) le below = tt
+place_more most more (slot k) le below = omega (arith, le, below)
+
+result_more : (most more : ℕ) (into : Option Operand) → most ≤ more → IsResultBelow most into → IsResultBelow more into
+result_more most more None le below = tt
+result_more most more (Some into) le below = place_more most more into.place le below
+
+listed_more : (most more : ℕ) (alive : List Listed) → most ≤ more → All (λ (l : Listed). IsBelow most l.place) alive
+    → All (λ (l : Listed). IsBelow more l.place) alive
+listed_more most more alive le below =
+    All-weaker (λ (l : Listed). IsBelow most l.place) (λ l. IsBelow more l.place) (λ l. place_more most more l.place le) alive below
+
+line_more : (most more : ℕ) (line : PlacedLine) → most ≤ more → HasSlotsBelow most line → HasSlotsBelow more line
+line_more most more (does alive action args into) le below = (
+  listed_more most more alive le below.0,
+  (
+    All-weaker (λ (arg : Operand). IsBelow most arg.place) (λ arg. IsBelow more arg.place)
+        (λ arg. place_more most more arg.place le) args below.1.0,
+    result_more most more into le below.1.1,
+  ),
+)
+line_more most more (moves alive value way) le below = (
+  listed_more most more alive le below.0,
+  (place_more most more (from_of way) le below.1.0, place_more most more (to_of way) le below.1.1),
+)
+
+pub slots_more : (most more : ℕ) (code : List PlacedLine) → most ≤ more → AllSlotsBelow most code → AllSlotsBelow more code
+slots_more most more [] le below = tt
+slots_more most more (line ∷ code) le below = (line_more most more line le below.0, slots_more most more code le below.1)
 
 -- ---- all of it
 
@@ -213,7 +250,11 @@ plain_modest f well =
         leading_both (lists_before f.code) (alive_params f.params (alive_values f.code)) (length f.params) f.code (few_start f.params (alive_values f.code)),
         few_stores (lists_before f.code) (alive_params f.params (alive_values f.code)) (placed_code f.code) (few_code f.code well.lines),
       );
-      slots = below_stores most_values (lists_before f.code) (alive_params f.params (alive_values f.code)) (placed_code f.code) (λ v there. alive_small v f.code well.lines there)
-          (params_among f.params (alive_values f.code)) (below_code f.code well.lines);
+      slots = record {
+        below = λ most below.
+            below_stores most (lists_before f.code) (alive_params f.params (alive_values f.code)) (placed_code f.code)
+            (λ v there. alive_small most v f.code below.1 there) (params_among f.params (alive_values f.code))
+            (below_code most f.code below.1);
+      };
       short = length_function f well;
     }

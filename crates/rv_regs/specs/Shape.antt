@@ -9,7 +9,7 @@ use Rattle.rv_isa.specs.declared.placed.Placed.{Placed}
 use Rattle.rv_isa.specs.AsmCode.{Lines}
 use Rattle.rv_isa.specs.PlacedCode.{PlacedLine, does, moves, PlacedLines, placed_functions, from_of, to_of}
 use Rattle.rv_isa.specs.Costs.{move_instructions, code_length, functions_length, placed_code_length, placed_functions_length}
-use Rattle.rv_isa.specs.WellFormed.{most_values}
+use Rattle.rv_isa.specs.ValueBounds.{HasValuesBelow, HaveValuesBelow}
 use Rattle.rv_regs.specs.Conditions.{IsPlacing}
 use Rattle.rv_regs.specs.Relation.{FunctionFewMoves, AllFewMoves}
 
@@ -33,10 +33,14 @@ AllSlotsBelow most code = AllByRecursion (HasSlotsBelow most) code
 
 -- ---- all of it
 
--- a function with places: it has few moves, its slots are below the most values, and it is short
+-- the slots of a function with places are below each number that all values of the function are below
+pub record HasOwnSlots (function : Lines) (placed : PlacedLines) : Type 0 where
+  pub below : (most : ℕ) → HasValuesBelow most function → AllSlotsBelow most placed.code
+
+-- a function with places: it has few moves, no more slots than the function has values, and it is short
 pub record IsModest (function : Lines) (placed : PlacedLines) : Type 0 where
   pub few_moves : FunctionFewMoves placed
-  pub slots : AllSlotsBelow most_values placed.code
+  pub slots : HasOwnSlots function placed
   pub short : placed_code_length placed.code ≤ length function.params * move_instructions + code_length function.code
 
 -- one that is the function over values, besides
@@ -50,9 +54,13 @@ AreRight [] (placed ∷ more) = ⊥
 AreRight (function ∷ functions) [] = ⊥
 AreRight (function ∷ functions) (placed ∷ more) = IsRight function placed × AreRight functions more
 
+-- the slots of each function of a program
+abbrev pub HaveSlotsBelow : ℕ → List PlacedLines → Type 0
+HaveSlotsBelow most placed = AllByRecursion (λ (function : PlacedLines). AllSlotsBelow most function.code) placed
+
 -- a program with places that take no more moves, slots and instructions than the plainest ones may, and which has no memory of its own
 pub record IsPlainlyPlaced (functions : List Lines) (placed : Placed) : Type 0 where
   pub few_moves : AllFewMoves (placed_functions placed)
-  pub slots : AllByRecursion (λ (function : PlacedLines). AllSlotsBelow most_values function.code) (placed_functions placed)
+  pub slots : (most : ℕ) → HaveValuesBelow most functions → HaveSlotsBelow most (placed_functions placed)
   pub short : placed_functions_length (placed_functions placed) ≤ functions_length functions
   pub memory : placed.memory ≡ record { size = 0; stack_bottom = 0 }

@@ -1,6 +1,6 @@
 // Whether a function with places has few moves, few slots, and is short.
 
-ghost use Rattle.std.specs.Prelude.{◌≤◌, ◌<◌, ◌+◌, ◌*◌, ◌≡◌, IsTrue, All, length, map};
+ghost use Rattle.std.specs.Prelude.{◌≤◌, ◌<◌, ◌+◌, ◌*◌, ◌≡◌, ℕ, IsTrue, All, length, map};
 ghost use Rattle.kk_base.specs.Limits.{greatest_of};
 ghost use Rattle.kk_base.specs.declared.limit.LimitKind.TheVariants.{Parameters};
 ghost use Rattle.rv_isa.specs.declared.placed.Listed.{Listed};
@@ -8,49 +8,93 @@ ghost use Rattle.rv_isa.specs.declared.placed.Operand.{Operand};
 ghost use Rattle.rv_isa.specs.AsmCode.{line_of, lines_of};
 ghost use Rattle.rv_isa.specs.PlacedCode.{placed_line_of, placed_lines_of, from_of, to_of};
 ghost use Rattle.rv_isa.specs.Costs.{operation_instructions, move_instructions, tail_call_length, action_length, result_moves, line_length, code_length, placed_line_length, placed_code_length};
-ghost use Rattle.rv_isa.specs.WellFormed.{most_values};
+ghost use Rattle.rv_isa.specs.ValueBounds.{AreValuesBelow, IsWrittenBelow, AreLinesBelow, HasValuesBelow};
 ghost use Rattle.rv_regs.specs.Relation.{stores_behind, FunctionFewMoves};
-ghost use Rattle.rv_regs.specs.Shape.{IsBelow, IsResultBelow, HasSlotsBelow, AllSlotsBelow, IsModest};
+ghost use Rattle.rv_regs.specs.Shape.{IsBelow, IsResultBelow, HasSlotsBelow, AllSlotsBelow, HasOwnSlots, IsModest};
 
 use crate::checking::{from, to};
 use kk_base::LimitKind;
-use rv_isa::sizes::MOST_VALUES;
 use rv_isa::{
     Action, AsmFunction, Item, Listed, Operand, Operation, Place, PlacedFunction, Statement,
 };
 
-fn is_below(place: Place) -> bool
-    ensures { IsTrue result → IsBelow most_values place }
+// One more than a value, or `most` where that is more.
+fn behind(most: u32, value: u32) -> u32
+    ensures { (limit : ℕ) → most ≤ limit → value < limit → result ≤ limit }
 {
-    match place {
-        Place::Register(_) => true,
-        Place::Slot(slot) => slot < MOST_VALUES,
+    most.max(value.saturating_add(1))
+}
+
+// One more than the greatest of some values, or `most` where that is more.
+fn values_behind(most: u32, values: &[u32]) -> u32
+    ensures { (limit : ℕ) → most ≤ limit → AreValuesBelow limit values.now → result ≤ limit }
+{
+    let mut greatest = most;
+    for value in values {
+        greatest = behind(greatest, *value);
+    }
+    greatest
+}
+
+fn written_behind(most: u32, into: Option<u32>) -> u32
+    ensures { (limit : ℕ) → most ≤ limit → IsWrittenBelow limit into → result ≤ limit }
+{
+    match into {
+        Some(value) => behind(most, value),
+        None => most,
     }
 }
 
-fn are_listed_below(alive: &[Listed]) -> bool
-    ensures { IsTrue result → All (λ (l : Listed). IsBelow most_values l.place) alive.now }
+fn lines_behind(most: u32, code: &[Statement]) -> u32
+    ensures { (limit : ℕ) → most ≤ limit → AreLinesBelow limit (map line_of code.now) → result ≤ limit }
 {
-    alive.iter().all(|listed| is_below(listed.place))
+    let mut greatest = most;
+    for statement in code {
+        greatest = values_behind(greatest, &statement.args);
+        greatest = written_behind(greatest, statement.into);
+    }
+    greatest
 }
 
-fn are_read_below(args: &[Operand]) -> bool
-    ensures { IsTrue result → All (λ (arg : Operand). IsBelow most_values arg.place) args.now }
+// How many values a function has: one more than the greatest that it names.
+fn count_of_values(function: &AsmFunction) -> u32
+    ensures { (limit : ℕ) → HasValuesBelow limit (lines_of function.now) → result ≤ limit }
 {
-    args.iter().all(|arg| is_below(arg.place))
+    lines_behind(values_behind(0, &function.params), &function.code)
 }
 
-fn is_result_below(into: Option<Operand>) -> bool
-    ensures { IsTrue result → IsResultBelow most_values into }
+fn is_below(most: u32, place: Place) -> bool
+    ensures { IsTrue result → IsBelow most place }
+{
+    match place {
+        Place::Register(_) => true,
+        Place::Slot(slot) => slot < most,
+    }
+}
+
+fn are_listed_below(most: u32, alive: &[Listed]) -> bool
+    ensures { IsTrue result → All (λ (l : Listed). IsBelow most l.place) alive.now }
+{
+    alive.iter().all(|listed| is_below(most, listed.place))
+}
+
+fn are_read_below(most: u32, args: &[Operand]) -> bool
+    ensures { IsTrue result → All (λ (arg : Operand). IsBelow most arg.place) args.now }
+{
+    args.iter().all(|arg| is_below(most, arg.place))
+}
+
+fn is_result_below(most: u32, into: Option<Operand>) -> bool
+    ensures { IsTrue result → IsResultBelow most into }
 {
     match into {
-        Some(into) => is_below(into.place),
+        Some(into) => is_below(most, into.place),
         None => true,
     }
 }
 
-fn has_slots_below(item: &Item) -> bool
-    ensures { IsTrue result → HasSlotsBelow most_values (placed_line_of item.now) }
+fn has_slots_below(most: u32, item: &Item) -> bool
+    ensures { IsTrue result → HasSlotsBelow most (placed_line_of item.now) }
 {
     match item {
         Item::Does {
@@ -58,22 +102,35 @@ fn has_slots_below(item: &Item) -> bool
             args,
             into,
             ..
-        } => are_listed_below(alive) && are_read_below(args) && is_result_below(*into),
+        } => {
+            are_listed_below(most, alive)
+                && are_read_below(most, args)
+                && is_result_below(most, *into)
+        }
         Item::Moves { alive, way, .. } => {
-            are_listed_below(alive) && is_below(from(*way)) && is_below(to(*way))
+            are_listed_below(most, alive)
+                && is_below(most, from(*way))
+                && is_below(most, to(*way))
         }
     }
 }
 
-fn all_slots_below(code: &[Item]) -> bool
-    ensures { IsTrue result → AllSlotsBelow most_values (map placed_line_of code.now) }
+fn all_slots_below(most: u32, code: &[Item]) -> bool
+    ensures { IsTrue result → AllSlotsBelow most (map placed_line_of code.now) }
 {
     for item in code {
-        if !has_slots_below(item) {
+        if !has_slots_below(most, item) {
             return false;
         }
     }
     true
+}
+
+// Whether the slots of a function with places are no more than the function has values.
+fn has_few_slots(function: &AsmFunction, placed: &PlacedFunction) -> bool
+    ensures { IsTrue result → HasOwnSlots (lines_of function.now) (placed_lines_of placed.now) }
+{
+    all_slots_below(count_of_values(function), &placed.code)
 }
 
 fn result_count(into: Option<Operand>) -> usize
@@ -238,6 +295,6 @@ pub fn is_modest(function: &AsmFunction, placed: &PlacedFunction) -> bool
     ensures { IsTrue result → IsModest (lines_of function.now) (placed_lines_of placed.now) }
 {
     has_few_moves(placed)
-        && all_slots_below(&placed.code)
+        && has_few_slots(function, placed)
         && is_short(&placed.code, least_length(function))
 }

@@ -19,7 +19,7 @@ returns c =
           c.in_ok-made.made.entry c.in_ok-made.made.parts c.in_ok-made.ensures;
       memory = has_memory c.args.tokened.now.shape code (asm_functions c.in_ok-asm.asm) (asm_constants c.in_ok-asm.asm) c.args.cells
           c.args.depth c.requires.runnable c.in_ok-asm.ensures c.lowered_tokened_programs_are_well_formed.ensures
-          c.in_ok-made.made.entry c.in_ok-made.made.parts c.in_ok-made.ensures;
+          c.in_ok-made.made.entry c.in_ok-made.made.parts c.in_ok-made.ensures c.lowered_tokened_programs_have_few_values.ensures;
       does = λ room enough.
           image_is c.args.tokened.now.shape code (asm_functions c.in_ok-asm.asm) (asm_constants c.in_ok-asm.asm) c.args.cells
           c.args.depth c.requires.runnable c.in_ok-asm.ensures c.lowered_tokened_programs_are_well_formed.ensures

@@ -1,15 +1,18 @@
-use Rattle.std.proofs.Common.{sym, subst, List, ℕ, arith, refl}
+use Rattle.std.proofs.Common.{sym, subst, List, ℕ, ◌+◌, ◌-◌, arith, refl}
 use Rattle.kk_syntax.specs.GroundPrograms.{ground_program}
 use Rattle.kk_syntax.specs.Programs.{program_tree}
 use Rattle.kk_syntax.specs.Shapes.{greatest_nodes}
+use Rattle.kk_core.specs.Sizes.{most_parameters}
 use Rattle.kk_counted.specs.CountedCodes.{CountedProgram}
+use Rattle.kk_counted.specs.FunctionSizes.{AllHaveVariablesBelow}
 use Rattle.kk_counted.specs.Programs.{program_of}
 use Rattle.kk_counted.specs.TokenedForms.{tokened_program}
 use Rattle.kk_middle.specs.Compiled.{instance_positions}
 use Rattle.kk_middle.specs.Meaning.{store_steps}
-use Rattle.kk_middle.specs.TokenLowerings.{token_room, TokensCanBeLowered}
+use Rattle.kk_middle.specs.TokenLowerings.{tokened_of, token_room, TokensCanBeLowered}
 use Rattle.kk_source.specs.Settings.{setting_of}
 use Rattle.kk_back.specs.Images.{IsRunnable, IsImageOf, IsImageOfTokened}
+use Rattle.kk_back.specs.Memory.{HasMemory}
 use Rattle.kk_build.proofs.FileAgreement.{file_agrees, file_leaves, file_is_bounded}
 use Rattle.kk_build.proofs.FileRuns.{touches_as_loaded}
 use Rattle.kk_build.proofs.Nodes.{instances_have_no_more, program_has_some}
@@ -67,7 +70,18 @@ returns c =
     let keeps = c.compiled_programs_keep_meaning.ensures typed given counted c.requires.checked c.requires.given compiled
     (c.requires.lent compiled.table) cells depth in
     let loaded = c.in_ok-file.ensures.read_again in
+    let memory : HasMemory (tokened_of made given) cells depth parts
+    = subst (λ (texts : List (List ℕ)). HasMemory (tokened_program made.functions.items texts) cells depth parts)
+    c.deref.ensures.value c.in_ok-image.ensures.memory in
+    let lowered = c.compiled_programs_can_be_lowered.ensures typed given counted c.requires.checked c.requires.given compiled
+    (c.requires.lent compiled.table) in
+    let variables = subst (λ (bare : CountedProgram). AllHaveVariablesBelow (greatest + most_parameters) bare.functions)
+    (sym tokens.form) lowered.variables in
+    let frame = memory.few (greatest + most_parameters) (greatest - 1) variables tokens.slots in
+    let most = instances_have_no_more c.requires.given.instances in
+    let some = program_has_some c.requires.given.instances in
     record {
+      memory = record { placed = memory.placed; is = memory.is; few = omega (arith, frame, most, some) };
       is_image = record {
         entry = entry;
         parts = parts;
@@ -83,8 +97,6 @@ returns c =
           image keeps loaded;
       touches_no_free = touches_as_loaded loaded (setting_of program compiled.table cells depth) cells image.touches_no_free;
       bounded = λ nodes few.
-          let most = instances_have_no_more c.requires.given.instances in
-          let some = program_has_some c.requires.given.instances in
           file_is_bounded program compiled.table positions code greatest room up (omega arith) cells depth entry parts image keeps
           loaded nodes (omega (arith, most, few)) (omega (arith, some, few));
     }

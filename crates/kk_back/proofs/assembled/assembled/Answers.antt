@@ -2,13 +2,14 @@ use Rattle.std.proofs.Common.{◌≡◌, ◌+◌, ◌≤◌, ℕ, List, length, 
 use Rattle.rv_isa.specs.AsmCode.{Lines, asm_functions, asm_constants}
 use Rattle.rv_isa.specs.PlacedCode.{placed_functions}
 use Rattle.rv_isa.specs.Sizes.{wide_frame}
+use Rattle.rv_isa.specs.WellFormed.{most_values}
+use Rattle.rv_isa.proofs.ValueBounds.{all_values_below}
 use Rattle.elf_image.specs.Parts.{greatest_end}
 use Rattle.elf_image.specs.Program.{greatest_text, memory_start, program_parts}
 use Rattle.cell_runtime.specs.Texts.{IsText}
 use Rattle.rv_place.specs.Addresses.{frame_size}
 use Rattle.kk_back.specs.Assembled.{IsAsmImage}
-use Rattle.kk_back.proofs.ImageLayers.{makes_of, placeable, frames_small, fits, image_made, same_some}
-use Rattle.kk_back.proofs.RotatedCode.{slots_below}
+use Rattle.kk_back.proofs.ImageLayers.{makes_of, placeable, few_slots, frames_small, fits, image_made, same_some}
 use Rattle.kk_back.proofs.FrameSizes.{slots_most}
 use Rattle.kk_back.proofs.assembled.assembled.Goals as goal
 
@@ -17,15 +18,20 @@ assign-requires c = record { formed = c.requires.placeable.formed }
 
 pub frame_bytes-requires : goal.frame_bytes-requires
 frame_bytes-requires c =
-    let few = slots_most (placed_functions c.in_ok-program.program)
-    (slots_below 0 (placed_functions c.in_ok-placed.placed) (placed_functions c.in_ok-program.program)
-    c.in_ok-program.ensures.functions c.in_ok-placed.ensures.shape.slots) in
+    let few = slots_most most_values (placed_functions c.in_ok-program.program)
+    (few_slots c.args.asm.now c.in_ok-placed.placed c.in_ok-program.program c.in_ok-placed.ensures.shape
+    (record {
+      rotated = c.in_ok-program.ensures.functions;
+      short = c.in_ok-program.ensures.short;
+      constants = c.in_ok-program.ensures.constants;
+    }) most_values (all_values_below (asm_functions c.args.asm.now) c.requires.placeable.formed)) in
     omega (arith, few)
 
 pub text-requires-clause-frame : goal.text-requires-clause-frame
 text-requires-clause-frame c =
     let small : frame_size (placed_functions c.in_ok-program.program) ≤ wide_frame
-    = frames_small c.args.asm.now c.in_ok-placed.placed c.in_ok-program.program c.in_ok-placed.ensures.shape
+    = frames_small c.args.asm.now c.in_ok-placed.placed c.in_ok-program.program c.requires.placeable.formed
+    c.in_ok-placed.ensures.shape
     (record {
       rotated = c.in_ok-program.ensures.functions;
       short = c.in_ok-program.ensures.short;

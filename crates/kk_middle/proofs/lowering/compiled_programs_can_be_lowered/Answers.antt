@@ -1,12 +1,15 @@
-use Rattle.std.proofs.Common.{◌≡◌, ◌≤◌, List, length, map, sym, subst, ◌∙◌}
+use Rattle.std.proofs.Common.{◌≡◌, ◌≤◌, ◌+◌, List, length, map, sym, subst, ◌∙◌, arith}
 use Rattle.kk_syntax.specs.GroundPrograms.{ground_program}
 use Rattle.kk_syntax.specs.GroundTyping.{table_of}
 use Rattle.kk_syntax.specs.PositionsOf.{PositionTable}
 use Rattle.kk_syntax.specs.Programs.{ProgramTree}
+use Rattle.kk_syntax.specs.Shapes.{greatest_nodes}
 use Rattle.kk_core.specs.Codes.{ProgramCode, core_code}
 use Rattle.kk_core.specs.CoreTyping.{IsCoreTyped}
+use Rattle.kk_core.specs.Sizes.{most_parameters}
 use Rattle.kk_counted.specs.CountBounds.{AllSpendAtMost}
 use Rattle.kk_counted.specs.CountedCodes.{CountedFunction, CountedProgram}
+use Rattle.kk_counted.specs.FunctionSizes.{AllHaveVariablesBelow}
 use Rattle.kk_counted.specs.Lowerable.{AreLowerable}
 use Rattle.kk_counted.specs.Marks.{CellMarks, field_marks}
 use Rattle.kk_insert.specs.Insertion.{inserted}
@@ -48,7 +51,14 @@ returns c typed given made checked are compiled keeps =
     let little = c.fused_code_can_be_lowered.ensures.little (special_program (inserted own code)) most_spent
     (c.specialised_code_can_be_lowered.ensures.little (inserted own code) most_spent
     (c.inserted_code_can_be_lowered.ensures.little own (table_of ground) code core_typed small few spent)) in
+    let nodes = greatest_nodes ground in
+    let variables = c.fused_code_can_be_lowered.ensures.variables (nodes + most_parameters) special
+    (c.specialised_code_can_be_lowered.ensures.variables (nodes + most_parameters) (inserted own code).functions
+    (c.inserted_code_can_be_lowered.ensures.variables own (table_of ground) code core_typed (nodes + most_parameters)
+    (c.core_forms_have_few_variables.ensures ground code compiled.form (instances_are_within given) nodes (omega arith)))) in
     record {
+      variables = subst (λ (functions : List CountedFunction). AllHaveVariablesBelow (nodes + most_parameters) functions)
+          (sym compiled.functions) variables;
       lowerable = subst (λ (functions : List CountedFunction). AreLowerable marks functions) (sym compiled.functions)
           (subst (λ (other : CellMarks). AreLowerable other (map fused_function special)) (sym tells) lowerable);
       little = subst (λ (program : CountedProgram). AllSpendAtMost program most_spent) (sym (compiled_program typed given made compiled)) little;

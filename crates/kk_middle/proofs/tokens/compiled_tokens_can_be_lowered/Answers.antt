@@ -3,6 +3,7 @@ use Rattle.kk_syntax.specs.GroundPrograms.{ground_program}
 use Rattle.kk_syntax.specs.Shapes.{greatest_nodes}
 use Rattle.kk_counted.specs.BareForms.{bare_program}
 use Rattle.kk_counted.specs.CountedCodes.{CountedProgram}
+use Rattle.kk_counted.specs.FunctionSizes.{AllHaveSlotsBelow}
 use Rattle.kk_counted.specs.Programs.{program_of}
 use Rattle.kk_counted.specs.TokenCosts.{HasRoom, OpenAtMost}
 use Rattle.kk_counted.specs.TokenLengths.{AreTokensShort}
@@ -31,6 +32,9 @@ returns c typed given counted made checked are compiled of =
       lowerable = subst (λ (code : TokenedProgram). AreTokensLowerable code.functions) (sym same)
           (c.respecialised_code_can_be_lowered.ensures.lowerable paired
           (c.paired_code_can_be_lowered.ensures (greatest - 1) program opens (few_opened given)));
+      slots = subst (λ (code : TokenedProgram). AllHaveSlotsBelow (greatest - 1) code.functions) (sym same)
+          (c.respecialised_code_can_be_lowered.ensures.slots (greatest - 1) paired
+          (c.paired_code_has_few_slots.ensures (greatest - 1) program opens));
       spends = subst AreTokensSpent (sym same)
           (c.respecialised_code_has_its_form.ensures.spends paired (c.paired_code_spends_its_tokens.ensures.spends program));
       paired = subst AllPaired (sym same)
