@@ -3,14 +3,17 @@
 ghost use Rattle.std.specs.Prelude.{◌≡◌, ◌∷◌, [], true, false, None, IfOk, OnOk, OnErr};
 ghost use Rattle.kk_syntax.specs.declared.positions.Ownership.TheVariants.{Owned};
 ghost use Rattle.kk_counted.specs.CountedForms.{decisions_of};
+ghost use Rattle.kk_counted.specs.Emitting.{BecomesMarked};
+ghost use Rattle.kk_counted.specs.Marks.{marks_of};
 ghost use Rattle.kk_counted.specs.InstancePositions.{positions_in, fields_in};
 ghost use Rattle.kk_counted.specs.TokenedCodes.{Tokened};
 ghost use Rattle.kk_counted.specs.TokenedForms.{TokenedMove};
-ghost use Rattle.kk_counted.specs.Drafts.{begun, given, unpacked, forked, computed, joined, outside, ended_by_value, ended_by_call, Writes, Owns, IsOnly, AreNewest, IsBetween, IsInArm};
+ghost use Rattle.kk_counted.specs.Drafts.{begun, given, unpacked, forked, computed, joined, finished as finished_code, outside, ended_by_value, ended_by_call, Writes, Owns, IsOnly, AreNewest, IsBetween, IsInArm};
 ghost use Rattle.kk_counted.specs.TokenDrafts.{no_tokens, adds, gains, spends, under_holds, opens_with, fills_with, ended_with, tokens_forked, tokens_joined, tokens_ended_by, tokens_ended_in};
 ghost use Rattle.kk_counted.specs.TokenEmissions.{counted_of, tokens_of};
 ghost use Rattle.kk_counted.specs.TokenEmitting.{HasSpare, HasAllSpare, CanEnd, EndsTokenArm, IsTokenedFunctionOf};
 ghost use Rattle.kk_counted.specs.Works.{left_in};
+ghost use Rattle.counted_tests.specs.CellTables.{table_of};
 
 use crate::expecting::{
     calls, computes, fills, opens, opens_by_count, opens_into, rows_inside, rows_of,
@@ -18,7 +21,7 @@ use crate::expecting::{
 use crate::losing::{abandoned, lose, lose_all, lose_arms, lose_token};
 use crate::rebuilding::shape_of_one_function;
 use kk_base::NoMemory;
-use kk_core::{Decisions, truth_decisions};
+use kk_core::{Answer, Decisions, Edge, Node, truth_decisions};
 use kk_counted::{
     Arms, Debts, Owed, Shape, Spare, TokenArmEnd, TokenEmitter, TokenedFun, TokenedLast,
     TokenedStep, give_up,
@@ -27,8 +30,8 @@ use kk_syntax::Form;
 use std::alloc::Global;
 
 /// Opens the parameter, a box, by its count, and begins a branch on what was inside. Each arm is to spend that and the token.
-fn opened(emitter: &mut TokenEmitter<'_>, tests: &Decisions) -> Result<Arms, NoMemory>
-    requires counted { counted_of emitter.old ≡ begun ((Owned ∷ []) ∷ []) (1 ∷ []) 0 }
+pub fn opened(emitter: &mut TokenEmitter<'_>, tests: &Decisions) -> Result<Arms, NoMemory>
+    requires counted { counted_of emitter.old ≡ begun ((Owned ∷ []) ∷ []) (1 ∷ []) (table_of ((true ∷ []) ∷ [])) 0 }
     requires tokens { tokens_of emitter.old ≡ no_tokens }
     requires rows { tests.now.rows ≡ 2 }
     ensures ok { OnOk result (counted_of emitter.new ≡ forked (unpacked (given (counted_of emitter.old) 0) true 0 0 1) 1 (decisions_of tests.now) (1 ∷ []) 2) }
@@ -62,6 +65,7 @@ pub fn ended(emitter: &mut TokenEmitter<'_>, end: TokenArmEnd, arms: Arms) -> Re
     ensures ok { OnOk result (counted_of emitter.new ≡ ended_with (counted_of emitter.old) end) }
     ensures tokens { OnOk result (tokens_of emitter.new ≡ tokens_ended_by (tokens_of emitter.old) end) }
     ensures same { IfOk result (λ left. left ≡ arms) }
+    ensures failed { OnErr result ((counted_of emitter.new).failed ≡ true) }
 {
     match emitter.end_arm(end) {
         Ok(()) => Ok(arms),
@@ -93,6 +97,7 @@ fn given_without(
     ensures ok { OnOk result (counted_of emitter.new ≡ ended_by_value (counted_of emitter.old) value.variable) }
     ensures tokens { OnOk result (tokens_of emitter.new ≡ tokens_ended_in (spends (tokens_of emitter.old) (TokenedMove.frees spare.slot) spare.slot) (Tokened.give value.variable) false (tokens_of emitter.old).splits) }
     ensures same { IfOk result (λ left. left ≡ arms) }
+    ensures failed { OnErr result ((counted_of emitter.new).failed ≡ true) }
 {
     if let Err(kept) = emitter.release(spare) {
         let error = abandoned(emitter, kept);
@@ -105,7 +110,7 @@ fn given_without(
 }
 
 /// An arm that frees its token and gives its reference.
-fn freed(emitter: &mut TokenEmitter<'_>, mut debts: Debts, arms: Arms) -> Result<Arms, NoMemory>
+pub fn freed(emitter: &mut TokenEmitter<'_>, mut debts: Debts, arms: Arms) -> Result<Arms, NoMemory>
     requires writes { Writes (counted_of emitter.old) }
     requires arm { (counted_of emitter.old).failed ≡ false → IsInArm (counted_of emitter.old).splits }
     requires debts { (debts.variables.items ≡ 1 ∷ []) × (debts.spare.items ≡ 0 ∷ []) }
@@ -118,6 +123,7 @@ fn freed(emitter: &mut TokenEmitter<'_>, mut debts: Debts, arms: Arms) -> Result
     ensures ok { OnOk result (counted_of emitter.new ≡ ended_by_value (counted_of emitter.old) 1) }
     ensures tokens { OnOk result (tokens_of emitter.new ≡ tokens_ended_in (spends (tokens_of emitter.old) (TokenedMove.frees 0) 0) (Tokened.give 1) false (tokens_of emitter.old).splits) }
     ensures same { IfOk result (λ left. left ≡ arms) }
+    ensures failed { OnErr result ((counted_of emitter.new).failed ≡ true) }
 {
     let Some(value) = debts.take() else {
         unreachable!();
@@ -239,6 +245,7 @@ pub fn finished(mut emitter: TokenEmitter<'_>, arms: Arms) -> Result<TokenedFun,
     requires joined { (joined (counted_of emitter)).splits ≡ [] }
     requires called { (joined (counted_of emitter)).uncalled ≡ [] }
     requires only { (joined (counted_of emitter)).owed ≡ (counted_of emitter).next ∷ [] }
+    requires marked { BecomesMarked (joined (counted_of emitter)) (finished_code (joined (counted_of emitter)) (counted_of emitter).next) }
     requires none { (tokens_joined (tokens_of emitter) (counted_of emitter).next).spare ≡ [] }
     ensures { IfOk result (λ function. IsTokenedFunctionOf ((Owned ∷ []) ∷ []) 0 function) }
 {
@@ -257,6 +264,7 @@ pub fn finished(mut emitter: TokenEmitter<'_>, arms: Arms) -> Result<TokenedFun,
 fn shift(alloc: Global, shape: &Shape) -> Result<TokenedFun, NoMemory>
     requires positions { positions_in shape.now.instances.items ≡ (Owned ∷ []) ∷ [] }
     requires fields { fields_in shape.now.constructors.items ≡ 1 ∷ [] }
+    requires marks { marks_of shape.now.instances.items shape.now.constructors.items ≡ table_of ((true ∷ []) ∷ []) }
     ensures { IfOk result (λ function. IsTokenedFunctionOf ((Owned ∷ []) ∷ []) 0 function) }
 {
     let tests = truth_decisions(alloc)?;
@@ -368,6 +376,7 @@ fn freed_for_call(
 fn innermost(alloc: Global, shape: &Shape) -> Result<TokenedFun, NoMemory>
     requires positions { positions_in shape.now.instances.items ≡ (Owned ∷ []) ∷ [] }
     requires fields { fields_in shape.now.constructors.items ≡ 1 ∷ [] }
+    requires marks { marks_of shape.now.instances.items shape.now.constructors.items ≡ table_of ((true ∷ []) ∷ []) }
     ensures { IfOk result (λ function. IsTokenedFunctionOf ((Owned ∷ []) ∷ []) 0 function) }
 {
     let tests = truth_decisions(alloc)?;
@@ -406,14 +415,14 @@ fn a_row_ends_by_a_tail_call(rt: HostRuntime) -> Result<(), NoMemory> {
 /// Opens the parameter, a box, and the box that was inside, and begins a branch on what was inside that. Each arm is to spend
 /// that and both tokens.
 fn opened_twice(emitter: &mut TokenEmitter<'_>, tests: &Decisions) -> Result<Arms, NoMemory>
-    requires counted { counted_of emitter.old ≡ begun ((Owned ∷ []) ∷ []) (1 ∷ []) 0 }
+    requires counted { counted_of emitter.old ≡ begun ((Owned ∷ []) ∷ []) (1 ∷ []) (table_of ((true ∷ []) ∷ [])) 0 }
     requires tokens { tokens_of emitter.old ≡ no_tokens }
-    requires rows { tests.now.rows ≡ 2 }
-    ensures ok { OnOk result (counted_of emitter.new ≡ forked (unpacked (unpacked (given (counted_of emitter.old) 0) false 0 0 1) false 1 0 1) 2 (decisions_of tests.now) (2 ∷ []) 2) }
-    ensures tokens { OnOk result (tokens_of emitter.new ≡ tokens_forked (gains (gains no_tokens (opens_with false 0 0 (1 ∷ []) (1 ∷ []) 0)) (opens_with false 1 0 (2 ∷ []) (2 ∷ []) 1)) 2 (decisions_of tests.now) 2) }
+    requires rows { tests.now.rows ≡ 3 }
+    ensures ok { OnOk result (counted_of emitter.new ≡ forked (unpacked (unpacked (given (counted_of emitter.old) 0) false 0 0 1) false 1 0 1) 2 (decisions_of tests.now) (2 ∷ []) 3) }
+    ensures tokens { OnOk result (tokens_of emitter.new ≡ tokens_forked (gains (gains no_tokens (opens_with false 0 0 (1 ∷ []) (1 ∷ []) 0)) (opens_with false 1 0 (2 ∷ []) (2 ∷ []) 1)) 2 (decisions_of tests.now) 3) }
     ensures arms { IfOk result (λ arms. (arms.emitter ≡ 0) × (arms.depth ≡ 1)) }
-    ensures left { IfOk result (λ arms. left_in arms.left.items ≡ (2 ∷ []) ∷ (2 ∷ []) ∷ []) }
-    ensures slots { IfOk result (λ arms. left_in arms.spare.items ≡ (0 ∷ 1 ∷ []) ∷ (0 ∷ 1 ∷ []) ∷ []) }
+    ensures left { IfOk result (λ arms. left_in arms.left.items ≡ (2 ∷ []) ∷ (2 ∷ []) ∷ (2 ∷ []) ∷ []) }
+    ensures slots { IfOk result (λ arms. left_in arms.spare.items ≡ (0 ∷ 1 ∷ []) ∷ (0 ∷ 1 ∷ []) ∷ (0 ∷ 1 ∷ []) ∷ []) }
 {
     let cell = emitter.param(0)?;
     let (mut outer, first) = match emitter.unpack(cell, 0, 1) {
@@ -466,6 +475,45 @@ fn put_both(
         return Err(abandoned(emitter, kept));
     }
     Ok(())
+}
+
+/// An arm that frees both of its tokens, and gives its reference.
+fn both_freed(
+    emitter: &mut TokenEmitter<'_>,
+    mut debts: Debts,
+    arms: Arms,
+) -> Result<Arms, NoMemory>
+    requires writes { Writes (counted_of emitter.old) }
+    requires arm { (counted_of emitter.old).failed ≡ false → IsInArm (counted_of emitter.old).splits }
+    requires debts { (debts.variables.items ≡ 2 ∷ []) × (debts.spare.items ≡ 0 ∷ 1 ∷ []) }
+    requires of { debts.emitter ≡ (counted_of emitter.old).instance }
+    requires owed { (counted_of emitter.old).failed ≡ false → (counted_of emitter.old).owed ≡ 2 ∷ [] }
+    requires spare { (counted_of emitter.old).failed ≡ false → (tokens_of emitter.old).spare ≡ 1 ∷ 0 ∷ [] }
+    requires value { (counted_of emitter.old).failed ≡ false → (tokens_of emitter.old).ending ≡ None }
+    requires can { (counted_of emitter.old).failed ≡ false → CanEnd (spends (spends (tokens_of emitter.old) (TokenedMove.frees 1) 1) (TokenedMove.frees 0) 0) false (tokens_of emitter.old).splits }
+    ensures going { OnOk result ((counted_of emitter.old).failed ≡ false) }
+    ensures ok { OnOk result (counted_of emitter.new ≡ ended_by_value (counted_of emitter.old) 2) }
+    ensures tokens { OnOk result (tokens_of emitter.new ≡ tokens_ended_in (spends (spends (tokens_of emitter.old) (TokenedMove.frees 1) 1) (TokenedMove.frees 0) 0) (Tokened.give 2) false (tokens_of emitter.old).splits) }
+    ensures same { IfOk result (λ left. left ≡ arms) }
+{
+    let Some(value) = debts.take() else {
+        unreachable!();
+    };
+    let Some(newer) = debts.take_spare() else {
+        unreachable!();
+    };
+    let Some(older) = debts.take_spare() else {
+        unreachable!();
+    };
+    if let Err(kept) = emitter.release(newer) {
+        let error = abandoned(emitter, kept);
+        lose(emitter, value);
+        lose_token(emitter, older);
+        debts.close();
+        lose_arms(emitter, arms);
+        return Err(error);
+    }
+    given_without(emitter, value, older, debts, arms)
 }
 
 /// An arm that frees the older of its two tokens, and gives its reference.
@@ -557,6 +605,7 @@ fn freed_and_finished(mut emitter: TokenEmitter<'_>, arms: Arms) -> Result<Token
     requires joined { (joined (counted_of emitter)).splits ≡ [] }
     requires called { (joined (counted_of emitter)).uncalled ≡ [] }
     requires only { (joined (counted_of emitter)).owed ≡ (counted_of emitter).next ∷ [] }
+    requires marked { BecomesMarked (joined (counted_of emitter)) (finished_code (joined (counted_of emitter)) (counted_of emitter).next) }
     requires one { (tokens_joined (tokens_of emitter) (counted_of emitter).next).spare ≡ 1 ∷ [] }
     ensures { IfOk result (λ function. IsTokenedFunctionOf ((Owned ∷ []) ∷ []) 0 function) }
 {
@@ -579,15 +628,37 @@ fn freed_and_finished(mut emitter: TokenEmitter<'_>, arms: Arms) -> Result<Token
     }
 }
 
-/// The function that opens two boxes, and by what is inside frees the one or the other before the branch is left.
-fn one_of_two(alloc: Global, shape: &Shape) -> Result<TokenedFun, NoMemory>
+/// Decisions with three rows.
+fn three_decisions(alloc: Global) -> Result<Decisions, NoMemory>
+    ensures { IfOk result (λ decisions. decisions.rows ≡ 3) }
+{
+    let first = Edge {
+        found: Answer::Constructor(0),
+        next: 1,
+    };
+    let second = Edge {
+        found: Answer::Constructor(1),
+        next: 2,
+    };
+    let test = Node::Test(Vec::new(alloc), vec![in alloc; first, second]?, Some(3));
+    let nodes = vec![in alloc; test, Node::Choose(0), Node::Choose(1), Node::Choose(2)]?;
+    Ok(Decisions::new(nodes, 3, 1, false))
+}
+
+/// The function that opens two boxes, and by what is inside frees both, or the one or the other, before the branch is left.
+fn one_at_most(alloc: Global, shape: &Shape) -> Result<TokenedFun, NoMemory>
     requires positions { positions_in shape.now.instances.items ≡ (Owned ∷ []) ∷ [] }
     requires fields { fields_in shape.now.constructors.items ≡ 1 ∷ [] }
+    requires marks { marks_of shape.now.instances.items shape.now.constructors.items ≡ table_of ((true ∷ []) ∷ []) }
     ensures { IfOk result (λ function. IsTokenedFunctionOf ((Owned ∷ []) ∷ []) 0 function) }
 {
-    let tests = truth_decisions(alloc)?;
+    let tests = three_decisions(alloc)?;
     let mut emitter = TokenEmitter::start(alloc, shape, 0)?;
     let mut arms = opened_twice(&mut emitter, &tests)?;
+    let Some(debts) = emitter.next_arm(&mut arms) else {
+        unreachable!();
+    };
+    let mut arms = both_freed(&mut emitter, debts, arms)?;
     let Some(debts) = emitter.next_arm(&mut arms) else {
         unreachable!();
     };
@@ -599,25 +670,30 @@ fn one_of_two(alloc: Global, shape: &Shape) -> Result<TokenedFun, NoMemory>
     freed_and_finished(emitter, arms)
 }
 
-/// Each row leaves a token, which stands in the slot of the newer cell behind the branch: the row that has it in the other
-/// slot moves it.
+/// Behind the branch a token stands in the slot of the newer cell. A row that has it there leaves it, one that has it in the other
+/// slot moves it, and one that has freed both leaves a null token.
 #[test]
-fn a_token_is_moved_where_a_branch_is_joined(rt: HostRuntime) -> Result<(), NoMemory> {
+fn tokens_come_to_one_slot_where_a_branch_is_joined(rt: HostRuntime) -> Result<(), NoMemory> {
     let shape = shape_of_one_function(rt.alloc())?;
-    let function = one_of_two(rt.alloc(), &shape)?;
+    let function = one_at_most(rt.alloc(), &shape)?;
     let steps = &function.body.steps;
     assert_eq!(rt; steps.len(), 4);
     assert!(rt; opens(&steps[0], &[1], &[1]));
     assert!(rt; opens_into(&steps[1], 1, &[2], &[2], 1));
     let rows = rows_inside(&steps[2], 3, 2);
-    assert_eq!(rt; rows.len(), 2);
-    assert_eq!(rt; rows[0].steps.len(), 1);
-    assert!(rt; matches!(rows[0].steps[0], TokenedStep::Free { slot: 0 }));
+    assert_eq!(rt; rows.len(), 3);
+    assert_eq!(rt; rows[0].steps.len(), 3);
+    assert!(rt; matches!(rows[0].steps[0], TokenedStep::Free { slot: 1 }));
+    assert!(rt; matches!(rows[0].steps[1], TokenedStep::Free { slot: 0 }));
+    assert!(rt; matches!(rows[0].steps[2], TokenedStep::Null { slot: 1 }));
     assert!(rt; matches!(rows[0].last, TokenedLast::Return(2)));
-    assert_eq!(rt; rows[1].steps.len(), 2);
-    assert!(rt; matches!(rows[1].steps[0], TokenedStep::Free { slot: 1 }));
-    assert!(rt; matches!(rows[1].steps[1], TokenedStep::Move { to: 1, from: 0 }));
+    assert_eq!(rt; rows[1].steps.len(), 1);
+    assert!(rt; matches!(rows[1].steps[0], TokenedStep::Free { slot: 0 }));
     assert!(rt; matches!(rows[1].last, TokenedLast::Return(2)));
+    assert_eq!(rt; rows[2].steps.len(), 2);
+    assert!(rt; matches!(rows[2].steps[0], TokenedStep::Free { slot: 1 }));
+    assert!(rt; matches!(rows[2].steps[1], TokenedStep::Move { to: 1, from: 0 }));
+    assert!(rt; matches!(rows[2].last, TokenedLast::Return(2)));
     assert!(rt; matches!(steps[3], TokenedStep::Free { slot: 1 }));
     assert!(rt; matches!(function.body.last, TokenedLast::Return(3)));
     Ok(())

@@ -1,13 +1,15 @@
 //! Functions on pairs and lists: each call of an emitter of code with tokens writes the steps that are expected.
 
-ghost use Rattle.std.specs.Prelude.{◌≡◌, ◌∷◌, [], true, false, IfOk, OnOk, OnErr};
+ghost use Rattle.std.specs.Prelude.{◌≡◌, ◌∷◌, [], true, false, pos, IfOk, OnOk, OnErr};
 ghost use Rattle.kk_syntax.specs.Shapes.{without};
 ghost use Rattle.kk_syntax.specs.declared.positions.Ownership.TheVariants.{Owned, Lent};
 ghost use Rattle.kk_counted.specs.InstancePositions.{positions_in, fields_in};
-ghost use Rattle.kk_counted.specs.Drafts.{computed, Writes, Owns, OwnsAll, HasFields};
+ghost use Rattle.kk_counted.specs.Drafts.{computed, looked, unpacked, Writes, Owns, OwnsAll, HasFields};
+ghost use Rattle.kk_counted.specs.Marks.{marks_of};
 ghost use Rattle.kk_counted.specs.TokenDrafts.{kept_by};
 ghost use Rattle.kk_counted.specs.TokenEmissions.{counted_of, tokens_of};
 ghost use Rattle.kk_counted.specs.TokenEmitting.{HasKnown, HasSpare, IsTokenedFunctionOf};
+ghost use Rattle.counted_tests.specs.CellTables.{table_of};
 
 use crate::branching::called_again;
 use crate::expecting::{calls, computes, fills, opens, opens_by_count, reads};
@@ -25,6 +27,7 @@ use std::alloc::Global;
 fn shape_of_pairs(alloc: Global, ownership: Ownership) -> Result<Shape, NoMemory>
     ensures positions { IfOk result (λ shape. positions_in shape.instances.items ≡ (ownership ∷ []) ∷ []) }
     ensures fields { IfOk result (λ shape. fields_in shape.constructors.items ≡ 2 ∷ []) }
+    ensures marks { IfOk result (λ shape. marks_of shape.instances.items shape.constructors.items ≡ table_of ((false ∷ true ∷ []) ∷ [])) }
 {
     let parameter = Parameter {
         ownership,
@@ -112,6 +115,7 @@ fn filled(
 fn keep(alloc: Global, shape: &Shape) -> Result<TokenedFun, NoMemory>
     requires positions { positions_in shape.now.instances.items ≡ (Owned ∷ []) ∷ [] }
     requires fields { fields_in shape.now.constructors.items ≡ 2 ∷ [] }
+    requires marks { marks_of shape.now.instances.items shape.now.constructors.items ≡ table_of ((false ∷ true ∷ []) ∷ []) }
     ensures { IfOk result (λ function. IsTokenedFunctionOf (positions_in shape.now.instances.items) 0 function) }
 {
     let mut emitter = TokenEmitter::start(alloc, shape, 0)?;
@@ -178,8 +182,8 @@ fn constructed(
     }
 }
 
-/// The row of `Cons(_, xx) -> Cons(xs, tails(xx))`, where `xs` is the cell, which stays.
-pub fn with_tails(
+/// The row of `Node(_, right) -> Node(t, spine(right))`, where `t` is the cell, which stays.
+pub fn with_spine(
     alloc: Global,
     emitter: &mut TokenEmitter<'_>,
     cell: Owed,
@@ -194,6 +198,7 @@ pub fn with_tails(
     requires lent { (counted_of emitter.old).failed ≡ false → (counted_of emitter.old).lent ≡ [] }
     ensures going { OnOk result ((counted_of emitter.old).failed ≡ false) }
     ensures ok { OnOk result (counted_of emitter.new ≡ record (counted_of emitter.old) { steps = (counted_of emitter.new).steps; owed = 4 ∷ []; next = 5; lent = [] }) }
+    ensures steps { OnOk result ((counted_of emitter.new).steps ≡ (computed (computed (looked (counted_of emitter.old) 0 0 2) (Form.Call 0) (2 ∷ []) (2 ∷ [])) (Form.Construct 0) (0 ∷ 3 ∷ []) (0 ∷ 3 ∷ [])).steps) }
     ensures tokens { OnOk result (tokens_of emitter.new ≡ record (tokens_of emitter.old) { moves = (tokens_of emitter.new).moves; spare = [] }) }
     ensures value { IfOk result (λ owed. (owed.emitter ≡ (counted_of emitter.old).instance) × (owed.variable ≡ 4)) }
     ensures failed { OnErr result ((counted_of emitter.new).failed ≡ true) }
@@ -233,6 +238,7 @@ pub fn increased(
     requires spare { (counted_of emitter.old).failed ≡ false → (tokens_of emitter.old).spare ≡ [] }
     ensures going { OnOk result ((counted_of emitter.old).failed ≡ false) }
     ensures ok { OnOk result (counted_of emitter.new ≡ record (counted_of emitter.old) { steps = (counted_of emitter.new).steps; owed = 6 ∷ []; next = 7 }) }
+    ensures steps { OnOk result ((counted_of emitter.new).steps ≡ (computed (computed (computed (computed (unpacked (counted_of emitter.old) true 0 0 3) (Form.Number (pos 1)) [] []) (Form.Binary BinaryOperator.Add) (1 ∷ 3 ∷ []) (1 ∷ 3 ∷ [])) (Form.Call 0) (2 ∷ []) (2 ∷ [])) (Form.Construct 0) (4 ∷ 5 ∷ []) (4 ∷ 5 ∷ [])).steps) }
     ensures tokens { OnOk result (tokens_of emitter.new ≡ record (tokens_of emitter.old) { moves = (tokens_of emitter.new).moves; spare = [] }) }
     ensures value { IfOk result (λ owed. (owed.emitter ≡ (counted_of emitter.old).instance) × (owed.variable ≡ 6)) }
     ensures failed { OnErr result ((counted_of emitter.new).failed ≡ true) }
@@ -281,6 +287,7 @@ fn summed(
     requires rest { (rest.variable ≡ 2) × (rest.emitter ≡ (counted_of emitter.old).instance) }
     ensures going { OnOk result ((counted_of emitter.old).failed ≡ false) }
     ensures ok { OnOk result (counted_of emitter.new ≡ record (counted_of emitter.old) { steps = (counted_of emitter.new).steps; owed = 6 ∷ []; next = 7 }) }
+    ensures steps { OnOk result ((counted_of emitter.new).steps ≡ (computed (computed (computed (counted_of emitter.old) (Form.Binary BinaryOperator.Add) (1 ∷ 3 ∷ []) (1 ∷ 3 ∷ [])) (Form.Call 0) (2 ∷ []) (2 ∷ [])) (Form.Construct 0) (4 ∷ 5 ∷ []) (4 ∷ 5 ∷ [])).steps) }
     ensures tokens { OnOk result (tokens_of emitter.new ≡ record (tokens_of emitter.old) { moves = (tokens_of emitter.new).moves; spare = [] }) }
     ensures value { IfOk result (λ owed. (owed.emitter ≡ (counted_of emitter.old).instance) × (owed.variable ≡ 6)) }
     ensures failed { OnErr result ((counted_of emitter.new).failed ≡ true) }
@@ -356,6 +363,7 @@ fn called_and_filled(
     requires rest { (rest.variable ≡ 2) × (rest.emitter ≡ (counted_of emitter.old).instance) }
     ensures going { OnOk result ((counted_of emitter.old).failed ≡ false) }
     ensures ok { OnOk result (counted_of emitter.new ≡ record (counted_of emitter.old) { steps = (counted_of emitter.new).steps; owed = 6 ∷ []; next = 7 }) }
+    ensures steps { OnOk result ((counted_of emitter.new).steps ≡ (computed (computed (counted_of emitter.old) (Form.Call 0) (2 ∷ []) (2 ∷ [])) (Form.Construct 0) (4 ∷ 5 ∷ []) (4 ∷ 5 ∷ [])).steps) }
     ensures tokens { OnOk result (tokens_of emitter.new ≡ record (tokens_of emitter.old) { moves = (tokens_of emitter.new).moves; spare = [] }) }
     ensures value { IfOk result (λ owed. (owed.emitter ≡ (counted_of emitter.old).instance) × (owed.variable ≡ 6)) }
     ensures failed { OnErr result ((counted_of emitter.new).failed ≡ true) }
@@ -373,6 +381,7 @@ fn called_and_filled(
 /// The function that duplicates its parameter, drops one of the two references, and gives the other.
 fn drops_one_of_two(alloc: Global, shape: &Shape) -> Result<TokenedFun, NoMemory>
     requires positions { positions_in shape.now.instances.items ≡ (Owned ∷ []) ∷ [] }
+    requires marks { marks_of shape.now.instances.items shape.now.constructors.items ≡ table_of ((false ∷ true ∷ []) ∷ []) }
     ensures { IfOk result (λ function. IsTokenedFunctionOf (positions_in shape.now.instances.items) 0 function) }
 {
     let mut emitter = TokenEmitter::start(alloc, shape, 0)?;
@@ -412,6 +421,7 @@ fn a_dup_and_a_drop_are_written(rt: HostRuntime) -> Result<(), NoMemory> {
 fn second_of_lent(alloc: Global, shape: &Shape) -> Result<TokenedFun, NoMemory>
     requires positions { positions_in shape.now.instances.items ≡ (Lent ∷ []) ∷ [] }
     requires fields { fields_in shape.now.constructors.items ≡ 2 ∷ [] }
+    requires marks { marks_of shape.now.instances.items shape.now.constructors.items ≡ table_of ((false ∷ true ∷ []) ∷ []) }
     ensures { IfOk result (λ function. IsTokenedFunctionOf (positions_in shape.now.instances.items) 0 function) }
 {
     let mut emitter = TokenEmitter::start(alloc, shape, 0)?;
@@ -440,6 +450,7 @@ fn a_lent_field_is_duplicated(rt: HostRuntime) -> Result<(), NoMemory> {
 fn last(alloc: Global, shape: &Shape) -> Result<TokenedFun, NoMemory>
     requires positions { positions_in shape.now.instances.items ≡ (Owned ∷ []) ∷ [] }
     requires fields { fields_in shape.now.constructors.items ≡ 2 ∷ [] }
+    requires marks { marks_of shape.now.instances.items shape.now.constructors.items ≡ table_of ((false ∷ true ∷ []) ∷ []) }
     ensures { IfOk result (λ function. IsTokenedFunctionOf (positions_in shape.now.instances.items) 0 function) }
 {
     let mut emitter = TokenEmitter::start(alloc, shape, 0)?;

@@ -6,7 +6,10 @@ ghost use Rattle.kk_syntax.specs.declared.positions.Ownership.TheVariants.{Owned
 ghost use Rattle.kk_counted.specs.InstancePositions.{positions_in, fields_in};
 ghost use Rattle.kk_counted.specs.TokenEmissions.{counted_of, tokens_of};
 ghost use Rattle.kk_counted.specs.TokenEmitting.{HasSpare, IsTokenedFunctionOf};
-ghost use Rattle.kk_counted.specs.Drafts.{IsOnly, HasFields};
+ghost use Rattle.kk_counted.specs.Drafts.{IsOnly, HasFields, computed, finished};
+ghost use Rattle.kk_counted.specs.Emitting.{BecomesMarked};
+ghost use Rattle.kk_counted.specs.Marks.{marks_of};
+ghost use Rattle.counted_tests.specs.CellTables.{table_of};
 
 use kk_base::NoMemory;
 use kk_core::ConstructorShape;
@@ -14,13 +17,14 @@ use kk_counted::{
     Debts, InstanceShape, Kept, Owed, Parameter, Shape, Spare, TokenEmitter, TokenedFun,
     TokenedStep, give_up,
 };
-use kk_syntax::Ownership;
+use kk_syntax::{Form, Ownership};
 use std::alloc::Global;
 
 /// The shape of a program with one function, which owns its parameter. It is a cell, whose type has one constructor with one field.
 pub fn shape_of_one_function(alloc: Global) -> Result<Shape, NoMemory>
     ensures positions { IfOk result (λ shape. positions_in shape.instances.items ≡ (Owned ∷ []) ∷ []) }
     ensures fields { IfOk result (λ shape. fields_in shape.constructors.items ≡ 1 ∷ []) }
+    ensures marks { IfOk result (λ shape. marks_of shape.instances.items shape.constructors.items ≡ table_of ((true ∷ []) ∷ [])) }
 {
     let parameter = Parameter {
         ownership: Ownership::Owned,
@@ -69,6 +73,7 @@ fn rebuilt(
     requires only { IsOnly (counted_of emitter) field.emitter field.variable }
     requires called { (counted_of emitter).failed ≡ false → (counted_of emitter).uncalled ≡ [] }
     requires fields { HasFields (counted_of emitter) 0 1 }
+    requires marked { BecomesMarked (computed (counted_of emitter) (Form.Construct 0) (field.variable ∷ []) (field.variable ∷ [])) (finished (computed (counted_of emitter) (Form.Construct 0) (field.variable ∷ []) (field.variable ∷ [])) (counted_of emitter).next) }
     ensures { IfOk result (λ function. IsTokenedFunctionOf (counted_of emitter.entry).positions (counted_of emitter.entry).instance function) }
 {
     let mut fields = Debts::new(alloc);
@@ -93,6 +98,7 @@ fn rebuilt(
 fn again(alloc: Global, shape: &Shape) -> Result<TokenedFun, NoMemory>
     requires positions { positions_in shape.now.instances.items ≡ (Owned ∷ []) ∷ [] }
     requires fields { fields_in shape.now.constructors.items ≡ 1 ∷ [] }
+    requires marks { marks_of shape.now.instances.items shape.now.constructors.items ≡ table_of ((true ∷ []) ∷ []) }
     ensures { IfOk result (λ function. IsTokenedFunctionOf (positions_in shape.now.instances.items) 0 function) }
 {
     let mut emitter = TokenEmitter::start(alloc, shape, 0)?;
@@ -142,6 +148,7 @@ fn a_cell_is_held_and_filled(rt: HostRuntime) -> Result<(), NoMemory> {
 fn same(alloc: Global, shape: &Shape) -> Result<TokenedFun, NoMemory>
     requires positions { positions_in shape.now.instances.items ≡ (Owned ∷ []) ∷ [] }
     requires fields { fields_in shape.now.constructors.items ≡ 1 ∷ [] }
+    requires marks { marks_of shape.now.instances.items shape.now.constructors.items ≡ table_of ((true ∷ []) ∷ []) }
     ensures { IfOk result (λ function. IsTokenedFunctionOf (positions_in shape.now.instances.items) 0 function) }
 {
     let mut emitter = TokenEmitter::start(alloc, shape, 0)?;

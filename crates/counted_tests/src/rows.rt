@@ -1,19 +1,21 @@
-//! Functions on lists with a row for each constructor: the rows of no cell, and those that read, open or fill one.
+//! Functions on lists and trees with a row for each constructor: the rows of no cell, and those that read, open or fill one.
 
-ghost use Rattle.std.specs.Prelude.{◌≡◌, ◌∷◌, [], false, None, IfOk, OnOk};
+ghost use Rattle.std.specs.Prelude.{◌≡◌, ◌∷◌, [], false, true, None, IfOk, OnOk};
 ghost use Rattle.kk_syntax.specs.declared.positions.Ownership.TheVariants.{Owned};
 ghost use Rattle.kk_counted.specs.CountedForms.{decisions_of};
 ghost use Rattle.kk_counted.specs.InstancePositions.{positions_in, fields_in};
+ghost use Rattle.kk_counted.specs.Marks.{marks_of};
 ghost use Rattle.kk_counted.specs.TokenedCodes.{Tokened};
 ghost use Rattle.kk_counted.specs.Drafts.{begun, given, forked, ended_by_value, Writes, IsInArm};
 ghost use Rattle.kk_counted.specs.TokenDrafts.{no_tokens, tokens_forked, tokens_ended_in};
 ghost use Rattle.kk_counted.specs.TokenEmissions.{counted_of, tokens_of};
 ghost use Rattle.kk_counted.specs.TokenEmitting.{CanEnd, IsTokenedFunctionOf};
 ghost use Rattle.kk_counted.specs.Works.{left_in};
+ghost use Rattle.counted_tests.specs.CellTables.{table_of};
 
 use crate::branching::{ended, finished};
 use crate::expecting::{computes, fills, opens_by_count, reads, rows_inside};
-use crate::lists::{increased, with_tails};
+use crate::lists::{increased, with_spine};
 use crate::losing::{abandoned, lose_arms};
 use kk_base::NoMemory;
 use kk_core::{ConstructorShape, Decisions, truth_decisions};
@@ -24,11 +26,12 @@ use kk_counted::{
 use kk_syntax::{BinaryOperator, Form, Ownership};
 use std::alloc::Global;
 
-/// The shape of a program with one function, which owns its parameter. It is a list, whose first constructor has two fields and
-/// whose second one has none.
-fn shape_of_lists(alloc: Global) -> Result<Shape, NoMemory>
+/// The shape of a program with one function, which owns its parameter. Its type has a constructor with two fields, the second one
+/// of that type, and one without fields: it is a list of numbers, or a tree, whose first field has cells too.
+fn shape_of_rows(alloc: Global, first_has_cells: bool) -> Result<Shape, NoMemory>
     ensures positions { IfOk result (λ shape. positions_in shape.instances.items ≡ (Owned ∷ []) ∷ []) }
     ensures fields { IfOk result (λ shape. fields_in shape.constructors.items ≡ 2 ∷ 0 ∷ []) }
+    ensures marks { IfOk result (λ shape. marks_of shape.instances.items shape.constructors.items ≡ table_of ((first_has_cells ∷ true ∷ []) ∷ [] ∷ [])) }
 {
     let parameter = Parameter {
         ownership: Ownership::Owned,
@@ -42,7 +45,7 @@ fn shape_of_lists(alloc: Global) -> Result<Shape, NoMemory>
         of_type: 0,
         tag: 0,
         has_cells: true,
-        fields: vec![in alloc; false, true]?,
+        fields: vec![in alloc; first_has_cells, true]?,
     };
     let nil = ConstructorShape {
         of_type: 0,
@@ -59,7 +62,7 @@ fn matched(
     emitter: &mut TokenEmitter<'_>,
     tests: &Decisions,
 ) -> Result<Arms, NoMemory>
-    requires counted { counted_of emitter.old ≡ begun ((Owned ∷ []) ∷ []) (2 ∷ 0 ∷ []) 0 }
+    requires counted { counted_of emitter.old ≡ begun ((Owned ∷ []) ∷ []) (2 ∷ 0 ∷ []) (counted_of emitter.old).marks 0 }
     requires tokens { tokens_of emitter.old ≡ no_tokens }
     requires rows { tests.now.rows ≡ 2 }
     ensures ok { OnOk result (counted_of emitter.new ≡ forked (given (counted_of emitter.old) 0) 0 (decisions_of tests.now) (0 ∷ []) 2) }
@@ -105,10 +108,11 @@ fn given_back(
     ended(emitter, TokenArmEnd::Value(list, debts), arms)
 }
 
-/// The function `fun tails(xs: list): list { match xs { Cons(_, xx) -> Cons(xs, tails(xx)); Nil -> xs } }`.
-fn tails(alloc: Global, shape: &Shape) -> Result<TokenedFun, NoMemory>
+/// The function `fun spine(t: tree): tree { match t { Node(_, right) -> Node(t, spine(right)); Leaf -> t } }`.
+fn spine(alloc: Global, shape: &Shape) -> Result<TokenedFun, NoMemory>
     requires positions { positions_in shape.now.instances.items ≡ (Owned ∷ []) ∷ [] }
     requires fields { fields_in shape.now.constructors.items ≡ 2 ∷ 0 ∷ [] }
+    requires marks { marks_of shape.now.instances.items shape.now.constructors.items ≡ table_of ((true ∷ true ∷ []) ∷ [] ∷ []) }
     ensures { IfOk result (λ function. IsTokenedFunctionOf ((Owned ∷ []) ∷ []) 0 function) }
 {
     let tests = truth_decisions(alloc)?;
@@ -124,7 +128,7 @@ fn tails(alloc: Global, shape: &Shape) -> Result<TokenedFun, NoMemory>
     let Some(cell) = debts.take() else {
         unreachable!();
     };
-    let value = match with_tails(alloc, &mut emitter, cell) {
+    let value = match with_spine(alloc, &mut emitter, cell) {
         Ok(value) => value,
         Err(error) => {
             debts.close();
@@ -139,8 +143,8 @@ fn tails(alloc: Global, shape: &Shape) -> Result<TokenedFun, NoMemory>
 /// Where the list has a cell its fields are read, the cell stays, and a new one is built. Else the list is given as it is.
 #[test]
 fn a_cell_that_is_read_stays(rt: HostRuntime) -> Result<(), NoMemory> {
-    let shape = shape_of_lists(rt.alloc())?;
-    let function = tails(rt.alloc(), &shape)?;
+    let shape = shape_of_rows(rt.alloc(), true)?;
+    let function = spine(rt.alloc(), &shape)?;
     let steps = &function.body.steps;
     assert_eq!(rt; steps.len(), 1);
     let rows = rows_inside(&steps[0], 5, 0);
@@ -161,6 +165,7 @@ fn a_cell_that_is_read_stays(rt: HostRuntime) -> Result<(), NoMemory> {
 fn inc(alloc: Global, shape: &Shape) -> Result<TokenedFun, NoMemory>
     requires positions { positions_in shape.now.instances.items ≡ (Owned ∷ []) ∷ [] }
     requires fields { fields_in shape.now.constructors.items ≡ 2 ∷ 0 ∷ [] }
+    requires marks { marks_of shape.now.instances.items shape.now.constructors.items ≡ table_of ((false ∷ true ∷ []) ∷ [] ∷ []) }
     ensures { IfOk result (λ function. IsTokenedFunctionOf ((Owned ∷ []) ∷ []) 0 function) }
 {
     let tests = truth_decisions(alloc)?;
@@ -192,7 +197,7 @@ fn inc(alloc: Global, shape: &Shape) -> Result<TokenedFun, NoMemory>
 /// place. Else the list is given as it is.
 #[test]
 fn a_number_of_a_list_is_increased(rt: HostRuntime) -> Result<(), NoMemory> {
-    let shape = shape_of_lists(rt.alloc())?;
+    let shape = shape_of_rows(rt.alloc(), false)?;
     let function = inc(rt.alloc(), &shape)?;
     let steps = &function.body.steps;
     assert_eq!(rt; steps.len(), 1);

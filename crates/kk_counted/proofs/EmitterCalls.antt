@@ -18,6 +18,7 @@ use Rattle.std.proofs.lemmas.List.{length-map, append_assoc}
 use Rattle.kk_counted.specs.InstancePositions.{passed_to, positions_in, fields_in}
 use Rattle.kk_counted.specs.CountedCodes.{Counted, CountedFunction, tail_call}
 use Rattle.kk_counted.specs.CountedForms.{reads, dups, drops, plug, last_code}
+use Rattle.kk_counted.specs.Marks.{CellMarks}
 use Rattle.kk_counted.specs.Spending.{total, AreEven, AllAmong, AreFresh, at_positions, numbers_from, used_by, lent_by, FitsForm}
 use Rattle.kk_counted.specs.Drafts.{minus_all, chosen_of, Split, Draft, outside, all_owed, parameters_where, begun, fallen, given, duplicated, dropped, opened, read_of, computed, forked, entered, entered_in, entered_by, end_code, is_tail, ended_in, ended_by_value, ended_by_call, resumed_as, joined, joined_in, finished, Writes, Awaits, Reaches, IsLentTo, IsAtHand, Owns, OwnsAll, HoldsAll, IsPlain, Takes, used_in, lent_in, LendsAll, IsOnly, IsBetween, AreNewest, IsInArm, EndsByCall}
 use Rattle.kk_counted.specs.Emitting.{IsJudged, AreLow, Spent, owned_parameters, parameter_count, IsWholeDraft, IsSoundBy, IsSoundDraft, Works, AreIn, AreLater, first, first_of}
@@ -344,8 +345,8 @@ numbered_is takes n (suc k) i least less = by_test (n == i) refl (takes n) refl 
         above : (n == i) ≡ false → suc n ≤ i
         above two = grind arith
 
-begun_by : (positions : PositionTable) (counts : List ℕ) (instance : ℕ) (lent : List ℕ) → AreIn (begun positions counts instance).lent lent → IsSoundBy lent (begun positions counts instance)
-begun_by positions counts instance lent lends =
+begun_by : (positions : PositionTable) (counts : List ℕ) (marks : CellMarks) (instance : ℕ) (lent : List ℕ) → AreIn (begun positions counts marks instance).lent lent → IsSoundBy lent (begun positions counts marks instance)
+begun_by positions counts marks instance lent lends =
     record {
       splits = tt;
       steps = λ inside none left rest spent. spent;
@@ -362,12 +363,12 @@ begun_by positions counts instance lent lends =
     never : true ≡ false → ⊥
     never same = cc
 
-pub begun_sound : (positions : PositionTable) (counts : List ℕ) (instance : ℕ) → IsSoundDraft (begun positions counts instance)
-begun_sound positions counts instance =
-    let lent : List ℕ = (begun positions counts instance).lent in
+pub begun_sound : (positions : PositionTable) (counts : List ℕ) (marks : CellMarks) (instance : ℕ) → IsSoundDraft (begun positions counts marks instance)
+begun_sound positions counts marks instance =
+    let lent : List ℕ = (begun positions counts marks instance).lent in
     record {
       lent = lent;
-      sound = λ later from. begun_by positions counts instance (later ++ lent) (λ x is. among_behind later lent x is);
+      sound = λ later from. begun_by positions counts marks instance (later ++ lent) (λ x is. among_behind later lent x is);
       low = parameters_low (is_lent positions instance) (length (slice_index_or positions instance []));
       own = λ i less. numbered_is (is_lent positions instance) 0 (length (slice_index_or positions instance [])) i (omega arith) (omega (arith, less));
       parameters = omega arith;
@@ -378,16 +379,16 @@ begun_sound positions counts instance =
     nothing code same = cc
 
 -- what an emitter begins with, by the parameters of its instance
-pub begun_is : (positions : PositionTable) (counts : List ℕ) (instance count : ℕ) (parameters : List Parameter) (uncalled lent : List ℕ) → slice_index_or positions instance [] ≡ map (λ parameter. parameter.ownership) parameters → count ≡ length parameters
+pub begun_is : (positions : PositionTable) (counts : List ℕ) (marks : CellMarks) (instance count : ℕ) (parameters : List Parameter) (uncalled lent : List ℕ) → slice_index_or positions instance [] ≡ map (λ parameter. parameter.ownership) parameters → count ≡ length parameters
     → uncalled ≡ at_positions (passes parameters false) 0 (numbers_from 0 (length parameters)) → lent ≡ at_positions (passes parameters true) 0 (numbers_from 0 (length parameters))
-    → record (begun positions counts instance) { parameters = count; next = count; uncalled = uncalled; lent = lent } ≡ begun positions counts instance
-begun_is positions counts instance count parameters uncalled lent found many owned others =
+    → record (begun positions counts marks instance) { parameters = count; next = count; uncalled = uncalled; lent = lent } ≡ begun positions counts marks instance
+begun_is positions counts marks instance count parameters uncalled lent found many owned others =
     let passed : List Ownership = map (λ parameter. parameter.ownership) parameters in
     let long : length parameters ≡ length passed = sym (length-map parameters (λ parameter. parameter.ownership)) in
-    ap (λ n. record (begun positions counts instance) { parameters = n; next = n; uncalled = uncalled; lent = lent }) (many ∙ long)
-    ∙ (ap (λ xs. record (begun positions counts instance) { parameters = length passed; next = length passed; uncalled = xs; lent = lent }) (owned ∙ ap (λ n. at_positions (passes parameters false) 0 (numbers_from 0 n)) long)
-    ∙ (ap (λ xs. record (begun positions counts instance) { parameters = length passed; next = length passed; uncalled = at_positions (passes parameters false) 0 (numbers_from 0 (length passed)); lent = xs }) (others ∙ ap (λ n. at_positions (passes parameters true) 0 (numbers_from 0 n)) long)
-    ∙ ap (λ (all : List Ownership). record (begun positions counts instance) { parameters = length all; next = length all; uncalled = at_positions (λ i. not (lends (slice_index_or all i Owned))) 0 (numbers_from 0 (length all)); lent = at_positions (λ i. lends (slice_index_or all i Owned)) 0 (numbers_from 0 (length all)) }) (sym found)))
+    ap (λ n. record (begun positions counts marks instance) { parameters = n; next = n; uncalled = uncalled; lent = lent }) (many ∙ long)
+    ∙ (ap (λ xs. record (begun positions counts marks instance) { parameters = length passed; next = length passed; uncalled = xs; lent = lent }) (owned ∙ ap (λ n. at_positions (passes parameters false) 0 (numbers_from 0 n)) long)
+    ∙ (ap (λ xs. record (begun positions counts marks instance) { parameters = length passed; next = length passed; uncalled = at_positions (passes parameters false) 0 (numbers_from 0 (length passed)); lent = xs }) (others ∙ ap (λ n. at_positions (passes parameters true) 0 (numbers_from 0 n)) long)
+    ∙ ap (λ (all : List Ownership). record (begun positions counts marks instance) { parameters = length all; next = length all; uncalled = at_positions (λ i. not (lends (slice_index_or all i Owned))) 0 (numbers_from 0 (length all)); lent = at_positions (λ i. lends (slice_index_or all i Owned)) 0 (numbers_from 0 (length all)) }) (sym found)))
 
 -- what an instance is passed
 pub passed_at : (instances : List InstanceShape) (i : ℕ) (one : InstanceShape) → i < length instances → one ≡ get_or instances i one → slice_index_or (positions_in instances) i [] ≡ passed_to one
@@ -400,8 +401,8 @@ fields_at [] i one less is = absurd (omega (arith, less))
 fields_at (first ∷ constructors) zero one less is = ap (λ c. length c.fields.items) (sym is)
 fields_at (first ∷ constructors) (suc i) one less is = fields_at constructors i one (omega (arith, less)) is
 
-pub begun_works : (positions : PositionTable) (counts : List ℕ) (instance : ℕ) (e : Draft) → e ≡ begun positions counts instance → Works e
-begun_works positions counts instance e is = λ going. subst IsSoundDraft (sym is) (begun_sound positions counts instance)
+pub begun_works : (positions : PositionTable) (counts : List ℕ) (marks : CellMarks) (instance : ℕ) (e : Draft) → e ≡ begun positions counts marks instance → Works e
+begun_works positions counts marks instance e is = λ going. subst IsSoundDraft (sym is) (begun_sound positions counts marks instance)
 
 -- ---- branches
 
@@ -498,9 +499,9 @@ joined_same : (d : Draft) (splits : List Split) → (joined_in d splits).instanc
 joined_same d [] = refl
 joined_same d (split ∷ splits) = resumed_instance (record d { next = d.next + 1; splits = splits }) split d.next split.tails
 
-pub joined_instance : (instance : ℕ) (new : Work) (positions : PositionTable) (counts : List ℕ) (work : Work) → draft positions counts new ≡ joined (draft positions counts work) → work.instance ≡ instance → new.instance ≡ instance
-joined_instance instance new positions counts work becomes is =
-    ap (λ (d : Draft). d.instance) becomes ∙ (joined_same (draft positions counts work) (back_to_front split_of work.forks.items []) ∙ is)
+pub joined_instance : (instance : ℕ) (new : Work) (positions : PositionTable) (counts : List ℕ) (marks : CellMarks) (work : Work) → draft positions counts marks new ≡ joined (draft positions counts marks work) → work.instance ≡ instance → new.instance ≡ instance
+joined_instance instance new positions counts marks work becomes is =
+    ap (λ (d : Draft). d.instance) becomes ∙ (joined_same (draft positions counts marks work) (back_to_front split_of work.forks.items []) ∙ is)
 
 -- ---- the end of a function
 

@@ -15,14 +15,15 @@ use Rattle.kk_counted.specs.declared.counted.CountedFun.{CountedFun}
 use Rattle.kk_counted.specs.declared.tokened.TokenedFun.{TokenedFun}
 use Rattle.kk_syntax.specs.PositionsOf.{PositionTable}
 use Rattle.kk_counted.specs.Arms.{HasArms}
-use Rattle.kk_counted.specs.Programs.{IsFunctionOf}
+use Rattle.kk_counted.specs.Marks.{CellMarks, CanBeMarked}
+use Rattle.kk_counted.specs.Programs.{IsFunctionOf, function_of}
 use Rattle.kk_counted.specs.CountedCodes.{Counted, tail_call, compute, inside, read, open_cell, if_unique, dup, drop}
 use Rattle.kk_counted.specs.CountedForms.{computes, reads, dups, plug, block_code}
 use Rattle.kk_counted.specs.Spending.{AreApart}
 use Rattle.kk_counted.specs.TokenedCodes.{Tokened}
-use Rattle.kk_counted.specs.TokenedForms.{TokenedMove, put_tokened, plug_tokened, tokened_move, tokened_code}
+use Rattle.kk_counted.specs.TokenedForms.{TokenedMove, put_tokened, plug_tokened, tokened_move, tokened_code, tokened_function}
 use Rattle.kk_counted.specs.TokenSpending.{SpendsTokens}
-use Rattle.kk_counted.specs.BareForms.{bare}
+use Rattle.kk_counted.specs.BareForms.{bare, bare_function}
 use Rattle.kk_counted.specs.KeptFields.{KnownFields, fields_in, forget_variable, forget_variables, KeepsKnown, LeavesKnown}
 use Rattle.kk_counted.specs.Drafts.{Split, Draft, given, duplicated, dropped, unpacked, looked, fields_given, computed, opens_by, end_code, finished, IsPlain, Writes}
 use Rattle.kk_counted.specs.Emitting.{IsJudged, AreLow}
@@ -502,6 +503,14 @@ tokened_function_is positions f fun made body of plain many code spent leaves =
       leaves = subst (LeavesKnown []) (sym code) leaves;
     }
 
+-- its variables are marked, too
+pub tokened_marked : (marks : CellMarks) (f : ℕ) (fun : CountedFun) (made : TokenedFun) (body : Tokened)
+    → CanBeMarked marks f (function_of fun) → block_code fun.body ≡ bare body → made.parameters ≡ fun.parameters
+    → tokened_code made.body ≡ body → CanBeMarked marks f (bare_function (tokened_function made))
+tokened_marked marks f fun made body marked plain many code =
+    subst (λ n. CanBeMarked marks f (record { parameters = n; body = bare (tokened_code made.body) })) (sym many)
+    (subst (λ (c : Counted). CanBeMarked marks f (record { parameters = fun.parameters; body = c })) (plain ∙ sym (ap bare code)) marked)
+
 none_open : (branches : List TokenSplit) (splits : List Split) → splits ≡ [] → AreTokenSplits splits branches → branches ≡ []
 none_open [] splits none are = refl
 none_open (branch ∷ branches) splits none are = absurd (subst (λ (all : List Split). AreTokenSplits all (branch ∷ branches)) none are)
@@ -525,19 +534,31 @@ closed_spent d t code is joined ends =
       subst (λ (all : List TokenSplit). LeavesKnown (first_known all) (plug_tokened t.moves code)) no_branch (leaves_plug t.moves (first_known t.splits) code is.leaves closed.1.1),
     )
 
+-- the body without tokens, where the function gives a value, and where it ends by a call
+pub finished_bare : (d : Draft) (t : TokenDraft) (x : ℕ) → IsTokened d t → finished d x ≡ bare (tokens_finished t x)
+finished_bare d t x is =
+    ap (λ moves. plug moves (end_code d.ending x)) (sym is.plain)
+    ∙ (ap (λ e. plug (bare_moves t.moves) (end_code e x)) (sym is.ending)
+    ∙ (ap (plug (bare_moves t.moves)) (bare_end t.ending) ∙ sym (bare_plug t.moves (tokened_end t.ending x))))
+  where
+    bare_end : (ending : Option Tokened) → end_code (option_map bare ending) x ≡ bare (tokened_end ending x)
+    bare_end None = refl
+    bare_end (Some last) = refl
+
+pub called_bare : (d : Draft) (t : TokenDraft) (f : ℕ) (arguments : List ℕ) → IsTokened d t
+    → plug d.steps (tail_call f arguments) ≡ bare (plug_tokened t.moves (Tokened.tail_call f arguments))
+called_bare d t f arguments is =
+    ap (λ moves. plug moves (tail_call f arguments)) (sym is.plain) ∙ sym (bare_plug t.moves (Tokened.tail_call f arguments))
+
 pub given_function : (d : Draft) (t : TokenDraft) (fun : CountedFun) (made : TokenedFun) (x : ℕ) → IsTokened d t → t.spare ≡ [] → d.splits ≡ [] → d.inside ≡ true
     → IsFunctionOf d.positions d.instance fun → block_code fun.body ≡ finished d x → made.parameters ≡ fun.parameters → tokened_code made.body ≡ tokens_finished t x
     → IsTokenedFunctionOf d.positions d.instance made
 given_function d t fun made x is none joined within of body many code =
     let both = spent_by t.ending refl in
     tokened_function_is d.positions d.instance fun made (tokens_finished t x) of
-    (body ∙ (ap (λ moves. plug moves (end_code d.ending x)) (sym is.plain) ∙ (ap (λ e. plug (bare_moves t.moves) (end_code e x)) (sym is.ending) ∙ (ap (plug (bare_moves t.moves)) (bare_end t.ending) ∙ sym (bare_plug t.moves (tokened_end t.ending x))))))
+    (body ∙ finished_bare d t x is)
     many code both.0 both.1
   where
-    bare_end : (ending : Option Tokened) → end_code (option_map bare ending) x ≡ bare (tokened_end ending x)
-    bare_end None = refl
-    bare_end (Some last) = refl
-
     spent_by : (ending : Option Tokened) → t.ending ≡ ending
         → SpendsTokens [] [] [] (plug_tokened t.moves (tokened_end ending x)) × LeavesKnown [] (plug_tokened t.moves (tokened_end ending x))
     spent_by None ends =
@@ -550,5 +571,5 @@ pub called_function : (d : Draft) (t : TokenDraft) (fun : CountedFun) (made : To
 called_function d t fun made f arguments is none joined within open_end of body many code =
     let both = ends_spent d t (Tokened.tail_call f arguments) is joined within open_end none (refl, λ y. ap (λ ys. is_among ys y) none) tt in
     tokened_function_is d.positions d.instance fun made (plug_tokened t.moves (Tokened.tail_call f arguments)) of
-    (body ∙ (ap (λ moves. plug moves (tail_call f arguments)) (sym is.plain) ∙ sym (bare_plug t.moves (Tokened.tail_call f arguments))))
+    (body ∙ called_bare d t f arguments is)
     many code both.0 both.1

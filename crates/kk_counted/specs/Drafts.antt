@@ -12,6 +12,7 @@ use Rattle.kk_counted.specs.declared.debts.Held.{Held}
 use Rattle.kk_counted.specs.declared.debts.Held.TheVariants.{Nothing, One}
 use Rattle.kk_counted.specs.CountedCodes.{Counted, give, tail_call, case}
 use Rattle.kk_counted.specs.CountedForms.{Move, computes, runs, reads, opens, opens_unique, dups, drops, plug, arms_of}
+use Rattle.kk_counted.specs.Marks.{CellMarks}
 use Rattle.kk_counted.specs.Spending.{AllAmong, at_positions, numbers_from}
 
 -- ---- lists of variables
@@ -58,14 +59,15 @@ pub record Split : Type 0 where
   pub arms : List Counted
   pub tails : Bool
 
--- The function of which instance is written, by which positions are lent and how many fields constructors have; the number of
--- its parameters; the next variable; whether a call found no memory; whether a block is written, the function's body or an arm
+-- The function of which instance is written, by which positions are lent, how many fields constructors have, and what the types
+-- tell of cells; the number of its parameters; the next variable; whether a call found no memory; whether a block is written, the function's body or an arm
 -- that is entered; its steps; the variables that it owns; the owned parameters that are not called yet; the variables that it
 -- is lent, which are parameters and fields of cells that lent variables name; the branches that are not joined, the newest
 -- first; and how the block ends, once a branch with tail calls is joined.
 pub record Draft : Type 0 where
   pub positions : PositionTable
   pub field_counts : List ℕ
+  pub marks : CellMarks
   pub instance : ℕ
   pub parameters : ℕ
   pub next : ℕ
@@ -92,12 +94,13 @@ abbrev pub parameters_where : (ℕ → Bool) → ℕ → List ℕ
 parameters_where takes count = at_positions takes 0 (numbers_from 0 count)
 
 -- a draft of an instance of which nothing is written
-abbrev pub begun : PositionTable → List ℕ → ℕ → Draft
-begun positions field_counts instance =
+abbrev pub begun : PositionTable → List ℕ → CellMarks → ℕ → Draft
+begun positions field_counts marks instance =
     let count = length (slice_index_or positions instance []) in
     record {
       positions = positions;
       field_counts = field_counts;
+      marks = marks;
       instance = instance;
       parameters = count;
       next = count;

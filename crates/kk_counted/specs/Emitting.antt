@@ -7,8 +7,14 @@ use Rattle.kk_core.specs.Decisions.{AreOrderly}
 use Rattle.kk_counted.specs.Arms.{HasArms, AllHaveArms, HaveArmsInside}
 use Rattle.kk_counted.specs.CountedCodes.{Counted, CountedFunction}
 use Rattle.kk_counted.specs.CountedForms.{Move, plug}
+use Rattle.kk_counted.specs.Marks.{CanBeMarked}
 use Rattle.kk_counted.specs.Spending.{Spends, SpendsParameters}
 use Rattle.kk_counted.specs.Drafts.{Split, Draft, outside, all_owed, parameters_where}
+
+-- the function that a draft becomes by this body has marked variables
+abbrev pub BecomesMarked : Draft → Counted → Type 0
+BecomesMarked d body =
+    d.failed ≡ false → CanBeMarked d.marks d.instance (record { parameters = d.parameters; body = body })
 
 -- functions have as many parameters as the table of positions tells
 abbrev pub HaveParameters : PositionTable → List CountedFunction → Type 0

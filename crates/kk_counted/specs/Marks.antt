@@ -101,6 +101,11 @@ pub record IsMarked (marks : CellMarks) (holds : ℕ → Bool) (f : ℕ) (functi
   pub body_marked : HasMark marks holds (result_mark marks f) (numbers_from 0 function.parameters) (result_mark marks f)
       function.body
 
+-- A function whose variables can be marked so. For those that it binds there is no other way: each gets its mark from what it takes
+-- its value from.
+abbrev pub CanBeMarked : CellMarks → ℕ → CountedFunction → Type 0
+CanBeMarked marks f function = (holds : ℕ → Bool) × IsMarked marks holds f function
+
 -- A program, by the variables of each function that are marked: each function is so, and `main`, which has no parameters, is there.
 pub record AreMarked (marks : CellMarks) (holds : ℕ → ℕ → Bool) (program : CountedProgram) : Type 0 where
   pub each : (f : ℕ) (function : CountedFunction) → slice_get program.functions f ≡ Some function

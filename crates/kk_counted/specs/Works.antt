@@ -7,6 +7,7 @@ use Rattle.kk_counted.specs.declared.shape.Parameter.{Parameter}
 use Rattle.kk_counted.specs.declared.work.Fork.{Fork}
 use Rattle.kk_counted.specs.declared.work.Work.{Work}
 use Rattle.kk_counted.specs.CountedForms.{decisions_of, step_move, block_code, last_code}
+use Rattle.kk_counted.specs.Marks.{CellMarks}
 use Rattle.kk_counted.specs.Spending.{at_positions}
 use Rattle.kk_counted.specs.Drafts.{Split, Draft}
 
@@ -54,11 +55,12 @@ split_of fork =
       tails = fork.tails;
     }
 
-abbrev pub draft : PositionTable → List ℕ → Work → Draft
-draft positions field_counts work =
+abbrev pub draft : PositionTable → List ℕ → CellMarks → Work → Draft
+draft positions field_counts marks work =
     record {
       positions = positions;
       field_counts = field_counts;
+      marks = marks;
       instance = work.instance;
       parameters = work.parameters;
       next = work.next;
@@ -75,4 +77,5 @@ draft positions field_counts work =
 -- a change of what an emitter holds, as one of its draft
 abbrev pub Becomes : Work → Work → (Draft → Draft) → Type 0
 Becomes old new change =
-    (positions : PositionTable) (field_counts : List ℕ) → draft positions field_counts new ≡ change (draft positions field_counts old)
+    (positions : PositionTable) (field_counts : List ℕ) (marks : CellMarks)
+    → draft positions field_counts marks new ≡ change (draft positions field_counts marks old)

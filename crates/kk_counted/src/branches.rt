@@ -4,7 +4,9 @@ ghost use Rattle.kk_counted.specs.CountedCodes.{tail_call};
 ghost use Rattle.kk_counted.specs.CountedForms.{decisions_of, plug, block_code};
 ghost use Rattle.kk_counted.specs.Drafts.{all_owed, forked, entered, ended_by_value, ended_by_call, ended_by, joined, finished, Writes, Takes, OwnsAll, AreNewest, IsBetween, IsOnly, IsInArm, EndsByCall, EndsArm, held_of};
 ghost use Rattle.kk_counted.specs.Emissions.{state};
-ghost use Rattle.kk_counted.specs.Programs.{IsFunctionOf};
+ghost use Rattle.kk_counted.specs.Emitting.{BecomesMarked};
+ghost use Rattle.kk_counted.specs.Marks.{CanBeMarked};
+ghost use Rattle.kk_counted.specs.Programs.{IsFunctionOf, function_of};
 ghost use Rattle.kk_counted.specs.Works.{left_in};
 
 use crate::copies::copied_decisions;
@@ -215,15 +217,18 @@ impl<'a> Emitter<'a> {
         }
     }
 
-    /// Ends the function by giving the value that a reference owns. No other reference of the path is unspent.
+    /// Ends the function by giving the value that a reference owns. No other reference of the path is unspent. Each value that a
+    /// step takes has cells exactly where the field, the parameter or the result that takes it has them.
     pub fn finish(self, owed: Owed) -> Result<CountedFun, Kept>
         requires inside { (state self).failed ≡ false → (state self).inside ≡ true }
         requires joined { (state self).failed ≡ false → (state self).splits ≡ [] }
         requires called { (state self).failed ≡ false → (state self).uncalled ≡ [] }
         requires only { IsOnly (state self) owed.emitter owed.variable }
+        requires marked { BecomesMarked (state self) (finished (state self) owed.variable) }
         ensures going { OnOk result ((state self.entry).failed ≡ false) }
         ensures body { IfOk result (λ function. block_code function.body ≡ finished (state self.entry) owed.variable) }
         ensures function { IfOk result (λ function. IsFunctionOf self.entry.positions (state self.entry).instance function) }
+        ensures marked { IfOk result (λ function. CanBeMarked self.entry.marks (state self.entry).instance (function_of function)) }
         ensures kept { IfErr result (λ kept. kept.held ≡ Held.One owed) }
         ensures ended { IfErr result (λ kept. kept.ended ≡ true) }
     {
@@ -239,15 +244,17 @@ impl<'a> Emitter<'a> {
     }
 
     /// Ends the function by a tail call of an instance. Its arguments at owned positions were handed over, and nothing else
-    /// is unspent on the path.
+    /// is unspent on the path. Each value that a step takes has cells exactly where what takes it has them.
     pub fn finish_tail(self, instance: u32, arguments: Vec<u32>) -> Result<CountedFun, Kept>
         requires writes { Writes (state self) }
         requires joined { (state self).failed ≡ false → (state self).splits ≡ [] }
         requires takes { Takes (state self) instance arguments.items }
         requires ends { EndsByCall (state self) instance arguments.items }
+        requires marked { BecomesMarked (state self) (plug (state self).steps (tail_call instance arguments.items)) }
         ensures going { OnOk result ((state self.entry).failed ≡ false) }
         ensures body { IfOk result (λ function. block_code function.body ≡ plug (state self.entry).steps (tail_call instance arguments.items)) }
         ensures function { IfOk result (λ function. IsFunctionOf self.entry.positions (state self.entry).instance function) }
+        ensures marked { IfOk result (λ function. CanBeMarked self.entry.marks (state self.entry).instance (function_of function)) }
         ensures kept { IfErr result (λ kept. kept.held ≡ Held.Nothing) }
         ensures ended { IfErr result (λ kept. kept.ended ≡ true) }
     {

@@ -2,6 +2,7 @@ ghost use Rattle.std.specs.Prelude.{◌≡◌, ◌+◌, ◌<◌, ◌∷◌, ◌+
 ghost use Rattle.kk_counted.specs.Drafts.{begun, fallen, given, duplicated, dropped, unpacked, looked, fields_given, computed, Writes, Awaits, Reaches, IsLentTo, IsAtHand, Owns, OwnsAll, HoldsAll, HasConstructor, HasField, HasFields, IsPlain, Takes, used_in, LendsAll};
 ghost use Rattle.kk_counted.specs.InstancePositions.{positions_in, fields_in};
 ghost use Rattle.kk_counted.specs.Emissions.{state};
+ghost use Rattle.kk_counted.specs.Marks.{marks_of};
 
 use crate::debts::{Debts, Held, Kept, Owed};
 use crate::lists::parameters_passed;
@@ -33,17 +34,18 @@ impl<'a> Model for Emitter<'a> {
     ghost use Rattle.kk_counted.specs.InstancePositions.{positions_in, fields_in};
     ghost use Rattle.kk_counted.specs.Emissions.{state};
     ghost use Rattle.kk_counted.specs.Emitting.{Works};
+    ghost use Rattle.kk_counted.specs.Marks.{marks_of};
 
-    ghost view = { λ e. record { positions = positions_in e.shape.now.instances.items; field_counts = fields_in e.shape.now.constructors.items; work = e.work } };
+    ghost view = { λ e. record { positions = positions_in e.shape.now.instances.items; field_counts = fields_in e.shape.now.constructors.items; marks = marks_of e.shape.now.instances.items e.shape.now.constructors.items; work = e.work } };
 
-    ghost invariant = { λ e. Works (state (record { positions = positions_in e.shape.now.instances.items; field_counts = fields_in e.shape.now.constructors.items; work = e.work })) };
+    ghost invariant = { λ e. Works (state (record { positions = positions_in e.shape.now.instances.items; field_counts = fields_in e.shape.now.constructors.items; marks = marks_of e.shape.now.instances.items e.shape.now.constructors.items; work = e.work })) };
 }
 
 impl<'a> Emitter<'a> {
     /// Begins the function of an instance of the shape.
     pub fn start(alloc: Global, shape: &'a Shape, instance: u32) -> Result<Emitter<'a>, NoMemory>
         requires { instance < length shape.now.instances.items }
-        ensures { IfOk result (λ e. state e ≡ begun (positions_in shape.now.instances.items) (fields_in shape.now.constructors.items) instance) }
+        ensures { IfOk result (λ e. state e ≡ begun (positions_in shape.now.instances.items) (fields_in shape.now.constructors.items) (marks_of shape.now.instances.items shape.now.constructors.items) instance) }
     {
         let parameters = &shape.instances()[instance as usize].parameters;
         let Ok(count) = u32::try_from(parameters.len()) else {

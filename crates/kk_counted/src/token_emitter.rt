@@ -1,9 +1,14 @@
 ghost use Rattle.std.specs.Prelude.{◌≡◌, ◌+◌, ◌<◌, ◌∷◌, [], false, true, map, length, IfOk, IfErr, OnOk, OnErr};
 ghost use Rattle.kk_syntax.specs.Shapes.{without};
+ghost use Rattle.kk_counted.specs.BareForms.{bare_function};
+ghost use Rattle.kk_counted.specs.CountedCodes.{tail_call};
+ghost use Rattle.kk_counted.specs.CountedForms.{plug};
+ghost use Rattle.kk_counted.specs.Emitting.{BecomesMarked};
+ghost use Rattle.kk_counted.specs.Marks.{marks_of, CanBeMarked};
 ghost use Rattle.kk_counted.specs.TokenedCodes.{Tokened};
-ghost use Rattle.kk_counted.specs.TokenedForms.{TokenedMove, tokened_move, tokened_code, plug_tokened};
+ghost use Rattle.kk_counted.specs.TokenedForms.{TokenedMove, tokened_move, tokened_code, tokened_function, plug_tokened};
 ghost use Rattle.kk_counted.specs.Spending.{numbers_from};
-ghost use Rattle.kk_counted.specs.Drafts.{begun, fallen, given, duplicated, dropped, unpacked, looked, fields_given, computed, chosen_of, Writes, Awaits, Reaches, IsLentTo, IsAtHand, Owns, OwnsAll, HoldsAll, HasConstructor, HasField, HasFields, IsPlain, IsOnly, Takes, EndsByCall, used_in, LendsAll};
+ghost use Rattle.kk_counted.specs.Drafts.{begun, fallen, given, duplicated, dropped, unpacked, looked, fields_given, computed, chosen_of, Writes, Awaits, Reaches, IsLentTo, IsAtHand, Owns, OwnsAll, HoldsAll, HasConstructor, HasField, HasFields, IsPlain, IsOnly, Takes, EndsByCall, used_in, LendsAll, finished};
 ghost use Rattle.kk_counted.specs.InstancePositions.{positions_in, fields_in};
 ghost use Rattle.kk_counted.specs.TokenDrafts.{no_tokens, adds, gains, spends, next_slot, under_holds, opens_with, reads_with, fills_with, kept_by, tokens_finished};
 ghost use Rattle.kk_counted.specs.TokenEmissions.{counted_of, tokens_of};
@@ -53,7 +58,7 @@ impl<'a> TokenEmitter<'a> {
         instance: u32,
     ) -> Result<TokenEmitter<'a>, NoMemory>
         requires { instance < length shape.now.instances.items }
-        ensures ok { IfOk result (λ e. counted_of e ≡ begun (positions_in shape.now.instances.items) (fields_in shape.now.constructors.items) instance) }
+        ensures ok { IfOk result (λ e. counted_of e ≡ begun (positions_in shape.now.instances.items) (fields_in shape.now.constructors.items) (marks_of shape.now.instances.items shape.now.constructors.items) instance) }
         ensures tokens { IfOk result (λ e. tokens_of e ≡ no_tokens) }
     {
         let plain = Emitter::start(alloc, shape, instance)?;
@@ -566,16 +571,18 @@ impl<'a> TokenEmitter<'a> {
     }
 
     /// Ends the function by a tail call of an instance. Its arguments at owned positions were handed over, and nothing else
-    /// is unspent, no token either.
+    /// is unspent, no token either. Each value that a step takes has cells exactly where what takes it has them.
     pub fn finish_tail(self, instance: u32, arguments: Vec<u32>) -> Result<TokenedFun, Kept>
         requires writes { Writes (counted_of self) }
         requires joined { (counted_of self).failed ≡ false → (counted_of self).splits ≡ [] }
         requires takes { Takes (counted_of self) instance arguments.items }
         requires ends { EndsByCall (counted_of self) instance arguments.items }
         requires none { HasNoSpare (counted_of self) (tokens_of self) }
+        requires marked { BecomesMarked (counted_of self) (plug (counted_of self).steps (tail_call instance arguments.items)) }
         ensures going { OnOk result ((counted_of self.entry).failed ≡ false) }
         ensures body { IfOk result (λ function. tokened_code function.body ≡ plug_tokened (tokens_of self.entry).moves (Tokened.tail_call instance arguments.items)) }
         ensures function { IfOk result (λ function. IsTokenedFunctionOf (counted_of self.entry).positions (counted_of self.entry).instance function) }
+        ensures marked { IfOk result (λ function. CanBeMarked (counted_of self.entry).marks (counted_of self.entry).instance (bare_function (tokened_function function))) }
         ensures kept { IfErr result (λ kept. kept.held ≡ Held.Nothing) }
         ensures ended { IfErr result (λ kept. kept.ended ≡ true) }
     {
@@ -593,16 +600,19 @@ impl<'a> TokenEmitter<'a> {
         })
     }
 
-    /// Ends the function by giving the value that a reference owns. No other reference and no token is unspent.
+    /// Ends the function by giving the value that a reference owns. No other reference and no token is unspent. Each value that
+    /// a step takes has cells exactly where the field, the parameter or the result that takes it has them.
     pub fn finish(self, owed: Owed) -> Result<TokenedFun, Kept>
         requires inside { (counted_of self).failed ≡ false → (counted_of self).inside ≡ true }
         requires joined { (counted_of self).failed ≡ false → (counted_of self).splits ≡ [] }
         requires called { (counted_of self).failed ≡ false → (counted_of self).uncalled ≡ [] }
         requires only { IsOnly (counted_of self) owed.emitter owed.variable }
         requires none { HasNoSpare (counted_of self) (tokens_of self) }
+        requires marked { BecomesMarked (counted_of self) (finished (counted_of self) owed.variable) }
         ensures going { OnOk result ((counted_of self.entry).failed ≡ false) }
         ensures body { IfOk result (λ function. tokened_code function.body ≡ tokens_finished (tokens_of self.entry) owed.variable) }
         ensures function { IfOk result (λ function. IsTokenedFunctionOf (counted_of self.entry).positions (counted_of self.entry).instance function) }
+        ensures marked { IfOk result (λ function. CanBeMarked (counted_of self.entry).marks (counted_of self.entry).instance (bare_function (tokened_function function))) }
         ensures kept { IfErr result (λ kept. kept.held ≡ Held.One owed) }
         ensures ended { IfErr result (λ kept. kept.ended ≡ true) }
     {

@@ -2,6 +2,7 @@ ghost use Rattle.std.specs.Prelude.{◌≡◌, ◌+◌, ◌<◌, ◌≤◌, ◌^
 ghost use Rattle.kk_counted.specs.CountedForms.{runs, plug, arms_of, step_move, decisions_of, last_code, block_code, reads, dups, drops};
 ghost use Rattle.kk_counted.specs.CountedCodes.{tail_call, case};
 ghost use Rattle.kk_counted.specs.Drafts.{minus, chosen_of, copies, given, wrote, computed, opens_by, opened, read_of, forked, entered, ended_in, ended_by_value, ended_by_call, joined, resumed, more_arms, end_code, finished};
+ghost use Rattle.kk_counted.specs.Marks.{marks_of};
 ghost use Rattle.kk_counted.specs.Spending.{numbers_from};
 ghost use Rattle.kk_counted.specs.Works.{Becomes, draft, used_at, items_of, split_of};
 
@@ -351,7 +352,7 @@ impl Work {
     pub fn finish(self, variable: u32) -> CountedFun
         ensures instance { result.instance ≡ self.instance }
         ensures parameters { result.parameters ≡ self.parameters }
-        ensures body { block_code result.body ≡ finished (draft [] [] self) variable }
+        ensures body { block_code result.body ≡ finished (draft [] [] (marks_of [] []) self) variable }
     {
         let Work {
             alloc: _,

@@ -1,8 +1,9 @@
 //! Fusion of a function that an emitter writes.
 
-ghost use Rattle.std.specs.Prelude.{◌≡◌, ◌∷◌, [], true, IfOk};
+ghost use Rattle.std.specs.Prelude.{◌≡◌, ◌∷◌, [], false, true, IfOk};
 ghost use Rattle.kk_syntax.specs.declared.positions.Ownership.TheVariants.{Owned};
 ghost use Rattle.kk_counted.specs.Emissions.{state};
+ghost use Rattle.kk_counted.specs.Marks.{marks_of};
 ghost use Rattle.kk_counted.specs.Programs.{IsFunctionOf};
 ghost use Rattle.kk_counted.specs.InstancePositions.{positions_in};
 
@@ -16,7 +17,8 @@ use std::alloc::Global;
 
 /// The shape of a program with one function, which owns its parameter. It is a cell, whose type has one constructor with one field.
 fn shape_of_one_function(alloc: Global) -> Result<Shape, NoMemory>
-    ensures { IfOk result (λ shape. positions_in shape.instances.items ≡ (Owned ∷ []) ∷ []) }
+    ensures positions { IfOk result (λ shape. positions_in shape.instances.items ≡ (Owned ∷ []) ∷ []) }
+    ensures marks { IfOk result (λ shape. marks_of shape.instances.items shape.constructors.items ≡ record { parameters = (true ∷ []) ∷ []; results = true ∷ []; types = true ∷ []; fields = (false ∷ []) ∷ [] }) }
 {
     let parameter = Parameter {
         ownership: Ownership::Owned,
@@ -47,7 +49,8 @@ fn lose(emitter: Emitter<'_>, owed: Owed) -> NoMemory
 
 /// The function that duplicates its parameter, drops one of the two references, and gives the other.
 fn drops_one_of_two(alloc: Global, shape: &Shape) -> Result<CountedFun, NoMemory>
-    requires { positions_in shape.now.instances.items ≡ (Owned ∷ []) ∷ [] }
+    requires positions { positions_in shape.now.instances.items ≡ (Owned ∷ []) ∷ [] }
+    requires marks { marks_of shape.now.instances.items shape.now.constructors.items ≡ record { parameters = (true ∷ []) ∷ []; results = true ∷ []; types = true ∷ []; fields = (false ∷ []) ∷ [] } }
     ensures { IfOk result (λ function. IsFunctionOf (positions_in shape.now.instances.items) 0 function) }
 {
     let mut emitter = Emitter::start(alloc, shape, 0)?;

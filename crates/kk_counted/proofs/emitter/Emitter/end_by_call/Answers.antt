@@ -1,6 +1,7 @@
 use Rattle.kk_counted.specs.Drafts.{ended_by_call}
 use Rattle.kk_counted.specs.Emissions.{state}
 use Rattle.kk_counted.specs.InstancePositions.{positions_in, fields_in}
+use Rattle.kk_counted.specs.Marks.{marks_of}
 use Rattle.kk_counted.specs.Works.{draft}
 use Rattle.kk_counted.proofs.EmitterViews.{seen, going_now, works_now}
 use Rattle.kk_counted.proofs.EmitterCalls.{call_works, works_same}
@@ -10,31 +11,35 @@ pub invariant_of-self : goal.invariant_of-self
 invariant_of-self c =
     let p = positions_in c.self.inside.shape.now.instances.items in
     let q = fields_in c.self.inside.shape.now.constructors.items in
+    let m = marks_of c.self.inside.shape.now.instances.items c.self.inside.shape.now.constructors.items in
     let work = c.self.inside.work in
     let now = c.args.self.now in
-    call_works (state now) (draft p q c.end_arm_by_call.new.self) c.args.instance c.args.arguments.items (going_now p q work now c.self.view_is c.if-self.false) c.requires.writes c.requires.takes c.requires.ends c.requires.arm
-    (seen p q work now c.self.view_is (λ d. ended_by_call d c.args.instance c.args.arguments.items) c.end_arm_by_call.new.self (c.in-Ok.ensures.ok p q)) (works_now p q work now c.self.view_is c.self.invariant)
+    call_works (state now) (draft p q m c.end_arm_by_call.new.self) c.args.instance c.args.arguments.items (going_now p q m work now c.self.view_is c.if-self.false) c.requires.writes c.requires.takes c.requires.ends c.requires.arm
+    (seen p q m work now c.self.view_is (λ d. ended_by_call d c.args.instance c.args.arguments.items) c.end_arm_by_call.new.self (c.in-Ok.ensures.ok p q m)) (works_now p q m work now c.self.view_is c.self.invariant)
 
 pub invariant_of-self-in-Err : goal.invariant_of-self-in-Err
 invariant_of-self-in-Err c =
     let p = positions_in c.self.inside.shape.now.instances.items in
     let q = fields_in c.self.inside.shape.now.constructors.items in
+    let m = marks_of c.self.inside.shape.now.instances.items c.self.inside.shape.now.constructors.items in
     let work = c.self.inside.work in
     let now = c.args.self.now in
-    works_same (draft p q work) (draft p q c.end_arm_by_call.new.self) (c.in-Err.ensures.err p q) c.self.invariant
+    works_same (draft p q m work) (draft p q m c.end_arm_by_call.new.self) (c.in-Err.ensures.err p q m) c.self.invariant
 
 pub returns-in-Ok-clause-ok : goal.returns-in-Ok-clause-ok
 returns-in-Ok-clause-ok c =
     let p = positions_in c.self.inside.shape.now.instances.items in
     let q = fields_in c.self.inside.shape.now.constructors.items in
+    let m = marks_of c.self.inside.shape.now.instances.items c.self.inside.shape.now.constructors.items in
     let work = c.self.inside.work in
     let now = c.args.self.now in
-    seen p q work now c.self.view_is (λ d. ended_by_call d c.args.instance c.args.arguments.items) c.end_arm_by_call.new.self (c.in-Ok.ensures.ok p q)
+    seen p q m work now c.self.view_is (λ d. ended_by_call d c.args.instance c.args.arguments.items) c.end_arm_by_call.new.self (c.in-Ok.ensures.ok p q m)
 
 pub returns-in-Err-clause-err : goal.returns-in-Err-clause-err
 returns-in-Err-clause-err c =
     let p = positions_in c.self.inside.shape.now.instances.items in
     let q = fields_in c.self.inside.shape.now.constructors.items in
+    let m = marks_of c.self.inside.shape.now.instances.items c.self.inside.shape.now.constructors.items in
     let work = c.self.inside.work in
     let now = c.args.self.now in
-    seen p q work now c.self.view_is (λ d. d) c.end_arm_by_call.new.self (c.in-Err.ensures.err p q)
+    seen p q m work now c.self.view_is (λ d. d) c.end_arm_by_call.new.self (c.in-Err.ensures.err p q m)

@@ -11,7 +11,7 @@ returns-clause-ok c =
     let fork : Fork = record { on = c.args.on; tests = c.args.tests; before = c.replace-before.result; lent = c.len.result; kept = c.take_all.new.owed; each = c.args.each; left = c.in-Ok-copies.own; arms = c.new-3.result; tails = false } in
     let kept = minus_all c.args.each.items c.args.self.now.owed.items in
     let split : Split = record { on = c.args.on; decisions = decisions_of c.args.tests; rows = c.args.tests.rows; before = map step_move c.args.self.now.steps.items; lent = length c.args.self.now.lent.items; kept = kept; each = c.args.each.items; left = copies c.args.tests.rows c.args.each.items; arms = []; tails = false } in
-    λ positions counts. forked_is positions counts c.args.self.now c.push_reserved.new.self c.replace-before.new.dest c.replace-kept.new.dest fork split
+    λ positions counts marks. forked_is positions counts marks c.args.self.now c.push_reserved.new.self c.replace-before.new.dest c.replace-kept.new.dest fork split
     (c.push_reserved.ensures.items ∙ ap (λ forks. forks ++ fork ∷ []) c.reserve.ensures.items)
     (same_split split c.len.result (length c.args.self.now.lent.items) (map step_move c.replace-before.result.items) (map step_move c.args.self.now.steps.items) c.take_all.new.owed.items kept
     (left_in c.in-Ok-copies.own.items) (copies c.args.tests.rows c.args.each.items) (map block_code c.new-3.result.items) []
