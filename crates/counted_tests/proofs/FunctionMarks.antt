@@ -1,11 +1,13 @@
 -- The functions of the tests have marked variables.
-use Rattle.std.proofs.Common.{◌≡◌, ℕ, ◌==◌, ◌||◌, pos, Bool, true, false, List, [], ◌∷◌, refl, sym, ap, ◌∙◌, subst}
+use Rattle.std.proofs.Common.{◌≡◌, ℕ, ◌==◌, ◌||◌, pos, Bool, true, false, List, [], ◌∷◌, ◌++◌, refl, sym, ap, ◌∙◌, subst}
 use Rattle.kk_syntax.specs.PositionsOf.{PositionTable}
 use Rattle.kk_syntax.specs.declared.positions.Ownership.TheVariants.{Owned, Lent}
 use Rattle.kk_syntax.specs.declared.operator.BinaryOperator.TheVariants.{Add}
+use Rattle.kk_syntax.specs.declared.program.Form.{Form}
 use Rattle.kk_syntax.specs.declared.program.Form.TheVariants.{Number, Binary, Construct, Call}
 use Rattle.kk_core.specs.Decisions.{NodeTree}
 use Rattle.kk_counted.specs.CountedCodes.{Counted, give, tail_call, case, compute, inside, read, open_cell, if_unique, dup, drop, no_arm, arm, CountedFunction}
+use Rattle.kk_counted.specs.CountedForms.{plug}
 use Rattle.kk_counted.specs.Drafts.{Draft, begun, given, duplicated, dropped, unpacked, looked, computed, forked, entered, ended_by_value, ended_by_call, joined, finished}
 use Rattle.kk_counted.specs.Emitting.{BecomesMarked}
 use Rattle.kk_counted.specs.Marks.{CellMarks, CanBeMarked}
@@ -28,10 +30,47 @@ pub same_begun : (p p' : PositionTable) (q q' : List ℕ) (m m' : CellMarks) (d 
 same_begun p p' q q' m m' d one two three is =
     is ∙ (ap (λ z. begun z q m 0) one ∙ (ap (λ z. begun p' z m 0) two ∙ ap (λ z. begun p' q' z 0) three))
 
+-- ---- what calls make of equal drafts
+
+pub given_same : (d d' e : Draft) → e ≡ given d 0 → d ≡ d' → e ≡ given d' 0
+given_same d d' e is same = is ∙ ap (λ z. given z 0) same
+
+pub unpacked_same : (by_count : Bool) (x x' mask : ℕ) (d d' e : Draft) → e ≡ unpacked d by_count x 0 mask → d ≡ d' → x ≡ x'
+    → e ≡ unpacked d' by_count x' 0 mask
+unpacked_same by_count x x' mask d d' e is same one =
+    is ∙ (ap (λ z. unpacked d by_count z 0 mask) one ∙ ap (λ z. unpacked z by_count x' 0 mask) same)
+
+pub computed_same : (form : Form) (xs xs' : List ℕ) (d d' e : Draft) → e ≡ computed d form xs xs → d ≡ d' → xs ≡ xs'
+    → e ≡ computed d' form xs' xs'
+computed_same form xs xs' d d' e is same all =
+    is ∙ (ap (λ z. computed d form z z) all ∙ ap (λ z. computed z form xs' xs') same)
+
+pub entered_same : (d d' e : Draft) → (d.failed ≡ false → e ≡ entered d) → d ≡ d' → d'.failed ≡ false → e ≡ entered d'
+entered_same d d' e is same going = is (ap (λ z. z.failed) same ∙ going) ∙ ap (λ z. entered z) same
+
+-- what is taken of one reference
+pub only_taken : (rest : List ℕ) (x y : ℕ) → y ∷ [] ≡ rest ++ x ∷ [] → x ≡ y
+only_taken [] x y is = cc
+only_taken (z ∷ []) x y is = absurd (cc)
+only_taken (z ∷ (w ∷ rest)) x y is = absurd (cc)
+
 -- what is known of a draft is so of an equal one
 pub ended_marked : (d e : Draft) (x y : ℕ) → d ≡ e → x ≡ y → BecomesMarked e (finished e y) → BecomesMarked d (finished d x)
 ended_marked d e x y same one marked =
     subst (λ z. BecomesMarked d (finished d z)) (sym one) (subst (λ (c : Draft). BecomesMarked c (finished c y)) (sym same) marked)
+
+-- so where it ends by a call of its own, and where a box is still to be built
+pub called_marked : (d e : Draft) (xs ys : List ℕ) → d ≡ e → xs ≡ ys → BecomesMarked e (plug e.steps (tail_call 0 ys))
+    → BecomesMarked d (plug d.steps (tail_call 0 xs))
+called_marked d e xs ys same all marked =
+    subst (λ zs. BecomesMarked d (plug d.steps (tail_call 0 zs))) (sym all)
+    (subst (λ (c : Draft). BecomesMarked c (plug c.steps (tail_call 0 ys))) (sym same) marked)
+
+abbrev pub BuildsMarked : Draft → ℕ → Type 0
+BuildsMarked d x = BecomesMarked (computed d (Construct 0) (x ∷ []) (x ∷ [])) (finished (computed d (Construct 0) (x ∷ []) (x ∷ [])) d.next)
+
+pub built_marked : (d e : Draft) (x y : ℕ) → d ≡ e → x ≡ y → BuildsMarked e y → BuildsMarked d x
+built_marked d e x y same one marked = subst (BuildsMarked d) (sym one) (subst (λ c. BuildsMarked c y) (sym same) marked)
 
 -- ---- on pairs
 
@@ -47,15 +86,15 @@ drops_is began e0 e1 e2 e3 x y s0 s1 s2 s3 one two =
 pub keep_marked : CanBeMarked (table_of ((false ∷ true ∷ []) ∷ [])) 0
     (with_body (if_unique 0 0 (1 ∷ 2 ∷ []) (2 ∷ []) (compute 3 (Number (pos 9)) [] (compute 4 (Construct 0) (3 ∷ 2 ∷ []) (give 4)))))
 keep_marked = (
-    λ x. (x == 0) || ((x == 2) || (x == 4)),
-    record {
-      parameters_marked = (refl, tt);
-      body_marked = (
-        (refl, (refl, (refl, (refl, tt)))),
-        (tt, ((tt, refl), ((refl, (refl, tt)), (((refl, (refl, tt)), refl), (refl, refl))))),
-      );
-    },
-  )
+  λ x. (x == 0) || ((x == 2) || (x == 4)),
+  record {
+    parameters_marked = (refl, tt);
+    body_marked = (
+      (refl, (refl, (refl, (refl, tt)))),
+      (tt, ((tt, refl), ((refl, (refl, tt)), (((refl, (refl, tt)), refl), (refl, refl))))),
+    );
+  },
+)
 
 -- it duplicates its parameter and drops one of the two references
 pub drops_marked : CanBeMarked (table_of ((false ∷ true ∷ []) ∷ [])) 0 (with_body (dup 0 (drop 0 (give 0))))
@@ -64,20 +103,20 @@ drops_marked = (λ x. true, record { parameters_marked = (refl, tt); body_marked
 -- it reads a lent pair, and duplicates its second field
 pub second_marked : CanBeMarked (table_of ((false ∷ true ∷ []) ∷ [])) 0 (with_body (read 0 0 (1 ∷ 2 ∷ []) (dup 2 (give 2))))
 second_marked = (
-    λ x. (x == 0) || (x == 2),
-    record { parameters_marked = (refl, tt); body_marked = ((refl, (refl, (refl, (refl, tt)))), (refl, (refl, refl))) },
-  )
+  λ x. (x == 0) || (x == 2),
+  record { parameters_marked = (refl, tt); body_marked = ((refl, (refl, (refl, (refl, tt)))), (refl, (refl, refl))) },
+)
 
 -- it calls itself on the second field
 pub last_marked : CanBeMarked (table_of ((false ∷ true ∷ []) ∷ [])) 0
     (with_body (open_cell 0 0 (1 ∷ 2 ∷ []) (2 ∷ []) (tail_call 0 (2 ∷ []))))
 last_marked = (
-    λ x. (x == 0) || (x == 2),
-    record {
-      parameters_marked = (refl, tt);
-      body_marked = ((refl, (refl, (refl, (refl, tt)))), ((refl, tt), ((refl, tt), refl)));
-    },
-  )
+  λ x. (x == 0) || (x == 2),
+  record {
+    parameters_marked = (refl, tt);
+    body_marked = ((refl, (refl, (refl, (refl, tt)))), ((refl, tt), ((refl, tt), refl)));
+  },
+)
 
 -- ---- on boxes, whose field is a box
 
@@ -85,25 +124,25 @@ last_marked = (
 pub again_marked : CanBeMarked (table_of ((true ∷ []) ∷ [])) 0
     (with_body (if_unique 0 0 (1 ∷ []) (1 ∷ []) (compute 2 (Call 0) (1 ∷ []) (compute 3 (Construct 0) (2 ∷ []) (give 3)))))
 again_marked = (
-    λ x. true,
-    record {
-      parameters_marked = (refl, tt);
-      body_marked = (
-        (refl, (refl, (refl, tt))),
-        ((refl, tt), (((refl, tt), refl), ((refl, tt), (((refl, tt), refl), (refl, refl))))),
-      );
-    },
-  )
+  λ x. true,
+  record {
+    parameters_marked = (refl, tt);
+    body_marked = (
+      (refl, (refl, (refl, tt))),
+      ((refl, tt), (((refl, tt), refl), ((refl, tt), (((refl, tt), refl), (refl, refl))))),
+    );
+  },
+)
 
 pub same_marked : CanBeMarked (table_of ((true ∷ []) ∷ [])) 0
     (with_body (if_unique 0 0 (1 ∷ []) (1 ∷ []) (compute 2 (Construct 0) (1 ∷ []) (give 2))))
 same_marked = (
-    λ x. true,
-    record {
-      parameters_marked = (refl, tt);
-      body_marked = ((refl, (refl, (refl, tt))), ((refl, tt), (((refl, tt), refl), (refl, refl))));
-    },
-  )
+  λ x. true,
+  record {
+    parameters_marked = (refl, tt);
+    body_marked = ((refl, (refl, (refl, tt))), ((refl, tt), (((refl, tt), refl), (refl, refl))));
+  },
+)
 
 -- by what was inside it gives that, or a box of what it gives for that itself
 pub shift_marked : (decisions : List NodeTree) → CanBeMarked (table_of ((true ∷ []) ∷ [])) 0
@@ -113,35 +152,35 @@ pub shift_marked : (decisions : List NodeTree) → CanBeMarked (table_of ((true 
     (case 1 decisions (arm (give 1) (arm (compute 2 (Call 0) (1 ∷ []) (compute 3 (Construct 0) (2 ∷ []) (give 3))) no_arm)))
     (give 4))))
 shift_marked decisions = (
-    λ x. true,
-    record {
-      parameters_marked = (refl, tt);
-      body_marked = (
-        (refl, (refl, (refl, tt))),
+  λ x. true,
+  record {
+    parameters_marked = (refl, tt);
+    body_marked = (
+      (refl, (refl, (refl, tt))),
+      (
         (
+          refl,
           (
-            refl,
-            (
-              (refl, refl),
-              (((refl, tt), (((refl, tt), refl), ((refl, tt), (((refl, tt), refl), (refl, refl))))), tt),
-            ),
+            (refl, refl),
+            (((refl, tt), (((refl, tt), refl), ((refl, tt), (((refl, tt), refl), (refl, refl))))), tt),
           ),
-          (refl, refl),
         ),
-      );
-    },
-  )
+        (refl, refl),
+      ),
+    );
+  },
+)
 
 -- by what was inside it gives that, or calls itself on it last
 pub innermost_marked : (decisions : List NodeTree) → CanBeMarked (table_of ((true ∷ []) ∷ [])) 0
     (with_body (if_unique 0 0 (1 ∷ []) (1 ∷ []) (case 1 decisions (arm (give 1) (arm (tail_call 0 (1 ∷ [])) no_arm)))))
 innermost_marked decisions = (
-    λ x. true,
-    record {
-      parameters_marked = (refl, tt);
-      body_marked = ((refl, (refl, (refl, tt))), (refl, ((refl, refl), (((refl, tt), ((refl, tt), refl)), tt))));
-    },
-  )
+  λ x. true,
+  record {
+    parameters_marked = (refl, tt);
+    body_marked = ((refl, (refl, (refl, tt))), (refl, ((refl, refl), (((refl, tt), ((refl, tt), refl)), tt))));
+  },
+)
 
 -- it opens two boxes, and by what is inside gives that
 pub two_marked : (decisions : List NodeTree) → CanBeMarked (table_of ((true ∷ []) ∷ [])) 0
@@ -149,15 +188,15 @@ pub two_marked : (decisions : List NodeTree) → CanBeMarked (table_of ((true �
     (open_cell 0 0 (1 ∷ []) (1 ∷ [])
     (open_cell 1 0 (2 ∷ []) (2 ∷ []) (inside 3 (case 2 decisions (arm (give 2) (arm (give 2) (arm (give 2) no_arm)))) (give 3)))))
 two_marked decisions = (
-    λ x. true,
-    record {
-      parameters_marked = (refl, tt);
-      body_marked = (
-        (refl, (refl, (refl, tt))),
-        ((refl, (refl, (refl, tt))), ((refl, ((refl, refl), ((refl, refl), ((refl, refl), tt)))), (refl, refl))),
-      );
-    },
-  )
+  λ x. true,
+  record {
+    parameters_marked = (refl, tt);
+    body_marked = (
+      (refl, (refl, (refl, tt))),
+      ((refl, (refl, (refl, tt))), ((refl, ((refl, refl), ((refl, refl), ((refl, refl), tt)))), (refl, refl))),
+    );
+  },
+)
 
 -- ---- on trees and lists
 
@@ -172,33 +211,33 @@ pub spine_marked : (decisions : List NodeTree) → CanBeMarked (table_of ((true 
     no_arm)))
     (give 5)))
 spine_marked decisions = (
-    λ x. true,
-    record {
-      parameters_marked = (refl, tt);
-      body_marked = (
+  λ x. true,
+  record {
+    parameters_marked = (refl, tt);
+    body_marked = (
+      (
+        refl,
         (
-          refl,
+          (refl, refl),
           (
-            (refl, refl),
             (
+              (refl, (refl, (refl, (refl, tt)))),
               (
-                (refl, (refl, (refl, (refl, tt)))),
+                refl,
                 (
-                  refl,
-                  (
-                    (refl, tt),
-                    (((refl, tt), refl), ((refl, (refl, tt)), (((refl, (refl, tt)), refl), (refl, refl)))),
-                  ),
+                  (refl, tt),
+                  (((refl, tt), refl), ((refl, (refl, tt)), (((refl, (refl, tt)), refl), (refl, refl)))),
                 ),
               ),
-              tt,
             ),
+            tt,
           ),
         ),
-        (refl, refl),
-      );
-    },
-  )
+      ),
+      (refl, refl),
+    );
+  },
+)
 
 -- it adds 1 to each number of a list
 pub increase_marked : (decisions : List NodeTree) → CanBeMarked (table_of ((false ∷ true ∷ []) ∷ [] ∷ [])) 0
@@ -213,42 +252,42 @@ pub increase_marked : (decisions : List NodeTree) → CanBeMarked (table_of ((fa
     no_arm)))
     (give 7)))
 increase_marked decisions = (
-    λ x. (x == 0) || ((x == 2) || ((x == 5) || ((x == 6) || (x == 7)))),
-    record {
-      parameters_marked = (refl, tt);
-      body_marked = (
+  λ x. (x == 0) || ((x == 2) || ((x == 5) || ((x == 6) || (x == 7)))),
+  record {
+    parameters_marked = (refl, tt);
+    body_marked = (
+      (
+        refl,
         (
-          refl,
+          (refl, refl),
           (
-            (refl, refl),
             (
+              (refl, (refl, (refl, (refl, tt)))),
               (
-                (refl, (refl, (refl, (refl, tt)))),
+                tt,
                 (
-                  tt,
+                  (tt, refl),
                   (
-                    (tt, refl),
+                    (refl, (refl, tt)),
                     (
-                      (refl, (refl, tt)),
+                      ((refl, (refl, tt)), refl),
                       (
-                        ((refl, (refl, tt)), refl),
-                        (
-                          (refl, tt),
-                          (((refl, tt), refl), ((refl, (refl, tt)), (((refl, (refl, tt)), refl), (refl, refl)))),
-                        ),
+                        (refl, tt),
+                        (((refl, tt), refl), ((refl, (refl, tt)), (((refl, (refl, tt)), refl), (refl, refl)))),
                       ),
                     ),
                   ),
                 ),
               ),
-              tt,
             ),
+            tt,
           ),
         ),
-        (refl, refl),
-      );
-    },
-  )
+      ),
+      (refl, refl),
+    );
+  },
+)
 
 -- ---- where a branch is joined, and the function ends by its value
 
@@ -289,23 +328,36 @@ row_begun marks decisions =
     entered
     (ended_by_value (entered (forked (given (begun ((Owned ∷ []) ∷ []) (2 ∷ 0 ∷ []) marks 0) 0) 0 decisions (0 ∷ []) 2)) 0)
 
+-- what the row of a cell makes of that
+abbrev pub spine_row : Draft → Draft
+spine_row from =
+    record from {
+      steps = (computed (computed (looked from 0 0 2) (Call 0) (2 ∷ []) (2 ∷ [])) (Construct 0) (0 ∷ 3 ∷ []) (0 ∷ 3 ∷ [])).steps;
+      owed = 4 ∷ [];
+      next = 5;
+      lent = [];
+    }
+
+abbrev pub increase_row : Draft → Draft
+increase_row from =
+    record from {
+      steps =
+          (computed
+          (computed (computed (computed (unpacked from true 0 0 3) (Number (pos 1)) [] []) (Binary Add) (1 ∷ 3 ∷ []) (1 ∷ 3 ∷ [])) (Call 0)
+          (2 ∷ []) (2 ∷ []))
+          (Construct 0) (4 ∷ 5 ∷ []) (4 ∷ 5 ∷ [])).steps;
+      owed = 6 ∷ [];
+      next = 7;
+    }
+
 pub spine_ends : (decisions : List NodeTree) (row built d : Draft) → row ≡ row_begun (table_of ((true ∷ true ∷ []) ∷ [] ∷ [])) decisions
     → built ≡ record row { steps = built.steps; owed = 4 ∷ []; next = 5; lent = [] }
     → built.steps ≡ (computed (computed (looked row 0 0 2) (Call 0) (2 ∷ []) (2 ∷ [])) (Construct 0) (0 ∷ 3 ∷ []) (0 ∷ 3 ∷ [])).steps
     → d ≡ ended_by_value built 4 → EndsMarked d
 spine_ends decisions row built d first is steps last =
-    subst EndsMarked (sym (last ∙ ap (λ z. ended_by_value z 4) (whole ∙ ap of_row first))) (λ going. spine_marked decisions)
+    subst EndsMarked (sym (last ∙ ap (λ z. ended_by_value z 4) (whole ∙ ap (λ z. spine_row z) first))) (λ going. spine_marked decisions)
   where
-    abbrev of_row : Draft → Draft
-    of_row from =
-        record from {
-          steps = (computed (computed (looked from 0 0 2) (Call 0) (2 ∷ []) (2 ∷ [])) (Construct 0) (0 ∷ 3 ∷ []) (0 ∷ 3 ∷ [])).steps;
-          owed = 4 ∷ [];
-          next = 5;
-          lent = [];
-        }
-
-    whole : built ≡ of_row row
+    whole : built ≡ spine_row row
     whole = is ∙ ap (λ z. record row { steps = z; owed = 4 ∷ []; next = 5; lent = [] }) steps
 
 pub increase_ends : (decisions : List NodeTree) (row built d : Draft)
@@ -318,19 +370,7 @@ pub increase_ends : (decisions : List NodeTree) (row built d : Draft)
     (Construct 0) (4 ∷ 5 ∷ []) (4 ∷ 5 ∷ [])).steps
     → d ≡ ended_by_value built 6 → EndsMarked d
 increase_ends decisions row built d first is steps last =
-    subst EndsMarked (sym (last ∙ ap (λ z. ended_by_value z 6) (whole ∙ ap of_row first))) (λ going. increase_marked decisions)
+    subst EndsMarked (sym (last ∙ ap (λ z. ended_by_value z 6) (whole ∙ ap (λ z. increase_row z) first))) (λ going. increase_marked decisions)
   where
-    abbrev of_row : Draft → Draft
-    of_row from =
-        record from {
-          steps =
-              (computed
-              (computed (computed (computed (unpacked from true 0 0 3) (Number (pos 1)) [] []) (Binary Add) (1 ∷ 3 ∷ []) (1 ∷ 3 ∷ [])) (Call 0)
-              (2 ∷ []) (2 ∷ []))
-              (Construct 0) (4 ∷ 5 ∷ []) (4 ∷ 5 ∷ [])).steps;
-          owed = 6 ∷ [];
-          next = 7;
-        }
-
-    whole : built ≡ of_row row
+    whole : built ≡ increase_row row
     whole = is ∙ ap (λ z. record row { steps = z; owed = 6 ∷ []; next = 7 }) steps

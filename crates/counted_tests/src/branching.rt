@@ -110,11 +110,7 @@ fn given_without(
 }
 
 /// An arm that frees its token and gives its reference.
-pub fn freed(
-    emitter: &mut TokenEmitter<'_>,
-    mut debts: Debts,
-    arms: Arms,
-) -> Result<Arms, NoMemory>
+pub fn freed(emitter: &mut TokenEmitter<'_>, mut debts: Debts, arms: Arms) -> Result<Arms, NoMemory>
     requires writes { Writes (counted_of emitter.old) }
     requires arm { (counted_of emitter.old).failed ≡ false → IsInArm (counted_of emitter.old).splits }
     requires debts { (debts.variables.items ≡ 1 ∷ []) × (debts.spare.items ≡ 0 ∷ []) }
