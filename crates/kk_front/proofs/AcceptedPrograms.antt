@@ -8,7 +8,7 @@ use Rattle.kk_syntax.specs.Typing.{TypesAs}
 use Rattle.kk_names.specs.Names.{ResolvesAs}
 use Rattle.kk_cover.specs.Matches.{CoversAs}
 use Rattle.kk_mono.specs.Counts.{CountsAs}
-use Rattle.kk_mono.specs.Declarations.{DeclarationsAs}
+use Rattle.kk_syntax.specs.Declarations.{DeclarationsAs}
 use Rattle.kk_front.specs.Judgement.{ChecksTypes, ChecksCover, ChecksProgram, IsProgramOf}
 use Rattle.kk_front.proofs.Chains.{came_through, through_check, through_told_check}
 use Rattle.kk_front.proofs.TextJudgements.{OfLength, OfLexemes, OfGrammar, OfNames, OfCounts, FromLexemes, FromGrammar, FromNames, FromTypes, FromCover}

@@ -37,7 +37,7 @@ use Rattle.kk_names.specs.Names.{ResolvesAs, IsRefusedFor, first_fault, no_main,
 use Rattle.kk_names.proofs.Constructors.{program_declared}
 use Rattle.kk_types.specs.Checks.{EachProgramIsChecked, EachTypedProgramHasPrincipalTypes}
 use Rattle.kk_mono.specs.Counts.{CountsAs, AnswersCounts, EachProgramIsCounted}
-use Rattle.kk_mono.specs.Declarations.{DeclarationsAs}
+use Rattle.kk_syntax.specs.Declarations.{DeclarationsAs}
 use Rattle.kk_cover.specs.Matches.{Miss, CoversAs, missed_in, IsDecided, EachTypedProgramIsDecided}
 use Rattle.kk_cover.specs.ExampleSpelling.{spelled}
 use Rattle.kk_front.specs.Chain.{Then, ToldAs, Checking}

@@ -17,7 +17,7 @@ use Rattle.kk_names.specs.Names.{ResolvesAs}
 use Rattle.kk_cover.specs.Matches.{Miss, CoversAs}
 use Rattle.kk_cover.specs.ExampleSpelling.{spelled}
 use Rattle.kk_mono.specs.Counts.{CountsAs}
-use Rattle.kk_mono.specs.Declarations.{DeclarationsAs}
+use Rattle.kk_syntax.specs.Declarations.{DeclarationsAs}
 use Rattle.kk_front.specs.Chain.{Then, ToldAs, Checking}
 use Rattle.kk_front.specs.Outcome.{IsOutcome, HasOneOutcome}
 

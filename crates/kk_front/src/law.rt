@@ -7,7 +7,7 @@ ghost use Rattle.kk_syntax.specs.Surface.{WrittenTree};
 ghost use Rattle.kk_syntax.specs.Typing.{Choice, ArePrincipal, TypesAs};
 ghost use Rattle.kk_names.specs.Names.{ResolvesAs};
 ghost use Rattle.kk_mono.specs.Counts.{KeepsCounts};
-ghost use Rattle.kk_mono.specs.Declarations.{DeclarationsAs};
+ghost use Rattle.kk_syntax.specs.Declarations.{DeclarationsAs};
 ghost use Rattle.kk_front.specs.Judgement.{IsProgramOf};
 
 use kk_names::{resolved_programs_have_main, resolved_programs_have_truths_and_texts};

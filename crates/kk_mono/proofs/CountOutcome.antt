@@ -13,7 +13,7 @@ use Rattle.kk_mono.specs.Counts.{too_many_nodes, summed_nodes, AreTooMany, Keeps
 use Rattle.kk_mono.specs.Instances.{InstanceTree, IsInstance, AreInstances}
 use Rattle.kk_mono.proofs.DecidableEquality.{counted}
 use Rattle.kk_mono.proofs.Pigeonhole.{as_many}
-use Rattle.kk_mono.proofs.Quantities.{exactly_declared}
+use Rattle.kk_syntax.proofs.Quantities.{exactly_declared}
 use Rattle.kk_mono.proofs.Renamings.{also_instances, also_too_many}
 use Rattle.kk_mono.proofs.InstanceSearch.{one_list}
 

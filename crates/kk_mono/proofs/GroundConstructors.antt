@@ -9,31 +9,18 @@ use Rattle.std.proofs.lemmas.List.Sums.{sum_by-cons}
 use Rattle.std.proofs.lemmas.Option.{slice_get_within, get_or_from_slice_get}
 use Rattle.kk_syntax.specs.declared.ground.GroundConstructor.{GroundConstructor}
 use Rattle.kk_syntax.specs.declared.program.Constructor.{Constructor}
+use Rattle.kk_syntax.proofs.Quantities.{members_count}
 use Rattle.kk_syntax.specs.Programs.{ConstructorTree, constructor_tree, no_constructor}
 use Rattle.kk_syntax.specs.Types.{TypeTree, named, types_of, put, type_at}
 use Rattle.kk_mono.specs.BuiltInstances.{place_in, ArePlaces, IsMadeAs, IsMadeOf}
 use Rattle.kk_mono.specs.KeyTrees.{KeyTree}
-use Rattle.kk_mono.specs.Siblings.{members_from, members}
+use Rattle.kk_syntax.specs.Constructors.{members}
 use Rattle.kk_mono.specs.Tables.{Grows, AreNumbers}
 use Rattle.kk_mono.proofs.SearchKeys.{IsKeyWithin}
 use Rattle.kk_mono.proofs.TypeNumbers.{grows_on, longer, within_grown, type_stays, types_stay, numbers_grown}
 use Rattle.kk_mono.proofs.NewKeys.{type_read}
 
 -- ---- places
-
-pub members_count : (by first : ℕ) (cs : List Constructor)
-    → length (members_from first (map constructor_tree cs) by) ≡ count_by (λ (c : Constructor). c.of_type == by) cs
-members_count by first [] = refl
-members_count by first (c ∷ cs) =
-    by_test (c.of_type == by)
-    ∙ (ap (λ n. cond (c.of_type == by) 1 0 + n) (members_count by (first + 1) cs)
-    ∙ sym (sum_by-cons (λ (k : Constructor). cond (k.of_type == by) 1 0) c cs))
-  where
-    by_test : (b : Bool) → length (if b then first ∷ members_from (first + 1) (map constructor_tree cs) by else members_from
-        (first + 1) (map constructor_tree cs) by)
-        ≡ cond b 1 0 + length (members_from (first + 1) (map constructor_tree cs) by)
-    by_test true = omega arith
-    by_test false = omega arith
 
 -- one place more
 pub place_more : (constructors before : List Constructor) (places next : List ℕ) (n by place : ℕ) (found : Constructor)

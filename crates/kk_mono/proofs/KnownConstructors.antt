@@ -10,7 +10,8 @@ use Rattle.kk_syntax.specs.Types.{TypeTree, types_of, type_at}
 use Rattle.kk_syntax.specs.Typing.{Choice}
 use Rattle.kk_mono.specs.Instances.{InstanceTree, GroundConstructorTree, constructed_in, ground_constructors, of_same_type, FirstSights, AreGroundConstructors}
 use Rattle.kk_mono.specs.KeyTrees.{KeyTree, Sees, viewed_constructor}
-use Rattle.kk_mono.specs.Siblings.{type_of, members, keys_of, siblings}
+use Rattle.kk_syntax.specs.Constructors.{members}
+use Rattle.kk_mono.specs.Siblings.{type_of, keys_of, siblings}
 use Rattle.kk_mono.proofs.SearchKeys.{IsKeyWithin}
 use Rattle.kk_mono.proofs.Members.{key_of_type, makers_are}
 use Rattle.kk_mono.proofs.NewKeys.{in_siblings, sees_from}

@@ -11,7 +11,8 @@ use Rattle.kk_syntax.specs.Programs.{ConstructorTree, constructor_tree, no_const
 use Rattle.kk_syntax.specs.Types.{TypeTree, TypeTrees}
 use Rattle.kk_mono.specs.Instances.{makers_from}
 use Rattle.kk_mono.specs.KeyTrees.{KeyTree}
-use Rattle.kk_mono.specs.Siblings.{type_of, members_from, members, keys_of, siblings}
+use Rattle.kk_syntax.specs.Constructors.{members_from, members}
+use Rattle.kk_mono.specs.Siblings.{type_of, keys_of, siblings}
 
 -- ---- in a list
 

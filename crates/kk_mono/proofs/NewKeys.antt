@@ -8,7 +8,8 @@ use Rattle.kk_syntax.specs.declared.program.Constructor.{Constructor}
 use Rattle.kk_syntax.specs.Programs.{ConstructorTree, constructor_tree, no_constructor}
 use Rattle.kk_mono.specs.Instances.{FirstSights, none_left, again, new_one}
 use Rattle.kk_mono.specs.KeyTrees.{KeyTree, Sees}
-use Rattle.kk_mono.specs.Siblings.{type_of, members_from, members, keys_of, siblings, HaveSiblings}
+use Rattle.kk_syntax.specs.Constructors.{members_from, members}
+use Rattle.kk_mono.specs.Siblings.{type_of, keys_of, siblings, HaveSiblings}
 use Rattle.kk_mono.proofs.Pigeonhole.{sights_apart}
 use Rattle.kk_mono.proofs.Members.{members_append, key_of_type, key_among}
 use Rattle.kk_mono.proofs.FirstSights.{sights_append, sights_all, sights_each}

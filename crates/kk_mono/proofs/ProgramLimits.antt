@@ -21,18 +21,19 @@ use Rattle.kk_mono.specs.declared.search.Found.{Found}
 use Rattle.kk_mono.specs.declared.search.Looked.{Looked}
 use Rattle.kk_mono.specs.BuiltInstances.{IsBuiltOf, AreBuilt, IsMadeOf}
 use Rattle.kk_mono.specs.Counts.{too_many_nodes}
-use Rattle.kk_mono.specs.Declarations.{DeclarationsAs}
+use Rattle.kk_syntax.specs.Declarations.{DeclarationsAs}
 use Rattle.kk_mono.specs.Instances.{main_instance}
 use Rattle.kk_mono.specs.KeyTrees.{KeyTree, keys_in}
 use Rattle.kk_mono.specs.Labels.{Names, names_of_pattern, behind, only_constructor, labelled_pattern, labelled_patterns, labels_names, labelled}
 use Rattle.kk_mono.specs.InstanceSearch.{function_in, known_in, HasSearched}
-use Rattle.kk_mono.specs.Siblings.{type_of, members_from}
+use Rattle.kk_syntax.specs.Constructors.{members_from}
+use Rattle.kk_mono.specs.Siblings.{type_of}
 use Rattle.kk_mono.specs.Tables.{AreNumbers}
 use Rattle.kk_mono.specs.PassedLimits.{told, PassesNone}
 use Rattle.kk_mono.specs.Views.{types_in}
 use Rattle.kk_mono.proofs.SearchAnswer.{each_few}
 use Rattle.kk_syntax.proofs.Walks.{nodes_replaced}
-use Rattle.kk_mono.proofs.Quantities.{KeepsLimits, each_constructor_keeps, few_parameters}
+use Rattle.kk_syntax.proofs.Quantities.{KeepsLimits, each_constructor_keeps, few_parameters}
 use Rattle.kk_mono.proofs.CountAnswers.{none_large}
 
 -- ---- a labelled body has as many nodes

@@ -20,7 +20,8 @@ use Rattle.kk_mono.specs.Grounds.{ground_view, HasTypes}
 use Rattle.kk_mono.specs.Instances.{main_instance, makers, ground_constructor, AreGroundConstructors}
 use Rattle.kk_mono.specs.KeyTrees.{KeyTree, keys_in, viewed_constructor}
 use Rattle.kk_mono.specs.InstanceSearch.{Searched, IsLooked, AreLooked, known_in, used_in, HasSearched}
-use Rattle.kk_mono.specs.Siblings.{type_of, members}
+use Rattle.kk_syntax.specs.Constructors.{members}
+use Rattle.kk_mono.specs.Siblings.{type_of}
 use Rattle.kk_mono.specs.Tables.{Grows}
 use Rattle.kk_mono.specs.Views.{types_in}
 use Rattle.kk_mono.proofs.SearchKeys.{IsKeyWithin}

@@ -14,7 +14,8 @@ use Rattle.kk_mono.specs.declared.types.Types.{Types}
 use Rattle.kk_mono.specs.KeyTrees.{KeyTree, keys_in}
 use Rattle.kk_mono.specs.Labels.{labelled}
 use Rattle.kk_mono.specs.InstanceSearch.{function_in}
-use Rattle.kk_mono.specs.Siblings.{type_of, members}
+use Rattle.kk_syntax.specs.Constructors.{members}
+use Rattle.kk_mono.specs.Siblings.{type_of}
 use Rattle.kk_mono.specs.Tables.{Grows, AreNumbers}
 use Rattle.kk_mono.specs.Views.{types_in}
 

@@ -7,7 +7,7 @@ use Rattle.kk_base.specs.declared.limit.LimitKind.TheVariants.{FunctionNodes, In
 use Rattle.kk_syntax.specs.Programs.{FunctionTree, ProgramTree, body_of}
 use Rattle.kk_syntax.specs.Shapes.{nodes_of}
 use Rattle.kk_syntax.specs.Typing.{Choice, ArePrincipal}
-use Rattle.kk_mono.specs.Declarations.{DeclarationsAs}
+use Rattle.kk_syntax.specs.Declarations.{DeclarationsAs}
 use Rattle.kk_mono.specs.Instances.{InstanceTree, IsInstance, AreInstances}
 
 -- the nodes of the first function that has more than the limit

@@ -14,7 +14,7 @@ use Rattle.kk_mono.specs.declared.search.Found.{Found}
 use Rattle.kk_mono.specs.declared.search.Looked.{Looked}
 use Rattle.kk_mono.specs.BuiltInstances.{IsBuilt}
 use Rattle.kk_mono.specs.Counts.{too_many_nodes, in_u64}
-use Rattle.kk_mono.specs.Declarations.{DeclarationsAs}
+use Rattle.kk_syntax.specs.Declarations.{DeclarationsAs}
 use Rattle.kk_mono.specs.KeyTrees.{KeyTree, keys_in}
 use Rattle.kk_mono.specs.InstanceSearch.{HasSearched}
 

@@ -1,19 +1,12 @@
 -- The constructors of a type, by the numbers of its types.
-use Rattle.std.specs.Prelude.{ℕ, ◌+◌, ◌==◌, List, [], ◌∷◌, map, Contains, if◌then◌else◌, slice_index_or}
+use Rattle.std.specs.Prelude.{ℕ, List, map, Contains, slice_index_or}
+use Rattle.kk_syntax.specs.Constructors.{members}
 use Rattle.kk_syntax.specs.Programs.{ConstructorTree, no_constructor}
 use Rattle.kk_mono.specs.KeyTrees.{KeyTree}
 
 -- the number of a constructor's type
 abbrev pub type_of : List ConstructorTree → ℕ → ℕ
 type_of constructors c = (slice_index_or constructors c no_constructor).of_type
-
--- the numbers of the constructors of a declared type, where the first one has this number
-abbrev pub members_from : ℕ → List ConstructorTree → ℕ → List ℕ
-members_from first [] by = []
-members_from first (c ∷ cs) by = if c.of_type == by then first ∷ members_from (first + 1) cs by else members_from (first + 1) cs by
-
-abbrev pub members : List ConstructorTree → ℕ → List ℕ
-members = members_from 0
 
 -- the ground constructors of a declared type at types
 abbrev pub keys_of : List ConstructorTree → ℕ → List ℕ → List KeyTree

@@ -1,4 +1,4 @@
-ghost use Rattle.std.specs.Prelude.{◌≡◌, ◌==◌, ◌<◌, ◌≤◌, count_by, length, map, All, IfOk};
+ghost use Rattle.std.specs.Prelude.{◌≡◌, ◌<◌, ◌≤◌, length, map, All, IfOk};
 ghost use Rattle.std.specs.List.{AllZip};
 ghost use Rattle.kk_base.specs.Limits.{greatest_of};
 ghost use Rattle.kk_syntax.specs.Programs.{function_tree, constructor_tree, program_tree};
@@ -16,7 +16,7 @@ use crate::types::Types;
 use kk_base::{LimitKind, NoMemory};
 use kk_syntax::{
     Constructor, Fun, Ground, GroundConstructor, GroundType, Instance, Program,
-    copied_declarations, copied_texts,
+    copied_declarations, copied_texts, count_of_type,
 };
 use std::alloc::Global;
 
@@ -126,13 +126,6 @@ fn ground_constructor(
         tag,
         fields,
     })
-}
-
-/// How many constructors are of a type.
-pub fn count_of_type(constructors: &[Constructor], of_type: u32) -> usize
-    ensures { result ≡ count_by (λ c. c.of_type == of_type) constructors.now }
-{
-    constructors.iter().filter(|c| c.of_type == of_type).count()
 }
 
 // For each constructor its place among those of its type.

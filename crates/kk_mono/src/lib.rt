@@ -1,9 +1,8 @@
-//! The instances of a typed program and their ground constructors, and its limits: on declarations, on nodes, and on instances.
+//! The instances of a typed program and their ground constructors, and its limits on nodes and on instances.
 #![tactic(auto)]
 
 mod body;
 mod build;
-mod declarations;
 mod error;
 mod keys;
 mod numbers;
@@ -11,6 +10,5 @@ mod program;
 mod search;
 mod types;
 
-pub use declarations::check_declarations;
 pub use error::MonoError;
 pub use program::{each_program_is_counted, instances};

@@ -2,7 +2,7 @@ ghost use Rattle.std.specs.Prelude.{Ok, ◌≡◌, ◌-◌, ◌^◌, ◌<◌, mi
 ghost use Rattle.kk_syntax.specs.Programs.{program_tree, function_tree};
 ghost use Rattle.kk_syntax.specs.TypedPrograms.{typings_of};
 ghost use Rattle.kk_syntax.specs.Typing.{ArePrincipal};
-ghost use Rattle.kk_mono.specs.Declarations.{DeclarationsAs};
+ghost use Rattle.kk_syntax.specs.Declarations.{DeclarationsAs};
 ghost use Rattle.kk_mono.specs.Grounds.{AnswersInstances};
 ghost use Rattle.kk_mono.specs.InstanceSearch.{IsComplete};
 ghost use Rattle.kk_mono.specs.PassedLimits.{IsFound, told, summed_keys, AreFew, PassedBy};

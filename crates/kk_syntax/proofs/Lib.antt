@@ -12,6 +12,7 @@ pub mod PatternTypes
 pub mod PatternViews
 pub mod PositionTables
 pub mod ProgramTrees
+pub mod Quantities
 pub mod TypeSubstitution
 pub mod TypeEquality
 pub mod TailCalls

@@ -1,5 +1,7 @@
 pub mod Checked
+pub mod Constructors
 pub mod Covered
+pub mod Declarations
 pub mod Depths
 pub mod GroundLimits
 pub mod GroundPrograms

@@ -1,8 +1,10 @@
-//! The forms of a source text: tokens, the tree that they spell, and the program that it means.
+//! The forms of a source text: tokens, the tree that they spell, and the program that it means; and the limits on
+//! the declarations of a program.
 #![tactic(auto)]
 
 mod accepted;
 mod copy;
+mod declarations;
 mod ground;
 mod literal;
 mod operator;
@@ -18,6 +20,7 @@ pub use copy::{
     copied_constructors, copied_declarations, copied_pattern, copied_texts, copied_type,
     copied_types,
 };
+pub use declarations::{Quantity, check_declarations, count_of_type};
 pub use ground::{Ground, GroundConstructor, GroundType, Instance};
 pub use literal::StringLiteral;
 pub use operator::{BinaryOperator, PrintForm, UnaryOperator};

@@ -7,7 +7,7 @@ use Rattle.kk_syntax.specs.Shapes.{nodes_of}
 use Rattle.kk_syntax.specs.TypedPrograms.{typings_of}
 use Rattle.kk_syntax.specs.Typing.{TypesAs}
 use Rattle.kk_mono.specs.Counts.{CountsAs, AnswersCounts}
-use Rattle.kk_mono.specs.Declarations.{DeclarationsAs}
+use Rattle.kk_syntax.specs.Declarations.{DeclarationsAs}
 use Rattle.kk_base.specs.declared.refusal.Refusal.{Refusal}
 use Rattle.kk_front.specs.Judgement.{ChecksTypes, ChecksCover, ChecksProgram}
 use Rattle.kk_front.specs.Outcome.{IsOutcome}

@@ -3,9 +3,9 @@ use Rattle.std.specs.Prelude.{◌==◌, count_by, slice_get}
 use Rattle.kk_base.specs.declared.limit.LimitKind.TheVariants.{Constructors}
 use Rattle.kk_syntax.specs.declared.program.Constructor.{Constructor}
 use Rattle.kk_syntax.specs.Programs.{program_tree}
-use Rattle.kk_mono.specs.Declarations.{place_of_type, if_over, sooner}
-use Rattle.kk_mono.proofs.Quantities.{quantities_are, constructor_more}
-use Rattle.kk_mono.proofs.declarations.first_of_constructors.Goals as goal
+use Rattle.kk_syntax.specs.Declarations.{place_of_type, if_over, sooner}
+use Rattle.kk_syntax.proofs.Quantities.{quantities_are, constructor_more}
+use Rattle.kk_syntax.proofs.declarations.first_of_constructors.Goals as goal
 
 pub loop-constructor-preserved : goal.loop-constructor-preserved
 loop-constructor-preserved c =

@@ -5,8 +5,8 @@ use Rattle.kk_base.specs.declared.limit.Limit.{Limit}
 use Rattle.kk_base.specs.declared.limit.LimitKind.TheVariants.{Parameters, Fields, Constructors}
 use Rattle.kk_syntax.specs.declared.program.TypeDecl.{TypeDecl}
 use Rattle.kk_syntax.specs.Programs.{ConstructorTree, FunctionTree, ProgramTree}
-use Rattle.kk_mono.specs.declared.declarations.Quantity.{Quantity}
-use Rattle.kk_mono.specs.Siblings.{members}
+use Rattle.kk_syntax.specs.declared.declarations.Quantity.{Quantity}
+use Rattle.kk_syntax.specs.Constructors.{members}
 
 -- the byte at which a type is named; 0 if there is no such type
 abbrev pub place_of_type : Option TypeDecl → ℕ

@@ -1,8 +1,9 @@
 -- A program comes to exactly one thing by its declarations; and where it passes no limit, each of them keeps its own.
-use Rattle.std.proofs.Common.{◌≡◌, ℕ, zero, suc, ◌+◌, ◌<◌, ◌≤◌, Bool, true, false, nat_lt, List, [], ◌∷◌, ◌++◌, length, map, get_or, drop, Option, Some, None, refl, ap, sym, ◌∙◌, arith}
+use Rattle.std.proofs.Common.{◌≡◌, ℕ, zero, suc, ◌+◌, ◌<◌, ◌≤◌, Bool, true, false, cond, nat_lt, List, [], ◌∷◌, ◌++◌, length, map, get_or, drop, Option, Some, None, refl, ap, sym, ◌∙◌, arith}
 use Rattle.std.specs.Prelude.{All, ◌==◌, count_by, flat_map, slice_get, if◌then◌else◌, Result, Ok, Err}
 use Rattle.std.proofs.lemmas.Bool.{ltb-true, ltb-false}
 use Rattle.std.proofs.lemmas.List.{drop_more, length-map}
+use Rattle.std.proofs.lemmas.List.Sums.{sum_by-cons}
 use Rattle.kk_base.specs.Exactly.{IsOnly, ExactlyOne}
 use Rattle.kk_base.specs.Limits.{greatest_of}
 use Rattle.kk_base.specs.declared.limit.Limit.{Limit}
@@ -12,10 +13,9 @@ use Rattle.kk_syntax.specs.declared.program.Fun.{Fun}
 use Rattle.kk_syntax.specs.declared.program.Program.{Program}
 use Rattle.kk_syntax.specs.Programs.{ConstructorTree, FunctionTree, ProgramTree, constructor_tree, function_tree, program_tree}
 use Rattle.kk_syntax.specs.Types.{type_tree}
-use Rattle.kk_mono.specs.declared.declarations.Quantity.{Quantity}
-use Rattle.kk_mono.specs.Declarations.{place_of_type, quantities_of_constructor, quantity_of_function, declared_quantities, is_over, if_over, sooner, first_over, DeclarationsAs}
-use Rattle.kk_mono.specs.Siblings.{members}
-use Rattle.kk_mono.proofs.GroundConstructors.{members_count}
+use Rattle.kk_syntax.specs.declared.declarations.Quantity.{Quantity}
+use Rattle.kk_syntax.specs.Declarations.{place_of_type, quantities_of_constructor, quantity_of_function, declared_quantities, is_over, if_over, sooner, first_over, DeclarationsAs}
+use Rattle.kk_syntax.specs.Constructors.{members_from, members}
 
 -- ---- the first one in the text
 
@@ -77,6 +77,21 @@ first_append [] ys = refl
 first_append (x ∷ xs) ys = ap (sooner (if_over x)) (first_append xs ys) ∙ sym (sooner_assoc (if_over x) (first_over xs) (first_over ys))
 
 -- ---- one constructor more
+
+-- the constructors of a type are as many as are counted
+pub members_count : (by first : ℕ) (cs : List Constructor)
+    → length (members_from first (map constructor_tree cs) by) ≡ count_by (λ (c : Constructor). c.of_type == by) cs
+members_count by first [] = refl
+members_count by first (c ∷ cs) =
+    by_test (c.of_type == by)
+    ∙ (ap (λ n. cond (c.of_type == by) 1 0 + n) (members_count by (first + 1) cs)
+    ∙ sym (sum_by-cons (λ (k : Constructor). cond (k.of_type == by) 1 0) c cs))
+  where
+    by_test : (b : Bool) → length (if b then first ∷ members_from (first + 1) (map constructor_tree cs) by else members_from
+        (first + 1) (map constructor_tree cs) by)
+        ≡ cond b 1 0 + length (members_from (first + 1) (map constructor_tree cs) by)
+    by_test true = omega arith
+    by_test false = omega arith
 
 -- what is counted of a constructor
 pub quantities_are : (program : Program) (c : Constructor) (at count fields : ℕ) → at ≡ place_of_type (slice_get program.types.items c.of_type)

@@ -1,12 +1,11 @@
-ghost use Rattle.std.specs.Prelude.{◌≡◌, map, flat_map, slice_get};
+ghost use Rattle.std.specs.Prelude.{◌≡◌, ◌==◌, count_by, map, flat_map, slice_get};
 ghost use Rattle.kk_base.specs.Exactly.{IsOnly};
 ghost use Rattle.kk_syntax.specs.Programs.{function_tree, program_tree};
-ghost use Rattle.kk_mono.specs.Declarations.{DeclarationsAs, first_over, place_of_type, quantities_of_constructor};
-ghost use Rattle.kk_mono.specs.Declarations.{quantity_of_function, if_over, sooner};
+ghost use Rattle.kk_syntax.specs.Declarations.{DeclarationsAs, first_over, place_of_type, quantities_of_constructor};
+ghost use Rattle.kk_syntax.specs.Declarations.{quantity_of_function, if_over, sooner};
 
-use crate::build::count_of_type;
+use crate::program::{Constructor, Fun, Program, TypeDecl};
 use kk_base::{Limit, LimitKind};
-use kk_syntax::{Fun, Program, TypeDecl};
 
 /// Checks that no declaration passes a limit: no function has too many parameters, no constructor too many fields, and no type
 /// too many constructors. The first that does is told, in the order of the text; of a type its constructors come before their
@@ -68,6 +67,13 @@ fn place_of_type(types: &[TypeDecl], number: u32) -> u32
         Some(declaration) => declaration.at,
         None => 0,
     }
+}
+
+/// How many constructors are of a type.
+pub fn count_of_type(constructors: &[Constructor], of_type: u32) -> usize
+    ensures { result ≡ count_by (λ c. c.of_type == of_type) constructors.now }
+{
+    constructors.iter().filter(|c| c.of_type == of_type).count()
 }
 
 /// A quantity of a declaration that has a limit, and the byte at which the text names what has it.
