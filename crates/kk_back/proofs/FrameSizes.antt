@@ -8,7 +8,7 @@ use Rattle.rv_isa.specs.AsmCode.{Lines}
 use Rattle.rv_isa.specs.PlacedCode.{PlacedLine, does, moves, PlacedLines, from_of, to_of}
 use Rattle.rv_regs.specs.Conditions.{ArePlacings}
 use Rattle.rv_regs.specs.Shape.{IsBelow, HasSlotsBelow, AllSlotsBelow, HaveSlotsBelow}
-use Rattle.rv_place.specs.Addresses.{slots_of_place, slots_of_operands, slots_of_line, slots_of_lines, slots_of_functions, frame_size}
+use Rattle.rv_isa.specs.FrameSizes.{slots_of_place, slots_of_operands, slots_of_line, slots_of_lines, slots_of_functions, frame_size}
 
 module _ (most : ℕ) where
   place_most : (place : Place) → IsBelow most place → slots_of_place place ≤ most

@@ -55,7 +55,7 @@ use Rattle.rv_loops.proofs.Places.{callee_both as rotated_callee}
 use Rattle.rv_loops.proofs.SharedStates.{follows as rotated_follows}
 use Rattle.rv_loops.proofs.Simulation.{simulates as rotated_simulates}
 use Rattle.rv_loops.proofs.StartStates.{starts as rotated_starts, agrees as rotated_agrees, never_stuck as rotated_never}
-use Rattle.rv_place.specs.Addresses.{frame_size}
+use Rattle.rv_isa.specs.FrameSizes.{frame_size}
 use Rattle.rv_place.specs.Bytes.{IsTextOf}
 use Rattle.rv_place.specs.Images.{IsPlacedImage, EndsWithCells, first_processor, outside_lines}
 use Rattle.rv_place.specs.LineAddresses.{line_address}
@@ -77,6 +77,11 @@ pub record IsLooped (placed looped : Placed) : Type 0 where
   pub rotated : AreRotated 0 (placed_functions placed) (placed_functions looped)
   pub short : placed_functions_length (placed_functions looped) ≤ placed_functions_length (placed_functions placed)
   pub constants : looped.constants ≡ placed.constants
+
+pub looped_by : {placed looped : Placed} → AreRotated 0 (placed_functions placed) (placed_functions looped)
+    → placed_functions_length (placed_functions looped) ≤ placed_functions_length (placed_functions placed)
+    → looped.constants ≡ placed.constants → IsLooped placed looped
+looped_by rotated short constants = record { rotated = rotated; short = short; constants = constants }
 
 -- the constants are those of the assembler code
 constants_kept : (asm : Asm) (placed looped : Placed) → IsValid asm placed → IsLooped placed looped

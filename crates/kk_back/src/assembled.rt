@@ -8,11 +8,11 @@ ghost use Rattle.kk_back.specs.Assembled.{IsPlaceable, IsImageOfAsm};
 use cell_runtime::text;
 use elf_image::Image;
 use kk_base::{Bytes, NoMemory};
-use rv_isa::Asm;
+use rv_isa::{Asm, frame_bytes};
 use rv_loops::rotated;
 use rv_place::{
-    frame_bytes, place, placed_text_agrees, placed_text_comes_to_its_lines,
-    placed_text_ends_with_its_cells, placed_text_touches_no_free_cell,
+    place, placed_text_agrees, placed_text_comes_to_its_lines, placed_text_ends_with_its_cells,
+    placed_text_touches_no_free_cell,
 };
 use rv_regs::assign;
 use std::alloc::Global;

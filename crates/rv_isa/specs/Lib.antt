@@ -24,6 +24,7 @@ pub mod PlacedCode
 pub mod Conventions
 pub mod Primitives
 pub mod Frames
+pub mod FrameSizes
 pub mod Costs
 pub mod AsmMachine
 pub mod PlacedMachine

@@ -10,6 +10,7 @@ mod conventions;
 mod decoding;
 mod encoding;
 pub mod environment;
+mod frame;
 mod immediate;
 mod instr;
 mod meaning;
@@ -26,6 +27,7 @@ pub use asm::{
 };
 pub use decoding::decode;
 pub use encoding::encode;
+pub use frame::frame_bytes;
 pub use immediate::{BranchOffset, Immediate, JumpOffset, ShiftAmount, UpperImmediate};
 pub use instr::{Instr, Operands};
 pub use meaning::effect;

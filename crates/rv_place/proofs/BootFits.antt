@@ -7,7 +7,7 @@ use Rattle.rv_isa.specs.declared.placed.Placed.{Placed}
 use Rattle.rv_isa.specs.PlacedCode.{placed_functions}
 use Rattle.cell_runtime.specs.Texts.{IsText}
 use Rattle.rv_place.specs.declared.words.Words.{Words}
-use Rattle.rv_place.specs.Addresses.{frame_size}
+use Rattle.rv_isa.specs.FrameSizes.{frame_size}
 use Rattle.rv_place.specs.Bytes.{IsTextOf}
 use Rattle.rv_place.specs.Texts.{ArePlaceable, text_bytes, memory_of, ArePlacedWords}
 use Rattle.rv_place.proofs.BootSizes.{text_size}

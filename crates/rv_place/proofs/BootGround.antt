@@ -27,7 +27,8 @@ use Rattle.cell_runtime.specs.Takes.{IsTake}
 use Rattle.cell_runtime.specs.Drops.{IsDrop}
 use Rattle.rv_place.specs.Images.{code_in}
 use Rattle.rv_place.specs.declared.words.Words.{Words}
-use Rattle.rv_place.specs.Addresses.{jump_words, words_of_functions, IsBehind, frame_size}
+use Rattle.rv_isa.specs.FrameSizes.{frame_size}
+use Rattle.rv_place.specs.Addresses.{jump_words, words_of_functions, IsBehind}
 use Rattle.rv_place.specs.declared.reach.Reach.TheVariants.{Near}
 use Rattle.rv_place.specs.Texts.{ArePlaceable, most_text_words, most_constant_bytes, text_bytes, memory_of, pool_in, map_of, ArePlacedWords}
 use Rattle.rv_place.specs.Grounds.{HasRoutine, Ground}

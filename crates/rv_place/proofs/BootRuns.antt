@@ -28,7 +28,8 @@ use Rattle.cell_heap.specs.ProgramMemory.{HoldsCells}
 use Rattle.cell_runtime.proofs.Blocks.{start_holds}
 use Rattle.rv_world.specs.World.{World, first_world, primitives}
 use Rattle.rv_place.specs.declared.words.Words.{Words}
-use Rattle.rv_place.specs.Addresses.{jump_words, takes_frame, words_of_functions, frame_size, frame_bias, entries_from}
+use Rattle.rv_isa.specs.FrameSizes.{frame_size}
+use Rattle.rv_place.specs.Addresses.{jump_words, takes_frame, words_of_functions, frame_bias, entries_from}
 use Rattle.rv_place.specs.declared.reach.Reach.{Reach}
 use Rattle.rv_place.specs.declared.reach.Reach.TheVariants.{Near}
 use Rattle.rv_place.proofs.PointerShifts.{bias_below}

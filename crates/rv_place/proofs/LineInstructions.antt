@@ -25,7 +25,8 @@ use Rattle.rv_isa.specs.Standing.{Code}
 use Rattle.rv_isa.proofs.RangeEquality.{same_register}
 use Rattle.rv_place.specs.Registers.{s3}
 use Rattle.rv_place.specs.Instructions.{words_of_jump, JumpsTo, CallsTo, BranchesOn, HoldsToken, UnholdsToken, words_of_operation}
-use Rattle.rv_place.specs.Addresses.{branch_words, slot_offset, words_of_shift, slots_of_place, slots_of_operands, words_of_action, words_of_line, words_of_lines, forms_of, takes_frame, words_to_frame, entry_words, skipped_words, entries_from, words_of_function, words_of_functions}
+use Rattle.rv_isa.specs.FrameSizes.{slots_of_place, slots_of_operands}
+use Rattle.rv_place.specs.Addresses.{branch_words, slot_offset, words_of_shift, words_of_action, words_of_line, words_of_lines, forms_of, takes_frame, words_to_frame, entry_words, skipped_words, entries_from, words_of_function, words_of_functions}
 use Rattle.rv_place.specs.Lines.{Map, IsFromPointer, IsOffsetOf, OnToken, IsSymbolAt, frame_register, BeginsAt, LinesAt, FunctionsAt, BranchesTo}
 use Rattle.rv_place.specs.declared.reach.Forms.{Forms}
 use Rattle.rv_place.specs.declared.reach.Reach.{Reach}

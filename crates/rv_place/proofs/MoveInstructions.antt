@@ -8,7 +8,8 @@ use Rattle.rv_isa.specs.declared.placed.Way.{Way}
 use Rattle.rv_isa.specs.declared.placed.Way.TheVariants.{Copy, Load, Store}
 use Rattle.rv_isa.specs.PlacedCode.{from_of, to_of}
 use Rattle.cell_runtime.proofs.ItemEquality.{same_lw, same_sw}
-use Rattle.rv_place.specs.Addresses.{slot_offset, slots_of_place}
+use Rattle.rv_isa.specs.FrameSizes.{slots_of_place}
+use Rattle.rv_place.specs.Addresses.{slot_offset}
 use Rattle.rv_place.specs.declared.chart.Chart.{Chart}
 use Rattle.rv_place.specs.declared.reach.Reach.{Reach}
 use Rattle.rv_place.specs.Lines.{IsFromPointer}

@@ -19,7 +19,8 @@ use Rattle.rv_isa.specs.Standing.{Has, code_of}
 use Rattle.rv_isa.proofs.Standing.{Has-back, code_of-Has, code_of-get}
 use Rattle.rv_world.specs.Operations.{address_in}
 use Rattle.rv_place.specs.Instructions.{LoadsWord}
-use Rattle.rv_place.specs.Addresses.{words_of_function, words_of_functions, entry_words, jump_words, frame_size, reach_of, entries_from}
+use Rattle.rv_isa.specs.FrameSizes.{frame_size}
+use Rattle.rv_place.specs.Addresses.{words_of_function, words_of_functions, entry_words, jump_words, reach_of, entries_from}
 use Rattle.rv_place.specs.declared.reach.Reach.{Reach}
 use Rattle.rv_place.specs.declared.reach.Reach.TheVariants.{Near}
 use Rattle.rv_place.specs.Texts.{jumps_of, text_words}

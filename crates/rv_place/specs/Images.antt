@@ -17,7 +17,7 @@ use Rattle.cell_heap.specs.FreeCells.{ListsFree}
 use Rattle.cell_runtime.specs.Texts.{IsText}
 use Rattle.rv_world.specs.World.{World}
 use Rattle.rv_place.specs.declared.words.Words.{Words}
-use Rattle.rv_place.specs.Addresses.{frame_size}
+use Rattle.rv_isa.specs.FrameSizes.{frame_size}
 use Rattle.rv_place.specs.Texts.{ArePlaceable, ArePlacedWords}
 use Rattle.rv_place.specs.Bytes.{IsTextOf}
 use Rattle.rv_place.specs.ProcessorStates.{AllPlain, HasCells}

@@ -2,7 +2,8 @@
 
 ghost use Rattle.std.specs.Prelude.{◌≡◌, ℕ, ◌+◌, ◌*◌, ◌≤◌, Some, OnOk};
 ghost use Rattle.rv_isa.specs.PlacedMachine.{only_slot};
-ghost use Rattle.rv_place.specs.Addresses.{greatest_frame, slot_offset, slots_of_operands};
+ghost use Rattle.rv_isa.specs.FrameSizes.{slots_of_operands};
+ghost use Rattle.rv_place.specs.Addresses.{greatest_frame, slot_offset};
 ghost use Rattle.rv_place.specs.Instructions.{RaisesCount, FreesToken, LinksToken, HoldsToken, UnholdsToken};
 ghost use Rattle.rv_place.specs.Lines.{IsFromPointer};
 ghost use Rattle.rv_place.specs.Emitted.{Grew, TokenBy};

@@ -20,6 +20,5 @@ pub use boot::{
     placed_text_agrees, placed_text_ends_with_its_cells, placed_text_touches_no_free_cell,
 };
 pub use law::placed_code_keeps_meaning;
-pub use sizes::frame_bytes;
 pub use text::place;
 pub use words::Words;

@@ -17,14 +17,14 @@ use crate::emit::{emit, emit_load};
 use crate::lines::emit_functions;
 use crate::reach::Reach;
 use crate::sizes::{
-    JUMP_WORDS, bytes_of_constants, frame_bytes, takes_frame, words_of_function,
-    words_of_functions, words_of_natives,
+    JUMP_WORDS, bytes_of_constants, takes_frame, words_of_function, words_of_functions,
+    words_of_natives,
 };
 use crate::words::Words;
 use elf_image::{PAGE_SIZE, TEXT_START};
 use kk_base::{NoMemory, Text};
 use rv_isa::sizes::NARROW_FRAME;
-use rv_isa::{Instr, Native, Placed, PlacedFunction};
+use rv_isa::{Instr, Native, Placed, PlacedFunction, frame_bytes};
 use std::alloc::Global;
 
 /// How far the jumps of the text lead: anywhere, where frames are wide; else where it is short with near jumps, they are near.

@@ -7,9 +7,9 @@ use Rattle.rv_isa.proofs.ValueBounds.{all_values_below}
 use Rattle.elf_image.specs.Parts.{greatest_end}
 use Rattle.elf_image.specs.Program.{greatest_text, memory_start, program_parts}
 use Rattle.cell_runtime.specs.Texts.{IsText}
-use Rattle.rv_place.specs.Addresses.{frame_size}
+use Rattle.rv_isa.specs.FrameSizes.{frame_size}
 use Rattle.kk_back.specs.Assembled.{IsAsmImage}
-use Rattle.kk_back.proofs.ImageLayers.{makes_of, placeable, few_slots, frames_small, fits, image_made, same_some}
+use Rattle.kk_back.proofs.ImageLayers.{looped_by, makes_of, placeable, few_slots, frames_small, fits, image_made, same_some}
 use Rattle.kk_back.proofs.FrameSizes.{slots_most}
 use Rattle.kk_back.proofs.assembled.assembled.Goals as goal
 
@@ -32,11 +32,7 @@ text-requires-clause-frame c =
     let small : frame_size (placed_functions c.in_ok-program.program) ≤ wide_frame
     = frames_small c.args.asm.now c.in_ok-placed.placed c.in_ok-program.program c.requires.placeable.formed
     c.in_ok-placed.ensures.shape
-    (record {
-      rotated = c.in_ok-program.ensures.functions;
-      short = c.in_ok-program.ensures.short;
-      constants = c.in_ok-program.ensures.constants;
-    }) in
+    (looped_by c.in_ok-program.ensures.functions c.in_ok-program.ensures.short c.in_ok-program.ensures.constants) in
     let is : c.frame_bytes.result ≡ frame_size (placed_functions c.in_ok-program.program) = c.frame_bytes.ensures in
     omega (arith, small, is)
 
@@ -45,11 +41,7 @@ place-requires c = record {
   placeable =
       placeable c.args.cells c.args.depth c.args.asm.now c.in_ok-placed.placed c.in_ok-program.program c.in_ok-runtime.runtime
       c.requires.placeable c.in_ok-placed.ensures.valid c.in_ok-placed.ensures.shape
-      (record {
-        rotated = c.in_ok-program.ensures.functions;
-        short = c.in_ok-program.ensures.short;
-        constants = c.in_ok-program.ensures.constants;
-      })
+      (looped_by c.in_ok-program.ensures.functions c.in_ok-program.ensures.short c.in_ok-program.ensures.constants)
       (subst (λ (frame : ℕ). IsText c.args.cells c.args.depth frame c.in_ok-runtime.runtime) c.frame_bytes.ensures c.in_ok-runtime.ensures) c.requires.sizes;
 }
 
@@ -58,22 +50,16 @@ program-requires-clause-text_fits c =
     subst (λ (text : List ℕ). length text ≤ greatest_text) (sym c.from_vec.ensures)
     (fits (makes_of {frame = c.frame_bytes.result} c.requires.sizes c.requires.placeable c.in_ok-placed.ensures.valid
     c.in_ok-placed.ensures.shape
-    (record {
-      rotated = c.in_ok-program.ensures.functions;
-      short = c.in_ok-program.ensures.short;
-      constants = c.in_ok-program.ensures.constants;
-    }) c.frame_bytes.ensures c.in_ok-runtime.ensures c.in_ok-words.ensures c.in_ok-bytes.ensures)).text_fits
+    (looped_by c.in_ok-program.ensures.functions c.in_ok-program.ensures.short c.in_ok-program.ensures.constants)
+    c.frame_bytes.ensures c.in_ok-runtime.ensures c.in_ok-words.ensures c.in_ok-bytes.ensures)).text_fits
 
 pub program-requires-clause-memory_fits : goal.program-requires-clause-memory_fits
 program-requires-clause-memory_fits c =
     subst (λ (text : List ℕ). memory_start (length text) + c.in_ok-runtime.runtime.memory.size ≤ greatest_end) (sym c.from_vec.ensures)
     (fits (makes_of {frame = c.frame_bytes.result} c.requires.sizes c.requires.placeable c.in_ok-placed.ensures.valid
     c.in_ok-placed.ensures.shape
-    (record {
-      rotated = c.in_ok-program.ensures.functions;
-      short = c.in_ok-program.ensures.short;
-      constants = c.in_ok-program.ensures.constants;
-    }) c.frame_bytes.ensures c.in_ok-runtime.ensures c.in_ok-words.ensures c.in_ok-bytes.ensures)).memory_fits
+    (looped_by c.in_ok-program.ensures.functions c.in_ok-program.ensures.short c.in_ok-program.ensures.constants)
+    c.frame_bytes.ensures c.in_ok-runtime.ensures c.in_ok-words.ensures c.in_ok-bytes.ensures)).memory_fits
 
 pub returns : goal.returns
 returns c main there =
@@ -81,11 +67,8 @@ returns c main there =
     (same_some c.requires.placeable.main main (sym c.requires.placeable.main_is ∙ there))
     (image_made {frame = c.frame_bytes.result} {asm = c.args.asm.now} c.requires.sizes c.requires.placeable
     c.in_ok-placed.ensures.valid c.in_ok-placed.ensures.shape
-    (record {
-      rotated = c.in_ok-program.ensures.functions;
-      short = c.in_ok-program.ensures.short;
-      constants = c.in_ok-program.ensures.constants;
-    }) c.frame_bytes.ensures c.in_ok-runtime.ensures c.in_ok-words.ensures c.in_ok-bytes.ensures
+    (looped_by c.in_ok-program.ensures.functions c.in_ok-program.ensures.short c.in_ok-program.ensures.constants)
+    c.frame_bytes.ensures c.in_ok-runtime.ensures c.in_ok-words.ensures c.in_ok-bytes.ensures
     c.placed_text_agrees.ensures c.placed_text_ends_with_its_cells.ensures c.placed_text_touches_no_free_cell.ensures
     (record {
       comes = c.placed_text_comes_to_its_lines.ensures.comes;

@@ -1,7 +1,8 @@
 use Rattle.std.proofs.Common.{List, map, sym, ap, subst, arith}
 use Rattle.rv_isa.specs.Costs.{placed_functions_length}
 use Rattle.rv_isa.specs.PlacedCode.{PlacedLines, placed_lines_of}
-use Rattle.rv_place.specs.Addresses.{words_of_functions, slots_of_functions}
+use Rattle.rv_isa.specs.FrameSizes.{slots_of_functions}
+use Rattle.rv_place.specs.Addresses.{words_of_functions}
 use Rattle.rv_place.specs.Emitted.{Grew, FunctionsBy}
 use Rattle.rv_place.proofs.Emissions.{grew_nothing}
 use Rattle.rv_place.proofs.Rests.{rest_at, nothing_left}

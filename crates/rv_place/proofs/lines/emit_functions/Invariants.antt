@@ -2,7 +2,8 @@ use Rattle.std.proofs.Common.{◌+◌, ◌*◌, ◌≤◌, List, map, drop}
 use Rattle.rv_isa.specs.declared.instr.Instr.{Instr}
 use Rattle.rv_isa.specs.Costs.{placed_functions_length}
 use Rattle.rv_isa.specs.PlacedCode.{placed_lines_of}
-use Rattle.rv_place.specs.Addresses.{words_of_functions, slots_of_functions}
+use Rattle.rv_isa.specs.FrameSizes.{slots_of_functions}
+use Rattle.rv_place.specs.Addresses.{words_of_functions}
 use Rattle.rv_place.specs.Emitted.{Grew, FunctionsBy}
 use Rattle.rv_place.proofs.lines.emit_functions.Given as goal
 

@@ -1,7 +1,8 @@
 use Rattle.std.proofs.Common.{List, map, sym, ap, subst, arith}
 use Rattle.rv_isa.specs.Costs.{placed_code_length}
 use Rattle.rv_isa.specs.PlacedCode.{PlacedLine, placed_line_of}
-use Rattle.rv_place.specs.Addresses.{words_of_lines, slots_of_lines}
+use Rattle.rv_isa.specs.FrameSizes.{slots_of_lines}
+use Rattle.rv_place.specs.Addresses.{words_of_lines}
 use Rattle.rv_place.specs.Emitted.{Grew, LinesBy}
 use Rattle.rv_place.proofs.Emissions.{grew_nothing}
 use Rattle.rv_place.proofs.Rests.{rest_at, nothing_left}

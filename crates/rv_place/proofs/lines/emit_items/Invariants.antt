@@ -2,7 +2,8 @@ use Rattle.std.proofs.Common.{◌≤◌, List, map, drop, ◌+◌, ◌*◌}
 use Rattle.rv_isa.specs.declared.instr.Instr.{Instr}
 use Rattle.rv_isa.specs.Costs.{placed_code_length}
 use Rattle.rv_isa.specs.PlacedCode.{placed_line_of}
-use Rattle.rv_place.specs.Addresses.{words_of_lines, slots_of_lines}
+use Rattle.rv_isa.specs.FrameSizes.{slots_of_lines}
+use Rattle.rv_place.specs.Addresses.{words_of_lines}
 use Rattle.rv_place.specs.Emitted.{Grew, LinesBy}
 use Rattle.rv_place.proofs.lines.emit_items.Given as goal
 

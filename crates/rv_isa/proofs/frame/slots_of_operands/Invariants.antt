@@ -1,6 +1,6 @@
 use Rattle.std.proofs.Common.{◌≡◌, max, drop}
-use Rattle.rv_place.specs.Addresses.{slots_of_operands}
-use Rattle.rv_place.proofs.sizes.slots_of_operands.Given as goal
+use Rattle.rv_isa.specs.FrameSizes.{slots_of_operands}
+use Rattle.rv_isa.proofs.frame.slots_of_operands.Given as goal
 
 abbrev pub invariant-loop-operand : goal.invariant-loop-operand
 invariant-loop-operand l = max l.slots (slots_of_operands (drop l.operand-index l.operands)) ≡ slots_of_operands l.operands
