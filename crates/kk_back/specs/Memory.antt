@@ -13,7 +13,7 @@ use Rattle.rv_isa.specs.AsmCode.{Lines}
 use Rattle.rv_isa.specs.PlacedCode.{placed_functions}
 use Rattle.rv_isa.specs.Sizes.{wide_frame}
 use Rattle.rv_isa.specs.ValueBounds.{HaveValuesBelow}
-use Rattle.rv_place.specs.Addresses.{frame_size}
+use Rattle.rv_isa.specs.FrameSizes.{frame_size}
 use Rattle.rv_place.specs.Bytes.{IsTextOf}
 use Rattle.rv_place.specs.Texts.{ArePlacedWords}
 use Rattle.rv_place.specs.declared.words.Words.{Words}
