@@ -1,7 +1,6 @@
 -- How deep the trees of a program are, how deep they may be within some levels of nesting, and when an expression is no
 -- deeper in memory.
 use Rattle.std.specs.Prelude.{ℕ, ◌+◌, ◌*◌, ◌-◌, ◌/◌, ◌≤◌, max, List, All, IfSome}
-use Rattle.kk_parser.specs.declared.parser.TheConstants.{LEVELS}
 use Rattle.kk_syntax.specs.declared.tree.SurfaceExpr.{SurfaceExpr}
 use Rattle.kk_syntax.specs.declared.tree.SurfaceRow.{SurfaceRow}
 use Rattle.kk_syntax.specs.declared.tree.SurfaceStatement.{SurfaceStatement}
@@ -79,9 +78,9 @@ abbrev pub BodyIsNoDeeper : Declaration → Type 0
 BodyIsNoDeeper (OfDeclaration.Type d) = Unit {0}
 BodyIsNoDeeper (OfDeclaration.Function d) = IsNoDeeper d.body
 
--- the most levels of nesting that may be open at once
+-- the most levels of nesting that may be open at once, which is a limit of the language
 abbrev pub most_levels : ℕ
-most_levels = LEVELS
+most_levels = 200
 
 -- how deep the body of a function is at most within these levels
 abbrev pub deepest_body : ℕ
