@@ -17,7 +17,6 @@ use Rattle.rv_isa.specs.PlacedCode.{PlacedLine, does, moves, PlacedLines}
 use Rattle.rv_isa.specs.PlacedMachine.{is_label_line}
 use Rattle.rv_isa.specs.Frames.{found}
 use Rattle.rv_isa.specs.Primitives.{Primitives}
-use Rattle.rv_loops.specs.declared.head.TheConstants.{MOST_BEFORE}
 
 -- the opposite of a condition holds exactly where the condition does not, by what a machine leaves open
 abbrev pub HasOpposites : {H E W : Type 0} → Primitives H E W → Type 0
@@ -96,7 +95,7 @@ rotated_code loop = loop.before ++ (test loop ∷ mark loop ∷ rotated_lines lo
 
 -- the most lines before a test
 abbrev pub most_before : ℕ
-most_before = MOST_BEFORE
+most_before = 3
 
 -- the code of the function f and the rotated code
 pub record IsRotated (f : ℕ) (old new : List PlacedLine) : Type 0 where
