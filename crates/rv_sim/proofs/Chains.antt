@@ -4,7 +4,7 @@ use Rattle.std.proofs.lemmas.Bool.Decides.{nat_tests}
 use Rattle.kk_base.specs.Memory.{Part}
 use Rattle.rv_isa.specs.Bytes.{number_at}
 use Rattle.rv_isa.specs.Processor.{Processor, bare, value, lies_in_part}
-use Rattle.rv_isa.specs.declared.environment.TheConstants.{CELL_SIZE}
+use Rattle.rv_isa.specs.Numbers.{cell_size}
 use Rattle.rv_isa.specs.FreeCells.{chain, free_chain, cells_from, border_size, border, free_cells}
 use Rattle.rv_sim.proofs.InstructionSteps.{lies_in_part-bare, some_if, some_if_is, none_if}
 
@@ -35,7 +35,7 @@ module _ (parts : List Part) (memory : ℕ → ℕ) where
 
 length-cells_from : (at count : ℕ) → length (cells_from at count) ≡ count
 length-cells_from at zero = refl
-length-cells_from at (suc count) = ap suc (length-cells_from (at + CELL_SIZE) count)
+length-cells_from at (suc count) = ap suc (length-cells_from (at + cell_size) count)
 
 -- how many are listed in all: those of the chain, and of the border as many as there is room for
 pub free_cells-by : (cells : ℕ) (s : Processor) → length (free_chain cells s) ≤ cells

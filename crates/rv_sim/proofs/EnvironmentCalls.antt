@@ -5,7 +5,7 @@ use Rattle.kk_base.specs.Memory.{Part, byte_loaded}
 use Rattle.kk_base.specs.Source.{SourceState}
 use Rattle.kk_base.specs.Sink.{SinkState}
 use Rattle.kk_base.specs.Trace.{Event, output, input, input_end, TakesFrom}
-use Rattle.rv_isa.specs.declared.environment.TheConstants.{READ, WRITE, EXIT, STANDARD_INPUT, STANDARD_OUTPUT, UNKNOWN_CALL}
+use Rattle.rv_isa.specs.Numbers.{read_call, write_call, exit_call, standard_input, standard_output, unknown_call}
 use Rattle.rv_isa.specs.Bytes.{bytes_at, with_bytes}
 use Rattle.rv_isa.specs.Processor.{Processor, going, exited, counted, Progress, goes, traps, bare, value, put, can_load, can_store}
 use Rattle.rv_isa.specs.Environment.{stepped, asks, reads, writes, calls}
@@ -112,24 +112,24 @@ module _ (old new : Simulation) (next count : ℕ) (is_count : count ≡ value (
 -- ---- the calls
 
 module _ (old : Simulation) (next word : ℕ) (calling : NextDoes (calls next word) old) where
-  pub next-reads : value (registers_of old.registers) 17 ≡ READ → value (registers_of old.registers) 10 ≡ STANDARD_INPUT
+  pub next-reads : value (registers_of old.registers) 17 ≡ read_call → value (registers_of old.registers) 10 ≡ standard_input
       → can_store old.parts (value (registers_of old.registers) 11) (value (registers_of old.registers) 12) ≡ true → NextDoes (λ s. goes (reads next s)) old
   next-reads number file allowed = λ left trace.
       calling left trace ∙ calls-read next word (processor_of old left trace) number file (can_store-bare old.parts (registers_of old.registers 11) (registers_of old.registers 12) ∙ allowed)
 
-  pub next-writes : value (registers_of old.registers) 17 ≡ WRITE → value (registers_of old.registers) 10 ≡ STANDARD_OUTPUT
+  pub next-writes : value (registers_of old.registers) 17 ≡ write_call → value (registers_of old.registers) 10 ≡ standard_output
       → can_load old.parts (value (registers_of old.registers) 11) (value (registers_of old.registers) 12) ≡ true → NextDoes (λ s. goes (writes next s)) old
   next-writes number file allowed = λ left trace.
       calling left trace ∙ calls-write next word (processor_of old left trace) number file (can_load-bare old.parts (registers_of old.registers 11) (registers_of old.registers 12) ∙ allowed)
 
-  pub next-exits : value (registers_of old.registers) 17 ≡ EXIT → NextDoes (λ s. record { processor = stepped next s; ending = exited (value s.registers 10 % 256) }) old
+  pub next-exits : value (registers_of old.registers) 17 ≡ exit_call → NextDoes (λ s. record { processor = stepped next s; ending = exited (value s.registers 10 % 256) }) old
   next-exits number = λ left trace. calling left trace ∙ calls-exit next word (processor_of old left trace) number
 
-  pub next-traps : (value (registers_of old.registers) 17 ≡ READ → value (registers_of old.registers) 10 ≡ STANDARD_INPUT
+  pub next-traps : (value (registers_of old.registers) 17 ≡ read_call → value (registers_of old.registers) 10 ≡ standard_input
       → can_store old.parts (value (registers_of old.registers) 11) (value (registers_of old.registers) 12) ≡ true → ⊥)
-      → (value (registers_of old.registers) 17 ≡ WRITE → value (registers_of old.registers) 10 ≡ STANDARD_OUTPUT
+      → (value (registers_of old.registers) 17 ≡ write_call → value (registers_of old.registers) 10 ≡ standard_output
       → can_load old.parts (value (registers_of old.registers) 11) (value (registers_of old.registers) 12) ≡ true → ⊥)
-      → value (registers_of old.registers) 17 ≢ EXIT → NextDoes (traps UNKNOWN_CALL word) old
+      → value (registers_of old.registers) 17 ≢ exit_call → NextDoes (traps unknown_call word) old
   next-traps reading writing exits = λ left trace.
       calling left trace
       ∙ calls-none next word (processor_of old left trace)

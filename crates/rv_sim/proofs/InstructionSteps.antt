@@ -3,7 +3,7 @@ use Rattle.std.proofs.Common.{◌≡◌, ◌<◌, ℕ, ◌+◌, ◌&&◌, ◌%�
 use Rattle.std.proofs.lemmas.Bool.Decides.{nat_tests}
 use Rattle.kk_base.specs.Memory.{Part, covers, byte_loaded}
 use Rattle.kk_base.specs.Trace.{Event}
-use Rattle.rv_isa.specs.declared.environment.TheConstants.{FETCH_FAULT, ACCESS_FAULT}
+use Rattle.rv_isa.specs.Numbers.{fetch_fault, access_fault}
 use Rattle.rv_isa.specs.declared.act.Act.TheVariants.{Load, Store}
 use Rattle.rv_isa.specs.Bytes.{number_at, with_number}
 use Rattle.rv_isa.specs.Processor.{Processor, going, Progress, goes, traps, bare, put, can_fetch, can_load, can_store, lies_in_part}
@@ -51,10 +51,10 @@ module _ (old : Simulation) (left : List ℕ) (trace : List Event) (rd next word
   stores new parts at width v ongoing is stored same aligned allowed =
       rw (is, stored, same, ongoing) (sym (acts-store rd next word (processor_of old left trace) at width v aligned (can_store-bare old.parts at width ∙ allowed)))
 
-  pub stores_nothing : (new : Simulation) (parts : List Part) (at width v : ℕ) → progress_of new left trace ≡ traps ACCESS_FAULT word (processor_of (record old { parts = parts }) left trace)
+  pub stores_nothing : (new : Simulation) (parts : List Part) (at width v : ℕ) → progress_of new left trace ≡ traps access_fault word (processor_of (record old { parts = parts }) left trace)
       → parts ≡ old.parts → at % width ≡ 0 → can_store old.parts at width ≡ false → progress_of new left trace ≡ acts (Store at width v) rd next word (processor_of old left trace)
   stores_nothing new parts at width v is same aligned denied =
-      is ∙ ap (λ p. traps ACCESS_FAULT word (processor_of (record old { parts = p }) left trace)) same
+      is ∙ ap (λ p. traps access_fault word (processor_of (record old { parts = p }) left trace)) same
       ∙ sym (acts-store_denied rd next word (processor_of old left trace) at width v aligned (can_store-bare old.parts at width ∙ denied))
 
   pub loads : (new : Simulation) (at width number : ℕ) (signed : Bool) → progress_of new left trace ≡ goes (record (stepped next (processor_of old left trace)) { registers = put rd (widened width signed number) (registers_of old.registers) })
@@ -65,7 +65,7 @@ module _ (old : Simulation) (left : List ℕ) (trace : List Event) (rd next word
       let same = some_if_is (can_load old.parts at width) _ _ loaded in
       is ∙ rw same (sym (acts-load rd next word (processor_of old left trace) at width signed aligned (can_load-bare old.parts at width ∙ allowed)))
 
-  pub loads_nothing : (new : Simulation) (at width : ℕ) (signed : Bool) → progress_of new left trace ≡ traps ACCESS_FAULT word (processor_of old left trace)
+  pub loads_nothing : (new : Simulation) (at width : ℕ) (signed : Bool) → progress_of new left trace ≡ traps access_fault word (processor_of old left trace)
       → None ≡ (if can_load old.parts at width then Some (number_at (byte_loaded old.parts) at width) else None) → at % width ≡ 0
       → progress_of new left trace ≡ acts (Load at width signed) rd next word (processor_of old left trace)
   loads_nothing new at width signed is denied aligned =
@@ -87,7 +87,7 @@ module _ (old : Simulation) (left : List ℕ) (trace : List Event) where
       (sym (some_if_is (can_fetch old.parts old.pc 4) _ _ fetched))
 
   pub fetches_nothing : None ≡ (if can_fetch old.parts old.pc 4 then Some (number_at (byte_loaded old.parts) old.pc 4) else None)
-      → step (processor_of old left trace) ≡ traps FETCH_FAULT 0 (processor_of old left trace)
+      → step (processor_of old left trace) ≡ traps fetch_fault 0 (processor_of old left trace)
   fetches_nothing denied =
       step-unfetched (processor_of old left trace) (can_fetch-bare old.parts old.pc 4 ∙ none_if (can_fetch old.parts old.pc 4) _ denied)
 

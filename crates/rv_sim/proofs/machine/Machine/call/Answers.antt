@@ -1,6 +1,6 @@
 use Rattle.std.proofs.Common.{◌≡◌, ◌%◌, sym, ◌∙◌, arith, rules}
 use Rattle.std.proofs.lemmas.Bool.{false≢true}
-use Rattle.rv_isa.specs.declared.environment.TheConstants.{EXIT, UNKNOWN_CALL}
+use Rattle.rv_isa.specs.Numbers.{exit_call, unknown_call}
 use Rattle.rv_isa.specs.Processor.{exited, traps, value}
 use Rattle.rv_isa.specs.Environment.{stepped}
 use Rattle.rv_sim.specs.Turns.{NextDoes}
@@ -29,14 +29,14 @@ returns-in-64-clause-ran g c = rw c.then_some-in-64.ensures (c.write.ensures.ran
 
 pub returns-in-93-clause-ran : goal.returns-in-93-clause-ran
 returns-in-93-clause-ran g c =
-    let number : value (registers_of c.args.self.now.registers) 17 ≡ EXIT = search rules in
+    let number : value (registers_of c.args.self.now.registers) 17 ≡ exit_call = search rules in
     HasRun-quiet c.args.self.now c.exit.new.self c.requires.going (λ s. record { processor = stepped c.args.next s; ending = exited (value s.registers 10 % 256) }) _ _ c.requires.whole
     (next-exits c.args.self.now c.args.next c.args.word c.requires.calls number) c.exit.ensures
 
 pub returns-in_default-clause-ran : goal.returns-in_default-clause-ran
 returns-in_default-clause-ran g c =
     let calling = rw (← c.self.view_is) at c.requires.calls in
-    let next : NextDoes (traps UNKNOWN_CALL c.args.word) (the_view c.self.inside) =
+    let next : NextDoes (traps unknown_call c.args.word) (the_view c.self.inside) =
     elim c.in_default.branch [
       | in_default-via-in-63+then-file-eq-STANDARD_INPUT+else-can w ↦
           next-traps (the_view c.self.inside) c.args.next c.args.word calling
@@ -51,4 +51,4 @@ returns-in_default-clause-ran g c =
       | in_default-via-in_default-1 w ↦
           next-traps (the_view c.self.inside) c.args.next c.args.word calling (λ number file allowed. omega arith) (λ number file allowed. omega arith) (omega arith)
     ] in
-    HasRun-quiet c.args.self.now c.trap.new.self c.requires.going (traps UNKNOWN_CALL c.args.word) _ _ c.requires.whole (rw (← c.self.view_is) next) c.trap.ensures
+    HasRun-quiet c.args.self.now c.trap.new.self c.requires.going (traps unknown_call c.args.word) _ _ c.requires.whole (rw (← c.self.view_is) next) c.trap.ensures
