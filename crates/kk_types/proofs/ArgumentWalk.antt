@@ -1,11 +1,13 @@
 -- A walk over arguments.
 use Rattle.std.proofs.Common.{◌≡◌, ◌<◌, ◌+◌, ℕ, true, false, List, [], ◌∷◌, length, map, get_or, drop, refl, ap, sym, ◌∙◌, subst, arith}
 use Rattle.std.specs.Prelude.{Ok}
-use Rattle.std.proofs.lemmas.List.{drop_more, length-map}
+use Rattle.std.proofs.lemmas.List.{length-map}
+use Rattle.kk_base.proofs.Lists.{rest_at}
 use Rattle.std.proofs.lemmas.List.Elements.{All-drop}
 use Rattle.kk_syntax.specs.declared.program.Expr.{Expr}
 use Rattle.kk_syntax.specs.Programs.{ProgramTree}
-use Rattle.kk_syntax.specs.Trees.{Tree, trees_of, expr_tree}
+use Rattle.kk_syntax.specs.Trees.{Tree, tree, trees_of, expr_tree}
+use Rattle.kk_syntax.proofs.ProgramTrees.{next_expr}
 use Rattle.kk_syntax.specs.Types.{TypeTree}
 use Rattle.kk_syntax.specs.Typing.{Choice, Scope, AreTypedBy}
 use Rattle.kk_unify.specs.Graphs.{NodeTree}
@@ -47,8 +49,9 @@ module _ (program : ProgramTree) (arguments : List Expr) (wants : List ℕ) wher
     -- one argument, and the others
     parted : left_of bounds i ≡ both first_typed (left_of bounds (i + 1))
     parted =
-        ap (λ es. expressions_at program bounds (trees_of (map expr_tree es)) (drop i wants)) (drop_more arguments i argument lt ∙ ap (λ e. e ∷ drop (i + 1) arguments) (sym here))
-        ∙ ap (λ ws. expressions_at program bounds (trees_of (map expr_tree (argument ∷ drop (i + 1) arguments))) ws) (drop_more wants i want (omega (arith, as_long)) ∙ ap (λ w. w ∷ drop (i + 1) wants) (sym there))
+        ap (λ es. expressions_at program bounds es (drop i wants)) (next_expr arguments i argument here lt)
+        ∙ ap (expressions_at program bounds (tree (expr_tree argument) (trees_of (map expr_tree (drop (i + 1) arguments)))))
+        (rest_at wants i want (omega (arith, lt, as_long)) there)
 
     -- one argument more
     pub argument_walked : AreBoundBelow (size_of b) bounds → AreBelow (size_of b) wants → (c : Walk) → Goes a b (left_of bounds 0) (left_of bounds i) → Walked b c first_typed (Ok true) → Goes a c (left_of bounds 0) (left_of bounds (i + 1))

@@ -1,11 +1,12 @@
 -- A walk over patterns whose variables are bound.
-use Rattle.std.proofs.Common.{◌≡◌, ◌<◌, ◌≤◌, ◌+◌, ℕ, Bool, true, false, Option, Some, None, List, [], ◌∷◌, length, map, get_or, drop, drop_of_length-le, refl, ap, sym, ◌∙◌, subst, arith}
+use Rattle.std.proofs.Common.{◌≡◌, ◌<◌, ◌≤◌, ◌+◌, ℕ, Bool, true, false, Option, Some, None, List, [], ◌∷◌, length, map, get_or, drop, drop_of_length-le, refl, sym, ◌∙◌, subst, arith}
 use Rattle.std.specs.Prelude.{Result, Ok}
 use Rattle.std.proofs.lemmas.List.{drop_more, length-map}
 use Rattle.std.proofs.lemmas.List.Elements.{All-drop}
 use Rattle.kk_base.specs.declared.error.NoMemory.{NoMemory}
 use Rattle.kk_syntax.specs.declared.program.Pat.{Pat}
 use Rattle.kk_syntax.specs.Patterns.{Pattern, constructor, Patterns, patterns_of, pattern_tree}
+use Rattle.kk_syntax.proofs.ProgramTrees.{next_part}
 use Rattle.kk_syntax.specs.Programs.{ProgramTree}
 use Rattle.kk_syntax.specs.Types.{TypeTree}
 use Rattle.kk_syntax.specs.Typing.{Choice, Scheme, Scope, constructing, constructor_scheme, IsPatternTyped, ArePatternsTyped}
@@ -84,7 +85,7 @@ module _ (program : ProgramTree) (bounds : List Bound) where
     here : Goes a b Whole (both first rest)
     here =
         subst (λ ws. Goes a b Whole (parts_at (p ∷ drop (i + 1) ps) ws)) (drop_more wants i 0 (omega (arith, lt, same)))
-        (subst (λ qs. Goes a b Whole (parts_at qs (drop i wants))) (drop_more ps i p lt ∙ ap (λ q. q ∷ drop (i + 1) ps) (sym is)) goes)
+        (subst (λ left. Goes a b Whole (patterns_at program bounds left (drop i wants))) (next_part ps i p is lt) goes)
 
     pub part_refused : (c : Walk) → Walked b c first (Ok false) → Refused (nodes_of a) Whole
     part_refused c walked = refused_after a b Whole (both first rest) here (first_refused (nodes_of b) first rest walked)

@@ -1,10 +1,11 @@
 -- The variables of patterns, each bound to a new node.
 use Rattle.std.proofs.Common.{◌≡◌, ◌<◌, ◌≤◌, ◌+◌, ◌⊎◌, inl, inr, ℕ, ℤ, zero, suc, min, List, [], ◌∷◌, ◌++◌, length, map, take, drop, get_or, refl, ap, sym, ◌∙◌, subst, append_assoc, arith}
-use Rattle.std.proofs.lemmas.List.{map-append, append-nil, length-append, length-map, length-take, take-take, take_all, take-append-le, drop_more}
+use Rattle.std.proofs.lemmas.List.{map-append, append-nil, length-append, length-map, length-take, take-take, take_all, take-append-le}
 use Rattle.std.proofs.lemmas.List.Elements.{All-append, All-nil, All-cons}
 use Rattle.kk_syntax.specs.declared.program.Pat.{Pat}
 use Rattle.kk_syntax.specs.declared.program.Pat.TheVariants.{Wildcard, Number}
 use Rattle.kk_syntax.specs.Patterns.{patterns_of, pattern_tree}
+use Rattle.kk_syntax.proofs.ProgramTrees.{next_part}
 use Rattle.kk_syntax.specs.Shapes.{bound, bound_all}
 use Rattle.kk_syntax.specs.Types.{TypeTree}
 use Rattle.kk_syntax.specs.Typing.{Scope, with_bound}
@@ -115,10 +116,9 @@ module _ (a b c : Walk) (xs ys : List ℕ) where
 -- a part of a pattern is bound, and then what is left of them
 pub binds_part : (a b c : Walk) (xs : List ℕ) (parts : List Pat) (i : ℕ) (part : Pat) (all : List ℕ) → i < length parts → part ≡ get_or parts i part → BindsEach a b xs → xs ++ bound_all (patterns_of (map pattern_tree (drop i parts))) ≡ all → BindsEach b c (bound (pattern_tree part)) → (ys : List ℕ) × BindsEach a c ys × (ys ++ bound_all (patterns_of (map pattern_tree (drop (i + 1) parts))) ≡ all)
 binds_part a b c xs parts i part all lt is first whole next =
-    let rest = bound_all (patterns_of (map pattern_tree (drop (i + 1) parts))) in
-    let left : drop i parts ≡ part ∷ drop (i + 1) parts = drop_more parts i part lt ∙ ap (λ p. p ∷ drop (i + 1) parts) (sym is) in (
+    let rest = bound_all (patterns_of (map pattern_tree (drop (i + 1) parts))) in (
       xs ++ bound (pattern_tree part),
       binds_then a b c xs (bound (pattern_tree part)) first next,
       append_assoc xs (bound (pattern_tree part)) rest
-          ∙ (ap (λ ps. xs ++ bound_all (patterns_of (map pattern_tree ps))) (sym left) ∙ whole),
+          ∙ (ap (λ left. xs ++ bound_all left) (sym (next_part parts i part is lt)) ∙ whole),
     )

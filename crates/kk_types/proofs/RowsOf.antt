@@ -1,16 +1,15 @@
 -- A walk over the rows of a match.
 use Rattle.std.proofs.Common.{◌≡◌, ◌<◌, ◌≤◌, ◌+◌, ℕ, Bool, true, false, List, [], ◌∷◌, ◌++◌, length, map, get_or, take, drop, drop_of_length-le, refl, ap, sym, ◌∙◌, subst, arith}
 use Rattle.std.specs.Prelude.{Ok}
-use Rattle.std.proofs.lemmas.List.{drop_more}
 use Rattle.std.proofs.lemmas.List.Elements.{All-nil, All-cons}
 use Rattle.kk_syntax.specs.declared.program.Row.{Row}
 use Rattle.kk_syntax.specs.Patterns.{Pattern, pattern_tree}
 use Rattle.kk_syntax.specs.Programs.{ProgramTree}
 use Rattle.kk_syntax.specs.Shapes.{bound}
-use Rattle.kk_syntax.specs.Trees.{Tree, RowTree, rows_of, expr_tree, row_tree}
+use Rattle.kk_syntax.specs.Trees.{Tree, rows_of, expr_tree, row_tree}
 use Rattle.kk_syntax.specs.Types.{TypeTree}
 use Rattle.kk_syntax.specs.Typing.{Choice, Scope, holding, with_bound, Binds, InTurn, IsPatternTyped, IsTypedBy}
-use Rattle.kk_syntax.proofs.Views.{row_tree_is}
+use Rattle.kk_syntax.proofs.ProgramTrees.{next_row}
 use Rattle.kk_unify.specs.Graphs.{NodeTree, Assignment}
 use Rattle.kk_unify.specs.GraphOf.{variables_of}
 use Rattle.kk_types.specs.declared.walk.Bound.{Bound}
@@ -144,8 +143,7 @@ module _ (program : ProgramTree) (bounds : List Bound) (scrutinee want : ℕ) wh
   module _ (a b : Walk) (Whole : Claim) (rows : List Row) (i : ℕ) (r : Row) (lt : i < length rows) (is : r ≡ get_or rows i r) (goes : Goes a b Whole (cases_at (drop i rows))) where
     next_case : Goes a b Whole (both (case_at r) (cases_at (drop (i + 1) rows)))
     next_case =
-        subst (λ (t : RowTree). Goes a b Whole (rows_at program bounds (rows_of (t ∷ map row_tree (drop (i + 1) rows))) scrutinee want)) (row_tree_is r)
-        (subst (λ rs. Goes a b Whole (cases_at rs)) (drop_more rows i r lt ∙ ap (λ s. s ∷ drop (i + 1) rows) (sym is)) goes)
+        subst (λ left. Goes a b Whole (rows_at program bounds left scrutinee want)) (next_row rows i r is lt) goes
 
     pub case_refused : Refused (nodes_of b) (case_at r) → Refused (nodes_of a) Whole
     case_refused refused = refused_after a b Whole (both (case_at r) (cases_at (drop (i + 1) rows))) next_case (first_refused (nodes_of b) (case_at r) (cases_at (drop (i + 1) rows)) refused)

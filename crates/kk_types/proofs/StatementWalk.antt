@@ -1,7 +1,7 @@
 -- A walk over the statements of a block.
 use Rattle.std.proofs.Common.{◌≡◌, ◌<◌, ◌≤◌, ◌+◌, ℕ, Bool, true, false, List, [], ◌∷◌, ◌++◌, length, map, get_or, drop, take, refl, ap, sym, ◌∙◌, subst, arith}
 use Rattle.std.specs.Prelude.{Ok}
-use Rattle.std.proofs.lemmas.List.{append-nil, drop_more, length-take, take-append-le, take_all}
+use Rattle.std.proofs.lemmas.List.{append-nil, length-take, take-append-le, take_all}
 use Rattle.std.proofs.lemmas.List.Elements.{All-append, All-nil, All-cons}
 use Rattle.kk_syntax.specs.declared.program.Binder.{Binder}
 use Rattle.kk_syntax.specs.declared.program.Binder.TheVariants as OfBinder
@@ -10,7 +10,7 @@ use Rattle.kk_syntax.specs.Programs.{ProgramTree}
 use Rattle.kk_syntax.specs.Trees.{Tree, sequence, StatementTree, block_of, expr_tree, statement_tree}
 use Rattle.kk_syntax.specs.Types.{TypeTree}
 use Rattle.kk_syntax.specs.Typing.{with_binder, InTurn, IsTypedBy}
-use Rattle.kk_syntax.proofs.Views.{statement_tree_is}
+use Rattle.kk_syntax.proofs.ProgramTrees.{next_statement}
 use Rattle.kk_unify.specs.Graphs.{Assignment}
 use Rattle.kk_unify.specs.GraphOf.{variables_of}
 use Rattle.kk_types.specs.declared.walk.Bound.{Bound}
@@ -58,7 +58,7 @@ module _ (program : ProgramTree) (a : Walk) (all : List StatementTree) where
   -- what is left begins with a statement
   pub into_first : (b : Walk) (statements : List Statement) (i : ℕ) (s : Statement) → i < length statements → s ≡ get_or statements i s → GoesInto program a b all (map statement_tree (drop i statements)) → GoesInto program a b all (record { binder = s.binder; value = expr_tree s.value } ∷ map statement_tree (drop (i + 1) statements))
   into_first b statements i s lt here goes =
-      subst (GoesInto program a b all) (ap (map statement_tree) (drop_more statements i s lt ∙ ap (λ u. u ∷ drop (i + 1) statements) (sym here)) ∙ ap (λ u. u ∷ map statement_tree (drop (i + 1) statements)) (statement_tree_is s)) goes
+      subst (GoesInto program a b all) (next_statement statements i s here lt) goes
 
   module _ (b c d : Walk) (binder : Binder) (value : Tree) (rest : List StatementTree) (node : ℕ) (goes : GoesInto program a b all (record { binder = binder; value = value } ∷ rest)) (opened : Opened b c node) where
     module _ (last : Tree) (want : ℕ) (lt : want < size_of a) where

@@ -1,11 +1,11 @@
-use Rattle.std.proofs.Common.{◌≡◌, ◌+◌, ◌∷◌, ◌++◌, List, ℕ, map, drop, arith, sym, ap, ◌∙◌, append_assoc}
+use Rattle.std.proofs.Common.{◌≡◌, ◌+◌, ◌++◌, List, ℕ, map, drop, arith, sym, ap, ◌∙◌, append_assoc}
 use Rattle.kk_syntax.specs.Patterns.{pattern_tree}
 use Rattle.kk_syntax.specs.Trees.{expr_tree, row_tree, rows_of, statement_tree}
 use Rattle.kk_syntax.specs.Shapes.{bound, bound_by, without, free, free_rows}
-use Rattle.kk_syntax.proofs.Views.{block_tree, row_tree_is, statement_tree_is}
+use Rattle.kk_syntax.proofs.ProgramTrees.{next_row, next_statement}
+use Rattle.kk_syntax.proofs.Views.{block_tree}
 use Rattle.kk_meaning.specs.FreeOf.{free_of_statements, bound_by_statements}
 use Rattle.kk_meaning.proofs.FreeVariables.{free_of_block, found_within, found_before, found_block}
-use Rattle.kk_base.proofs.Lists.{rest_at}
 use Rattle.kk_meaning.proofs.Lists.{front_again}
 use Rattle.kk_meaning.proofs.free.FreeVariables.+free.Goals as goal
 
@@ -36,11 +36,10 @@ of_rows-loop-row-preserved t c =
     let now = c.loop-row.self in
     let row = c.row-item.result in
     let inv = c.loop-row.invariant in
-    let rest = rest_at c.args.rows.now c.loop-row.row-index row (omega arith) c.row-item.is in
+    let rest = next_row c.args.rows.now c.loop-row.row-index row c.row-item.is (omega arith) in
     let bs = now.bound.items in
     let cs = bound (pattern_tree row.pattern) in
     let others = free_rows (rows_of (map row_tree (drop (c.loop-row.row-index + 1) c.args.rows.now))) in
-    let row_is : free_rows (rows_of (map row_tree (row ∷ drop (c.loop-row.row-index + 1) c.args.rows.now))) ≡ without cs (free (expr_tree row.body)) ++ others = ap (λ r. free_rows (rows_of (r ∷ map row_tree (drop (c.loop-row.row-index + 1) c.args.rows.now)))) (row_tree_is row) in
     let kept : c.truncate.new.self.items ≡ bs =
     c.truncate.ensures.items
     ∙ front_again bs cs _ c.len-outside.result (c.len-outside.ensures ∙ now.bound.ok.0) (c.in_ok-of_expr.ensures.bound ∙ c.in_ok-bind_pattern.ensures.bound) in
@@ -53,8 +52,7 @@ of_rows-loop-row-preserved t c =
       found =
           ap (λ l. c.of_expr.new.self.found.items ++ without l others) kept
           ∙ found_within now.found.items _ bs cs (free (expr_tree row.body)) others _ more
-          (ap (λ (xs : List ℕ). now.found.items ++ without bs xs) (sym row_is)
-          ∙ (ap (λ rows. now.found.items ++ without bs (free_rows (rows_of (map row_tree rows)))) (sym rest) ∙ inv.found));
+          (ap (λ left. now.found.items ++ without bs (free_rows left)) (sym rest) ∙ inv.found);
     }
 
 pub of_statements-loop-statement-preserved : goal.of_statements-loop-statement-preserved
@@ -63,23 +61,18 @@ of_statements-loop-statement-preserved t c =
     let statement = c.statement-item.result in
     let inv = c.loop-statement.invariant in
     let later = map statement_tree (drop (c.loop-statement.statement-index + 1) c.args.statements.now) in
-    let rest = rest_at c.args.statements.now c.loop-statement.statement-index statement (omega arith) c.statement-item.is in
+    let rest = next_statement c.args.statements.now c.loop-statement.statement-index statement c.statement-item.is (omega arith) in
     let bs = now.bound.items in
     let cs = bound_by statement.binder in
-    let whole = statement ∷ drop (c.loop-statement.statement-index + 1) c.args.statements.now in
-    let bound_whole : bound_by_statements (map statement_tree whole) ≡ cs ++ bound_by_statements later = ap (λ s. bound_by s.binder ++ bound_by_statements later) (statement_tree_is statement) in
-    let free_whole : free_of_statements (map statement_tree whole) ≡ free (expr_tree statement.value) ++ without cs (free_of_statements later) = ap (λ s. free s.value ++ without (bound_by s.binder) (free_of_statements later)) (statement_tree_is statement) in
     let bound_is : c.bind_statement.new.self.bound.items ≡ bs ++ cs =
     c.in_ok-bind_statement.ensures.bound ∙ ap (λ l. l ++ cs) c.in_ok-of_expr.ensures.bound in
     record {
       bound =
           ap (λ l. l ++ bound_by_statements later) bound_is
           ∙ (append_assoc bs cs (bound_by_statements later)
-          ∙ (ap (λ (l : List ℕ). bs ++ l) (sym bound_whole)
-          ∙ (ap (λ ss. bs ++ bound_by_statements (map statement_tree ss)) (sym rest) ∙ inv.bound)));
+          ∙ (ap (λ left. bs ++ bound_by_statements left) (sym rest) ∙ inv.bound));
       found =
           ap (λ l. c.bind_statement.new.self.found.items ++ without l (free_of_statements later)) bound_is
           ∙ found_before now.found.items _ bs cs (free (expr_tree statement.value)) (free_of_statements later) _ (c.bind_statement.ensures.found ∙ c.in_ok-of_expr.ensures.found)
-          (ap (λ (xs : List ℕ). now.found.items ++ without bs xs) (sym free_whole)
-          ∙ (ap (λ ss. now.found.items ++ without bs (free_of_statements (map statement_tree ss))) (sym rest) ∙ inv.found));
+          (ap (λ left. now.found.items ++ without bs (free_of_statements left)) (sym rest) ∙ inv.found);
     }
