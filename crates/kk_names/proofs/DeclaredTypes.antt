@@ -1,5 +1,5 @@
 -- Declared types and their constructors, and how far the loops over them have come.
-use Rattle.std.proofs.Common.{◌≡◌, ℕ, ◌+◌, List, [], ◌∷◌, ◌++◌, length, nat_lt, not, cond, bytes_eq, Bool, true, false, Some, None, refl, sym, ap, ◌∙◌, arith, append_assoc, append-nil}
+use Rattle.std.proofs.Common.{◌≡◌, ℕ, ◌+◌, List, [], ◌∷◌, ◌++◌, length, nat_lt, not, cond, bytes_eq, Bool, true, false, Some, None, refl, sym, ap, ◌∙◌, arith, append_assoc, append-nil, subst}
 use Rattle.std.specs.Prelude.{is_some, ◌||◌}
 use Rattle.std.specs.List.{list_any, prefix_len}
 use Rattle.std.proofs.lemmas.Bool.{lt-ltb, ltb-true, le-ltb, ltb-false}
@@ -136,10 +136,12 @@ cases_more variables number old now new place case left all before made construc
           ∙ so_far.made_are);
     }
 
-pub cases_done : (variables : List (List ℕ)) (number : ℕ) (old now : Resolver) (place : ℕ) (all : List WrittenConstructor)
-    (before made : List ConstructorTree) → CasesSoFar variables number old now place [] all before made
+pub cases_done : (variables : List (List ℕ)) (number : ℕ) (old now : Resolver) (place : ℕ) (left all : List WrittenConstructor)
+    (before made : List ConstructorTree) → left ≡ [] → CasesSoFar variables number old now place left all before made
     → NotesInside (field_faults (known_of old) variables all) old now × (made ≡ before ++ cases_of (known_of old) variables number 0 all)
-cases_done variables number old now place all before made so_far =
+cases_done variables number old now place left all before made none known =
+    let so_far : CasesSoFar variables number old now place [] all before made =
+    subst (λ cs. CasesSoFar variables number old now place cs all before made) none known in
     (record { known = so_far.known; first = so_far.first; texts = so_far.texts }, sym (append-nil made) ∙ so_far.made_are)
 
 -- ---- one declared type

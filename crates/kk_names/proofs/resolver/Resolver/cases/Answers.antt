@@ -1,6 +1,5 @@
 use Rattle.std.proofs.Common.{◌≡◌, ◌+◌, List, [], ◌∷◌, ◌++◌, map, drop, sym, ap, subst, ◌∙◌}
 use Rattle.std.proofs.lemmas.List.{map-append, drop_all}
-use Rattle.kk_syntax.specs.declared.tree.ConstructorDeclaration.{ConstructorDeclaration}
 use Rattle.kk_syntax.specs.Programs.{ConstructorTree, constructor_tree}
 use Rattle.kk_syntax.specs.Surface.{WrittenConstructor, written_constructor}
 use Rattle.kk_names.proofs.DeclaredTypes.{CasesSoFar, cases_more, cases_done}
@@ -32,24 +31,12 @@ loop-case-preserved c =
 
 pub returns-clause-constructors : goal.returns-clause-constructors
 returns-clause-constructors c =
-    let old = c.args.self.now in
-    let now = c.loop-case.self in
-    let variables = c.args.variables.now in
-    let all = map written_constructor c.args.cases.now in
-    let before = map constructor_tree c.args.constructors.now.items in
-    let made = map constructor_tree c.loop-case.constructors.items in
-    (cases_done variables c.args.number old now c.loop-case.tag all before made
-    (subst (λ (cs : List ConstructorDeclaration). CasesSoFar variables c.args.number old now c.loop-case.tag (map written_constructor cs) all before made)
-    (drop_all c.loop-case.case-index c.args.cases.now c.loop-case-test.false) c.loop-case.invariant)).1
+    (cases_done c.args.variables.now c.args.number c.args.self.now c.loop-case.self c.loop-case.tag _ (map written_constructor c.args.cases.now)
+    (map constructor_tree c.args.constructors.now.items) (map constructor_tree c.loop-case.constructors.items)
+    (ap (map written_constructor) (drop_all c.loop-case.case-index c.args.cases.now c.loop-case-test.false)) c.loop-case.invariant).1
 
 pub returns-clause-notes : goal.returns-clause-notes
 returns-clause-notes c =
-    let old = c.args.self.now in
-    let now = c.loop-case.self in
-    let variables = c.args.variables.now in
-    let all = map written_constructor c.args.cases.now in
-    let before = map constructor_tree c.args.constructors.now.items in
-    let made = map constructor_tree c.loop-case.constructors.items in
-    (cases_done variables c.args.number old now c.loop-case.tag all before made
-    (subst (λ (cs : List ConstructorDeclaration). CasesSoFar variables c.args.number old now c.loop-case.tag (map written_constructor cs) all before made)
-    (drop_all c.loop-case.case-index c.args.cases.now c.loop-case-test.false) c.loop-case.invariant)).0
+    (cases_done c.args.variables.now c.args.number c.args.self.now c.loop-case.self c.loop-case.tag _ (map written_constructor c.args.cases.now)
+    (map constructor_tree c.args.constructors.now.items) (map constructor_tree c.loop-case.constructors.items)
+    (ap (map written_constructor) (drop_all c.loop-case.case-index c.args.cases.now c.loop-case-test.false)) c.loop-case.invariant).0

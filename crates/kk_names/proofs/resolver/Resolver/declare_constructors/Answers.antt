@@ -9,8 +9,6 @@ use Rattle.kk_names.proofs.resolver.Resolver.declare_constructors.Goals.{in-Type
 
 pub loop-declaration-preserved : goal.loop-declaration-preserved
 loop-declaration-preserved c =
-    let now = c.loop-declaration.self in
-    let number = c.loop-declaration.number in
     let left = map written_declaration (drop (c.loop-declaration.declaration-index + 1) c.args.declarations.now) in
     let next = next_declaration c.args.declarations.now c.loop-declaration.declaration-index c.declaration-item.result c.declaration-item.is c.loop-declaration-test.true in
     elim c.match-declaration.branch [
@@ -19,16 +17,16 @@ loop-declaration-preserved c =
           let cases = map written_constructor d.constructors.items in
           let here = next ∙ ap (λ x. written_declaration x ∷ left) w.in-Type.is in
           let made = w.in_ok-number.ensures in
-          let counted = made.number ∙ (ap (λ cs. number + length cs) w.as_slice.ensures.value ∙ ap (λ n. number + n) (sym (length-map d.constructors.items written_constructor))) in
-          let state = made.state ∙ ap (λ cs. behind_cases number (map written_constructor cs) (state_of now)) w.as_slice.ensures.value in
+          let counted = made.number ∙ (ap (λ cs. c.loop-declaration.number + length cs) w.as_slice.ensures.value ∙ ap (λ n. c.loop-declaration.number + n) (sym (length-map d.constructors.items written_constructor))) in
+          let state = made.state ∙ ap (λ cs. behind_cases c.loop-declaration.number (map written_constructor cs) (state_of c.loop-declaration.self)) w.as_slice.ensures.value in
           ap (λ r. behind_constructors c.match-declaration.number left (state_of r)) w.self-is
           ∙ (ap (λ n. behind_constructors n left (state_of w.declare_cases.new.self)) (w.number-is ∙ counted)
-          ∙ (ap (behind_constructors (number + length cases) left) state
-          ∙ (constructors_more (state_of now) number d.name d.parameters.items cases left
-          ∙ (ap (λ ds. behind_constructors number ds (state_of now)) (sym here) ∙ c.loop-declaration.invariant))))
+          ∙ (ap (behind_constructors (c.loop-declaration.number + length cases) left) state
+          ∙ (constructors_more (state_of c.loop-declaration.self) c.loop-declaration.number d.name d.parameters.items cases left
+          ∙ (ap (λ ds. behind_constructors c.loop-declaration.number ds (state_of c.loop-declaration.self)) (sym here) ∙ c.loop-declaration.invariant))))
       | in_default w ↦
           let here = next ∙ ap (λ x. written_declaration x ∷ left) w.in_default.is in
           ap (λ r. behind_constructors c.match-declaration.number left (state_of r)) w.self-is
-          ∙ (ap (λ n. behind_constructors n left (state_of now)) w.number-is
-          ∙ (ap (λ ds. behind_constructors number ds (state_of now)) (sym here) ∙ c.loop-declaration.invariant))
+          ∙ (ap (λ n. behind_constructors n left (state_of c.loop-declaration.self)) w.number-is
+          ∙ (ap (λ ds. behind_constructors c.loop-declaration.number ds (state_of c.loop-declaration.self)) (sym here) ∙ c.loop-declaration.invariant))
     ]

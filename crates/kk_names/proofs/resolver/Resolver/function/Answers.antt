@@ -14,33 +14,31 @@ use Rattle.kk_names.proofs.resolver.Resolver.function.Goals as goal
 
 pub returns-clause-resolves : goal.returns-clause-resolves
 returns-clause-resolves c =
-    let old = c.args.self.now in
     let d = c.args.declared.now in
-    let start : Resolver = record { alloc = old.alloc; types = old.types; constructors = old.constructors; functions = old.functions; scope = c.clear.new.self; next = 0; texts = old.texts; first = old.first } in
+    let start : Resolver = record c.args.self.now { scope = c.clear.new.self; next = 0 } in
     let first = c.parameters.new.self in
-    let types = map type_tree c.in_ok-parameters.parameters.items in
     let ps = map written_parameter d.parameters.items in
     let r = written_result d.result in
     let seen : c.in_ok-variables.variables.items ≡ signature_variables ps r =
     c.in_ok-variables.ensures ∙ ap (λ all. signature_variables (map written_parameter all) r) c.as_slice.ensures.value in
     let parameters =
-    subst (λ (vs : List (List ℕ)). ResolvesParameters vs ps start first types) (c.as_slice-3.ensures.value ∙ seen)
-    (subst (λ (all : List Parameter). ResolvesParameters c.as_slice-3.result.now (map written_parameter all) start first types) c.as_slice-2.ensures.value c.in_ok-parameters.ensures) in
+    subst (λ (vs : List (List ℕ)). ResolvesParameters vs ps start first (map type_tree c.in_ok-parameters.parameters.items)) (c.as_slice-3.ensures.value ∙ seen)
+    (subst (λ (all : List Parameter). ResolvesParameters c.as_slice-3.result.now (map written_parameter all) start first (map type_tree c.in_ok-parameters.parameters.items)) c.as_slice-2.ensures.value c.in_ok-parameters.ensures) in
     let result = subst (λ (vs : List (List ℕ)). Notes (result_faults (known_of first) vs r) first c.result.new.self) (c.as_slice-4.ensures.value ∙ seen) c.in_ok-result.ensures.notes in
-    function_resolved d.name ps d.effects.items r (written_expr d.body) old start first c.result.new.self c.expression.new.self types (expr_tree c.in_ok-body.body)
+    function_resolved d.name ps d.effects.items r (written_expr d.body) c.args.self.now start first c.result.new.self c.expression.new.self
+    (map type_tree c.in_ok-parameters.parameters.items) (expr_tree c.in_ok-body.body)
     refl c.clear.ensures.items refl refl refl parameters result c.in_ok-body.ensures.resolves
 
 pub returns-clause-tree : goal.returns-clause-tree
 returns-clause-tree c =
-    let old = c.args.self.now in
     let d = c.args.declared.now in
-    let start : Resolver = record { alloc = old.alloc; types = old.types; constructors = old.constructors; functions = old.functions; scope = c.clear.new.self; next = 0; texts = old.texts; first = old.first } in
+    let start : Resolver = record c.args.self.now { scope = c.clear.new.self; next = 0 } in
     let first = c.parameters.new.self in
     let types = map type_tree c.in_ok-parameters.parameters.items in
     let ps = map written_parameter d.parameters.items in
     let r = written_result d.result in
     let body = written_expr d.body in
-    let made : FunctionTree = function_of (known_of old) old.texts.items d.name ps r body in
+    let made : FunctionTree = function_of (known_of c.args.self.now) c.args.self.now.texts.items d.name ps r body in
     let variables = c.in_ok-variables.variables in
     let seen : variables.items ≡ signature_variables ps r =
     c.in_ok-variables.ensures ∙ ap (λ all. signature_variables (map written_parameter all) r) c.as_slice.ensures.value in
@@ -52,7 +50,7 @@ returns-clause-tree c =
     c.in_ok-result.ensures.tree ∙ (ap (λ vs. result_meant (known_of first) vs r) (c.as_slice-4.ensures.value ∙ seen)
     ∙ ap (λ k. result_meant k (signature_variables ps r) r) parameters.known) in
     let tree =
-    body_is (signature_variables ps r) ps _ body old start first c.result.new.self c.expression.new.self types (expr_tree c.in_ok-body.body)
+    body_is (signature_variables ps r) ps _ body c.args.self.now start first c.result.new.self c.expression.new.self types (expr_tree c.in_ok-body.body)
     refl c.clear.ensures.items refl refl parameters c.in_ok-result.ensures.notes c.in_ok-body.ensures.resolves in
     ap (λ f. f ∷ []) (function_is c.in_ok-name.name d.name.at c.len-2.result types (type_tree c.in_ok-result.result) (expr_tree c.in_ok-body.body) made c.in_ok-name.ensures refl counted parameters.types_are result tree)
 
