@@ -96,6 +96,16 @@ sound_same before after s is = subst Sound (sym is) s
 abbrev pub at_byte : List Frame → Configuration → Option ℕ → Configuration
 at_byte older c byte = at_value (byte_value byte) (record c { frames = older })
 
+-- where a byte is given back as a value, without the frame of the read, the machine is there
+pub came_at_byte : (before after : Configuration) (turn : Turn) (byte : Option ℕ) (read : Value) (frames : List Frame)
+    → (turn, after) ≡ turn_of before (goes (at_value read (record before { frames = frames })))
+    → frames ≡ without_read before.control before.frames → read ≡ byte_value byte
+    → after ≡ at_byte (without_read before.control before.frames) before byte
+came_at_byte before after turn byte read frames turn_is frames_are read_is =
+    ap (λ (p : Turn × Configuration). p.1) turn_is
+    ∙ (ap (λ (fs : List Frame). at_value read (record before { frames = fs })) frames_are
+    ∙ ap (λ v. at_value v (record before { frames = without_read before.control before.frames })) read_is)
+
 -- what a step that takes a byte comes to
 abbrev Taken : List Frame → Configuration → Action Configuration → Type 0
 Taken older c action = TakesByte action → action ≡ takes (at_byte older c)
