@@ -19,7 +19,7 @@ use Rattle.rv_isa.specs.Primitives.{Reply, answers, ends, fails, Primitives, end
 use Rattle.rv_loops.specs.Rotation.{AreRotated}
 use Rattle.rv_loops.specs.Relation.{Spot, Knows, SameAt, IsLike, IsAtSame, AllWait, FramesStand, StandsFor}
 use Rattle.rv_loops.proofs.MachineKnowledge.{KnowsWord, put_knows, empty_knows, registers_know, slots_know, kept_knows}
-use Rattle.rv_loops.proofs.MachineKnowledge.{same_some, same_put, same_slots, slot_known}
+use Rattle.rv_loops.proofs.MachineKnowledge.{like_on, same_some, same_put, same_slots, slot_known}
 use Rattle.rv_loops.proofs.Places.{found_both, callee_both}
 
 -- ---- turns
@@ -162,15 +162,7 @@ module _ {H E W : Type 0} (m : Primitives H E W) (depth : ℕ) (q q' : List Plac
     g' = record g { code = rest' }
 
     like' : IsLike q q' f' g'
-    like' = record {
-      there = like.there;
-      there' = like.there';
-      function = like.function;
-      cells = like.cells;
-      held = like.held;
-      held_cells =
-          like.held_cells;
-    }
+    like' = like_on q q' f g rest rest' f.into g.into like
 
     pub goes : (a b : ℕ → Option ℕ) (next : H) → Knows a b → StandsFor {W = W} q q' IsAt (placed_goes f' fs a next)
         (placed_goes g' gs b next)
@@ -291,15 +283,7 @@ module _ {H E W : Type 0} (m : Primitives H E W) (depth : ℕ) (q q' : List Plac
         (passed 0 words) shared in
         let waiting : AllWait q q' (waits ∷ fs) (waits' ∷ gs)
         = (
-          record {
-            there = like.there;
-            there' = like.there';
-            function = like.function;
-            cells = like.cells;
-            held = like.held;
-            held_cells =
-                like.held_cells;
-          },
+          like_on q q' f g on.code on'.code (awaited into) (awaited into) like,
           (at, (refl, wait)),
         ) in
         let long : length (on' ∷ gs) ≡ length (on ∷ fs) = ap suc (wait_length q q' fs gs wait) in

@@ -8,9 +8,22 @@ use Rattle.rv_isa.specs.declared.placed.Operand.{Operand}
 use Rattle.rv_isa.specs.declared.placed.Place.{Place}
 use Rattle.rv_isa.specs.declared.placed.Place.TheVariants.{Register as register, Slot as slot}
 use Rattle.rv_isa.specs.Conventions.{argument, is_in, spoils, take_from}
-use Rattle.rv_isa.specs.Frames.{empty, put, all_of, is_among}
+use Rattle.rv_isa.specs.Frames.{Frame, empty, put, all_of, is_among}
+use Rattle.rv_isa.specs.PlacedCode.{PlacedLine, PlacedLines}
 use Rattle.rv_isa.specs.PlacedMachine.{read_at, registers_with, slots_with, kept_by, passed, slot_of, only_slot}
-use Rattle.rv_loops.specs.Relation.{Knows, SameAt}
+use Rattle.rv_loops.specs.Relation.{Knows, SameAt, IsLike}
+
+-- frames stay alike, whatever code is left of them and wherever a result goes
+pub like_on : (q q' : List PlacedLines) (f g : Frame PlacedLine) (code code' : List PlacedLine) (into into' : Option ℕ)
+    → IsLike q q' f g → IsLike q q' (record f { code = code; into = into }) (record g { code = code'; into = into' })
+like_on q q' f g code code' into into' like = record {
+  there = like.there;
+  there' = like.there';
+  function = like.function;
+  cells = like.cells;
+  held = like.held;
+  held_cells = like.held_cells;
+}
 
 pub same_some : {A : Type 0} (a b : A) → Some a ≡ Some b → a ≡ b
 same_some a b same = cc same

@@ -25,7 +25,7 @@ use Rattle.rv_loops.specs.Rotation.{HasOpposites, Loop, AreStraight, calls, is_c
 use Rattle.rv_loops.specs.Rotation.{rotated_lines, IsRotated, AreRotated}
 use Rattle.rv_loops.specs.Relation.{Spot, Knows, IsLike, IsAtSame, IsInTurn, AllWait, FramesStand, StandsFor, NeverStuck}
 use Rattle.rv_loops.specs.Relation.{Related, IsNotStuck}
-use Rattle.rv_loops.proofs.MachineKnowledge.{same_some, empty_knows, words_known, passed_known}
+use Rattle.rv_loops.proofs.MachineKnowledge.{like_on, same_some, empty_knows, words_known, passed_known}
 use Rattle.rv_loops.proofs.Places.{found_both, found_again}
 use Rattle.rv_loops.proofs.SharedLines.{straight_goes, line_goes, weighs_same}
 use Rattle.rv_loops.proofs.RotatedSteps.{Kept, Step, one_step, no_step, two_steps, later_step}
@@ -201,15 +201,7 @@ module _ {H E W : Type 0} (m : Primitives H E W) (opposes : HasOpposites m) (dep
           ∙ ap (λ (o : Option (List PlacedLine)). or_stuck o (λ code. placed_goes (record g { code = code }) gs known' shared'))
           (found_again f.function f.whole g.whole is) in
           let marked_like : IsLike q q' on marked
-          = record {
-            there = like.there;
-            there' = like.there';
-            function = like.function;
-            cells = like.cells;
-            held = like.held;
-            held_cells =
-                like.held_cells;
-          } in
+          = like_on q q' f g loop.behind marked.code f.into g.into like in
           let stands : StandsFor {W = W} q q' IsAtSame (placed_goes on fs known shared) (placed_goes marked gs known' shared')
           = ((marked_like, (inr (is, inr (inl refl)), wait)), (more, same)) in
           one_step m depth q q' IsAtSame credit idle 1 s t same (omega arith) (weight_t ∙ sym weight_s) never
@@ -235,15 +227,7 @@ module _ {H E W : Type 0} (m : Primitives H E W) (opposes : HasOpposites m) (dep
           = ap (λ (o : Option (List PlacedLine)). or_stuck o (λ code. placed_goes
           (record on' { code = code }) gs known' shared')) there.1 in
           let like' : IsLike q q' (record on { code = jumps.0 }) (record on' { code = there.0 })
-          = record {
-            there = like.there;
-            there' = like.there';
-            function = like.function;
-            cells = like.cells;
-            held = like.held;
-            held_cells =
-                like.held_cells;
-          } in
+          = like_on q q' f g jumps.0 there.0 f.into g.into like in
           two_steps m depth q q' credit idle 2 s s' t t' t'' first (lower true taken) last refl refl refl saved
           (omega (arith, weight_s, weight_t)) never ((like', (there.2, wait)), (more, same))
 
@@ -408,15 +392,7 @@ module _ {H E W : Type 0} (m : Primitives H E W) (opposes : HasOpposites m) (dep
     at_mark credit idle is at' some =
         let g' : Frame PlacedLine = record g { code = rotated_lines is.loop f.code } in
         let like' : IsLike q q' f g'
-        = record {
-          there = like.there;
-          there' = like.there';
-          function = like.function;
-          cells = like.cells;
-          held = like.held;
-          held_cells =
-              like.held_cells;
-        } in
+        = like_on q q' f g f.code g'.code f.into g.into like in
         later_step m depth q q' credit idle (record { frames = f ∷ fs; registers = known; shared = shared })
         (record { frames = g ∷ gs; registers = known'; shared = shared' })
         (record { frames = g' ∷ gs; registers = known'; shared = shared' })
