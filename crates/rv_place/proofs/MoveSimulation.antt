@@ -41,7 +41,7 @@ use Rattle.rv_place.specs.declared.reach.WordForm.TheVariants.{Short, Upper, Bot
 use Rattle.rv_place.specs.Lines.{Map, register_into, MovesBy, ActsAt}
 use Rattle.rv_place.specs.declared.reach.Forms.{Forms}
 use Rattle.rv_place.specs.Grounds.{Ground, stack_end}
-use Rattle.rv_place.specs.ProcessorStates.{most_lines, IsIn, links_of, Running}
+use Rattle.rv_place.specs.ProcessorStates.{Agrees, most_lines, IsIn, links_of, Running}
 use Rattle.rv_place.proofs.InstructionExecution.{MissesFree, Gets, addi_row, plain_gets, load_gets, store_goes}
 use Rattle.rv_place.proofs.OccupiedWords.{behind_misses}
 use Rattle.rv_place.proofs.InstructionRows.{from_pointer}
@@ -98,12 +98,12 @@ module _ {map_of : Map} {pool : Pool} {functions : List PlacedLines} {depth buff
   abbrev behind : Frame PlacedLine
   behind = record f { code = rest }
 
-  -- ---- labels
-
-  pub follow_label : (old : ℕ) → IsIn map_of code (most_lines functions) s.pc behind → 1 + length rest ≤ old → Comes map_of pool functions depth stop code parts 0 old (placed_goes behind fs known world) s
-  follow_label old is_in less =
+  -- a line that is no instruction: the code behind it is left, and other words may be known
+  passes : (old : ℕ) (more : ℕ → Option ℕ) → Agrees more s.registers → IsIn map_of code (most_lines functions) s.pc behind → 1 + length rest ≤ old
+      → Comes map_of pool functions depth stop code parts 0 old (placed_goes behind fs more world) s
+  passes old more agrees is_in less =
       let stand = running.frames in
-      comes_idle map_of pool functions depth stop code parts 0 old (record { frames = behind ∷ fs; registers = known; shared = world }) s (record {
+      comes_idle map_of pool functions depth stop code parts 0 old (record { frames = behind ∷ fs; registers = more; shared = world }) s (record {
         rests = running.rests;
         trace = running.trace;
         left = running.left;
@@ -112,10 +112,15 @@ module _ {map_of : Map} {pool : Pool} {functions : List PlacedLines} {depth buff
         base = running.base;
         base_is = running.base_is;
         frames = (is_in, stand.1, stand.2, stand.3);
-        registers = running.registers;
+        registers = agrees;
         one = running.one;
         cells = running.cells;
       }) less
+
+  -- ---- labels
+
+  pub follow_label : (old : ℕ) → IsIn map_of code (most_lines functions) s.pc behind → 1 + length rest ≤ old → Comes map_of pool functions depth stop code parts 0 old (placed_goes behind fs known world) s
+  follow_label old is_in less = passes old known running.registers is_in less
 
   -- ---- copies and constants that are no instruction
 
@@ -124,23 +129,9 @@ module _ {map_of : Map} {pool : Pool} {functions : List PlacedLines} {depth buff
       → IsIn map_of code (most_lines functions) s.pc behind → 1 + length rest ≤ old
       → Comes map_of pool functions depth stop code parts 0 old (placed_writes (register q) (Some word) behind fs known world) s
   holds_already old word q handed has is_in less =
-      let stand = running.frames in
-      comes_idle map_of pool functions depth stop code parts 0 old
-      (record { frames = behind ∷ fs; registers = put q.number (Some word) known; shared = world }) s (record {
-        rests = running.rests;
-        trace = running.trace;
-        left = running.left;
-        bytes = running.bytes;
-        room = running.room;
-        base = running.base;
-        base_is = running.base_is;
-        frames = (is_in, stand.1, stand.2, stand.3);
-        registers = agrees_put q.number (Some word) known s.registers s.registers running.registers handed
-            (λ w e. let equal : word ≡ w = cc in subst (λ v. (value s.registers q.number ≡ v) × (v < 2 ^ 32)) equal has)
-            (λ x some apart. refl);
-        one = running.one;
-        cells = running.cells;
-      }) less
+      passes old (put q.number (Some word) known) (agrees_put q.number (Some word) known s.registers s.registers running.registers handed
+      (λ w e. let equal : word ≡ w = cc in subst (λ v. (value s.registers q.number ≡ v) × (v < 2 ^ 32)) equal has)
+      (λ x some apart. refl)) is_in less
 
   -- a copy of it, to the register where it is
   has_already : (old word : ℕ) (from to : Place) → is_same_register from to ≡ true → read_at known f.cells from ≡ Some word
