@@ -10,10 +10,10 @@ use Rattle.kk_base.proofs.Machines.{trace-add, trace_stays, ending_stays}
 use Rattle.kk_base.proofs.Traces.{some-input}
 use Rattle.kk_source.specs.SourceAfter.{State, After, source_machine, ending_of, source_after, first_state}
 use Rattle.kk_source.specs.State.{Setting, End, ended, heap_full, stack_full, end_at, start, Configuration}
-use Rattle.rv_sim.specs.Devices.{asked}
+use Rattle.rv_sim.specs.Devices.{GivesEvents, asked}
 use Rattle.kk_answer.specs.declared.answer.RunEnd.{RunEnd}
 use Rattle.kk_answer.specs.declared.answer.RunEnd.TheVariants as OfRun
-use Rattle.kk_eval.specs.Evaluations.{end_for, is_input_end, is_output_end, HasCome, TakesNext, PrintsNext, StopsAt, RunsSource, RunsOutOfMemory}
+use Rattle.kk_eval.specs.Evaluations.{end_for, is_input_end, is_output_end, HasCome, TakesNext, PrintsNext, StopsAt, TakesInput, RunsSource, RunsOutOfMemory}
 use Rattle.kk_source.specs.Settings.{IsRun}
 use Rattle.kk_syntax.specs.Programs.{ProgramTree}
 use Rattle.kk_eval.specs.EvaluationStates.{with_input, StepsTo, AsksAt, PutsAt, Outcome, asks_input, asks_output, HasEvaluated}
@@ -76,6 +76,14 @@ looked setting steps OfRun.StepsSpent l l' h h' ran = record { count = ran.count
 looked setting steps OfRun.InputFault l l' h h' ran = record { count = ran.count; done = has_come setting ran.count ran.events ran.new None ran.leads ran.ending; stops = (ran.stands.0, ran.stands.1, takes_next setting ran.count ran.events ran.new ran.leads ran.stands.2) }
 looked setting steps OfRun.OutputFault l l' h h' ran = record { count = ran.count; done = has_come setting ran.count ran.events ran.new None ran.leads ran.ending; stops = (ran.stands.0, prints_next setting ran.count ran.events ran.cut ran.new ran.leads ran.stands.1) }
 
+-- what a run has taken of the input
+taken_input : (events : List Event) (input input' : SourceState) → GivesEvents events input input' → TakesInput events input input'
+taken_input events input input' given = record {
+  given = given.content;
+  bytes = given.bytes;
+  some_input = some-input events input.ended input'.ended given.once;
+}
+
 pub runs_source : (setting : Setting) (steps : ℕ) (end : RunEnd) (l l' : SourceState) (h h' : SinkState) → HasEvaluated setting steps (Ok end) (start setting) l l' h h'
     → Rises (is_input_end end) l.faults l'.faults → Rises (is_output_end end) h.faults h'.faults → RunsSource setting steps end l l' h h'
 runs_source setting steps end l l' h h' ran input_faults output_faults =
@@ -84,9 +92,7 @@ runs_source setting steps end l l' h h' ran input_faults output_faults =
       events = ran.events;
       cut = ran.cut;
       count = at.count;
-      given = ran.given.content;
-      bytes = ran.given.bytes;
-      some_input = some-input ran.events l.ended l'.ended ran.given.once;
+      taken = taken_input ran.events l l' ran.given;
       held = ran.held;
       input_faults = input_faults;
       output_faults = output_faults;
@@ -99,9 +105,7 @@ pub runs_out_of_memory : (setting : Setting) (steps : ℕ) (refused : NoMemory) 
 runs_out_of_memory setting steps refused l l' h h' ran input_faults output_faults = record {
   events = ran.events;
   count = ran.count;
-  given = ran.given.content;
-  bytes = ran.given.bytes;
-  some_input = some-input ran.events l.ended l'.ended ran.given.once;
+  taken = taken_input ran.events l l' ran.given;
   held = subst (λ (cut : List ℕ). h'.held ≡ option_map (λ before. before ++ (output_of ran.events ++ cut)) h.held) ran.stands.1 ran.held ∙ ap (λ (bytes : List ℕ). option_map (λ before. before ++ bytes) h.held) (append-nil (output_of ran.events));
   input_faults = input_faults;
   output_faults = output_faults;

@@ -52,14 +52,18 @@ StopsAt OfRun.InputFault setting steps count events cut = (count < steps) × (cu
 StopsAt OfRun.OutputFault setting steps count events cut = (count < steps) × PrintsNext setting count events cut
 StopsAt _ setting steps count events cut = (count ≡ steps) × (cut ≡ [])
 
+-- the bytes that events take are those that left a source, and there is some input that they can have taken
+pub record TakesInput (events : List Event) (input input' : SourceState) : Type 0 where
+  pub given : GivesContent events input.left input'.left
+  pub bytes : TakesBytes events
+  pub some_input : TakesFrom events (input_of events) []
+
 -- The program was run for at most so many steps, and did these events on the devices. There is some input of bytes that they can have taken.
 pub record RunsSource (setting : Setting) (steps : ℕ) (end : RunEnd) (input input' : SourceState) (out out' : SinkState) : Type 0 where
   pub events : List Event
   pub cut : List ℕ
   pub count : ℕ
-  pub given : GivesContent events input.left input'.left
-  pub bytes : TakesBytes events
-  pub some_input : TakesFrom events (input_of events) []
+  pub taken : TakesInput events input input'
   pub held : out'.held ≡ option_map (λ before. before ++ (output_of events ++ cut)) out.held
   pub input_faults : Rises (is_input_end end) input.faults input'.faults
   pub output_faults : Rises (is_output_end end) out.faults out'.faults
@@ -70,9 +74,7 @@ pub record RunsSource (setting : Setting) (steps : ℕ) (end : RunEnd) (input in
 pub record RunsOutOfMemory (setting : Setting) (steps : ℕ) (input input' : SourceState) (out out' : SinkState) : Type 0 where
   pub events : List Event
   pub count : ℕ
-  pub given : GivesContent events input.left input'.left
-  pub bytes : TakesBytes events
-  pub some_input : TakesFrom events (input_of events) []
+  pub taken : TakesInput events input input'
   pub held : out'.held ≡ option_map (λ before. before ++ output_of events) out.held
   pub input_faults : input'.faults ≡ input.faults
   pub output_faults : out'.faults ≡ out.faults

@@ -58,9 +58,11 @@ module _ (file : List ℕ) (entry : ℕ) (parts : List Part) (loaded : IsLoaded 
         events = ran.events;
         cut = ran.cut;
         count = count;
-        given = ran.given.content;
-        bytes = ran.given.bytes;
-        some_input = some-input ran.events input.ended input'.ended ran.given.once;
+        taken = record {
+          given = ran.given.content;
+          bytes = ran.given.bytes;
+          some_input = some-input ran.events input.ended input'.ended ran.given.once;
+        };
         held = ran.held;
         input_faults = in_faults;
         output_faults = out_faults;

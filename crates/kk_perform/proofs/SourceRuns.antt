@@ -63,4 +63,4 @@ module _ (program : ProgramTree) (image : List ℕ) (cells depth : ℕ) (setting
 -- the run of an image that ends well stops well
 pub stops_well : (image : List ℕ) (steps : ℕ) (halt : Halt) (input input' : SourceState) (out out' : SinkState) → EndsWell image → RunsImage image steps halt input input' out out' → ExitsWell exit_of (ending_at halt)
 stops_well image steps halt input input' out out' well runs =
-    subst (λ (ending : Ending). ExitsWell exit_of ending) (runs.done (input_of runs.events) [] runs.some_input).1 (well (input_of runs.events) runs.bytes runs.count)
+    subst (λ (ending : Ending). ExitsWell exit_of ending) (runs.done (input_of runs.events) [] runs.taken.some_input).1 (well (input_of runs.events) runs.taken.bytes runs.count)

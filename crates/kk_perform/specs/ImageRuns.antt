@@ -3,10 +3,11 @@ use Rattle.std.specs.Prelude.{◌≡◌, ◌≤◌, ◌<◌, ℕ, ◌+◌, List,
 use Rattle.kk_base.specs.Faults.{Rises}
 use Rattle.kk_base.specs.Sink.{SinkState}
 use Rattle.kk_base.specs.Source.{SourceState}
-use Rattle.kk_base.specs.Trace.{Event, output, output_of, input_of, TakesBytes, TakesFrom}
-use Rattle.rv_sim.specs.Devices.{GivesContent, asked, ending_at, is_input_fault, is_output_fault}
+use Rattle.kk_base.specs.Trace.{Event, output, output_of, TakesFrom}
+use Rattle.rv_sim.specs.Devices.{asked, ending_at, is_input_fault, is_output_fault}
 use Rattle.rv_sim.specs.declared.halt.Halt.{Halt}
 use Rattle.rv_sim.specs.declared.halt.Halt.TheVariants.{InputFault, OutputFault}
+use Rattle.kk_eval.specs.Evaluations.{TakesInput}
 use Rattle.kk_build.specs.ImageAfter.{Ending, file_after, free_cells}
 
 -- on each input that the events can have taken, the image has done them after so many instructions, and has ended so
@@ -46,9 +47,7 @@ pub record RunsImage (image : List ℕ) (steps : ℕ) (halt : Halt) (input input
   pub events : List Event
   pub cut : List ℕ
   pub count : ℕ
-  pub given : GivesContent events input.left input'.left
-  pub bytes : TakesBytes events
-  pub some_input : TakesFrom events (input_of events) []
+  pub taken : TakesInput events input input'
   pub held : out'.held ≡ option_map (λ before. before ++ (output_of events ++ cut)) out.held
   pub input_faults : Rises (is_input_fault halt) input.faults input'.faults
   pub output_faults : Rises (is_output_fault halt) out.faults out'.faults
