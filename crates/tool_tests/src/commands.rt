@@ -25,384 +25,276 @@ struct Row<'a> {
 const ECHO: &str =
     "fun echo(): console () { val b = read-byte(); println(b); if b >= 0 then echo() }; fun main() { echo() }";
 
+// Devices of which one call is refused: the first or the second of the store, or of input, output or error.
+const NO_FIRST_FILE: Refused = Refused { files: 1, ..NONE };
+
+const NO_SECOND_FILE: Refused = Refused { files: 2, ..NONE };
+
+const NO_SECOND_OUTPUT: Refused = Refused { out: 2, ..NONE };
+
+const NO_OUTPUT: Refused = Refused { out: 1, ..NONE };
+
+const NO_LINE: Refused = Refused { err: 1, ..NONE };
+
+const NO_INPUT: Refused = Refused { input: 1, ..NONE };
+
+const NO_SECOND_INPUT: Refused = Refused { input: 2, ..NONE };
+
+const NO_FOURTH_OUTPUT: Refused = Refused { out: 4, ..NONE };
+
+/// The line behind words that are no command.
+const USAGE: &str =
+    "usage: kokarv check FILE, build FILE -o OUT, run FILE, sim IMAGE, eval FILE, bench SEED SIZE\n";
+
+/// A row whose command is done, and tells nothing.
+const PLAIN: Row = Row {
+    line: "",
+    text: "",
+    refused: NONE,
+    status: Status::Done,
+    out: "",
+    err: "",
+    writes: false,
+};
+
+/// A row whose file cannot be read.
+const NOT_READ: Row = Row {
+    refused: NO_FIRST_FILE,
+    status: Status::FileFault,
+    err: "file fault: a.kk\n",
+    ..PLAIN
+};
+
 static ROWS: [Row; 32] = [
     Row {
         line: "kokarv run a.kk",
         text: "fun main() { println(1 + 2 * 3) }",
-        refused: NONE,
-        status: Status::Done,
         out: "7\n",
-        err: "",
-        writes: false,
+        ..PLAIN
     },
     Row {
         line: "kokarv check a.kk",
         text: "fun main() { println(1 + 2 * 3) }",
-        refused: NONE,
-        status: Status::Done,
-        out: "",
-        err: "",
-        writes: false,
+        ..PLAIN
     },
     Row {
         line: "kokarv build a.kk -o a.elf",
         text: "fun main() { println(1 + 2 * 3) }",
-        refused: NONE,
-        status: Status::Done,
-        out: "",
-        err: "",
         writes: true,
+        ..PLAIN
     },
     Row {
         line: "kokarv build a.kk -o a.elf",
         text: "fun main() { println(1 +) }",
-        refused: NONE,
         status: Status::Refused,
-        out: "",
         err: "refused: parse 1 at line 1 column 25\n",
-        writes: false,
+        ..PLAIN
     },
     Row {
         line: "kokarv",
-        text: "",
-        refused: NONE,
         status: Status::Usage,
-        out: "",
-        err: "usage: kokarv check FILE, build FILE -o OUT, run FILE, sim IMAGE, eval FILE, bench SEED SIZE\n",
-        writes: false,
+        err: USAGE,
+        ..PLAIN
     },
     Row {
         line: "kokarv run b.kk",
-        text: "",
-        refused: NONE,
         status: Status::FileFault,
-        out: "",
         err: "file fault: b.kk\n",
-        writes: false,
+        ..PLAIN
     },
     Row {
         line: "kokarv run a.kk --steps 3",
         text: "fun main() { println(1) }",
-        refused: NONE,
         status: Status::StepsSpent,
-        out: "",
         err: "steps spent: 3\n",
-        writes: false,
+        ..PLAIN
     },
     // The first call of the store reads FILE, the second writes OUT.
     Row {
         line: "kokarv check a.kk",
         text: "fun main() { println(1) }",
-        refused: Refused {
-            files: 1,
-            input: 0,
-            out: 0,
-            err: 0,
-        },
-        status: Status::FileFault,
-        out: "",
-        err: "file fault: a.kk\n",
-        writes: false,
+        ..NOT_READ
     },
     Row {
         line: "kokarv build a.kk -o a.elf",
         text: "fun main() { println(1 + 2 * 3) }",
-        refused: Refused {
-            files: 1,
-            input: 0,
-            out: 0,
-            err: 0,
-        },
-        status: Status::FileFault,
-        out: "",
-        err: "file fault: a.kk\n",
-        writes: false,
+        ..NOT_READ
     },
     Row {
         line: "kokarv build a.kk -o a.elf",
         text: "fun main() { println(1 + 2 * 3) }",
-        refused: Refused {
-            files: 2,
-            input: 0,
-            out: 0,
-            err: 0,
-        },
+        refused: NO_SECOND_FILE,
         status: Status::FileFault,
-        out: "",
         err: "file fault: a.elf\n",
-        writes: false,
+        ..PLAIN
     },
     Row {
         line: "kokarv run a.kk",
         text: "fun main() { println(1); println(2) }",
-        refused: Refused {
-            files: 0,
-            input: 0,
-            out: 2,
-            err: 0,
-        },
+        refused: NO_SECOND_OUTPUT,
         status: Status::OutputFault,
         out: "1\n",
         err: "output fault\n",
-        writes: false,
+        ..PLAIN
     },
     Row {
         line: "kokarv run a.kk",
         text: "fun main() { println(1); println(\"a\") }",
         refused: Refused {
-            files: 0,
-            input: 0,
             out: 3,
             err: 1,
+            ..NONE
         },
-        status: Status::Done,
         out: "1\na\n",
-        err: "",
-        writes: false,
+        ..PLAIN
     },
     // An empty string is no put.
     Row {
         line: "kokarv run a.kk",
         text: "fun main() { print(\"\"); print(\"x\") }",
-        refused: Refused {
-            files: 0,
-            input: 0,
-            out: 1,
-            err: 0,
-        },
+        refused: NO_OUTPUT,
         status: Status::OutputFault,
-        out: "",
         err: "output fault\n",
-        writes: false,
+        ..PLAIN
     },
     Row {
         line: "kokarv run a.kk",
         text: "fun main() { print(1) }",
         refused: Refused {
-            files: 0,
-            input: 0,
             out: 1,
             err: 1,
+            ..NONE
         },
         status: Status::OutputFault,
-        out: "",
-        err: "",
-        writes: false,
+        ..PLAIN
     },
     Row {
         line: "kokarv check a.kk",
-        text: "",
-        refused: Refused {
-            files: 0,
-            input: 0,
-            out: 0,
-            err: 1,
-        },
+        refused: NO_LINE,
         status: Status::OutputFault,
-        out: "",
-        err: "",
-        writes: false,
+        ..PLAIN
     },
     Row {
         line: "kokarv check a.kk",
-        text: "",
-        refused: Refused {
-            files: 0,
-            input: 0,
-            out: 0,
-            err: 2,
-        },
+        refused: Refused { err: 2, ..NONE },
         status: Status::OutputFault,
-        out: "",
         err: "refused: name ",
-        writes: false,
+        ..PLAIN
     },
     Row {
         line: "kokarv help",
-        text: "",
-        refused: Refused {
-            files: 0,
-            input: 0,
-            out: 0,
-            err: 1,
-        },
+        refused: NO_LINE,
         status: Status::OutputFault,
-        out: "",
-        err: "",
-        writes: false,
+        ..PLAIN
     },
     Row {
         line: "kokarv run a.kk --stats --cells 5",
         text: "fun main() { println(1 + 2 * 3) }",
-        refused: NONE,
-        status: Status::Done,
         out: "7\n",
         err: "stats: instructions 46 free 5 of 5\n",
-        writes: false,
+        ..PLAIN
     },
     Row {
         line: "kokarv run a.kk --stats",
         text: "fun main() { println(1 + 2 * 3) }",
-        refused: Refused {
-            files: 0,
-            input: 0,
-            out: 0,
-            err: 1,
-        },
+        refused: NO_LINE,
         status: Status::OutputFault,
         out: "7\n",
-        err: "",
-        writes: false,
+        ..PLAIN
     },
     // The input is the bytes 10 and 255.
     Row {
         line: "kokarv run a.kk",
         text: ECHO,
-        refused: NONE,
-        status: Status::Done,
         out: "10\n255\n-1\n",
-        err: "",
-        writes: false,
+        ..PLAIN
     },
     Row {
         line: "kokarv run a.kk",
         text: ECHO,
-        refused: Refused {
-            files: 0,
-            input: 1,
-            out: 0,
-            err: 0,
-        },
+        refused: NO_INPUT,
         status: Status::InputFault,
-        out: "",
         err: "input fault\n",
-        writes: false,
+        ..PLAIN
     },
     Row {
         line: "kokarv run a.kk",
         text: ECHO,
-        refused: Refused {
-            files: 0,
-            input: 2,
-            out: 0,
-            err: 0,
-        },
+        refused: NO_SECOND_INPUT,
         status: Status::InputFault,
         out: "10\n",
         err: "input fault\n",
-        writes: false,
+        ..PLAIN
     },
     Row {
         line: "kokarv run a.kk",
         text: ECHO,
-        refused: Refused {
-            files: 0,
-            input: 0,
-            out: 1,
-            err: 0,
-        },
+        refused: NO_OUTPUT,
         status: Status::OutputFault,
-        out: "",
         err: "output fault\n",
-        writes: false,
+        ..PLAIN
     },
     Row {
         line: "kokarv sim a.kk",
         text: "fun main() { print(1) }",
-        refused: NONE,
         status: Status::BadImage,
-        out: "",
         err: "bad image: 1\n",
-        writes: false,
+        ..PLAIN
     },
     Row {
         line: "kokarv bench 1",
-        text: "",
-        refused: NONE,
         status: Status::Usage,
-        out: "",
-        err: "usage: kokarv check FILE, build FILE -o OUT, run FILE, sim IMAGE, eval FILE, bench SEED SIZE\n",
-        writes: false,
+        err: USAGE,
+        ..PLAIN
     },
     Row {
         line: "kokarv bench 1 0",
-        text: "",
-        refused: NONE,
         status: Status::Usage,
-        out: "",
-        err: "usage: kokarv check FILE, build FILE -o OUT, run FILE, sim IMAGE, eval FILE, bench SEED SIZE\n",
-        writes: false,
+        err: USAGE,
+        ..PLAIN
     },
     Row {
         line: "kokarv bench 1 101",
-        text: "",
-        refused: NONE,
         status: Status::Usage,
-        out: "",
-        err: "usage: kokarv check FILE, build FILE -o OUT, run FILE, sim IMAGE, eval FILE, bench SEED SIZE\n",
-        writes: false,
+        err: USAGE,
+        ..PLAIN
     },
     Row {
         line: "kokarv bench 1 1 --cells 999",
-        text: "",
-        refused: NONE,
         status: Status::HeapFull,
-        out: "",
         err: "heap full: 999 cells\n",
-        writes: false,
+        ..PLAIN
     },
     Row {
         line: "kokarv bench 1 1 --steps 3",
-        text: "",
-        refused: NONE,
         status: Status::StepsSpent,
-        out: "",
         err: "steps spent: 3\n",
-        writes: false,
+        ..PLAIN
     },
     // The first put is the program's, the others are of the line behind its output.
     Row {
         line: "kokarv bench 1 1",
-        text: "",
-        refused: Refused {
-            files: 0,
-            input: 0,
-            out: 1,
-            err: 0,
-        },
+        refused: NO_OUTPUT,
         status: Status::OutputFault,
-        out: "",
         err: "output fault\n",
-        writes: false,
+        ..PLAIN
     },
     Row {
         line: "kokarv bench 1 1",
-        text: "",
-        refused: Refused {
-            files: 0,
-            input: 0,
-            out: 2,
-            err: 0,
-        },
+        refused: NO_SECOND_OUTPUT,
         status: Status::OutputFault,
         out: "565500\n",
         err: "output fault\n",
-        writes: false,
+        ..PLAIN
     },
     // The text of seed 1 and size 1 has 537 bytes.
     Row {
         line: "kokarv bench 1 1",
-        text: "",
-        refused: Refused {
-            files: 0,
-            input: 0,
-            out: 4,
-            err: 0,
-        },
+        refused: NO_FOURTH_OUTPUT,
         status: Status::OutputFault,
         out: "565500\nsource 537",
         err: "output fault\n",
-        writes: false,
+        ..PLAIN
     },
 ];
 
