@@ -3,7 +3,6 @@ use Rattle.std.proofs.Common.{◌≡◌, ℕ, zero, suc, ◌+◌, ◌-◌, ◌<�
 use Rattle.std.specs.Prelude.{slice_get, sum_by, if◌then◌else◌}
 use Rattle.std.proofs.lemmas.List.{length-map}
 use Rattle.std.proofs.lemmas.List.Sums.{sum_by-cons}
-use Rattle.std.proofs.lemmas.Option.{slice_get_within}
 use Rattle.kk_syntax.specs.Patterns.{Pattern, anything, variable, exactly, constructor, Patterns, no_part, part}
 use Rattle.kk_syntax.specs.Shapes.{is_among, nodes_of_pattern, nodes_of_patterns}
 use Rattle.kk_source.specs.Matching.{and_then}
@@ -19,8 +18,7 @@ use Rattle.kk_match.specs.Decided.{most_tests, IsFormed}
 use Rattle.kk_match.specs.Turned.{turn_edge, turn_node, turned}
 use Rattle.kk_match.proofs.StateAfterAnswer.{not_heavier}
 use Rattle.kk_match.proofs.RowOrder.{AllLight}
-use Rattle.kk_match.proofs.Places.{get_left}
-use Rattle.kk_match.proofs.NodeRuns.{IsAt, IsSound, Stands, as_long, at_place, get_turned, next_turned, turned_at}
+use Rattle.kk_match.proofs.NodeRuns.{IsSound, Stands, turns_to, next_turned, turned_at}
 use Rattle.kk_match.proofs.Targets.{next_among}
 
 -- ---- turned nodes
@@ -31,26 +29,16 @@ module _ (types : List ℕ) (states : List StateTree) (nodes : List NodeTree) (l
   edges_left : (steps k : ℕ) (state : StateTree) → Stands states k state → edges_from cells v (turned last nodes) steps k ≤ weight state
   edges_left zero k state stands = omega arith
   edges_left (suc steps) k state stands =
+      let here = turns_to (IsSound types) states nodes last k state sound count stands in
       subst (λ (o : Option NodeTree). edges_at cells v (edges_from cells v (turned last nodes) steps) o ≤ weight state)
-      (sym (get_turned last nodes stands.place k here.node (stands.sum ∙ long) here.is))
-      (by here.node here.right
-      (λ j later low named. edges_left steps (last - j) later (record { place = j; sum = summed j low; named = named })))
+      (sym here.is)
+      (by here.before here.node here.right (λ j later names. edges_left steps (last - j) later (here.later j later names)))
     where
-      long : length states ≡ length nodes
-      long = as_long (IsSound types) states nodes sound
-
-      here : IsAt (IsSound types) states nodes stands.place state
-      here = at_place (IsSound types) states nodes sound stands.place state stands.named
-
-      summed : (j : ℕ) → j < stands.place → j + suc (last - j) ≡ length states
-      summed j low = let a = long in let b = stands.sum in omega (arith, a, b, low, count)
-
-      by : (node : NodeTree) → IsSound types here.before state node
-          → ((j : ℕ) (later : StateTree) → j < stands.place → Names states j later
-          → edges_from cells v (turned last nodes) steps (last - j) ≤ weight later)
+      by : (before : List StateTree) (node : NodeTree) → IsSound types before state node
+          → ((j : ℕ) (later : StateTree) → Names before j later → edges_from cells v (turned last nodes) steps (last - j) ≤ weight later)
           → edges_at cells v (edges_from cells v (turned last nodes) steps) (Some (turn_node last node)) ≤ weight state
-      by (chooses row) right rest = omega arith
-      by (tests at edges otherwise) right rest = at_answer (found_at cells at v)
+      by before (chooses row) right rest = omega arith
+      by before (tests at edges otherwise) right rest = at_answer (found_at cells at v)
         where
           none : length (map (turn_edge last) edges) + 0 ≤ weight state
           none = let same = length-map edges (turn_edge last) in let few = right.few in omega (arith, same, few)
@@ -60,12 +48,7 @@ module _ (types : List ℕ) (states : List StateTree) (nodes : List NodeTree) (l
           on None among = none
           on (Some j) among =
               let leads = right.leads j (among j refl) in
-              let within = slice_get_within here.before j leads.0 leads.1 in
-              let long_before = here.long in
-              let low : j < stands.place = omega (arith, within, long_before) in
-              let named : Names states j leads.0
-              = subst (λ ss. Names ss j leads.0) (sym here.all) (get_left here.before here.more j leads.0 leads.1) in
-              let behind = rest j leads.0 low named in
+              let behind = rest j leads.0 leads.1 in
               let same = length-map edges (turn_edge last) in
               let lighter = leads.2 in
               omega (arith, behind, same, lighter)

@@ -5,7 +5,6 @@ use lib.Pointwise.{pointwise}
 use Rattle.std.proofs.Math.Nat.{mul-le-mul_right}
 use Rattle.std.proofs.lemmas.List.{length-map}
 use Rattle.std.proofs.lemmas.List.Sums.{sum_by-cons}
-use Rattle.std.proofs.lemmas.Option.{slice_get_within}
 use Rattle.kk_syntax.specs.Patterns.{Pattern, anything, variable, exactly, constructor, Patterns, no_part, part}
 use Rattle.kk_syntax.specs.Shapes.{is_among, nodes_of_pattern, nodes_of_patterns}
 use Rattle.kk_source.specs.Matching.{and_then}
@@ -20,8 +19,7 @@ use Rattle.kk_match.specs.Built.{Names, InRow}
 use Rattle.kk_match.specs.Turned.{turn_edge, turn_node, turned}
 use Rattle.kk_match.proofs.StateAfterAnswer.{lighter}
 use Rattle.kk_match.proofs.RowOrder.{AllLight, PartsShort, AreShort, AllShort}
-use Rattle.kk_match.proofs.Places.{get_left}
-use Rattle.kk_match.proofs.NodeRuns.{IsAt, IsSound, Stands, as_long, at_place, get_turned, next_turned, turned_at}
+use Rattle.kk_match.proofs.NodeRuns.{IsSound, Stands, turns_to, next_turned, turned_at}
 use Rattle.kk_match.proofs.Targets.{next_among}
 
 -- ---- positions stay short
@@ -132,26 +130,17 @@ module _ (types : List ℕ) (states : List StateTree) (nodes : List NodeTree) (l
       → looks_from cells v (turned last nodes) steps k ≤ weight state * (most + 1)
   looks_left zero k state stands = omega arith
   looks_left (suc steps) k state stands =
+      let here = turns_to (IsSound types) states nodes last k state sound count stands in
       subst (λ (o : Option NodeTree). looks_at cells v (looks_from cells v (turned last nodes) steps) o ≤ weight state * (most + 1))
-      (sym (get_turned last nodes stands.place k here.node (stands.sum ∙ long) here.is))
-      (by here.node here.right
-      (λ j later low named. looks_left steps (last - j) later (record { place = j; sum = summed j low; named = named })))
+      (sym here.is)
+      (by here.before here.node here.right (λ j later names. looks_left steps (last - j) later (here.later j later names)))
     where
-      long : length states ≡ length nodes
-      long = as_long (IsSound types) states nodes sound
-
-      here : IsAt (IsSound types) states nodes stands.place state
-      here = at_place (IsSound types) states nodes sound stands.place state stands.named
-
-      summed : (j : ℕ) → j < stands.place → j + suc (last - j) ≡ length states
-      summed j low = let a = long in let b = stands.sum in omega (arith, a, b, low, count)
-
-      by : (node : NodeTree) → IsSound types here.before state node
-          → ((j : ℕ) (later : StateTree) → j < stands.place → Names states j later
+      by : (before : List StateTree) (node : NodeTree) → IsSound types before state node
+          → ((j : ℕ) (later : StateTree) → Names before j later
           → looks_from cells v (turned last nodes) steps (last - j) ≤ weight later * (most + 1))
           → looks_at cells v (looks_from cells v (turned last nodes) steps) (Some (turn_node last node)) ≤ weight state * (most + 1)
-      by (chooses row) right rest = omega arith
-      by (tests at edges otherwise) right rest = at_answer (found_at cells at v)
+      by before (chooses row) right rest = omega arith
+      by before (tests at edges otherwise) right rest = at_answer (found_at cells at v)
         where
           test : Part
           test = record { at = at; asked = right.asked }
@@ -175,14 +164,9 @@ module _ (types : List ℕ) (states : List StateTree) (nodes : List NodeTree) (l
           on None among = none
           on (Some j) among =
               let leads = right.leads j (among j refl) in
-              let within = slice_get_within here.before j leads.0 leads.1 in
-              let long_before = here.long in
-              let low : j < stands.place = omega (arith, within, long_before) in
-              let named : Names states j leads.0
-              = subst (λ ss. Names ss j leads.0) (sym here.all) (get_left here.before here.more j leads.0 leads.1) in
               pays most (length at) (length (map (turn_edge last) edges)) (weight leads.0) (weight state)
               (looks_from cells v (turned last nodes) steps (last - j)) low_at
-              (let few = leads.2 in omega (arith, same, few)) leads.3 (rest j leads.0 low named)
+              (let few = leads.2 in omega (arith, same, few)) leads.3 (rest j leads.0 leads.1)
 
           at_answer : (o : Option Answer)
               → suc (length at + length (map (turn_edge last) edges))

@@ -1,17 +1,19 @@
 -- What turned nodes decide: those of a graph, and those of rows that are tried one after the other.
 use Rattle.std.proofs.Common.{◌≡◌, ℕ, suc, ◌+◌, ◌-◌, ◌<◌, ◌≤◌, Bool, false, Result, Ok, Err, List, [], ◌∷◌, ◌++◌, length, map, refl, sym, ap, ◌∙◌, subst, arith, append_assoc}
-use Rattle.std.specs.Prelude.{count_by, sum_by, IfOk}
+use Rattle.std.specs.Prelude.{count_by, sum_by, IfOk, Option, Some}
+use Rattle.std.proofs.lemmas.List.{length-map}
+use Rattle.kk_core.specs.declared.decisions.Node.{Node}
 use Rattle.kk_syntax.specs.Patterns.{Pattern}
 use Rattle.kk_syntax.specs.Programs.{ConstructorTree}
 use Rattle.kk_syntax.specs.Shapes.{nodes_of_pattern}
 use Rattle.kk_core.specs.Cases.{IsLean}
 use Rattle.kk_core.specs.RowChoice.{Decides}
-use Rattle.kk_core.specs.Decisions.{NodeTree, AreOrderly}
-use Rattle.kk_match.specs.Parts.{parts_of, AreTypeNumbers}
+use Rattle.kk_core.specs.Decisions.{NodeTree, node_tree, AreOrderly}
+use Rattle.kk_match.specs.Parts.{Part, parts_of, AreTypeNumbers}
 use Rattle.kk_match.specs.Graphs.{StateTree, IsReached, lines_of, lines_from, HasTests, HasMoreTests, testing}
 use Rattle.kk_match.specs.Built.{Names, InRow, no_state}
 use Rattle.kk_match.specs.Decided.{is_test, most_tests, IsFormed}
-use Rattle.kk_match.specs.GraphGrowth.{IsBuilt, IsOver, IsGraphOf}
+use Rattle.kk_match.specs.GraphGrowth.{IsBuilt, IsOver, IsGraph, IsGraphOf}
 use Rattle.kk_match.specs.InTurn.{with_rows}
 use Rattle.kk_match.specs.Turned.{turn_node, turned}
 use Rattle.kk_match.proofs.StateAfterAnswer.{AreBelow}
@@ -38,6 +40,12 @@ also_all (Err e) one other third then = one
 pub lines_same : {A : Type 0} (types : List ℕ) (view : A → Pattern) (k : ℕ) (xs : List A) → lines_of k (map (λ x. parts_of types [] (view x)) xs) ≡ lines_from types k (map view xs)
 lines_same types view k [] = refl
 lines_same types view k (x ∷ xs) = ap (λ (lines : StateTree). record { row = k; left = parts_of types [] (view x) } ∷ lines) (lines_same types view (k + 1) xs)
+
+-- the state in which rows have asked nothing yet
+pub state_of_rows : {A Q : Type 0} (types : List ℕ) (rows : List A) (given asked : List Q) (view : A → Pattern) (parts : Q → List Part) (state : StateTree)
+    → state ≡ lines_of 0 (map parts given) → given ≡ asked → map parts asked ≡ map (λ x. parts_of types [] (view x)) rows → state ≡ lines_from types 0 (map view rows)
+state_of_rows types rows given asked view parts state one two three =
+    one ∙ (ap (λ qs. lines_of 0 (map parts qs)) two ∙ (ap (lines_of 0) three ∙ lines_same types view 0 rows))
 
 -- ---- rows
 
@@ -109,6 +117,19 @@ graph_some types most start nodes graph =
     let is = starts_last types most start nodes graph in
     let long = as_long _ graph.states nodes graph.right in
     omega (arith, is, long)
+
+-- the nodes that are found of rows are a graph, and some
+pub graph_of_rows : {A Q : Type 0} (types : List ℕ) (most : ℕ) (rows : List A) (given asked : List Q) (view : A → Pattern) (parts : Q → List Part) (state : StateTree)
+    (found : Option (List Node)) (nodes : List Node)
+    → state ≡ lines_of 0 (map parts given) → given ≡ asked → map parts asked ≡ map (λ x. parts_of types [] (view x)) rows
+    → found ≡ Some nodes → IsGraph types most state found
+    → IsGraphOf types most (lines_from types 0 (map view rows)) (map node_tree nodes) × (suc (length nodes - 1) ≡ length (map node_tree nodes))
+graph_of_rows types most rows given asked view parts state found nodes one two three is graph =
+    let start = state_of_rows types rows given asked view parts state one two three in
+    let whole = subst (λ s. IsGraphOf types most s (map node_tree nodes)) start (subst (IsGraph types most state) is graph) in
+    let long = length-map nodes node_tree in
+    let some = graph_some types most (lines_from types 0 (map view rows)) (map node_tree nodes) whole in
+    (whole, omega (arith, long, some))
 
 module _ (types : List ℕ) (p : Pattern) (ps : List Pattern) where
   pub in_turn : RowsDone types (lines_from types 0 (p ∷ ps)) (states_of_rows (lines_from types 0 (p ∷ ps))) (with_rows (lines_from types 0 (p ∷ ps)) [])

@@ -216,6 +216,34 @@ pub record Stands (states : List StateTree) (k : ℕ) (state : StateTree) : Type
   pub sum : place + suc k ≡ length states
   pub named : Names states place state
 
+-- the turned node of a state; the states that its node names have theirs further on
+pub record TurnsTo (R : List StateTree → StateTree → NodeTree → Type 0) (states : List StateTree) (nodes : List NodeTree) (last k : ℕ) (state : StateTree) : Type 0 where
+  pub node : NodeTree
+  pub before : List StateTree
+  pub right : R before state node
+  pub is : slice_get (turned last nodes) k ≡ Some (turn_node last node)
+  pub later : (j : ℕ) (other : StateTree) → Names before j other → Stands states (last - j) other
+  pub further : (j : ℕ) (other : StateTree) → Names before j other → k + 1 ≤ last - j
+
+pub turns_to : (R : List StateTree → StateTree → NodeTree → Type 0) (states : List StateTree) (nodes : List NodeTree) (last k : ℕ) (state : StateTree) → InRow R states nodes → suc last ≡ length nodes
+    → Stands states k state → TurnsTo R states nodes last k state
+turns_to R states nodes last k state row count stands =
+    let long = as_long R states nodes row in
+    let sum = stands.sum in
+    let here = at_place R states nodes row stands.place state stands.named in
+    let before = here.long in record {
+      node = here.node;
+      before = here.before;
+      right = here.right;
+      is = get_turned last nodes stands.place k here.node (sum ∙ long) here.is;
+      later = λ j other names. (let within = slice_get_within here.before j other names in record {
+        place = j;
+        sum = omega (arith, long, sum, within, before, count);
+        named = subst (λ ss. Names ss j other) (sym here.all) (get_left here.before here.more j other names);
+      });
+      further = λ j other names. (let within = slice_get_within here.before j other names in omega (arith, long, sum, within, before, count));
+    }
+
 pub first_chosen : (types : List ℕ) (states : List StateTree) (nodes : List NodeTree) (last : ℕ) (store : Store) (v : Value) → InRow (IsSound types) states nodes → suc last ≡ length nodes
     → (steps k : ℕ) (state : StateTree) (row : ℕ) → Stands states k state → length nodes ≤ steps + k → AreReady types store v state → first_fit store v state ≡ Some row
     → chosen_from (slice_get store) v (turned last nodes) steps k ≡ Some row
@@ -224,23 +252,12 @@ first_chosen types states nodes last store v sound count zero k state row stands
     let sum = stands.sum in
     absurd (omega (arith, long, sum, enough))
 first_chosen types states nodes last store v sound count (suc steps) k state row stands enough ready fit =
-    ap (row_at (slice_get store) v (chosen_from (slice_get store) v (turned last nodes) steps)) (get_turned last nodes stands.place k here.node (stands.sum ∙ long) here.is)
-    ∙ by here.node here.right
-    (λ j later low named. let k_less : k + 1 ≤ last - j = at_least j low in
-    first_chosen types states nodes last store v sound count steps (last - j) later row (record { place = j; sum = summed j low; named = named }) (omega (arith, enough, k_less)))
+    let here = turns_to (IsSound types) states nodes last k state sound count stands in
+    ap (row_at (slice_get store) v (chosen_from (slice_get store) v (turned last nodes) steps)) here.is
+    ∙ by here.before here.node here.right
+    (λ j later names. let further = here.further j later names in
+    first_chosen types states nodes last store v sound count steps (last - j) later row (here.later j later names) (omega (arith, enough, further)))
   where
-    long : length states ≡ length nodes
-    long = as_long (IsSound types) states nodes sound
-
-    here : IsAt (IsSound types) states nodes stands.place state
-    here = at_place (IsSound types) states nodes sound stands.place state stands.named
-
-    summed : (j : ℕ) → j < stands.place → j + suc (last - j) ≡ length states
-    summed j low = let a = long in let b = stands.sum in omega (arith, a, b, low, count)
-
-    at_least : (j : ℕ) → j < stands.place → k + 1 ≤ last - j
-    at_least j low = let a = long in let b = stands.sum in omega (arith, a, b, low, count)
-
     chosen_here : (state : StateTree) → test_of state ≡ None → first_fit store v state ≡ Some row → row_of state ≡ row
     chosen_here [] none fit = absurd (none-some row fit)
     chosen_here (line ∷ lines) none fit = left line.left none fit
@@ -249,20 +266,18 @@ first_chosen types states nodes last store v sound count (suc steps) k state row
         left [] none fit = same_Some line.row row fit
         left (p ∷ ps) none fit = cc
 
-    by : (node : NodeTree) → IsSound types here.before state node
-        → ((j : ℕ) (later : StateTree) → j < stands.place → Names states j later → AreReady types store v later → first_fit store v later ≡ Some row
+    by : (before : List StateTree) (node : NodeTree) → IsSound types before state node
+        → ((j : ℕ) (later : StateTree) → Names before j later → AreReady types store v later → first_fit store v later ≡ Some row
         → chosen_from (slice_get store) v (turned last nodes) steps (last - j) ≡ Some row)
         → row_at (slice_get store) v (chosen_from (slice_get store) v (turned last nodes) steps) (Some (turn_node last node)) ≡ Some row
-    by (chooses number) right rest = ap Some (right.1 ∙ chosen_here state right.0 fit)
-    by (tests at edges otherwise) right rest =
+    by before (chooses number) right rest = ap Some (right.1 ∙ chosen_here state right.0 fit)
+    by before (tests at edges otherwise) right rest =
         let asks : IsFound types store v (record { at = at; asked = right.asked }) = test_ready types store v state (record { at = at; asked = right.asked }) ready right.is_test in
         let moves = right.moves asks.found asks.kind in
         let later = moves.4 store v asks.there ready in
-        let low : moves.0 < stands.place = (let within = slice_get_within here.before moves.0 moves.2 moves.3 in let at = here.long in omega (arith, within, at)) in
-        let named : Names states moves.0 moves.2 = subst (λ ss. Names ss moves.0 moves.2) (sym here.all) (get_left here.before here.more moves.0 moves.2 moves.3) in
         ap (λ (o : Option Answer). and_then o (λ found. and_then (next_by (map (turn_edge last) edges) (option_map (λ j. last - j) otherwise) found) (chosen_from (slice_get store) v (turned last nodes) steps))) asks.there
         ∙ (ap (λ (o : Option ℕ). and_then o (chosen_from (slice_get store) v (turned last nodes) steps)) (next_turned last edges otherwise asks.found ∙ ap (option_map (λ j. last - j)) moves.1)
-        ∙ rest moves.0 moves.2 low named later.0 (later.1 row fit))
+        ∙ rest moves.0 moves.2 moves.3 later.0 (later.1 row fit))
 
 -- ---- turned nodes name later ones
 

@@ -2,7 +2,7 @@
 use Rattle.std.proofs.Common.{◌≡◌, ℕ, zero, suc, ◌+◌, ◌-◌, ◌<◌, Bool, true, false, Option, None, Some, option_map, List, [], ◌∷◌, length, map, refl, sym, ap, ◌∙◌, subst, arith}
 use Rattle.std.specs.Prelude.{slice_get}
 use Rattle.std.proofs.lemmas.Bool.{both_ways, eqb-true}
-use Rattle.std.proofs.lemmas.Option.{same_Some, slice_get_within}
+use Rattle.std.proofs.lemmas.Option.{same_Some}
 use Rattle.kk_syntax.specs.Patterns.{Pattern}
 use Rattle.kk_syntax.specs.Programs.{ConstructorTree}
 use Rattle.kk_syntax.specs.Types.{TypeTree}
@@ -24,8 +24,7 @@ use Rattle.kk_match.proofs.NodeDecisions.{graph_some, graph_stands, in_turn, in_
 use Rattle.kk_match.proofs.RowFit.{IsFound, AreReady, test_ready}
 use Rattle.kk_match.proofs.RowOrder.{states_of_rows}
 use Rattle.kk_match.proofs.Matching.{rows_hold}
-use Rattle.kk_match.proofs.Places.{get_left}
-use Rattle.kk_match.proofs.NodeRuns.{IsAt, at_place, as_long, IsSound, are_sound, Stands, get_turned, next_turned}
+use Rattle.kk_match.proofs.NodeRuns.{IsSound, are_sound, Stands, turns_to, next_turned}
 use Rattle.kk_match.proofs.PositionValues.{typed_at, shows_its}
 
 -- ---- answers of one kind
@@ -60,40 +59,30 @@ module _ (constructors : List ConstructorTree) (types : List ℕ) (tell : TellTy
   sound_alike : (steps k : ℕ) (state : StateTree) → Stands states k state → AreReady types store v state → Asks steps k
   sound_alike zero k state stands ready = tt
   sound_alike (suc steps) k state stands ready =
+      let here = turns_to (IsSound types) states nodes last k state sound count stands in
       subst (TestsNode (MakeOneType constructors) (field_count constructors) (slice_get store) v (Asks steps))
-      (sym (get_turned last nodes stands.place k here.node (stands.sum ∙ long) here.is))
-      (by here.node here.right (λ j later low named. sound_alike steps (last - j) later (record { place = j; sum = summed j low; named = named })))
+      (sym here.is)
+      (by here.before here.node here.right (λ j later names. sound_alike steps (last - j) later (here.later j later names)))
     where
-      long : length states ≡ length nodes
-      long = as_long (IsSound types) states nodes sound
-
-      here : IsAt (IsSound types) states nodes stands.place state
-      here = at_place (IsSound types) states nodes sound stands.place state stands.named
-
-      summed : (j : ℕ) → j < stands.place → j + suc (last - j) ≡ length states
-      summed j low = let a = long in let b = stands.sum in omega (arith, a, b, low, count)
-
-      by : (node : NodeTree) → IsSound types here.before state node
-          → ((j : ℕ) (later : StateTree) → j < stands.place → Names states j later → AreReady types store v later → Asks steps (last - j))
+      by : (before : List StateTree) (node : NodeTree) → IsSound types before state node
+          → ((j : ℕ) (later : StateTree) → Names before j later → AreReady types store v later → Asks steps (last - j))
           → TestsNode (MakeOneType constructors) (field_count constructors) (slice_get store) v (Asks steps) (Some (turn_node last node))
-      by (chooses row) right rest = tt
-      by (tests at edges otherwise) right rest = λ w there found answers.
+      by before (chooses row) right rest = tt
+      by before (tests at edges otherwise) right rest = λ w there found answers.
           let asks : IsFound types store v (record { at = at; asked = right.asked }) = test_ready types store v state (record { at = at; asked = right.asked }) ready right.is_test in
           let found_there : found_at (slice_get store) at v ≡ Some found = ap (λ (o : Option Value). and_then o (answer_of (slice_get store))) there ∙ answers in
           let same : asks.found ≡ found = same_Some asks.found found (sym asks.there ∙ found_there) in
           let kind : IsKind types right.asked found = subst (IsKind types right.asked) same asks.kind in
           let typed = typed_at constructors store at t v w of there in
           let moves = right.moves found kind in
-          let later = moves.4 store v found_there ready in
-          let low : moves.0 < stands.place = (let within = slice_get_within here.before moves.0 moves.2 moves.3 in let at = here.long in omega (arith, within, at)) in
-          let named : Names states moves.0 moves.2 = subst (λ ss. Names ss moves.0 moves.2) (sym here.all) (get_left here.before here.more moves.0 moves.2 moves.3) in (
+          let later = moves.4 store v found_there ready in (
             shows_its constructors store typed.0 w found typed.1 answers,
             (
               alike_edges constructors types tell last found edges (right.of_kind found kind),
               λ k next.
                   subst (Asks steps)
                   (same_Some (last - moves.0) k (sym (next_turned last edges otherwise found ∙ ap (option_map (λ j. last - j)) moves.1) ∙ next))
-                  (rest moves.0 moves.2 low named later.0),
+                  (rest moves.0 moves.2 moves.3 later.0),
             ),
           )
 

@@ -1,14 +1,27 @@
 -- Which tests decisions make.
 use Rattle.std.specs.Prelude.{◌≡◌, ◌<◌, ◌≤◌, ◌+◌, ◌*◌, ◌-◌, ℕ, Bool, true, false, List, [], length, Option, Some, sum_by, slice_get}
 use Rattle.kk_syntax.specs.Patterns.{Pattern}
+use Rattle.kk_syntax.specs.Programs.{ConstructorTree}
 use Rattle.kk_syntax.specs.Shapes.{is_among, nodes_of_pattern}
 use Rattle.kk_core.specs.declared.decisions.Edge.{Edge}
 use Rattle.kk_core.specs.CaseLengths.{choice_length, length_of_test, tests_length}
+use Rattle.kk_core.specs.Cases.{IsLean}
 use Rattle.kk_core.specs.Decisions.{NodeTree, chooses, tests, targets}
+use Rattle.kk_core.specs.Kinds.{AsksTyped}
+use Rattle.kk_core.specs.RowChoice.{Decides}
 use Rattle.kk_match.specs.Graphs.{weight, lines_from, HasTests, HasMoreTests}
 use Rattle.kk_match.specs.GraphGrowth.{IsGraphOf}
 use Rattle.kk_match.specs.InTurn.{with_rows}
+use Rattle.kk_match.specs.Parts.{AreTypeNumbers, TellTypes}
 use Rattle.kk_match.specs.Turned.{turned}
+
+-- What tests of rows do, whichever they are: of each value of a type of the patterns they choose the first row that matches, each
+-- answer that a test finds is of the type of its edges, and on a way few edges and nodes are looked at.
+pub record DecidesRows (types : List ℕ) (patterns : List Pattern) (nodes : List NodeTree) : Type 0 where
+  pub decides : (constructors : List ConstructorTree) → AreTypeNumbers constructors types → Decides constructors patterns nodes
+  pub asks : (constructors : List ConstructorTree) → AreTypeNumbers constructors types → TellTypes constructors types
+      → AsksTyped constructors patterns nodes
+  pub lean : IsLean nodes patterns
 
 -- a node tests a position
 abbrev pub TestsAt : List NodeTree → ℕ → List ℕ → Type 0

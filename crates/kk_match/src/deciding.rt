@@ -1,17 +1,13 @@
-ghost use Rattle.std.specs.Prelude.{◌≡◌, ◌<◌, ◌≤◌, ◌-◌, true, List, [], length, map, option_map, count_by, IfOk};
+ghost use Rattle.std.specs.Prelude.{◌≡◌, ◌<◌, ◌≤◌, ◌-◌, true, [], length, map, option_map, count_by, IfOk};
 ghost use Rattle.kk_core.specs.CaseLengths.{tests_length};
-ghost use Rattle.kk_core.specs.Cases.{IsLean};
-ghost use Rattle.kk_core.specs.RowChoice.{Decides};
 ghost use Rattle.kk_core.specs.Decisions.{node_tree, AreOrderly};
-ghost use Rattle.kk_core.specs.Kinds.{AsksTyped};
-ghost use Rattle.kk_match.specs.Decided.{IsFormed, IsBrieflyFormed, is_test, most_tests_length, brief_length, rows_in_turn};
+ghost use Rattle.kk_match.specs.Decided.{DecidesRows, IsFormed, IsBrieflyFormed, is_test, most_tests_length, brief_length, rows_in_turn};
 ghost use Rattle.kk_match.specs.Graphs.{lines_of};
 ghost use Rattle.kk_match.specs.GraphGrowth.{IsGraph};
-ghost use Rattle.kk_match.specs.Parts.{types_of, parts_of, AreTypeNumbers, TellTypes};
+ghost use Rattle.kk_match.specs.Parts.{types_of, parts_of};
 ghost use Rattle.kk_match.specs.Turned.{turned};
 ghost use Rattle.kk_match.specs.Views.{part_of, line_tree, state_tree, types_in, patterns_in, nodes_in};
 ghost use Rattle.kk_syntax.specs.Patterns.{pattern_tree};
-ghost use Rattle.kk_syntax.specs.Programs.{ConstructorTree};
 
 use crate::graph::{Given, Graph, number_of, tests_in};
 use crate::in_turn::in_turn;
@@ -41,14 +37,9 @@ pub struct Rows<'a> {
 /// edges. All tests together are short.
 pub fn decide(alloc: Global, rows: &Rows<'_>) -> Result<Decisions, NoMemory>
     requires { 0 < length rows.now.patterns.items }
-    ensures decides { (constructors : List ConstructorTree) → AreTypeNumbers constructors (types_in rows.now)
-        → IfOk result (λ found. Decides constructors (patterns_in rows.now) (nodes_in found)) }
-    ensures asks { (constructors : List ConstructorTree) → AreTypeNumbers constructors (types_in rows.now)
-        → TellTypes constructors (types_in rows.now)
-        → IfOk result (λ found. AsksTyped constructors (patterns_in rows.now) (nodes_in found)) }
+    ensures decides { IfOk result (λ found. DecidesRows (types_in rows.now) (patterns_in rows.now) (nodes_in found)) }
     ensures formed { IfOk result (λ found.
         IsFormed (types_in rows.now) (patterns_in rows.now) (nodes_in found) found.tests found.by_rows) }
-    ensures lean { IfOk result (λ found. IsLean (nodes_in found) (patterns_in rows.now)) }
     ensures short { IfOk result (λ found. tests_length (nodes_in found) ≤ most_tests_length (patterns_in rows.now)) }
     ensures tests { IfOk result (λ found. found.tests ≡ count_by is_test (nodes_in found)) }
     ensures rows { IfOk result (λ found. found.rows ≡ length rows.now.patterns.items) }
@@ -68,14 +59,9 @@ pub fn decide(alloc: Global, rows: &Rows<'_>) -> Result<Decisions, NoMemory>
 /// and 2 * p * p; and all that `decide` says of the rows that are chosen holds.
 pub fn decide_briefly(alloc: Global, rows: &Rows<'_>) -> Result<Decisions, NoMemory>
     requires { 0 < length rows.now.patterns.items }
-    ensures decides { (constructors : List ConstructorTree) → AreTypeNumbers constructors (types_in rows.now)
-        → IfOk result (λ found. Decides constructors (patterns_in rows.now) (nodes_in found)) }
-    ensures asks { (constructors : List ConstructorTree) → AreTypeNumbers constructors (types_in rows.now)
-        → TellTypes constructors (types_in rows.now)
-        → IfOk result (λ found. AsksTyped constructors (patterns_in rows.now) (nodes_in found)) }
+    ensures decides { IfOk result (λ found. DecidesRows (types_in rows.now) (patterns_in rows.now) (nodes_in found)) }
     ensures formed { IfOk result (λ found.
         IsBrieflyFormed (types_in rows.now) (patterns_in rows.now) (nodes_in found) found.tests found.by_rows) }
-    ensures lean { IfOk result (λ found. IsLean (nodes_in found) (patterns_in rows.now)) }
     ensures brief { IfOk result (λ found. tests_length (nodes_in found) ≤ brief_length (patterns_in rows.now)) }
     ensures tests { IfOk result (λ found. found.tests ≡ count_by is_test (nodes_in found)) }
     ensures rows { IfOk result (λ found. found.rows ≡ length rows.now.patterns.items) }
@@ -94,12 +80,7 @@ pub fn decide_briefly(alloc: Global, rows: &Rows<'_>) -> Result<Decisions, NoMem
 fn row_by_row(alloc: Global, rows: &Rows<'_>) -> Result<Decisions, NoMemory>
     requires { 0 < length rows.now.patterns.items }
     ensures nodes { IfOk result (λ found. nodes_in found ≡ rows_in_turn (types_in rows.now) (patterns_in rows.now)) }
-    ensures decides { (constructors : List ConstructorTree) → AreTypeNumbers constructors (types_in rows.now)
-        → IfOk result (λ found. Decides constructors (patterns_in rows.now) (nodes_in found)) }
-    ensures asks { (constructors : List ConstructorTree) → AreTypeNumbers constructors (types_in rows.now)
-        → TellTypes constructors (types_in rows.now)
-        → IfOk result (λ found. AsksTyped constructors (patterns_in rows.now) (nodes_in found)) }
-    ensures lean { IfOk result (λ found. IsLean (nodes_in found) (patterns_in rows.now)) }
+    ensures decides { IfOk result (λ found. DecidesRows (types_in rows.now) (patterns_in rows.now) (nodes_in found)) }
     ensures tests { IfOk result (λ found. found.tests ≡ count_by is_test (nodes_in found)) }
     ensures rows { IfOk result (λ found. found.rows ≡ length rows.now.patterns.items) }
     ensures by_rows { IfOk result (λ found. found.by_rows ≡ true) }

@@ -288,7 +288,6 @@ module _ (at : ℕ) where
       let k : Then = waits.at.k in
       let names : Names = waits.at.names in
       let n : ℕ = waits.at.n in
-      let third : ℕ = n + size positive in
       let m : ℕ = n + size positive + size negative in
       let later : List ℕ = needed_after joins in
       let inner : List ℕ = needed_within later k m in
@@ -317,7 +316,7 @@ module _ (at : ℕ) where
       needs one.0 one.1.1 (or_else (among_split (free positive) (free negative) named_one.0 named_one.1)
       (λ here. inl (named_needed given.constructors inner (within k) names n positive first_code one.0 waits.first_is
       (named_one.0, here, named_one.2) (omega (arith, one.1.1, waits.from))))
-      (λ there. inr (named_needed given.constructors inner (within k) names third negative second_code one.0 waits.second_is
+      (λ there. inr (named_needed given.constructors inner (within k) names (n + size positive) negative second_code one.0 waits.second_is
       (named_one.0, there, named_one.2) (omega (arith, one.1.1, waits.from))))) one.2)
       (λ there. or_else (source_held given fs (goal_of k m joins) core low waits.at.top frames
       (omega (arith, waits.from, fresh_top k joins (m + 1) waits.at.top waits.fresh)) waits.later there)

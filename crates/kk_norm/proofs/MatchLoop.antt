@@ -14,6 +14,7 @@ use Rattle.kk_syntax.proofs.Elements.{each_parts}
 use Rattle.kk_syntax.specs.Shapes.{gathered, gathered_rows}
 use Rattle.kk_norm.specs.MatchRows.{gathers_rows, MatchesHaveRows, IsSomeRow, BodiesHaveRows}
 use Rattle.kk_norm.proofs.MatchRows.{of_body}
+use Rattle.kk_norm.proofs.WriterLoops.{case_as_value, case_as_end}
 use Rattle.kk_norm.specs.Names.{Names}
 use Rattle.kk_norm.specs.Normalized.{final, next, pattern_size, size, size_rows, atom, opened, pattern_names, patterns_in, IsCode, AreArms}
 use Rattle.kk_norm.specs.Written.{names_of, behind, WritesStep, WritesValue, WritesEnd, WritesOpenings, WritesArm, WritesArms, WritesCase}
@@ -160,32 +161,19 @@ pub case_value : {constructors : List ConstructorTree} → (e scrutinee : Tree) 
     → WritesStep (runs now.next last) now new x
     → WritesValue constructors e old new x
 case_value {constructors} e scrutinee rows old now new last x is first second =
-    let names : Names = names_of old.names.items in
     let m : ℕ = old.next + size scrutinee + size_rows rows in
-    let a : ℕ = atom names old.next scrutinee in
+    let parts = first.last_is in
     subst (λ (one : Tree). WritesValue constructors one old new x) (sym is)
-    (record {
-      number = omega (arith, second.number, first.number);
-      names = second.names ∙ first.names;
-      value = second.is ∙ first.number;
-      steps = λ rest.
-          let parts = first.last_is in
-          let own : inside now.next last rest ≡ inside m (case a parts.0 parts.1) rest
-          = ap (λ (n : ℕ). inside n last rest) first.number ∙ ap (λ (block : Code). inside m block rest) parts.4 in
-          let one = first.steps (inside now.next last rest) in (
-            one.0,
-            (
-              parts.0,
-              parts.1,
-              parts.2,
-              parts.3,
-              subst
-                  (λ (behind_it : Code). IsCode constructors
-                  (next behind_it) names old.next scrutinee one.0) own one.1,
-            ),
-            second.steps rest ∙ one.2,
-          );
-    })
+    (case_as_value (match scrutinee rows) scrutinee old now new last x (omega (arith, first.number)) first.number first.names first.steps
+    (λ rest code coded. (
+      parts.0,
+      parts.1,
+      parts.2,
+      parts.3,
+      subst (λ (behind_it : Code). IsCode constructors (next behind_it) (names_of old.names.items)
+          old.next scrutinee code)
+          (ap (λ (n : ℕ). inside n last rest) first.number ∙ ap (λ (block : Code). inside m block rest) parts.4) coded,
+    )) second)
 
 -- a match as the end of a block
 pub case_end : {constructors : List ConstructorTree} → (tail : Bool) (e scrutinee : Tree) (rows : Rows) (old now new : Writer)
@@ -194,27 +182,18 @@ pub case_end : {constructors : List ConstructorTree} → (tail : Bool) (e scruti
     → new.next ≡ now.next + 1 → new.names.items ≡ now.names.items → new.steps.items ≡ now.steps.items
     → WritesEnd constructors tail e old new last
 case_end {constructors} tail e scrutinee rows old now new last is first number names_kept steps =
-    let names : Names = names_of old.names.items in
+    let decisions = first.last_is.0 in
+    let arms = first.last_is.1 in
     subst (λ (one : Tree). WritesEnd constructors tail one old new last) (sym is)
-    (record {
-      number = omega (arith, number, first.number);
-      names = names_kept ∙ first.names;
-      steps =
-          let parts = first.last_is in
-          let one = first.steps last in (
-            one.0,
-            (
-              parts.0,
-              parts.1,
-              parts.2,
-              parts.3,
-              subst
-                  (λ (behind_it : Code). IsCode constructors (next behind_it) names old.next scrutinee one.0) parts.4 one.1,
-            ),
-            ap
-                (λ items. plug (map step_piece items) last) steps ∙ one.2,
-          );
-    })
+    (case_as_end tail (match scrutinee rows) scrutinee old now new last (omega (arith, first.number)) first.names first.steps
+    (λ code coded. (
+      decisions,
+      arms,
+      first.last_is.2,
+      first.last_is.3,
+      subst (λ (behind_it : Code). IsCode constructors (next behind_it) (names_of old.names.items)
+          old.next scrutinee code) first.last_is.4 coded,
+    )) number names_kept steps)
 
 -- ---- the patterns of rows in memory
 

@@ -398,8 +398,6 @@ module _ (constructors : List ConstructorTree) where
         named_needed_all later names n es (finish k (n + size_all es) form (atoms names n es)) c y coded is low
     named_needed later k names n (branch e positive negative) c y coded is low =
         let a : ℕ = atom names n e in
-        let second : ℕ = n + size e in
-        let third : ℕ = n + size e + size positive in
         let m : ℕ = n + size e + size positive + size negative in
         let inner : List ℕ = needed_within later k m in
         let own : Code = truth_case a coded.0 coded.1 in
@@ -410,10 +408,10 @@ module _ (constructors : List ConstructorTree) where
         (later_among a (needed inner coded.0 ++ (needed inner coded.1 ++ inner)) y
         (or_else (name_split names (free positive) (free negative) y there)
         (λ here. among_left (needed inner coded.0) (needed inner coded.1 ++ inner) y
-        (named_needed inner (within k) names second positive coded.0 y coded.2 here (omega arith)))
+        (named_needed inner (within k) names (n + size e) positive coded.0 y coded.2 here (omega arith)))
         (λ here. among_right (needed inner coded.0) (needed inner coded.1 ++ inner) y
         (among_left (needed inner coded.1) inner y
-        (named_needed inner (within k) names third negative coded.1 y coded.3 here (omega arith)))))))
+        (named_needed inner (within k) names (n + size e + size positive) negative coded.1 y coded.3 here (omega arith)))))))
         low)
     named_needed later k names n (match e of) c y coded is low =
         let a : ℕ = atom names n e in

@@ -310,6 +310,35 @@ apply_end {constructors} tail e form es xs old now new last is first number name
           (one.0, subst (λ (end : Code). AreCodes constructors names old.next es end one.0) own one.1, written ∙ one.2);
     })
 
+-- What is written, and then a case, is an expression whose value the next variable takes: `first` is what is written before, and
+-- `joins` tells how its code goes on as the code of the whole.
+pub case_as_value : {constructors : List ConstructorTree} → (e first : Tree) (old now new : Writer) (last : Code) (x : ℕ)
+    → now.next + 1 ≡ old.next + size e → now.next ≡ atom (names_of old.names.items) old.next e → now.names.items ≡ old.names.items
+    → ((rest : Code) → IsWritten constructors (next rest) (names_of old.names.items) old.next first old now rest)
+    → ((rest code : Code) → IsCode constructors (next (inside now.next last rest)) (names_of old.names.items) old.next first code
+    → IsCode constructors (next rest) (names_of old.names.items) old.next e code)
+    → WritesStep (runs now.next last) now new x → WritesValue constructors e old new x
+case_as_value e first old now new last x number value names before joins step = record {
+  number = omega (arith, number, step.number);
+  names = step.names ∙ names;
+  value = step.is ∙ value;
+  steps = λ rest. let one = before (inside now.next last rest) in (one.0, joins rest one.0 one.1, step.steps rest ∙ one.2);
+}
+
+-- the same where the case is the end of a block
+pub case_as_end : {constructors : List ConstructorTree} → (tail : Bool) (e first : Tree) (old now new : Writer) (last : Code)
+    → now.next + 1 ≡ old.next + size e → now.names.items ≡ old.names.items
+    → ((rest : Code) → IsWritten constructors (next rest) (names_of old.names.items) old.next first old now rest)
+    → ((code : Code) → IsCode constructors (next last) (names_of old.names.items) old.next first code
+    → IsCode constructors (final tail) (names_of old.names.items) old.next e code)
+    → new.next ≡ now.next + 1 → new.names.items ≡ now.names.items → new.steps.items ≡ now.steps.items
+    → WritesEnd constructors tail e old new last
+case_as_end tail e first old now new last number names before joins next_is names_kept steps = record {
+  number = omega (arith, number, next_is);
+  names = names_kept ∙ names;
+  steps = let one = before last in (one.0, joins one.0 one.1, ap (λ items. plug (map step_piece items) last) steps ∙ one.2);
+}
+
 -- an `if` as a step, whose value the next variable takes
 pub choice_value : {constructors : List ConstructorTree} → (e condition positive negative : Tree) (old now new : Writer)
     (last : Code) (x : ℕ)
@@ -319,30 +348,18 @@ pub choice_value : {constructors : List ConstructorTree} → (e condition positi
 choice_value {constructors} e condition positive negative old now new last x is first second =
     let names : Names = names_of old.names.items in
     let m : ℕ = old.next + size condition + size positive + size negative in
-    let a : ℕ = atom names old.next condition in
+    let parts = first.last_is in
     subst (λ (one : Tree). WritesValue constructors one old new x) (sym is)
-    (record {
-      number = omega (arith, second.number, first.number);
-      names = second.names ∙ first.names;
-      value = second.is ∙ first.number;
-      steps = λ rest.
-          let parts = first.last_is in
-          let own : inside now.next last rest ≡ inside m (truth_case a parts.0 parts.1) rest
-          = ap (λ (n : ℕ). inside n last rest) first.number ∙ ap (λ (block : Code). inside m block rest) parts.4 in
-          let one = first.steps (inside now.next last rest) in (
-            one.0,
-            (
-              parts.0,
-              parts.1,
-              parts.2,
-              parts.3,
-              subst
-                  (λ (behind_it : Code). IsCode constructors
-                  (next behind_it) names old.next condition one.0) own one.1,
-            ),
-            second.steps rest ∙ one.2,
-          );
-    })
+    (case_as_value (if_tree condition positive negative) condition old now new last x (omega (arith, first.number)) first.number first.names first.steps
+    (λ rest code coded.
+    let own : inside now.next last rest ≡ inside m (truth_case (atom names old.next condition) parts.0 parts.1) rest
+    = ap (λ (n : ℕ). inside n last rest) first.number ∙ ap (λ (block : Code). inside m block rest) parts.4 in (
+      parts.0,
+      parts.1,
+      parts.2,
+      parts.3,
+      subst (λ (behind_it : Code). IsCode constructors (next behind_it) names old.next condition code) own coded,
+    )) second)
 
 -- an `if` as the end of a block
 pub choice_end : {constructors : List ConstructorTree} → (tail : Bool) (e condition positive negative : Tree) (old now new : Writer)
@@ -351,27 +368,17 @@ pub choice_end : {constructors : List ConstructorTree} → (tail : Bool) (e cond
     → new.next ≡ now.next + 1 → new.names.items ≡ now.names.items → new.steps.items ≡ now.steps.items
     → WritesEnd constructors tail e old new last
 choice_end {constructors} tail e condition positive negative old now new last is first number names_kept steps =
-    let names : Names = names_of old.names.items in
+    let parts = first.last_is in
     subst (λ (one : Tree). WritesEnd constructors tail one old new last) (sym is)
-    (record {
-      number = omega (arith, number, first.number);
-      names = names_kept ∙ first.names;
-      steps =
-          let parts = first.last_is in
-          let one = first.steps last in (
-            one.0,
-            (
-              parts.0,
-              parts.1,
-              parts.2,
-              parts.3,
-              subst
-                  (λ (behind_it : Code). IsCode constructors (next behind_it) names old.next condition one.0) parts.4 one.1,
-            ),
-            ap
-                (λ items. plug (map step_piece items) last) steps ∙ one.2,
-          );
-    })
+    (case_as_end tail (if_tree condition positive negative) condition old now new last (omega (arith, first.number)) first.names first.steps
+    (λ code coded. (
+      parts.0,
+      parts.1,
+      parts.2,
+      parts.3,
+      subst (λ (behind_it : Code). IsCode constructors (next behind_it) (names_of old.names.items)
+          old.next condition code) parts.4 coded,
+    )) number names_kept steps)
 
 -- a condition and two blocks
 pub choice_done : {constructors : List ConstructorTree} → (tail : Bool) (condition positive negative : Tree)

@@ -2,14 +2,14 @@ use Rattle.std.proofs.Common.{◌≡◌, ◌<◌, ◌-◌, suc, [], length, map,
 use Rattle.std.proofs.lemmas.List.{length-map}
 use Rattle.kk_syntax.specs.Patterns.{pattern_tree}
 use Rattle.kk_core.specs.Decisions.{node_tree, AreOrderly}
-use Rattle.kk_match.specs.Graphs.{lines_of, lines_from}
+use Rattle.kk_match.specs.Graphs.{lines_from}
 use Rattle.kk_match.specs.InTurn.{with_rows}
 use Rattle.kk_match.specs.Parts.{types_of}
 use Rattle.kk_match.specs.Turned.{turned}
 use Rattle.kk_match.specs.Views.{part_of}
 use Rattle.kk_match.proofs.TestAnswers.{turns_ask}
 use Rattle.kk_match.proofs.RowLengths.{turns_decide, turns_lean}
-use Rattle.kk_match.proofs.NodeDecisions.{also, lines_same, turn_some, turn_orderly}
+use Rattle.kk_match.proofs.NodeDecisions.{also, state_of_rows, turn_some, turn_orderly}
 use Rattle.kk_match.proofs.deciding.row_by_row.Goals as goal
 
 pub finished-requires : goal.finished-requires
@@ -18,7 +18,8 @@ finished-requires c =
     let types = types_of rows.constructors.now in
     let ps = map (λ p. pattern_tree p.now) rows.patterns.items in
     let nodes = map node_tree c.in_ok-nodes.nodes.items in
-    let start = c.in_ok-state.ensures ∙ (ap (λ qs. lines_of 0 (map (λ q. map part_of q.items) qs)) c.deref.ensures.value ∙ (ap (lines_of 0) c.in_ok-questions.ensures ∙ lines_same types (λ p. pattern_tree p.now) 0 rows.patterns.items)) in
+    let start = state_of_rows types rows.patterns.items c.deref.result.now _ (λ p. pattern_tree p.now) (λ q. map part_of q.items) _
+    c.in_ok-state.ensures c.deref.ensures.value c.in_ok-questions.ensures in
     let is : nodes ≡ with_rows (lines_from types 0 ps) [] = c.in_ok-nodes.ensures ∙ ap (λ s. with_rows s []) start in
     let wide : length ps ≡ length rows.patterns.items = length-map rows.patterns.items (λ p. pattern_tree p.now) in
     let given = c.requires in
@@ -34,37 +35,26 @@ finished-requires c =
 
 pub returns-clause-nodes : goal.returns-clause-nodes
 returns-clause-nodes c =
-    let rows = c.args.rows.now in
-    let types = types_of rows.constructors.now in
-    let ps = map (λ p. pattern_tree p.now) rows.patterns.items in
+    let types = types_of c.args.rows.now.constructors.now in
+    let patterns = c.args.rows.now.patterns.items in
     let nodes = map node_tree c.in_ok-nodes.nodes.items in
-    let start = c.in_ok-state.ensures ∙ (ap (λ qs. lines_of 0 (map (λ q. map part_of q.items) qs)) c.deref.ensures.value ∙ (ap (lines_of 0) c.in_ok-questions.ensures ∙ lines_same types (λ p. pattern_tree p.now) 0 rows.patterns.items)) in
-    let is : nodes ≡ with_rows (lines_from types 0 ps) [] = c.in_ok-nodes.ensures ∙ ap (λ s. with_rows s []) start in
+    let start = state_of_rows types patterns c.deref.result.now _ (λ p. pattern_tree p.now) (λ q. map part_of q.items) _
+    c.in_ok-state.ensures c.deref.ensures.value c.in_ok-questions.ensures in
     let long : length nodes ≡ length c.in_ok-nodes.nodes.items = length-map c.in_ok-nodes.nodes.items node_tree in
     also c.finished.result c.finished.ensures.nodes
-    (λ found same. same ∙ (ap (λ n. turned (n - 1) nodes) (sym long) ∙ ap (λ ns. turned (length ns - 1) ns) is))
+    (λ found same. same ∙ (ap (λ n. turned (n - 1) nodes) (sym long)
+    ∙ ap (λ ns. turned (length ns - 1) ns) (c.in_ok-nodes.ensures ∙ ap (λ s. with_rows s []) start)))
 
 pub returns-clause-decides : goal.returns-clause-decides
-returns-clause-decides c = λ constructors numbers.
-    let rows = c.args.rows.now in
-    let ps = map (λ p. pattern_tree p.now) rows.patterns.items in
-    let wide : length ps ≡ length rows.patterns.items = length-map rows.patterns.items (λ p. pattern_tree p.now) in
+returns-clause-decides c =
+    let types = types_of c.args.rows.now.constructors.now in
+    let ps = map (λ p. pattern_tree p.now) c.args.rows.now.patterns.items in
+    let wide : length ps ≡ length c.args.rows.now.patterns.items = length-map c.args.rows.now.patterns.items (λ p. pattern_tree p.now) in
     let given = c.requires in
+    let some : 0 < length ps = omega (arith, wide, given) in
     also c.finished.result (returns-clause-nodes c)
-    (λ found is. turns_decide constructors (types_of rows.constructors.now) ps (map node_tree found.nodes.items) numbers (omega (arith, wide, given)) is)
-
-pub returns-clause-asks : goal.returns-clause-asks
-returns-clause-asks c = λ constructors numbers tell.
-    let rows = c.args.rows.now in
-    let ps = map (λ p. pattern_tree p.now) rows.patterns.items in
-    also c.finished.result (returns-clause-nodes c)
-    (λ found is. turns_ask constructors (types_of rows.constructors.now) ps (map node_tree found.nodes.items) numbers tell is)
-
-pub returns-clause-lean : goal.returns-clause-lean
-returns-clause-lean c =
-    let rows = c.args.rows.now in
-    let ps = map (λ p. pattern_tree p.now) rows.patterns.items in
-    let wide : length ps ≡ length rows.patterns.items = length-map rows.patterns.items (λ p. pattern_tree p.now) in
-    let given = c.requires in
-    also c.finished.result (returns-clause-nodes c)
-    (λ found is. turns_lean (types_of rows.constructors.now) ps (map node_tree found.nodes.items) (omega (arith, wide, given)) is)
+    (λ found is. record {
+      decides = λ constructors numbers. turns_decide constructors types ps (map node_tree found.nodes.items) numbers some is;
+      asks = λ constructors numbers tell. turns_ask constructors types ps (map node_tree found.nodes.items) numbers tell is;
+      lean = turns_lean types ps (map node_tree found.nodes.items) some is;
+    })

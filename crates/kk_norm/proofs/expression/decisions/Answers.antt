@@ -23,6 +23,4 @@ returns c =
     are_decisions (ground_program c.args.given.now).constructors (types_of c.deref.result.now) (map (λ p. pattern_tree p.now) c.loop-row.patterns.items)
     (patterns_in (rows_of (map row_tree c.args.rows.now))) (length c.loop-row.patterns.items) c.decide_briefly.result numbers tell all
     (sym (length-map c.loop-row.patterns.items (λ p. pattern_tree p.now)))
-    (c.decide_briefly.ensures.decides (ground_program c.args.given.now).constructors numbers)
-    (c.decide_briefly.ensures.asks (ground_program c.args.given.now).constructors numbers tell)
-    c.decide_briefly.ensures.formed c.decide_briefly.ensures.lean c.decide_briefly.ensures.brief c.decide_briefly.ensures.tests c.decide_briefly.ensures.rows
+    c.decide_briefly.ensures.decides c.decide_briefly.ensures.formed c.decide_briefly.ensures.brief c.decide_briefly.ensures.tests c.decide_briefly.ensures.rows

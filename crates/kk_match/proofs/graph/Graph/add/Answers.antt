@@ -18,23 +18,24 @@ returns-then-self-given c =
     (subst (IsPut (map state_tree c.args.self.now.states.keys) (state_tree c.args.state) (map state_tree c.put.new.states.keys) c.in_ok-number.number) c.if-is_new.true c.in_ok-number.ensures)
 
 pub returns-in_ok-push : goal.returns-in_ok-push
-returns-in_ok-push c = elim c.if-tests.branch [
-  | then-tests+else-self-given w ↦
-      grows_now (types_of c.args.given.now.constructors.now) c.args.given.now.most (graph_tree c.args.self.now)
-      (graph_tree (record { states = c.if-tests.self.states; nodes = c.push.new.self; tests = c.if-tests.self.tests }))
-      (state_tree c.args.state) (node_tree c.args.node) (map state_tree c.put.new.states.keys) c.in_ok-number.number c.requires.built c.requires.right
-      (subst (IsPut (map state_tree c.args.self.now.states.keys) (state_tree c.args.state) (map state_tree c.put.new.states.keys) c.in_ok-number.number) c.if-is_new.true c.in_ok-number.ensures)
-      (ap (λ s. map state_tree s.states.keys) w.self-is)
-      (ap (map node_tree) c.in_ok-push.ensures.items ∙ (map-append node_tree c.if-tests.self.nodes.items (c.args.node ∷ []) ∙ ap (λ s. map node_tree s.nodes.items ++ node_tree c.args.node ∷ []) w.self-is))
-      (ap (λ s. s.tests) w.self-is ∙ ap (λ b. c.args.self.now.tests + one_if b) w.if-tests.ensures)
-      (let is = ap (λ s. s.tests) w.self-is in let within = c.requires.built.within in let below : c.args.self.now.tests < c.args.given.now.most = less within w.if-self-given.false in omega (arith, is, below))
-  | else-tests w ↦
-      grows_now (types_of c.args.given.now.constructors.now) c.args.given.now.most (graph_tree c.args.self.now)
-      (graph_tree (record { states = c.if-tests.self.states; nodes = c.push.new.self; tests = c.if-tests.self.tests }))
-      (state_tree c.args.state) (node_tree c.args.node) (map state_tree c.put.new.states.keys) c.in_ok-number.number c.requires.built c.requires.right
-      (subst (IsPut (map state_tree c.args.self.now.states.keys) (state_tree c.args.state) (map state_tree c.put.new.states.keys) c.in_ok-number.number) c.if-is_new.true c.in_ok-number.ensures)
-      (ap (λ s. map state_tree s.states.keys) w.self-is)
-      (ap (map node_tree) c.in_ok-push.ensures.items ∙ (map-append node_tree c.if-tests.self.nodes.items (c.args.node ∷ []) ∙ ap (λ s. map node_tree s.nodes.items ++ node_tree c.args.node ∷ []) w.self-is))
-      (ap (λ s. s.tests) w.self-is ∙ (sym (add-zero c.args.self.now.tests) ∙ ap (λ b. c.args.self.now.tests + one_if b) w.if-tests.ensures))
-      (let is = ap (λ s. s.tests) w.self-is in let within = c.requires.built.within in omega (arith, is, within))
-]
+returns-in_ok-push c =
+    let grown =
+    grows_now (types_of c.args.given.now.constructors.now) c.args.given.now.most (graph_tree c.args.self.now)
+    (graph_tree (record { states = c.if-tests.self.states; nodes = c.push.new.self; tests = c.if-tests.self.tests }))
+    (state_tree c.args.state) (node_tree c.args.node) (map state_tree c.put.new.states.keys) c.in_ok-number.number
+    c.requires.built c.requires.right
+    (subst (IsPut (map state_tree c.args.self.now.states.keys) (state_tree c.args.state) (map state_tree c.put.new.states.keys) c.in_ok-number.number)
+    c.if-is_new.true c.in_ok-number.ensures) in
+    let pushed = ap (map node_tree) c.in_ok-push.ensures.items ∙ map-append node_tree c.if-tests.self.nodes.items (c.args.node ∷ []) in
+    elim c.if-tests.branch [
+      | then-tests+else-self-given w ↦
+          grown (ap (λ s. map state_tree s.states.keys) w.self-is)
+          (pushed ∙ ap (λ s. map node_tree s.nodes.items ++ node_tree c.args.node ∷ []) w.self-is)
+          (ap (λ s. s.tests) w.self-is ∙ ap (λ b. c.args.self.now.tests + one_if b) w.if-tests.ensures)
+          (let is = ap (λ s. s.tests) w.self-is in let within = c.requires.built.within in let below : c.args.self.now.tests < c.args.given.now.most = less within w.if-self-given.false in omega (arith, is, below))
+      | else-tests w ↦
+          grown (ap (λ s. map state_tree s.states.keys) w.self-is)
+          (pushed ∙ ap (λ s. map node_tree s.nodes.items ++ node_tree c.args.node ∷ []) w.self-is)
+          (ap (λ s. s.tests) w.self-is ∙ (sym (add-zero c.args.self.now.tests) ∙ ap (λ b. c.args.self.now.tests + one_if b) w.if-tests.ensures))
+          (let is = ap (λ s. s.tests) w.self-is in let within = c.requires.built.within in omega (arith, is, within))
+    ]

@@ -26,8 +26,7 @@ use Rattle.kk_norm.proofs.writer.Writer.+code.Goals as goal
 pub end-statements-requires : goal.end-statements-requires
 end-statements-requires t c = (
   search (rules, the_lemmas),
-  statements_asked (expr_tree c.args.expr.now) (expr_tree c.in-Block.value.value)
-      (map statement_tree c.deref-in-Block.result.now) c.args.self.now.next
+  statements_asked _ _ _ c.args.self.now.next
       (block_is c.args.expr.now c.in-Block.value.value c.deref-in-Block.result.now c.in-Block.statements c.in-Block.value
       c.in-Block.is c.deref-in-Block.ensures.value refl)
       c.requires.rows c.requires.room,
@@ -36,8 +35,7 @@ end-statements-requires t c = (
 pub end-end-requires : goal.end-end-requires
 end-end-requires t c = (
   search (rules, the_lemmas),
-  last_asked (expr_tree c.args.expr.now) (expr_tree c.deref-in-Block-2.result.now)
-      (map statement_tree c.deref-in-Block.result.now) c.args.self.now c.statements.new.self
+  last_asked _ _ _ c.args.self.now c.statements.new.self
       (block_is c.args.expr.now c.deref-in-Block-2.result.now c.deref-in-Block.result.now c.in-Block.statements c.in-Block.value
       c.in-Block.is c.deref-in-Block.ensures.value c.deref-in-Block-2.ensures)
       c.requires.rows c.requires.room (c.in_ok-statements-in-Block.ensures.statements (expr_tree c.deref-in-Block-2.result.now)),
@@ -83,8 +81,7 @@ statements-loop-statement-preserved t c =
 pub value-statements-requires : goal.value-statements-requires
 value-statements-requires t c = (
   search (rules, the_lemmas),
-  statements_asked (expr_tree c.args.expr.now) (expr_tree c.in-Block.value.value)
-      (map statement_tree c.deref-in-Block.result.now) c.args.self.now.next
+  statements_asked _ _ _ c.args.self.now.next
       (block_is c.args.expr.now c.in-Block.value.value c.deref-in-Block.result.now c.in-Block.statements c.in-Block.value
       c.in-Block.is c.deref-in-Block.ensures.value refl)
       c.requires.rows c.requires.room,
@@ -93,8 +90,7 @@ value-statements-requires t c = (
 pub value-value-requires : goal.value-value-requires
 value-value-requires t c = (
   search (rules, the_lemmas),
-  last_asked (expr_tree c.args.expr.now) (expr_tree c.deref-in-Block-2.result.now)
-      (map statement_tree c.deref-in-Block.result.now) c.args.self.now c.statements.new.self
+  last_asked _ _ _ c.args.self.now c.statements.new.self
       (block_is c.args.expr.now c.deref-in-Block-2.result.now c.deref-in-Block.result.now c.in-Block.statements c.in-Block.value
       c.in-Block.is c.deref-in-Block.ensures.value c.deref-in-Block-2.ensures)
       c.requires.rows c.requires.room (c.in_ok-statements-in-Block.ensures.statements (expr_tree c.deref-in-Block-2.result.now)),
@@ -142,20 +138,8 @@ values-value-requires t c = (
 
 pub block-returns : goal.block-returns
 block-returns t c =
-    let began : Writer = record {
-      alloc = c.args.self.now.alloc;
-      names = c.args.self.now.names;
-      steps =
-          c.replace-outer.new.dest;
-      next = c.args.self.now.next;
-    } in
-    let new : Writer = record {
-      alloc = c.end.new.self.alloc;
-      names = c.end.new.self.names;
-      steps = c.replace-steps.new.dest;
-      next =
-          c.end.new.self.next;
-    } in
+    let began : Writer = record c.args.self.now { steps = c.replace-outer.new.dest } in
+    let new : Writer = record c.end.new.self { steps = c.replace-steps.new.dest } in
     block_done c.args.tail (expr_tree c.args.expr.now) c.args.self.now began c.end.new.self new
     (last_code c.in_ok-last.last) _ refl refl
     (cc (c.replace-outer.ensures.after, c.new.ensures.items)) c.in_ok-last.ensures
@@ -282,20 +266,8 @@ arms-loop-row-preserved t c =
 
 pub arm-returns : goal.arm-returns
 arm-returns t c =
-    let began : Writer = record {
-      alloc = c.args.self.now.alloc;
-      names = c.args.self.now.names;
-      steps =
-          c.replace-outer.new.dest;
-      next = c.args.self.now.next;
-    } in
-    let new : Writer = record {
-      alloc = c.end.new.self.alloc;
-      names = c.truncate.new.self;
-      steps = c.replace-steps.new.dest;
-      next =
-          c.end.new.self.next;
-    } in
+    let began : Writer = record c.args.self.now { steps = c.replace-outer.new.dest } in
+    let new : Writer = record c.end.new.self { names = c.truncate.new.self; steps = c.replace-steps.new.dest } in
     arm_done c.args.tail (pattern_tree c.args.pattern.now)
     (expr_tree c.args.body.now) c.args.on c.args.self.now began c.open.new.self c.end.new.self new
     (last_code c.in_ok-last.last) _ refl refl
@@ -324,8 +296,7 @@ values-loop-expr-preserved t c =
 pub value-choice-requires : goal.value-choice-requires
 value-choice-requires t c = (
   search (rules, the_lemmas),
-  choice_asked (expr_tree c.args.expr.now) (expr_tree c.deref-in-If.result.now) (expr_tree c.deref-in-If-2.result.now)
-      (expr_tree c.deref-in-If-3.result.now) c.args.self.now.next
+  choice_asked _ _ _ _ c.args.self.now.next
       (branch_is c.args.expr.now c.deref-in-If.result.now c.deref-in-If-2.result.now c.deref-in-If-3.result.now c.in-If.condition
       c.in-If.positive c.in-If.negative c.in-If.is c.deref-in-If.ensures c.deref-in-If-2.ensures c.deref-in-If-3.ensures)
       c.requires.rows c.requires.room,
@@ -334,20 +305,16 @@ value-choice-requires t c = (
 pub value-case-requires : goal.value-case-requires
 value-case-requires t c = (
   search (rules, the_lemmas),
-  case_asked (expr_tree c.args.expr.now) (expr_tree c.deref-in-Match-2.result.now)
-      (rows_of (map row_tree c.deref-in-Match.result.now))
-      c.args.self.now.next
+  case_asked _ _ _ c.args.self.now.next
       (match_is c.args.expr.now c.deref-in-Match-2.result.now c.deref-in-Match.result.now c.in-Match.scrutinee c.in-Match.rows
-      c.in-Match.is
-      c.deref-in-Match-2.ensures c.deref-in-Match.ensures.value)
+      c.in-Match.is c.deref-in-Match-2.ensures c.deref-in-Match.ensures.value)
       c.requires.rows c.requires.room,
 )
 
 pub end-choice-requires : goal.end-choice-requires
 end-choice-requires t c = (
   search (rules, the_lemmas),
-  choice_asked (expr_tree c.args.expr.now) (expr_tree c.deref-in-If.result.now) (expr_tree c.deref-in-If-2.result.now)
-      (expr_tree c.deref-in-If-3.result.now) c.args.self.now.next
+  choice_asked _ _ _ _ c.args.self.now.next
       (branch_is c.args.expr.now c.deref-in-If.result.now c.deref-in-If-2.result.now c.deref-in-If-3.result.now c.in-If.condition
       c.in-If.positive c.in-If.negative c.in-If.is c.deref-in-If.ensures c.deref-in-If-2.ensures c.deref-in-If-3.ensures)
       c.requires.rows c.requires.room,
@@ -356,12 +323,9 @@ end-choice-requires t c = (
 pub end-case-requires : goal.end-case-requires
 end-case-requires t c = (
   search (rules, the_lemmas),
-  case_asked (expr_tree c.args.expr.now) (expr_tree c.deref-in-Match-2.result.now)
-      (rows_of (map row_tree c.deref-in-Match.result.now))
-      c.args.self.now.next
+  case_asked _ _ _ c.args.self.now.next
       (match_is c.args.expr.now c.deref-in-Match-2.result.now c.deref-in-Match.result.now c.in-Match.scrutinee c.in-Match.rows
-      c.in-Match.is
-      c.deref-in-Match-2.ensures c.deref-in-Match.ensures.value)
+      c.in-Match.is c.deref-in-Match-2.ensures c.deref-in-Match.ensures.value)
       c.requires.rows c.requires.room,
 )
 
