@@ -6,7 +6,7 @@ use Rattle.kk_syntax.specs.PositionsOf.{PositionTable}
 use Rattle.kk_source.specs.State.{Setting, ended, heap_full, stack_full}
 use Rattle.kk_source.specs.SourceAfter.{first_state}
 use Rattle.kk_norm.specs.Meaning.{heavy_store_machine}
-use Rattle.kk_core.specs.Costs.{most_room}
+use Rattle.kk_core.specs.Costs.{most_step_cost, most_room}
 use Rattle.kk_counted.specs.CountedCosts.{roomy_cost}
 use Rattle.kk_counted.specs.CountedCodes.{CountedProgram}
 use Rattle.kk_counted.specs.CountedStates.{CountedSetting, CountedControl, running, stopped, stuck, CountedState, counted_first_state}
@@ -72,10 +72,10 @@ module _ (keeps_spent : KeepsSpent) (runs_the_same : RunsTheSame) (keeps_clean :
 
   -- the agreement with the source, through the code that is not fused
   whole : (nodes room : ℕ) → greatest ≤ nodes → room ≤ most_room nodes
-      → Agree (heavy_store_machine (256 * (nodes * nodes)) setting) (counted_machine (roomy_cost room) (fused_setting counted)) 0
+      → Agree (heavy_store_machine (most_step_cost nodes) setting) (counted_machine (roomy_cost room) (fused_setting counted)) 0
       (λ m. up (unfused_steps most m)) (first_state setting input) (counted_first_state (fused_setting counted) input)
   whole nodes room large within =
-      agree_through (heavy_store_machine (256 * (nodes * nodes)) setting) (counted_machine (roomy_cost room) counted)
+      agree_through (heavy_store_machine (most_step_cost nodes) setting) (counted_machine (roomy_cost room) counted)
       (counted_machine (roomy_cost room) (fused_setting counted)) 0 0 up (unfused_steps most) (first_state setting input)
       (counted_first_state counted input) (counted_first_state (fused_setting counted) input)
       (keeps.agrees nodes room large within) (run.agrees room)
@@ -85,10 +85,10 @@ module _ (keeps_spent : KeepsSpent) (runs_the_same : RunsTheSame) (keeps_clean :
   fused_keeps =
       record {
         agrees = whole;
-        counted_are_live = told_above (heavy_store_machine (256 * (greatest * greatest)) setting)
+        counted_are_live = told_above (heavy_store_machine (most_step_cost greatest) setting)
             (counted_machine (roomy_cost 0) (fused_setting counted)) 0 (λ m. up (unfused_steps most m)) (first_state setting input)
             (counted_first_state (fused_setting counted) input) (whole greatest 0 (omega arith) (omega arith));
-        live_are_counted = told_below (heavy_store_machine (256 * (greatest * greatest)) setting)
+        live_are_counted = told_below (heavy_store_machine (most_step_cost greatest) setting)
             (counted_machine (roomy_cost 0) (fused_setting counted)) 0 (λ m. up (unfused_steps most m)) (first_state setting input)
             (counted_first_state (fused_setting counted) input) (whole greatest 0 (omega arith) (omega arith));
         spent = spent;

@@ -6,7 +6,7 @@ use Rattle.kk_syntax.specs.PositionsOf.{PositionTable}
 use Rattle.kk_source.specs.State.{Setting}
 use Rattle.kk_source.specs.SourceAfter.{step, ending_of, store_machine, first_state}
 use Rattle.kk_norm.specs.Meaning.{heavy_store_machine}
-use Rattle.kk_core.specs.Costs.{most_room}
+use Rattle.kk_core.specs.Costs.{most_step_cost, most_room}
 use Rattle.kk_counted.specs.CountedCosts.{roomy_cost}
 use Rattle.kk_counted.specs.CountedCodes.{CountedProgram}
 use Rattle.kk_counted.specs.CountedStates.{CountedSetting, CountedConfiguration, CountedState, counted_first_state}
@@ -52,20 +52,20 @@ module _ (keeps_spent : KeepsSpent) (runs_the_same : RunsTheSame) (keeps_sound :
       (endings : (n : ℕ) → ending_after (store_machine made) n (first_state made input)
       ≡ ending_after (store_machine setting) n (first_state setting input))
       (agree : (nodes room : ℕ) → greatest ≤ nodes → room ≤ most_room nodes
-      → Agree (heavy_store_machine (256 * (nodes * nodes)) made) (counted_machine (roomy_cost room) counted) 0 up
+      → Agree (heavy_store_machine (most_step_cost nodes) made) (counted_machine (roomy_cost room) counted) 0 up
       (first_state made input) (counted_first_state counted input))
       (goes : (weights : CountedState → ℕ) (n : ℕ) → NotStuck (counted_after weights counted input n).control)
       (clean : (weights : CountedState → ℕ) (n : ℕ)
       → EndsClean (counted_after weights counted input n).control (counted_after weights counted input n).heap) where
     whole : (nodes room : ℕ) → greatest ≤ nodes → room ≤ most_room nodes
-        → Agree (heavy_store_machine (256 * (nodes * nodes)) setting) (counted_machine (roomy_cost room) (special_setting counted)) 0 up
-        (first_state setting input) (counted_first_state (special_setting counted) input)
+        → Agree (heavy_store_machine (most_step_cost nodes) setting) (counted_machine (roomy_cost room) (special_setting counted))
+        0 up (first_state setting input) (counted_first_state (special_setting counted) input)
     whole nodes room large within =
-        agree_alike (heavy_store_machine (256 * (nodes * nodes)) made) (heavy_store_machine (256 * (nodes * nodes)) setting)
+        agree_alike (heavy_store_machine (most_step_cost nodes) made) (heavy_store_machine (most_step_cost nodes) setting)
         (counted_machine (roomy_cost room) counted) (counted_machine (roomy_cost room) (special_setting counted)) up (first_state made input)
         (first_state setting input) (counted_first_state counted input) (counted_first_state (special_setting counted) input)
         traces endings (λ n. sym (same (roomy_cost room) n).notes) (λ n. sym (same (roomy_cost room) n).ends)
-        (λ n. even_weights (256 * (nodes * nodes)) ending_of (step made) ending_of (step setting) n (first_state made input)
+        (λ n. even_weights (most_step_cost nodes) ending_of (step made) ending_of (step setting) n (first_state made input)
         (first_state setting input) endings)
         (λ n. (same (roomy_cost room) n).costs room) 0 (agree nodes room large within)
 
@@ -73,10 +73,10 @@ module _ (keeps_spent : KeepsSpent) (runs_the_same : RunsTheSame) (keeps_sound :
     special_keeps =
         record {
           agrees = whole;
-          counted_are_live = told_above (heavy_store_machine (256 * (greatest * greatest)) setting)
+          counted_are_live = told_above (heavy_store_machine (most_step_cost greatest) setting)
               (counted_machine (roomy_cost 0) (special_setting counted)) 0 up (first_state setting input)
               (counted_first_state (special_setting counted) input) (whole greatest 0 (omega arith) (omega arith));
-          live_are_counted = told_below (heavy_store_machine (256 * (greatest * greatest)) setting)
+          live_are_counted = told_below (heavy_store_machine (most_step_cost greatest) setting)
               (counted_machine (roomy_cost 0) (special_setting counted)) 0 up (first_state setting input)
               (counted_first_state (special_setting counted) input) (whole greatest 0 (omega arith) (omega arith));
           spent = keeps_spent positions counted.program spent;

@@ -11,7 +11,7 @@ use Rattle.kk_source.specs.State.{Setting}
 use Rattle.kk_source.specs.SourceAfter.{store_machine, first_state}
 use Rattle.kk_norm.specs.Meaning.{heavy_store_machine}
 use Rattle.kk_counted.specs.declared.counted.Counted.{Counted}
-use Rattle.kk_core.specs.Costs.{most_room}
+use Rattle.kk_core.specs.Costs.{most_step_cost, most_room}
 use Rattle.kk_counted.specs.CountedCosts.{roomy_cost}
 use Rattle.kk_counted.specs.CountedStates.{CountedSetting, CountedState, counted_first_state}
 use Rattle.kk_counted.specs.CountedMachine.{counted_machine, NotStuck}
@@ -58,7 +58,7 @@ store_steps instances m = inserted_steps instances (unfused_steps most_length m)
 pub record KeepsMeaning (setting : Setting) (positions : PositionTable) (counted : CountedSetting) (greatest : ℕ) (up : ℕ → ℕ)
     (input : List ℕ) : Type 0 where
   pub agrees : (nodes room : ℕ) → greatest ≤ nodes → room ≤ most_room nodes
-      → Agree (heavy_store_machine (256 * (nodes * nodes)) setting) (counted_machine (roomy_cost room) counted) 0 up
+      → Agree (heavy_store_machine (most_step_cost nodes) setting) (counted_machine (roomy_cost room) counted) 0 up
       (first_state setting input) (counted_first_state counted input)
   pub counted_are_live : (n k : ℕ) (note : Note) → slice_get (counted_notes counted input n) k ≡ Some note
       → (m : ℕ) × (slice_get (store_notes setting input m) k ≡ Some note)

@@ -15,7 +15,7 @@ use Rattle.kk_mono.specs.Grounds.{instances_of}
 use Rattle.kk_mono.specs.Instances.{InstanceTree, IsInstanceProgram}
 use Rattle.kk_core.specs.Codes.{ProgramCode, core_code}
 use Rattle.kk_core.specs.CoreMachine.{core_machine}
-use Rattle.kk_core.specs.Costs.{most_room, roomy_core_cost}
+use Rattle.kk_core.specs.Costs.{most_step_cost, most_room, roomy_core_cost}
 use Rattle.kk_core.specs.CoreStates.{CoreSetting, core_first_state}
 use Rattle.kk_core.specs.CoreTyping.{IsCoreTyped}
 use Rattle.kk_norm.specs.Meaning as Norm
@@ -80,10 +80,10 @@ returns c typed given made checked are compiled keeps cells depth input =
     let store : Setting = setting_of ground own cells depth in
     let agree
     : (nodes room : ℕ) → greatest_nodes ground ≤ nodes → room ≤ most_room nodes
-    → Agree (Norm.heavy_store_machine (256 * (nodes * nodes)) store) (counted_machine (roomy_cost room) counted) 0
+    → Agree (Norm.heavy_store_machine (most_step_cost nodes) store) (counted_machine (roomy_cost room) counted) 0
     (inserted_steps ground) (first_state store input) (counted_first_state counted input)
     = λ nodes room large within.
-    agree_through (Norm.heavy_store_machine (256 * (nodes * nodes)) store) (core_machine (roomy_core_cost room) core)
+    agree_through (Norm.heavy_store_machine (most_step_cost nodes) store) (core_machine (roomy_core_cost room) core)
     (counted_machine (roomy_cost room) counted) 0 0
     (λ m. m * (greatest_nodes ground + 1) + greatest_nodes ground + 1) (λ m. m * Insert.pace + Insert.pace + 1)
     (first_state store input) (core_first_state core input)
