@@ -32,7 +32,7 @@ use Rattle.elf_image.specs.Parts.{memory_of}
 use Rattle.elf_image.specs.Program.{IsProgramImage, program_parts, memory_size_of, text_start, memory_start}
 use Rattle.elf_image.specs.declared.part.Part.{Part}
 use Rattle.cell_heap.specs.Pool.{Pool}
-use Rattle.cell_runtime.specs.declared.process.TheConstants.{TEXT_WORDS}
+use Rattle.cell_runtime.specs.Sizes.{runtime_words}
 use Rattle.cell_runtime.specs.Layouts.{below_pointer}
 use Rattle.cell_runtime.proofs.AddressReach.{below_most}
 use Rattle.cell_runtime.specs.Texts.{IsText}
@@ -161,7 +161,7 @@ PlacedTextTouchesNone =
     (cells depth : ℕ) (runtime program : Placed) (words : Words) (text input : List ℕ) (main : PlacedLines)
     → IsPlacedImage cells depth runtime program words text main → All (λ byte. byte < 256) input
     → NeverStuck (map_of runtime program) (pool_in cells runtime program) (placed_functions program) depth (placed_start main (first_world (pool_in cells runtime program) input))
-    → (count : ℕ) → TouchesNoFreeCell text_start TEXT_WORDS cells (run count (first_processor text runtime.memory.size input))
+    → (count : ℕ) → TouchesNoFreeCell text_start runtime_words cells (run count (first_processor text runtime.memory.size input))
 
 -- the machine of a program behind a runtime, and its start on an input
 abbrev machine_of : ℕ → ℕ → Placed → Placed → Machine (PlacedTurn World Ending) Event Ending
@@ -204,7 +204,7 @@ pub record PlacedTextComes : Type 0 where
       → address_of runtime program f j ≡ address_of runtime program g i → (f ≡ g) × (j ≡ i)
   pub outside : (cells depth : ℕ) (runtime program : Placed) (words : Words) (text : List ℕ) (main : PlacedLines)
       → IsPlacedImage cells depth runtime program words text main
-      → (f j : ℕ) → PlacedHasLine (placed_functions program) f j → text_start + 4 * TEXT_WORDS ≤ address_of runtime program f j
+      → (f j : ℕ) → PlacedHasLine (placed_functions program) f j → text_start + 4 * runtime_words ≤ address_of runtime program f j
   pub inside : (cells depth : ℕ) (runtime program : Placed) (words : Words) (text : List ℕ) (main : PlacedLines)
       → IsPlacedImage cells depth runtime program words text main
       → (f j : ℕ) → PlacedHasLine (placed_functions program) f j
@@ -353,7 +353,7 @@ module _ {cells depth : ℕ} {asm : Asm} {placed looped runtime : Placed} {words
       )
 
   pub lines_are_outside : PlacedTextComes → (f k : ℕ) → AsmHasOwnLine (asm_functions asm) f k
-      → text_start + 4 * TEXT_WORDS ≤ address f k
+      → text_start + 4 * runtime_words ≤ address f k
   lines_are_outside text_comes f k has =
       text_comes.outside cells depth runtime looped words text some_image.0 some_image.1 f (line f k) (is_there f k has)
 
@@ -362,7 +362,7 @@ module _ {cells depth : ℕ} {asm : Asm} {placed looped runtime : Placed} {words
       → (address f k % 4 ≡ 0) × (can_fetch (memory_of (program_parts text runtime.memory.size)) (address f k) 4 ≡ true)
   lines_are_inside text_comes f k has =
       let within = text_comes.inside cells depth runtime looped words text some_image.0 some_image.1 f (line f k) (is_there f k has) in
-      let low : text_start + 4 * TEXT_WORDS ≤ address f k = lines_are_outside text_comes f k has in
+      let low : text_start + 4 * runtime_words ≤ address f k = lines_are_outside text_comes f k has in
       let high : address f k + 4 ≤ text_start + 4 * length words.instructions.items = within.1 in
       let size : length text ≡ 4 * length words.instructions.items + length words.constants.items = makes.text_is.size in
       (within.0, fetched text runtime.memory.size (address f k) (omega (arith, low)) (omega (arith, high, size)))
@@ -557,7 +557,7 @@ module _ {cells depth : ℕ} {asm : Asm} {placed looped runtime : Placed} {words
         text_ends cells depth runtime looped words text input looped_first.0 looped_image bytes
         (looped_never looped_first.0 looped_first.1) there.0 how world on_constants
 
-    pub touches : PlacedTextTouchesNone → (count : ℕ) → TouchesNoFreeCell text_start TEXT_WORDS cells (run count (first_processor text runtime.memory.size input))
+    pub touches : PlacedTextTouchesNone → (count : ℕ) → TouchesNoFreeCell text_start runtime_words cells (run count (first_processor text runtime.memory.size input))
     touches text_touches =
         text_touches cells depth runtime looped words text input looped_first.0 looped_image bytes
         (looped_never looped_first.0 looped_first.1)
@@ -609,14 +609,14 @@ image_of {cells} {depth} {asm} {placed} {looped} {runtime} {words} {text} makes 
             subst (λ (s : _). EndsWithCells (pool makes) how world (run whole.0 (s input))) (sym there) whole.1,
           );
       touches_no_free = λ input bytes never count.
-          let on_text = subst (λ (s : _). TouchesNoFreeCell text_start TEXT_WORDS cells (run count (s input))) (sym there)
+          let on_text = subst (λ (s : _). TouchesNoFreeCell text_start runtime_words cells (run count (s input))) (sym there)
           (touches makes input bytes never text_touches count) in
-          subst (λ (e : ℕ). TouchesNoFreeCell e TEXT_WORDS cells (run count (start (memory_of parts) entry input))) (sym entry_is) on_text;
+          subst (λ (e : ℕ). TouchesNoFreeCell e runtime_words cells (run count (start (memory_of parts) entry input))) (sym entry_is) on_text;
       lines = record {
         address = address makes;
         apart = lines_are_apart makes text_comes;
         outside = λ f k has.
-            subst (λ (e : ℕ). e + 4 * TEXT_WORDS ≤ address makes f k) (sym entry_is) (lines_are_outside makes text_comes f k has);
+            subst (λ (e : ℕ). e + 4 * runtime_words ≤ address makes f k) (sym entry_is) (lines_are_outside makes text_comes f k has);
         inside = λ f k has.
             subst (λ (p : List Part). (address makes f k % 4 ≡ 0) × (can_fetch (memory_of p) (address makes f k) 4 ≡ true))
             (sym parts_are) (lines_are_inside makes text_comes f k has);

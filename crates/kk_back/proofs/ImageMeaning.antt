@@ -32,6 +32,7 @@ use Rattle.rv_isa.specs.Primitives.{stuck}
 use Rattle.rv_isa.specs.Processor.{start, goes}
 use Rattle.rv_isa.specs.ProcessorMachine.{processor_machine}
 use Rattle.rv_lower.specs.Lowered.{from_to}
+use Rattle.rv_lower.specs.Written.{most_print}
 use Rattle.rv_cells.specs.Fitting.{IsFit}
 use Rattle.rv_cells.specs.FormLines.{HaveOwnLines, ComesToItsLines, FollowsEachState}
 use Rattle.rv_cells.specs.Layout.{Layout, IsNarrow}
@@ -93,7 +94,7 @@ AreShortLowered =
     → AreLowerable (table_of shape) (bare_program code).functions → AreTokensLowerable code.functions → AreTokensSpent code
     → IsTokenedForm shape code.texts code.functions each texts → IsNarrow (layout_in shape)
     → (Costs.functions_length each ≤ tokened_functions_length code.functions)
-    × (length (all_bytes texts) ≤ 256 * all_tokened_computes code.functions)
+    × (length (all_bytes texts) ≤ most_print * all_tokened_computes code.functions)
 
 -- the law that the assembler code of a program with tokens names no more values than its variables, its slots and its temporaries
 abbrev pub HaveFewValues : Type 0

@@ -15,7 +15,7 @@ use Rattle.kk_counted.specs.CountedStates.{CountedSetting, CountedJoin, running,
 use Rattle.kk_counted.specs.Keeping.{counted_after}
 use Rattle.kk_counted.specs.TokenCosts.{HasRoom}
 use Rattle.kk_counted.specs.TokenedCodes.{TokenedProgram}
-use Rattle.cell_runtime.specs.declared.process.TheConstants.{TEXT_WORDS}
+use Rattle.cell_runtime.specs.Sizes.{runtime_words}
 use Rattle.elf_image.specs.Parts.{memory_of}
 use Rattle.elf_image.specs.declared.part.Part.{Part}
 use Rattle.rv_cells.specs.FormLines.{HaveOwnLines, ComesToItsLines, FollowsEachState}
@@ -109,10 +109,10 @@ module _ (functions : List Lines) (texts : List (List ℕ)) (main : Lines) (cell
       (same.0, own.apart f way other one.0 one.1.0 in_one)
 
   -- they lie behind the runtime's words
-  addresses_outside : (f : ℕ) (way : List ℕ) (at : ℕ) → is_among (addresses f way) at ≡ true → entry + 4 * TEXT_WORDS ≤ at
+  addresses_outside : (f : ℕ) (way : List ℕ) (at : ℕ) → is_among (addresses f way) at ≡ true → entry + 4 * runtime_words ≤ at
   addresses_outside f way at among =
       let line = line_at f way at among in
-      subst (λ (a : ℕ). entry + 4 * TEXT_WORDS ≤ a) line.1.1
+      subst (λ (a : ℕ). entry + 4 * runtime_words ≤ a) line.1.1
       (image.lines.outside f line.0 (own.there f way line.0 line.1.0))
 
   -- and a word can be fetched at each

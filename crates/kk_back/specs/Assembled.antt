@@ -3,7 +3,7 @@ use Rattle.std.specs.Prelude.{◌≡◌, ◌≢◌, ℕ, ◌+◌, ◌*◌, ◌%�
 use Rattle.kk_base.specs.Agreements.{Agree}
 use Rattle.kk_base.specs.Machines.{state, trace}
 use Rattle.cell_heap.specs.Pool.{Pool}
-use Rattle.cell_runtime.specs.declared.process.TheConstants.{TEXT_WORDS}
+use Rattle.cell_runtime.specs.Sizes.{runtime_words}
 use Rattle.elf_image.specs.Parts.{memory_of}
 use Rattle.elf_image.specs.Program.{IsProgramImage}
 use Rattle.elf_image.specs.declared.part.Part.{Part}
@@ -44,7 +44,7 @@ pub record HasLineAddresses (functions : List Lines) (main : Lines) (constants :
   pub address : ℕ → ℕ → ℕ
   pub apart : (f k g j : ℕ) → AsmHasOwnLine functions f k → AsmHasOwnLine functions g j → address f k ≡ address g j
       → (f ≡ g) × (k ≡ j)
-  pub outside : (f k : ℕ) → AsmHasOwnLine functions f k → entry + 4 * TEXT_WORDS ≤ address f k
+  pub outside : (f k : ℕ) → AsmHasOwnLine functions f k → entry + 4 * runtime_words ≤ address f k
   pub inside : (f k : ℕ) → AsmHasOwnLine functions f k
       → (address f k % 4 ≡ 0) × (can_fetch (memory_of parts) (address f k) 4 ≡ true)
   pub comes : (input : List ℕ) → All (λ byte. byte < 256) input
@@ -97,7 +97,7 @@ pub record IsAsmImage (functions : List Lines) (texts : List (List ℕ)) (main :
   pub touches_no_free : (input : List ℕ) → All (λ byte. byte < 256) input
       → ((n : ℕ) → state (asm_machine (primitives (record { first = first; texts = texts }) pool) depth functions) n
       (asm_start main (first_world pool input)) ≢ stuck)
-      → (count : ℕ) → TouchesNoFreeCell entry TEXT_WORDS cells (run count (start (memory_of parts) entry input))
+      → (count : ℕ) → TouchesNoFreeCell entry runtime_words cells (run count (start (memory_of parts) entry input))
   pub lines : HasLineAddresses functions main (record { first = first; texts = texts }) pool depth entry parts
 
 -- an image of assembler code, by its first function

@@ -21,7 +21,7 @@ use Rattle.kk_counted.specs.TokenedCodes.{TokenedFunction, TokenedProgram}
 use Rattle.kk_counted.specs.declared.shape.Shape.{Shape}
 use Rattle.cell_heap.specs.Blocks.{Cells}
 use Rattle.cell_heap.specs.Pool.{Pool}
-use Rattle.cell_runtime.specs.declared.process.TheConstants.{TEXT_WORDS}
+use Rattle.cell_runtime.specs.Sizes.{runtime_words}
 use Rattle.elf_image.specs.Parts.{memory_of}
 use Rattle.elf_image.specs.declared.part.Part.{Part}
 use Rattle.rv_cells.specs.Fitting.{IsFit}
@@ -88,7 +88,7 @@ pub record HasOwnAddresses (layout : Layout) (code : TokenedProgram) (cells dept
       → (at : ℕ) × (is_among (addresses f way) at ≡ true)
   pub apart : (f g : ℕ) (way other : List ℕ) (at : ℕ) → is_among (addresses f way) at ≡ true
       → is_among (addresses g other) at ≡ true → (f ≡ g) × (way ≡ other)
-  pub outside : (f : ℕ) (way : List ℕ) (at : ℕ) → is_among (addresses f way) at ≡ true → entry + 4 * TEXT_WORDS ≤ at
+  pub outside : (f : ℕ) (way : List ℕ) (at : ℕ) → is_among (addresses f way) at ≡ true → entry + 4 * runtime_words ≤ at
   pub inside : (f : ℕ) (way : List ℕ) (at : ℕ) → is_among (addresses f way) at ≡ true
       → (at % 4 ≡ 0) × (can_fetch (memory_of parts) at 4 ≡ true)
   pub comes : (room : ℕ) → HasRoom room code → (input : List ℕ) → All (λ byte. byte < 256) input
@@ -129,7 +129,7 @@ pub record IsImageOf (code : CountedProgram) (room cells depth entry : ℕ) (par
       → busy (counted_after (roomy_cost room) (counted_setting code cells depth) input n).heap ≡ 0
       → (count : ℕ) × LeavesAll cells (exited (exit_of well)) (run count (start (memory_of parts) entry input))
   pub touches_no_free : (input : List ℕ) → All (λ byte. byte < 256) input → (count : ℕ)
-      → TouchesNoFreeCell entry TEXT_WORDS cells (run count (start (memory_of parts) entry input))
+      → TouchesNoFreeCell entry runtime_words cells (run count (start (memory_of parts) entry input))
 
 -- an image of a program with tokens: one of its bare form, with each room that is enough for its tokens
 abbrev pub IsImageOfTokened : TokenedProgram → ℕ → ℕ → ℕ → List Part → Type 0
