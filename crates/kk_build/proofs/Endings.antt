@@ -1,7 +1,7 @@
 -- What a run has come to where it has ended.
 use Rattle.std.proofs.Common.{◌≡◌, ℕ, nat_eq, true, false, Option, Some, refl, arith, subst}
 use Rattle.std.proofs.lemmas.Bool.Decides.{nat_tests}
-use Rattle.kk_base.specs.declared.exits.TheConstants.{HEAP_FULL_EXIT, STACK_FULL_EXIT}
+use Rattle.kk_base.specs.Exits.{heap_full_exit, stack_full_exit}
 use Rattle.kk_counted.specs.CountedStates.{CountedControl, running, stopped, stuck, counted_end_at}
 use Rattle.kk_source.specs.Ends.{exit_of}
 use Rattle.kk_source.specs.State.{End, ended, heap_full, stack_full}
@@ -29,11 +29,11 @@ exits_are = (refl, refl)
 -- no two ends have the same exit number
 pub differ : (a b : End) → exit_of a ≡ exit_of b → a ≡ b
 differ ended ended same = refl
-differ ended heap_full same = absurd (apart 0 HEAP_FULL_EXIT refl same)
-differ ended stack_full same = absurd (apart 0 STACK_FULL_EXIT refl same)
-differ heap_full ended same = absurd (apart HEAP_FULL_EXIT 0 refl same)
+differ ended heap_full same = absurd (apart 0 heap_full_exit refl same)
+differ ended stack_full same = absurd (apart 0 stack_full_exit refl same)
+differ heap_full ended same = absurd (apart heap_full_exit 0 refl same)
 differ heap_full heap_full same = refl
-differ heap_full stack_full same = absurd (apart HEAP_FULL_EXIT STACK_FULL_EXIT refl same)
-differ stack_full ended same = absurd (apart STACK_FULL_EXIT 0 refl same)
-differ stack_full heap_full same = absurd (apart STACK_FULL_EXIT HEAP_FULL_EXIT refl same)
+differ heap_full stack_full same = absurd (apart heap_full_exit stack_full_exit refl same)
+differ stack_full ended same = absurd (apart stack_full_exit 0 refl same)
+differ stack_full heap_full same = absurd (apart stack_full_exit heap_full_exit refl same)
 differ stack_full stack_full same = refl

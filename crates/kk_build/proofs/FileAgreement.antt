@@ -10,7 +10,7 @@ use Rattle.kk_source.specs.Notes.{Note, events_of}
 use Rattle.kk_source.specs.Settings.{setting_of}
 use Rattle.kk_source.specs.SourceAfter.{step, ending_of, first_state, State}
 use Rattle.kk_source.specs.State.{Setting, End, ended}
-use Rattle.kk_core.specs.Costs.{most_room}
+use Rattle.kk_core.specs.Costs.{most_step_cost as most, most_room}
 use Rattle.kk_norm.specs.Meaning.{heavy_store_machine}
 use Rattle.kk_counted.specs.CountedCodes.{CountedProgram}
 use Rattle.kk_counted.specs.CountedCosts.{roomy_cost}
@@ -58,10 +58,6 @@ module _ (program : ProgramTree) (table positions : PositionTable) (code : Count
   -- the counted machine, by the costs of its steps with room for tokens
   abbrev weighed : Machine CountedState Note End
   weighed = counted_machine (roomy_cost room) counted
-
-  -- what a step of the program pays, by a number of nodes that no body passes
-  abbrev most : ℕ → ℕ
-  most nodes = 256 * (nodes * nodes)
 
   module _ (nodes : ℕ) (few : greatest ≤ nodes) (input : List ℕ) (bytes : All (λ byte. byte < 256) input) where
     abbrev loaded : Processor

@@ -10,7 +10,7 @@ use Rattle.elf_image.specs.Fields.{entry_of}
 use Rattle.elf_image.specs.Loaded.{IsLoaded, parts_of}
 use Rattle.elf_image.specs.Parts.{memory_of}
 use Rattle.elf_image.specs.declared.part.Part.{Part}
-use Rattle.cell_runtime.specs.declared.process.TheConstants.{TEXT_WORDS}
+use Rattle.cell_runtime.specs.Sizes.{runtime_words}
 use Rattle.rv_isa.specs.Execution.{rv32im}
 use Rattle.rv_isa.specs.FreeTouches.{TouchesNoFreeCell}
 use Rattle.rv_isa.specs.InstructionSet.{run_over}
@@ -44,7 +44,7 @@ RunLeavesNone setting parts entry input =
     × AreAllFree setting.cells (run_of parts entry input count).processor
 
 abbrev pub RunTouchesNone : ℕ → List Part → ℕ → List ℕ → Type 0
-RunTouchesNone cells parts entry input = (count : ℕ) → TouchesNoFreeCell entry TEXT_WORDS cells (run_of parts entry input count)
+RunTouchesNone cells parts entry input = (count : ℕ) → TouchesNoFreeCell entry runtime_words cells (run_of parts entry input count)
 
 module _ {file : List ℕ} {entry : ℕ} {parts : List Part} (loaded : IsLoaded file entry parts) (setting : Setting) where
   -- what holds of the image's entry and parts holds of the file's

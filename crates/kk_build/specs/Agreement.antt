@@ -5,13 +5,14 @@ use Rattle.kk_source.specs.Notes.{events_of}
 use Rattle.kk_source.specs.Ends.{exit_of}
 use Rattle.kk_source.specs.State.{Setting, ended}
 use Rattle.kk_source.specs.SourceAfter.{store_machine, first_state}
+use Rattle.kk_core.specs.Costs.{most_step_cost}
 use Rattle.rv_isa.specs.ProcessorMachine.{ImageAgrees, ImageKeepsUp}
 use Rattle.elf_image.specs.Loaded.{reason_of}
 use Rattle.rv_isa.specs.Processor.{exited}
 use Rattle.kk_back.specs.FreeCells.{AreAllFree}
 use Rattle.kk_build.specs.ImageAfter.{file_after}
 use Rattle.rv_isa.specs.FreeTouches.{TouchesNoFreeCell}
-use Rattle.cell_runtime.specs.declared.process.TheConstants.{TEXT_WORDS}
+use Rattle.cell_runtime.specs.Sizes.{runtime_words}
 use Rattle.elf_image.specs.Fields.{entry_of}
 
 -- The image in a file agrees with a program on an input: it never traps, and exits with these numbers alone; each trace of one is a
@@ -28,7 +29,7 @@ pub record Agrees (file : List ℕ) (setting : Setting) : Type 0 where
 -- Within how many instructions the image does what the program does in n steps, by a number of nodes that no body passes: so many
 -- for each step, and once more as many for the code before and behind that of `main`.
 abbrev pub instructions_within : ℕ → ℕ → ℕ
-instructions_within nodes n = 256 * (nodes * nodes) * (n + 1)
+instructions_within nodes n = most_step_cost nodes * (n + 1)
 
 -- the image in a file does so on every input of bytes
 abbrev pub IsBounded : ℕ → List ℕ → Setting → Type 0
@@ -51,4 +52,4 @@ LeavesNoCell file setting =
 abbrev pub TouchesNoFree : ℕ → List ℕ → Type 0
 TouchesNoFree cells file =
     (input : List ℕ) → All (λ byte. byte < 256) input
-    → (count : ℕ) → TouchesNoFreeCell (entry_of file) TEXT_WORDS cells (file_after file input count)
+    → (count : ℕ) → TouchesNoFreeCell (entry_of file) runtime_words cells (file_after file input count)
