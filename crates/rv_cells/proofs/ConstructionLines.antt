@@ -11,6 +11,7 @@ use Rattle.kk_source.specs.Sound.{AllWithin}
 use Rattle.kk_counted.specs.Heaps.{Heap, busy, fields_held}
 use Rattle.kk_counted.specs.Keeping.{values_of}
 use Rattle.kk_counted.specs.Spending.{AllAmong}
+use Rattle.rv_isa.specs.Numbers.{cell_words}
 use Rattle.rv_isa.specs.declared.asm.Action.TheVariants.{Routine as Calls}
 use Rattle.rv_isa.specs.declared.routine.Routine.TheVariants.{Take}
 use Rattle.rv_isa.specs.Processor.{exited}
@@ -84,7 +85,7 @@ module _ (target : Target) (layout : Layout) (address : ℕ → ℕ) (owners : �
       (written holds at i w words (chosen_same at at (in_hand words) owners refl))
 
   pub store_hand : (rest : List Line) (world : World) (i from w : ℕ) (words : ℕ → Option ℕ) (line : Line) → Stores x i from line
-      → f.cells from ≡ Some w → i < 8 → Holds words world.cells
+      → f.cells from ≡ Some w → i < cell_words → Holds words world.cells
       → Runs target (most_moves + 3) 1 (turn_of (line ∷ rest) f fs world)
       (turn_of rest f fs (with_cells world (with_block at (own (with_word i w words)) world.cells)))
   store_hand rest world i from w words line stores has low holds =
@@ -93,7 +94,7 @@ module _ (target : Target) (layout : Layout) (address : ℕ → ℕ) (owners : �
       (store_own world.cells at i w words stands.1 low)
 
   stores_run : (rest : List Line) (xs ws : List ℕ) (i : ℕ) (lines : List Line) (words : ℕ → Option ℕ) (world : World)
-      → AllStores x i xs lines → HaveWords f.cells xs ws → i + length xs ≤ 8 → Holds words world.cells
+      → AllStores x i xs lines → HaveWords f.cells xs ws → i + length xs ≤ cell_words → Holds words world.cells
       → (cells : Cells) × Runs target (row_cost xs (most_moves + 3)) (length xs) (turn_of (lines ++ rest) f fs world)
       (turn_of rest f fs (with_cells world cells)) × Holds (with_words i ws words) cells
   stores_run rest [] [] i lines words world stores has few holds = (

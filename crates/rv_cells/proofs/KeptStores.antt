@@ -5,6 +5,7 @@ use Rattle.kk_syntax.specs.Shapes.{is_among}
 use Rattle.kk_source.specs.State.{Value}
 use Rattle.kk_counted.specs.Heaps.{Heap}
 use Rattle.kk_counted.proofs.KeptFields.{AreKeptFields}
+use Rattle.rv_isa.specs.Numbers.{cell_words}
 use Rattle.rv_isa.specs.AsmCode.{Line}
 use Rattle.rv_isa.specs.Frames.{Frame}
 use Rattle.cell_heap.specs.Blocks.{Cells, own, with_block, with_word}
@@ -148,7 +149,7 @@ module _ (target : Target) (layout : Layout) (address : ℕ → ℕ) (owners : �
       × Hands target.pool layout address owners heap at (with_some takes i position ws words) cells
 
   pub some_run : (rest : List Line) (xs ws : List ℕ) (i position : ℕ) (lines : List Line) (words : ℕ → Option ℕ) (world : World)
-      → SomeStores takes x i position xs lines → HaveWords f.cells xs ws → i + length xs ≤ 8
+      → SomeStores takes x i position xs lines → HaveWords f.cells xs ws → i + length xs ≤ cell_words
       → Hands target.pool layout address owners heap at words world.cells → SomeRun rest xs ws i position lines words world
   some_run rest [] [] i position lines words world stores has few holds = (
     world.cells,

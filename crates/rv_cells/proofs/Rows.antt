@@ -15,6 +15,7 @@ use Rattle.kk_counted.specs.Keeping.{values_of}
 use Rattle.kk_counted.specs.Spending.{AllAmong}
 use Rattle.kk_counted.proofs.CountChanges.{count_set}
 use Rattle.kk_counted.specs.Lowerable.{bound_list, AreBelow}
+use Rattle.rv_isa.specs.Numbers.{cell_words}
 use Rattle.rv_isa.specs.AsmCode.{Line}
 use Rattle.rv_isa.specs.Frames.{Frame}
 use Rattle.cell_heap.specs.Blocks.{Cells, own}
@@ -41,7 +42,7 @@ then_some (Some a) f b is = (a, refl, is)
 module _ (target : Target) (rest : List Line) (fs : List (Frame Line)) (world : World) (cell at : ℕ) (words : ℕ → Option ℕ)
     (is : world.cells.blocks at ≡ own words) where
   pub loads_run : (xs ws : List ℕ) (i : ℕ) (lines : List Line) (f : Frame Line) → AllLoads cell i xs lines → f.cells cell ≡ Some at
-      → AreFrom words i ws → length xs ≡ length ws → i + length xs ≤ 8 → is_among xs cell ≡ false
+      → AreFrom words i ws → length xs ≡ length ws → i + length xs ≤ cell_words → is_among xs cell ≡ false
       → Runs target (row_cost xs (most_moves + 2)) (length xs) (turn_of (lines ++ rest) f fs world)
       (turn_of rest (record f { cells = put_list xs ws f.cells }) fs world)
   loads_run [] ws i lines f loads there known many few apart =

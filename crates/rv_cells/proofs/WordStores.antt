@@ -5,6 +5,7 @@ use Rattle.kk_base.specs.Limits.{greatest_of}
 use Rattle.kk_base.specs.declared.limit.LimitKind.TheVariants.{Fields}
 use Rattle.kk_counted.specs.Heaps.{Heap}
 use Rattle.kk_counted.specs.Spending.{AllAmong}
+use Rattle.rv_isa.specs.Numbers.{cell_words}
 use Rattle.rv_isa.specs.AsmCode.{Line}
 use Rattle.rv_isa.specs.Frames.{Frame, put}
 use Rattle.cell_heap.specs.Blocks.{Cells, own, with_block, with_word}
@@ -136,7 +137,7 @@ both_set false = omega arith
 module _ (target : Target) (layout : Layout) (address : ℕ → ℕ) (owners : ℕ → Owner) (heap : Heap) (fs : List (Frame Line)) where
   -- one word
   set_run : (b : Bool) (base x i word : ℕ) (lines rest : List Line) (f : Frame Line) (at : ℕ) (words : ℕ → Option ℕ)
-      (world : World) → SetIf b base x i word lines → f.cells x ≡ Some at → x < base → i < 8
+      (world : World) → SetIf b base x i word lines → f.cells x ≡ Some at → x < base → i < cell_words
       → Hands target.pool layout address owners heap at words world.cells
       → (cells : Cells) × Runs target (set_cost b) (set_steps b) (turn_of (lines ++ rest) f fs world)
       (turn_of rest (record f { cells = put_if b base word f.cells }) fs (with_cells world cells))

@@ -3,6 +3,7 @@ use Rattle.std.proofs.Common.{◌≡◌, ◌≢◌, ◌≤◌, ◌<◌, ℕ, suc
 use mathlib.Core.Path.{fun_ext}
 use Rattle.std.proofs.lemmas.Bool.{cases_eq}
 use Rattle.std.proofs.lemmas.Bool.Decides.{nat_tests}
+use Rattle.rv_isa.specs.Numbers.{cell_words}
 use Rattle.cell_heap.specs.Pool.{Pool, IsCell}
 use Rattle.cell_heap.specs.Blocks.{own, kept, Cells, with_block, with_word, index_of, load, store}
 use Rattle.kk_source.specs.State.{Value, integer, unit, constant, place, Cell}
@@ -16,18 +17,18 @@ use Rattle.rv_cells.proofs.Owners.{chosen_by, chosen_same, chosen_other, own-unu
 
 -- ---- a word of a block
 
-pub index_at : (i : ℕ) → i < 8 → index_of (4 * i) ≡ Some i
+pub index_at : (i : ℕ) → i < cell_words → index_of (4 * i) ≡ Some i
 index_at i low =
     let whole : nat_eq ((4 * i) % 4) 0 ≡ true = grind (arith, nat_tests) in
     let below : nat_lt (4 * i) 32 ≡ true = grind (arith, nat_tests) in
     let index : (4 * i) / 4 ≡ i = omega arith in
     rw (whole, below) (ap Some index)
 
-pub load_own : (cells : Cells) (at i w : ℕ) (words : ℕ → Option ℕ) → cells.blocks at ≡ own words → i < 8 → words i ≡ Some w
+pub load_own : (cells : Cells) (at i w : ℕ) (words : ℕ → Option ℕ) → cells.blocks at ≡ own words → i < cell_words → words i ≡ Some w
     → load at (4 * i) cells ≡ Some w
 load_own cells at i w words is low known = rw (is, index_at i low) known
 
-pub store_own : (cells : Cells) (at i w : ℕ) (words : ℕ → Option ℕ) → cells.blocks at ≡ own words → i < 8
+pub store_own : (cells : Cells) (at i w : ℕ) (words : ℕ → Option ℕ) → cells.blocks at ≡ own words → i < cell_words
     → store at (4 * i) w cells ≡ Some (with_block at (own (with_word i w words)) cells)
 store_own cells at i w words is low = rw (is, index_at i low) refl
 

@@ -9,6 +9,7 @@ use Rattle.kk_counted.specs.TokenedCodes.{TokenedFunction}
 use Rattle.kk_counted.specs.declared.shape.Shape.{Shape}
 use Rattle.rv_isa.specs.AsmCode.{Lines}
 use Rattle.rv_lower.specs.Lowered.{returns, from_to}
+use Rattle.rv_lower.specs.Written.{most_print}
 use Rattle.rv_world.specs.Operations.{all_bytes}
 use Rattle.rv_cells.specs.declared.standing.Standing.{Standing}
 use Rattle.rv_cells.specs.Marking.{function_marks}
@@ -52,13 +53,13 @@ pub record LoweredTokened (shape : Shape) (literals : List (List ℕ)) (f : ℕ)
     (old new : List (List ℕ)) : Type 0 where
   pub more : List (List ℕ)
   pub texts : new ≡ old ++ more
-  pub few : length (all_bytes more) ≤ 256 * tokened_computes function.body
+  pub few : length (all_bytes more) ≤ most_print * tokened_computes function.body
   pub is : (later : List (List ℕ)) → IsTokenedWritten shape literals (new ++ later) f function lines
 
 -- functions were lowered, and these are their texts: they are lowered however many texts come later
 pub record LoweredTokenedFunctions (shape : Shape) (literals : List (List ℕ)) (functions : List TokenedFunction)
     (each : List Lines) (texts : List (List ℕ)) : Type 0 where
   pub as_many : length each ≡ length functions
-  pub few : length (all_bytes texts) ≤ 256 * all_tokened_computes functions
+  pub few : length (all_bytes texts) ≤ most_print * all_tokened_computes functions
   pub are : (later : List (List ℕ)) (f : ℕ) (function : TokenedFunction) → slice_get functions f ≡ Some function
       → (lines : Lines) × ((slice_get each f ≡ Some lines) × IsTokenedWritten shape literals (texts ++ later) f function lines)

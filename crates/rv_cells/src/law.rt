@@ -38,6 +38,7 @@ ghost use Rattle.rv_cells.specs.Steps.{Served, ServedByHeld, PutAside, TakenBack
 ghost use Rattle.kk_counted.specs.TokenedCodes.{TokenedFunction, TokenedProgram};
 ghost use Rattle.kk_counted.specs.CountLimits.{greatest_spent};
 ghost use Rattle.rv_cells.specs.Tables.{table_of, layout_in};
+ghost use Rattle.rv_lower.specs.Written.{most_print};
 ghost use Rattle.rv_isa.specs.Costs.{functions_length};
 ghost use Rattle.rv_isa.specs.ValueBounds.{HaveValuesBelow};
 ghost use Rattle.rv_world.specs.Operations.{all_bytes};
@@ -155,14 +156,14 @@ pub fn lowered_tokened_programs_are_well_formed()
 {}
 
 /// The assembler code of a program with tokens whose bare form can be lowered, which spends its tokens, and is lowered, is no longer
-/// than its code with tokens tells, and has at most 256 constant bytes for each form on values: where constructors have at most six
+/// than its code with tokens tells, and has at most the bytes of one print for each form on values: where constructors have at most six
 /// fields. It is a law, and does nothing.
 pub fn lowered_tokened_programs_are_short()
     ensures { (shape : Shape) (code : TokenedProgram) (texts : List (List ℕ)) (each : List Lines)
         → AreLowerable (table_of shape) (bare_program code).functions → AreTokensLowerable code.functions → AreTokensSpent code
         → IsTokenedForm shape code.texts code.functions each texts → IsNarrow (layout_in shape)
         → (functions_length each ≤ tokened_functions_length code.functions)
-        × (length (all_bytes texts) ≤ 256 * all_tokened_computes code.functions) }
+        × (length (all_bytes texts) ≤ most_print * all_tokened_computes code.functions) }
 {}
 
 /// The assembler code of a program with tokens whose bare form can be lowered, which spends its tokens, and is lowered, names no more
