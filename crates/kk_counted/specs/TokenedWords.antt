@@ -67,3 +67,7 @@ abbrev mutual
 abbrev pub all_tokened_prints : List TokenedFunction → ℕ
 all_tokened_prints [] = 0
 all_tokened_prints (function ∷ functions) = tokened_prints function.body + all_tokened_prints functions
+
+abbrev pub all_tokened_words : List TokenedFunction → ℕ
+all_tokened_words [] = 0
+all_tokened_words (function ∷ functions) = tokened_words function.body + all_tokened_words functions
