@@ -12,3 +12,4 @@ pub mod LaterForms
 pub mod Walks
 pub mod Steps
 pub mod WrittenSteps
+mod PairedWords

@@ -1,7 +1,8 @@
-ghost use Rattle.std.specs.Prelude.{◌≡◌, ◌≤◌, ◌+◌, ◌*◌, ℕ, List};
+ghost use Rattle.std.specs.Prelude.{◌≡◌, ◌≤◌, ◌+◌, ◌*◌, ℕ, List, false};
 ghost use Rattle.kk_base.specs.Agreements.{Agree};
 ghost use Rattle.kk_counted.specs.BareForms.{bare_program};
-ghost use Rattle.kk_counted.specs.CountedCodes.{CountedProgram};
+ghost use Rattle.kk_counted.specs.BlockEnds.{EndsWell};
+ghost use Rattle.kk_counted.specs.CountedCodes.{CountedFunction, CountedProgram};
 ghost use Rattle.kk_counted.specs.CountedCosts.{roomy_cost};
 ghost use Rattle.kk_counted.specs.CountedMachine.{counted_machine, NotStuck};
 ghost use Rattle.kk_counted.specs.CountedStates.{CountedSetting, CountedState, counted_first_state};
@@ -14,9 +15,11 @@ ghost use Rattle.kk_counted.specs.TokenLowerable.{most_slots, AreTokensLowerable
 ghost use Rattle.kk_counted.specs.TokenMachine.{token_machine};
 ghost use Rattle.kk_counted.specs.TokenRuns.{IsSameRun};
 ghost use Rattle.kk_counted.specs.TokenSpending.{AreTokensSpent};
+ghost use Rattle.kk_counted.specs.TokenWords.{code_words, token_words};
+ghost use Rattle.kk_counted.specs.TokenedWords.{tokened_words};
 ghost use Rattle.kk_counted.specs.TokenStates.{TokenState, token_first_state};
 ghost use Rattle.kk_reuse.specs.Paired.{AllPaired};
-ghost use Rattle.kk_reuse.specs.Pairing.{paired_program, paired_setting};
+ghost use Rattle.kk_reuse.specs.Pairing.{paired_function, paired_program, paired_setting};
 
 use kk_counted::{tokens_cost_what_they_have_room_for, tokens_keep_runs_the_same};
 
@@ -78,4 +81,11 @@ pub fn paired_code_has_few_slots()
 pub fn paired_code_is_short()
     ensures { (most : ℕ) (program : CountedProgram) → OpenAtMost most program → most ≤ most_slots
         → AreShort program.functions → AreTokensShort (paired_program program).functions }
+{}
+
+/// Paired code takes few words of an image, where each case has an arm and no block inside ends with a tail call: as many as the code
+/// that it is made of, and those for its tokens. It is a law, and does nothing.
+pub fn paired_code_takes_few_words()
+    ensures { (function : CountedFunction) → EndsWell false function.body
+        → tokened_words (paired_function function).body ≤ code_words function.body + token_words 0 function.body }
 {}
