@@ -9,4 +9,5 @@ pub mod SpecialKinds
 pub mod Lowerability
 pub mod SpecialLengths
 pub mod NumberForms
-mod Openings
+pub mod Openings
+pub mod SpecialWords

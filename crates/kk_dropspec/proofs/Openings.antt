@@ -8,7 +8,7 @@ use Rattle.kk_dropspec.specs.Specialised.{special, special_arms, special_functio
 use Rattle.kk_dropspec.proofs.ChangedFunctions.{found_before}
 
 mutual
-  same_openings : (code : Counted) → openings (special code) ≡ openings code
+  pub same_openings : (code : Counted) → openings (special code) ≡ openings code
   same_openings (give x) = refl
   same_openings (tail_call f arguments) = refl
   same_openings (case x decisions arms) = same_arms_openings arms

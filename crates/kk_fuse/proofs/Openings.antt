@@ -16,7 +16,7 @@ less_openings x =
 
 -- fused code has as many openings
 mutual
-  same_openings : (code : Counted) → openings (fuse code) ≡ openings code
+  pub same_openings : (code : Counted) → openings (fuse code) ≡ openings code
   same_openings (give x) = refl
   same_openings (tail_call f arguments) = refl
   same_openings (case x decisions arms) = same_arms_openings arms
