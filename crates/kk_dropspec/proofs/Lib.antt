@@ -12,3 +12,4 @@ pub mod CodeLengths
 pub mod NumberForms
 pub mod FunctionLoop
 pub mod Openings
+pub mod SpecialWords

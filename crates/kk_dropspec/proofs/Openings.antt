@@ -15,7 +15,7 @@ use Rattle.kk_dropspec.proofs.ChangedFunctions.{found_before}
 module _ (Fewer : ℕ → Counted → Counted → Type 0)
     (fewer : (x : ℕ) (code less : Counted) → Fewer x code less → openings less ≡ openings code) where
   mutual
-    same_openings : {code less : Counted} → Changes Fewer code less → openings less ≡ openings code
+    pub same_openings : {code less : Counted} → Changes Fewer code less → openings less ≡ openings code
     same_openings (gives x) = refl
     same_openings (calls f arguments) = refl
     same_openings (decides x decisions each) = same_arms_openings each
@@ -41,6 +41,9 @@ module _ (Fewer : ℕ → Counted → Counted → Type 0)
       let before = found_before change program.functions f function is in
       subst (λ (one : CountedFunction). openings one.body ≤ most) before.1.1
       (let same = same_openings (changes before.0.body) in let less = few f before.0 before.1.0 in omega (arith, same, less))
+
+pub special_openings : (code : Counted) → openings (special code) ≡ openings code
+special_openings code = same_openings Never (λ x one less none. absurd none) (special_changes code)
 
 pub special_opens : (most : ℕ) (program : CountedProgram) → OpenAtMost most program → OpenAtMost most (special_program program)
 special_opens = changed_opens Never (λ x code less none. absurd none) special special_changes

@@ -1,8 +1,8 @@
-ghost use Rattle.std.specs.Prelude.{◌≡◌, ℕ, Bool, List, map};
+ghost use Rattle.std.specs.Prelude.{◌≡◌, ◌+◌, ℕ, Bool, List, map};
 ghost use Rattle.kk_syntax.specs.PositionsOf.{PositionTable};
 ghost use Rattle.kk_syntax.specs.Programs.{ConstructorTree};
 ghost use Rattle.kk_core.specs.Kinds.{MakeOneType, field_count};
-ghost use Rattle.kk_counted.specs.CountedCodes.{CountedProgram, CountedFunction};
+ghost use Rattle.kk_counted.specs.CountedCodes.{Counted, CountedProgram, CountedFunction};
 ghost use Rattle.kk_counted.specs.CountBounds.{AllSpendAtMost};
 ghost use Rattle.kk_counted.specs.CountedStates.{CountedSetting, CountedState};
 ghost use Rattle.kk_counted.specs.Keeping.{FitsAlways, HasShapeAlways};
@@ -13,6 +13,7 @@ ghost use Rattle.kk_counted.specs.FunctionSizes.{AllHaveVariablesBelow};
 ghost use Rattle.kk_counted.specs.Marks.{CellMarks, IsMarked};
 ghost use Rattle.kk_counted.specs.Spending.{IsSpent};
 ghost use Rattle.kk_counted.specs.TokenCosts.{OpenAtMost};
+ghost use Rattle.kk_counted.specs.TokenWords.{code_words, token_words};
 ghost use Rattle.kk_counted.specs.TokenedCodes.{Tokened};
 ghost use Rattle.kk_counted.specs.BareForms.{bare};
 ghost use Rattle.kk_counted.specs.TokenSpending.{SpendsTokens};
@@ -81,4 +82,11 @@ pub fn specialised_code_opens_no_more()
 /// nothing.
 pub fn specialised_code_opens_by_count()
     ensures { (functions : List CountedFunction) → AllOpenByCount (map special_function functions) }
+{}
+
+/// Specialised code takes as many words of an image as the code that it is made of, with those for its tokens. It is a law, and does
+/// nothing.
+pub fn specialised_code_takes_as_many_words()
+    ensures { (tokens : ℕ) (code : Counted) → code_words (special code) + token_words tokens (special code)
+        ≡ code_words code + token_words tokens code }
 {}

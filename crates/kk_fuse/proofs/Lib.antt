@@ -3,7 +3,8 @@ pub mod DropRemoval
 pub mod Spending
 pub mod Lowerability
 pub mod FusedLengths
-mod Openings
+pub mod Openings
+pub mod FusedWords
 mod NoPairs
 pub mod DropSearch
 pub mod Forms

@@ -1,14 +1,15 @@
-ghost use Rattle.std.specs.Prelude.{◌≡◌, ℕ, Bool, List, map, Some, slice_get};
+ghost use Rattle.std.specs.Prelude.{◌≡◌, ◌≤◌, ◌+◌, ℕ, Bool, List, map, Some, slice_get};
 ghost use Rattle.kk_syntax.specs.PositionsOf.{PositionTable};
 ghost use Rattle.kk_counted.specs.CountBounds.{AllSpendAtMost};
-ghost use Rattle.kk_counted.specs.CountedCodes.{CountedProgram, CountedFunction};
+ghost use Rattle.kk_counted.specs.CountedCodes.{Counted, CountedProgram, CountedFunction};
 ghost use Rattle.kk_counted.specs.Lengths.{AreShort};
 ghost use Rattle.kk_counted.specs.Lowerable.{AreLowerable, AllOpenByCount};
 ghost use Rattle.kk_counted.specs.FunctionSizes.{AllHaveVariablesBelow};
 ghost use Rattle.kk_counted.specs.Marks.{CellMarks, IsMarked};
 ghost use Rattle.kk_counted.specs.Spending.{IsSpent};
 ghost use Rattle.kk_counted.specs.TokenCosts.{OpenAtMost};
-ghost use Rattle.kk_fuse.specs.Fused.{fused_program, fused_function};
+ghost use Rattle.kk_counted.specs.TokenWords.{code_words, token_words};
+ghost use Rattle.kk_fuse.specs.Fused.{fuse, fused_program, fused_function};
 ghost use Rattle.kk_fuse.specs.NoPairs.{HasNoPair};
 
 /// Fused code spends what the code spends that it is made of. It is a law, and does nothing.
@@ -45,4 +46,11 @@ pub fn fused_code_opens_by_count()
 pub fn fused_code_has_no_pair_left()
     ensures { (program : CountedProgram) (f : ℕ) (function : CountedFunction)
         → slice_get (fused_program program).functions f ≡ Some function → HasNoPair function.body }
+{}
+
+/// Fused code takes no more words of an image than the code that it is made of, with those for its tokens. It is a law, and does
+/// nothing.
+pub fn fused_code_takes_no_more_words()
+    ensures { (tokens : ℕ) (code : Counted) → code_words (fuse code) + token_words tokens (fuse code)
+        ≤ code_words code + token_words tokens code }
 {}

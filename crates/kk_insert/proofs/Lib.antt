@@ -32,4 +32,11 @@ pub mod Gains
 pub mod Lowerability
 pub mod VariableBounds
 pub mod LengthBounds
-mod Openings
+pub mod Openings
+pub mod WordRooms
+pub mod NeededWords
+pub mod OwnedClasses
+pub mod InsertedNodes
+pub mod FormWords
+pub mod WordBounds
+pub mod FunctionWords

@@ -12,15 +12,15 @@ use Rattle.kk_counted.specs.Spending.{at_positions, numbers_from, is_owned}
 use Rattle.kk_counted.specs.TokenCosts.{openings, openings_of, OpenAtMost}
 use Rattle.kk_insert.specs.Insertion.{common, dups, drops, dropping, opening, owns, wants, back, used, lends, lent_of, own, insert, insert_arms, inserted_function, inserted_functions, inserted}
 
-dups_open : (xs : List ℕ) (rest : Counted.Counted) → openings (dups xs rest) ≡ openings rest
+pub dups_open : (xs : List ℕ) (rest : Counted.Counted) → openings (dups xs rest) ≡ openings rest
 dups_open [] rest = refl
 dups_open (x ∷ xs) rest = dups_open xs rest
 
-drops_open : (xs : List ℕ) (rest : Counted.Counted) → openings (drops xs rest) ≡ openings rest
+pub drops_open : (xs : List ℕ) (rest : Counted.Counted) → openings (drops xs rest) ≡ openings rest
 drops_open [] rest = refl
 drops_open (x ∷ xs) rest = drops_open xs rest
 
-opening_opens : (stays : Bool) (x c : ℕ) (fields in_use : List ℕ) (rest : Counted.Counted)
+pub opening_opens : (stays : Bool) (x c : ℕ) (fields in_use : List ℕ) (rest : Counted.Counted)
     → openings (opening stays x c fields in_use rest) ≤ suc (openings rest)
 opening_opens true x c fields in_use rest = omega (arith, dups_open in_use rest)
 opening_opens false x c fields in_use rest = omega arith

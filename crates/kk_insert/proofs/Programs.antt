@@ -5,7 +5,7 @@ use Rattle.std.specs.Prelude.{if◌then◌else◌, slice_get}
 use Rattle.kk_syntax.specs.Shapes.{is_among}
 use Rattle.kk_syntax.specs.PositionsOf.{PositionTable, is_lent}
 use Rattle.kk_core.specs.Codes.{FunctionCode, ProgramCode}
-use Rattle.kk_core.specs.Sizes.{below}
+use Rattle.kk_core.specs.Sizes.{below, IsOrdered}
 use Rattle.kk_counted.specs.CountedCodes.{CountedFunction}
 use Rattle.kk_counted.specs.Spending.{AreApart, at_positions, numbers_from, is_owned, HasAsMany, SpendsParameters, IsSpent}
 use Rattle.kk_counted.proofs.CountChanges.{same, itself}
@@ -101,6 +101,16 @@ module _ (positions : PositionTable) where
   abbrev lent_parameters : ℕ → FunctionCode → List ℕ
   lent_parameters f function = at_positions (is_lent positions f) 0 (numbers_from 0 function.parameters)
 
+  -- a function whose variables are in order is fine
+  pub ordered_is_fine : (f : ℕ) (function : FunctionCode) → IsOrdered function
+      → IsFine (lent_of positions f function) (below function.parameters) function.body
+  ordered_is_fine f function ordered =
+      ordered_fine (lent_of positions f function) (lent_parameters f function)
+      (below function.parameters) function.parameters function.body function.variables ordered
+      (λ y is. below_less function.parameters y is)
+      (λ y is. omega (arith, (at_numbers (is_lent positions f) 0 function.parameters y is).1.0))
+      (λ y less. refl)
+
   module _ (source : List FunctionCode) (f : ℕ) (function : FunctionCode)
       (promise : IsFunctionInsertable positions source f function) where
     pub lent_parameter : (i : ℕ) → i < function.parameters → is_among (lent_of positions f function) i ≡ is_lent positions f i
@@ -112,12 +122,7 @@ module _ (positions : PositionTable) where
         (λ is. numbers_at (is_lent positions f) 0 function.parameters i (omega arith) (omega (arith, less)) is)
 
     pub is_fine : IsFine (lent_of positions f function) (below function.parameters) function.body
-    is_fine =
-        ordered_fine (lent_of positions f function) (lent_parameters f function)
-        (below function.parameters) function.parameters function.body function.variables promise.ordered
-        (λ y is. below_less function.parameters y is)
-        (λ y is. omega (arith, (at_numbers (is_lent positions f) 0 function.parameters y is).1.0))
-        (λ y less. refl)
+    is_fine = ordered_is_fine f function promise.ordered
 
     pub owned_parameter : (y : ℕ) → is_among (own positions (lent_of positions f function) [] function.body) y ≡ true
         → is_among (at_positions (is_owned positions [] f) 0 (numbers_from 0 function.parameters)) y ≡ true

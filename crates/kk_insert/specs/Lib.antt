@@ -6,3 +6,4 @@ pub mod Steps
 pub mod Parts
 pub mod Shapes
 pub mod Limits
+pub mod InsertedWords

@@ -24,6 +24,7 @@ ghost use Rattle.kk_counted.specs.Lowerable.{AreLowerable};
 ghost use Rattle.kk_counted.specs.Marks.{AreMarked};
 ghost use Rattle.kk_counted.specs.Spending.{IsSpent};
 ghost use Rattle.kk_counted.specs.TokenCosts.{OpenAtMost};
+ghost use Rattle.kk_insert.specs.InsertedWords.{TakeFewWords};
 ghost use Rattle.kk_insert.specs.Insertion.{inserted};
 ghost use Rattle.kk_insert.specs.Limits.{HaveFewFields, most_spent};
 ghost use Rattle.kk_insert.specs.MarkTables.{marks_of_types, marks_of_core, AreGround};
@@ -120,4 +121,11 @@ pub fn inserted_code_is_short()
 pub fn inserted_code_opens_no_more()
     ensures { (positions : PositionTable) (most : ℕ) (code : ProgramCode) → UnpackAtMost most code
         → OpenAtMost most (inserted positions code) }
+{}
+
+/// The words of an inserted function grow with pairs of the nodes that its body stands for, four for each pair at most, and besides
+/// with its forms: for all that the insertion puts between them, for tokens and for tests. It is a law, and does nothing.
+pub fn inserted_code_takes_few_words()
+    ensures { (positions : PositionTable) (table : Table) (code : ProgramCode) → IsCoreTyped table code → IsSmall code
+        → TakeFewWords code.functions (inserted positions code).functions }
 {}
