@@ -31,7 +31,7 @@ use Rattle.kk_counted.proofs.Looks.{cell_same, chosen_same}
 use Rattle.kk_counted.proofs.LookAgreement.{looks_same}
 use Rattle.kk_counted.proofs.SoundSteps.{became_sound}
 use Rattle.kk_insert.specs.Meaning.{inserted_setting}
-use Rattle.kk_insert.specs.Insertion.{before, common, dups, dropping, own, own_arms, insert, insert_arms, opening}
+use Rattle.kk_insert.specs.Insertion.{common, dups, dropping, own, own_arms, insert, insert_arms, opening}
 use Rattle.kk_insert.specs.Promise.{LendsOn, AllLendOn}
 use Rattle.kk_insert.proofs.Sets.{no_both, false_if, Part, among_next, one_only, in_back, filter_in, without_clear, in_without, clear_back, before_front, before_back, clear_fresh, apart_filter, filter_alike, among_filter}
 use Rattle.kk_insert.proofs.Lengths.{even_length}

@@ -21,7 +21,7 @@ use Rattle.kk_insert.proofs.TypedPrograms.{same_length}
 use Rattle.kk_insert.proofs.DupPrefixes.{through_dups, through_dropping, through_back}
 
 -- rows that are covered are some
-some_arm : (table : Table) (u : TypeTree) (arms : Arms) → IsCovered (values_of table.constructors) u (map outline_of (patterns_of arms))
+pub some_arm : (table : Table) (u : TypeTree) (arms : Arms) → IsCovered (values_of table.constructors) u (map outline_of (patterns_of arms))
     → arms ≡ no_arm → ⊥
 some_arm table u no_arm covered is = covered any (record { typed = tt; clashes = tt })
 some_arm table u (arm pattern body rest) covered is = absurd (cc)

@@ -8,7 +8,7 @@ use Rattle.kk_source.specs.Notes.{Note}
 use Rattle.kk_counted.specs.CountedCodes.{Counted}
 use Rattle.kk_counted.specs.CountedCosts.{dup_cost, drop_cost}
 use Rattle.kk_counted.specs.Heaps.{Heap, forwards, dup_value, drop_value}
-use Rattle.kk_counted.specs.CountedStates.{CountedSetting, CountedJoin, CountedFrame, CountedState}
+use Rattle.kk_counted.specs.CountedStates.{CountedJoin, CountedFrame, CountedState}
 use Rattle.kk_counted.specs.References.{refs_of, refs, IsSound, IsCounted, cells_of}
 use Rattle.kk_counted.specs.Spending.{AreEven, AreApart}
 use Rattle.kk_counted.specs.Keeping.{values_of, AreReached}

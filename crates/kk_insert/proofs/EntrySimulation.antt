@@ -28,7 +28,6 @@ use Rattle.kk_counted.proofs.CountChanges.{refs_append}
 use Rattle.kk_counted.proofs.Variables.{parameters_owned, parameter_among}
 use Rattle.kk_counted.proofs.Reachability.{same_store}
 use Rattle.kk_counted.proofs.SoundSteps.{landed, reached_bound}
-use Rattle.kk_insert.specs.Meaning.{inserted_setting}
 use Rattle.kk_insert.specs.Insertion.{dups, dropping, lent_of, owns, wants, own, back, insert, inserted_function}
 use Rattle.kk_insert.specs.Promise.{IsFunctionInsertable}
 use Rattle.kk_insert.proofs.Sets.{no_self, no_both, false_if}

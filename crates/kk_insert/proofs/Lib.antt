@@ -30,6 +30,7 @@ pub mod VariableNumbers
 pub mod BlockValues
 pub mod Gains
 pub mod Lowerability
+mod BlockEnds
 pub mod VariableBounds
 pub mod LengthBounds
 pub mod Openings

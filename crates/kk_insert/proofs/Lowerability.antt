@@ -98,7 +98,7 @@ inserted_from positions next (suc f) (function ∷ functions) made there =
     let later = inserted_from positions (suc next) f functions made there in
     (later.0, (later.1.0, ap (λ n. inserted_function positions n later.0) {x = next + suc f} {y = suc next + f} (omega arith) ∙ later.1.1))
 
-inserted_at : (positions : PositionTable) (f : ℕ) (functions : List FunctionCode) (made : CountedFunction)
+pub inserted_at : (positions : PositionTable) (f : ℕ) (functions : List FunctionCode) (made : CountedFunction)
     → slice_get (inserted_functions positions 0 functions) f ≡ Some made
     → (function : FunctionCode) × ((slice_get functions f ≡ Some function) × (inserted_function positions f function ≡ made))
 inserted_at positions f functions made there =

@@ -17,6 +17,7 @@ ghost use Rattle.kk_core.specs.Unpackings.{UnpackAtMost};
 ghost use Rattle.kk_counted.specs.CountedStates.{CountedState};
 ghost use Rattle.kk_counted.specs.Keeping.{FitsAlways, HasShapeAlways};
 ghost use Rattle.kk_counted.specs.Kinds.{HasKindsAlways};
+ghost use Rattle.kk_counted.specs.BlockEnds.{AllEndWell};
 ghost use Rattle.kk_counted.specs.CountBounds.{AllSpendAtMost};
 ghost use Rattle.kk_counted.specs.Lengths.{AreShort};
 ghost use Rattle.kk_counted.specs.FunctionSizes.{AllHaveVariablesBelow};
@@ -128,4 +129,11 @@ pub fn inserted_code_opens_no_more()
 pub fn inserted_code_takes_few_words()
     ensures { (positions : PositionTable) (table : Table) (code : ProgramCode) → IsCoreTyped table code → IsSmall code
         → TakeFewWords code.functions (inserted positions code).functions }
+{}
+
+/// In the insertion of a typed program each case has an arm, and a block inside ends with values alone: a tail call stands only where
+/// a function ends. It is a law, and does nothing.
+pub fn inserted_code_ends_well()
+    ensures { (positions : PositionTable) (table : Table) (code : ProgramCode) → IsCoreTyped table code
+        → AllEndWell (inserted positions code).functions }
 {}
