@@ -12,4 +12,5 @@ pub mod CodeLengths
 pub mod NumberForms
 pub mod FunctionLoop
 pub mod Openings
-pub mod SpecialWords
+pub mod CodeWords
+mod SpecialWords

@@ -42,9 +42,6 @@ module _ (Fewer : ℕ → Counted → Counted → Type 0)
       subst (λ (one : CountedFunction). openings one.body ≤ most) before.1.1
       (let same = same_openings (changes before.0.body) in let less = few f before.0 before.1.0 in omega (arith, same, less))
 
-pub special_openings : (code : Counted) → openings (special code) ≡ openings code
-special_openings code = same_openings Never (λ x one less none. absurd none) (special_changes code)
-
 pub special_opens : (most : ℕ) (program : CountedProgram) → OpenAtMost most program → OpenAtMost most (special_program program)
 special_opens = changed_opens Never (λ x code less none. absurd none) special special_changes
 

@@ -2,6 +2,7 @@ ghost use Rattle.std.specs.Prelude.{◌≡◌, ◌+◌, ℕ, Bool, List, map};
 ghost use Rattle.kk_syntax.specs.PositionsOf.{PositionTable};
 ghost use Rattle.kk_syntax.specs.Programs.{ConstructorTree};
 ghost use Rattle.kk_core.specs.Kinds.{MakeOneType, field_count};
+ghost use Rattle.kk_counted.specs.BlockEnds.{EndsWell};
 ghost use Rattle.kk_counted.specs.CountedCodes.{Counted, CountedProgram, CountedFunction};
 ghost use Rattle.kk_counted.specs.CountBounds.{AllSpendAtMost};
 ghost use Rattle.kk_counted.specs.CountedStates.{CountedSetting, CountedState};
@@ -89,4 +90,10 @@ pub fn specialised_code_opens_by_count()
 pub fn specialised_code_takes_as_many_words()
     ensures { (tokens : ℕ) (code : Counted) → code_words (special code) + token_words tokens (special code)
         ≡ code_words code + token_words tokens code }
+{}
+
+/// Specialised code ends as well as the code that it is made of: its cases have arms, and its blocks end with values alone. It is a
+/// law, and does nothing.
+pub fn specialised_code_ends_as_well()
+    ensures { (inner : Bool) (code : Counted) → EndsWell inner code → EndsWell inner (special code) }
 {}

@@ -6,8 +6,8 @@ mod law;
 mod special;
 
 pub use law::{
-    specialised_code_can_be_lowered, specialised_code_has_its_kinds, specialised_code_is_spent,
-    specialised_code_opens_by_count, specialised_code_opens_no_more,
+    specialised_code_can_be_lowered, specialised_code_ends_as_well, specialised_code_has_its_kinds,
+    specialised_code_is_spent, specialised_code_opens_by_count, specialised_code_opens_no_more,
     specialised_code_runs_the_same, specialised_code_spends_its_tokens,
     specialised_code_takes_as_many_words,
 };

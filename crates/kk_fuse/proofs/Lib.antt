@@ -3,8 +3,8 @@ pub mod DropRemoval
 pub mod Spending
 pub mod Lowerability
 pub mod FusedLengths
-pub mod Openings
-pub mod FusedWords
+mod Openings
+mod FusedWords
 mod NoPairs
 pub mod DropSearch
 pub mod Forms

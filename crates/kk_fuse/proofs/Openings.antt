@@ -5,20 +5,16 @@ use Rattle.kk_counted.specs.CountedCodes.{CountedArms, no_arm, arm, CountedFunct
 use Rattle.kk_counted.specs.Lowerable.{OpensByCount, OpenByCount, AllOpenByCount}
 use Rattle.kk_counted.specs.TokenCosts.{openings, OpenAtMost}
 use Rattle.kk_dropspec.proofs.ChangedFunctions.{found_before}
-use Rattle.kk_dropspec.proofs.Openings.{same_openings, changed_opens}
+use Rattle.kk_dropspec.proofs.Openings.{changed_opens}
 use Rattle.kk_fuse.specs.Fused.{without_drop, fuse, fuse_arms, fused_function, fused_program}
 use Rattle.kk_fuse.proofs.DropRemoval.{by_without, by_fused, Without, fuse_changes}
 
 -- the code without a drop has as many openings
-less_openings : (x : ℕ) (code less : Counted) → without_drop x code ≡ Some less → openings less ≡ openings code
+pub less_openings : (x : ℕ) (code less : Counted) → without_drop x code ≡ Some less → openings less ≡ openings code
 less_openings x =
     by_without x (λ code less. openings less ≡ openings code) (λ rest. refl) (λ y rest less apart later. later)
     (λ y rest less apart later. later) (λ y c fields rest less apart named later. later)
     (λ y form arguments rest less apart named plain later. later)
-
--- fused code has as many openings
-pub fused_openings : (code : Counted) → openings (fuse code) ≡ openings code
-fused_openings code = same_openings Without less_openings (fuse_changes code)
 
 -- a fused program has no more openings
 pub fused_opens : (most : ℕ) (program : CountedProgram) → OpenAtMost most program → OpenAtMost most (fused_program program)

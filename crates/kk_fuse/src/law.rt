@@ -1,6 +1,7 @@
 ghost use Rattle.std.specs.Prelude.{◌≡◌, ◌≤◌, ◌+◌, ℕ, Bool, List, map, Some, slice_get};
 ghost use Rattle.kk_syntax.specs.PositionsOf.{PositionTable};
 ghost use Rattle.kk_counted.specs.CountBounds.{AllSpendAtMost};
+ghost use Rattle.kk_counted.specs.BlockEnds.{EndsWell};
 ghost use Rattle.kk_counted.specs.CountedCodes.{Counted, CountedProgram, CountedFunction};
 ghost use Rattle.kk_counted.specs.Lengths.{AreShort};
 ghost use Rattle.kk_counted.specs.Lowerable.{AreLowerable, AllOpenByCount};
@@ -53,4 +54,10 @@ pub fn fused_code_has_no_pair_left()
 pub fn fused_code_takes_no_more_words()
     ensures { (tokens : ℕ) (code : Counted) → code_words (fuse code) + token_words tokens (fuse code)
         ≤ code_words code + token_words tokens code }
+{}
+
+/// Fused code ends as well as the code that it is made of: its cases have arms, and its blocks end with values alone. It is a law,
+/// and does nothing.
+pub fn fused_code_ends_as_well()
+    ensures { (inner : Bool) (code : Counted) → EndsWell inner code → EndsWell inner (fuse code) }
 {}

@@ -1,5 +1,6 @@
 pub mod Forms
 mod Measures
+mod RespecialisedWords
 mod Pairs
 mod Lowerability
 mod AllKnown

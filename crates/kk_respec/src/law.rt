@@ -12,9 +12,10 @@ ghost use Rattle.kk_counted.specs.TokenRuns.{IsSameRun};
 ghost use Rattle.kk_counted.specs.TokenSpending.{AreTokensSpent};
 ghost use Rattle.kk_counted.specs.TokenStates.{TokenSetting, TokenState, bare_setting};
 ghost use Rattle.kk_counted.specs.TokenedCodes.{TokenedFunction, TokenedProgram};
+ghost use Rattle.kk_counted.specs.TokenedWords.{tokened_words};
 ghost use Rattle.kk_reuse.specs.Paired.{AllPaired};
 ghost use Rattle.kk_respec.specs.AllKnown.{LeavesAllKnown};
-ghost use Rattle.kk_respec.specs.Respecialised.{respecialised_program, respecialised_setting};
+ghost use Rattle.kk_respec.specs.Respecialised.{respecialised_function, respecialised_program, respecialised_setting};
 
 use kk_counted::{known_fields_may_be_left, tokens_keep_runs_the_same};
 
@@ -36,6 +37,12 @@ pub fn respecialised_code_can_be_lowered()
         → AreTokensShort (respecialised_program program).functions }
     ensures slots { (most : ℕ) (program : TokenedProgram) → AllHaveSlotsBelow most program.functions
         → AllHaveSlotsBelow most (respecialised_program program).functions }
+{}
+
+/// Respecialised code takes as many words of an image as the code that it is made of. It is a law, and does nothing.
+pub fn respecialised_code_takes_as_many_words()
+    ensures { (function : TokenedFunction)
+        → tokened_words (respecialised_function function).body ≡ tokened_words function.body }
 {}
 
 /// Each construction of respecialised code in a token's cell leaves all fields that are known to be its arguments. It is a law, and

@@ -10,5 +10,6 @@ mod program;
 pub use law::{
     respecialised_code_can_be_lowered, respecialised_code_has_its_form,
     respecialised_code_leaves_all_that_is_known, respecialised_code_runs_the_same,
+    respecialised_code_takes_as_many_words,
 };
 pub use program::run;
