@@ -129,8 +129,8 @@ abbrev mutual
 abbrev pub most_node_words : ℕ
 most_node_words = 119
 
--- A code stands for a text of so many nodes: it has no more of them, its forms take few words for each, its tests are brief, and its
--- openings have fields.
+-- A code stands for a text of so many nodes: it has no more of them, its forms take few words for each, its tests are brief, and
+-- its openings have fields.
 pub record StandsForNodes (number : ℕ) (code : Code) : Type 0 where
   pub nodes : pattern_nodes [] false code + other_nodes code ≤ number
   pub words : plain_words code ≤ most_node_words * number

@@ -17,3 +17,4 @@ mod ShapeKinds
 mod FieldBounds
 mod Tags
 mod NodeBounds
+mod FunctionWords

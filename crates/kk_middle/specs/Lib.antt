@@ -5,3 +5,4 @@ pub mod MarkedPrograms
 pub mod ShapeKinds
 pub mod Lowerings
 pub mod TokenLowerings
+pub mod FunctionWords

@@ -22,4 +22,4 @@ pub use meaning::{
 };
 pub use positions::positions_of_instances;
 pub use program::compile;
-pub use tokens::compiled_tokens_can_be_lowered;
+pub use tokens::{compiled_programs_take_few_words, compiled_tokens_can_be_lowered};

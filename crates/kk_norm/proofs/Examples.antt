@@ -6,9 +6,10 @@ use Rattle.kk_syntax.specs.declared.operator.BinaryOperator.TheVariants.{Subtrac
 use Rattle.kk_syntax.specs.declared.program.Form.TheVariants.{Binary}
 use Rattle.kk_syntax.specs.Patterns.{Pattern, anything, variable as pattern_variable, constructor, no_part, part}
 use Rattle.kk_syntax.specs.Programs.{ConstructorTree}
-use Rattle.kk_syntax.specs.Shapes.{is_among}
+use Rattle.kk_syntax.specs.Shapes.{is_among, nodes_of}
 use Rattle.kk_syntax.specs.Trees.{Tree, variable, apply, match, no_tree, tree, no_row, row, row_parts}
 use Rattle.kk_source.specs.State.{Value, Cell}
+use Rattle.kk_core.specs.CodeNodes.{pattern_nodes, other_nodes, plain_words}
 use Rattle.kk_core.specs.RowChoice.{Decides, matches}
 use Rattle.kk_core.specs.Codes.{Code, give, case, compute, use_of, unpack, Arms, no_arm, arm}
 use Rattle.kk_core.specs.Decisions.{NodeTree, chooses, tests, targets, row_chosen, AreOrderly}
@@ -203,3 +204,13 @@ is_its_code constructors numbers = (
 
 pub opens_two : openings nested ≡ 2
 opens_two = refl
+
+-- It stands for seven nodes of ten: those of the pattern, the match, and the operator, which gives the value. It takes few words.
+abbrev code : Code
+code = use_of 0 (case 0 (chooses 0 ∷ []) arms)
+
+pub stands_for_seven : (pattern_nodes [] false code ≡ 5) × (other_nodes code ≡ 2) × (nodes_of body ≡ 10)
+stands_for_seven = (refl, refl, refl)
+
+pub takes_few : plain_words code ≡ 530
+takes_few = refl

@@ -5,6 +5,8 @@ pub mod FunctionVariables
 pub mod CoreTyping
 pub mod ProgramTyping
 pub mod Decisions
+pub mod CodeNodes
+mod CodeWords
 pub mod Delivery
 pub mod Examples
 pub mod Facts

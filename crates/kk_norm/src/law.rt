@@ -4,6 +4,7 @@ ghost use Rattle.kk_syntax.specs.Programs.{ProgramTree};
 ghost use Rattle.kk_syntax.specs.Shapes.{greatest_nodes};
 ghost use Rattle.kk_core.specs.Kinds.{AllAskTyped};
 ghost use Rattle.kk_core.specs.Cases.{CasesAreWhole};
+ghost use Rattle.kk_core.specs.CodeNodes.{StandForNodes};
 ghost use Rattle.kk_core.specs.Codes.{ProgramCode};
 ghost use Rattle.kk_core.specs.CoreTyping.{IsCoreTyped, IsSmall};
 ghost use Rattle.kk_core.specs.Sizes.{most_parameters};
@@ -63,4 +64,11 @@ pub fn core_forms_are_whole()
 pub fn core_forms_open_few_cells()
     ensures { (program : ProgramTree) (code : ProgramCode) → IsCoreForm program code
         → (nodes : ℕ) → greatest_nodes program ≤ nodes → UnpackAtMost (nodes - 1) code }
+{}
+
+/// Each function of a core form stands for the nodes of its body: it has no more of them, its forms take at most 119 words of an
+/// image for each, but for those that grow with pairs of nodes, the tests of its cases are brief, and its openings have fields. It
+/// is a law, and does nothing.
+pub fn core_forms_stand_for_their_nodes()
+    ensures { (program : ProgramTree) (code : ProgramCode) → IsCoreForm program code → StandForNodes program.functions code.functions }
 {}
