@@ -29,7 +29,7 @@ use Rattle.rv_isa.specs.ValueBounds.{HaveValuesBelow}
 use Rattle.rv_isa.specs.WellFormed.{AreWellFormed, most_values}
 use Rattle.rv_isa.proofs.ValueBounds.{all_values_below}
 use Rattle.elf_image.specs.Parts.{memory_of}
-use Rattle.elf_image.specs.Program.{IsProgramImage, program_parts, memory_size_of, text_start, memory_start}
+use Rattle.elf_image.specs.Program.{IsProgramImage, program_parts, text_of, memory_size_of, text_start, memory_start}
 use Rattle.elf_image.specs.declared.part.Part.{Part}
 use Rattle.cell_heap.specs.Pool.{Pool}
 use Rattle.cell_runtime.specs.Sizes.{runtime_words}
@@ -60,12 +60,14 @@ use Rattle.rv_place.specs.Bytes.{IsTextOf}
 use Rattle.rv_place.specs.Images.{IsPlacedImage, EndsWithCells, first_processor, outside_lines}
 use Rattle.rv_place.specs.LineAddresses.{line_address}
 use Rattle.rv_place.specs.ProcessorStates.{HasCells, NeverStuck}
-use Rattle.rv_place.specs.Texts.{ArePlaceable, ArePlacedWords, map_of, pool_in, constants_of, text_bytes, most_text_length, most_functions, most_text_words, most_constant_bytes}
+use Rattle.rv_place.specs.Texts.{ArePlaceable, ArePlacedWords, map_of, pool_in, constants_of, text_bytes, most_bytes}
+use Rattle.rv_place.specs.Texts.{most_text_length, most_functions, most_text_words, most_constant_bytes}
 use Rattle.rv_place.proofs.BootFits.{FitsImage, fits-image}
 use Rattle.rv_place.proofs.BootMemory.{text-fetched}
 use Rattle.rv_place.proofs.BootSizes.{bytes_most}
 use Rattle.rv_place.specs.declared.words.Words.{Words}
 use Rattle.kk_back.specs.Assembled.{IsPlaceable, IsAsmImage}
+use Rattle.kk_back.specs.Sizes.{most_asm_bytes}
 use Rattle.kk_back.proofs.RotatedCode.{slots_below, all_plain, as_many_rotated, opposes, computes_alone}
 use Rattle.kk_back.proofs.FrameSizes.{frame_most, as_many}
 use Rattle.kk_back.proofs.PlainCode.{placed_is_plain}
@@ -154,6 +156,12 @@ PlacedTextEnds =
     → (steps : ℕ) (how : Ending) (world : World)
     → state (placed_machine (primitives (constants_of runtime program) (pool_in cells runtime program)) depth (placed_functions program)) steps (placed_start main (first_world (pool_in cells runtime program) input)) ≡ ended how world
     → (count : ℕ) × EndsWithCells (pool_in cells runtime program) how world (run count (first_processor text runtime.memory.size input))
+
+-- and of how many bytes it has
+abbrev pub PlacedTextIsSmall : Type 0
+PlacedTextIsSmall =
+    (runtime program : Placed) (words : Words) (text : List ℕ) → ArePlacedWords runtime program words → IsTextOf words text
+    → length text ≤ most_bytes runtime program
 
 -- and of the free cells
 abbrev pub PlacedTextTouchesNone : Type 0
@@ -562,15 +570,30 @@ module _ {cells depth : ℕ} {asm : Asm} {placed looped runtime : Placed} {words
         text_touches cells depth runtime looped words text input looped_first.0 looped_image bytes
         (looped_never looped_first.0 looped_first.1)
 
+  -- the text is small: it has a function for each of the assembler code, whose lines are no more, and the same constants
+  pub text_small : PlacedTextIsSmall → length text ≤ most_asm_bytes (asm_functions asm) (asm_constants asm)
+  text_small is_small =
+      let small : length text ≤ most_bytes runtime looped = is_small runtime looped words text makes.words_are makes.text_is in
+      let own = makes.runtime_is.words in
+      let same = as_many (asm_functions asm) (placed_functions placed) makes.valid.functions in
+      let rotated = as_many_rotated 0 (placed_functions placed) (placed_functions looped) makes.loops.rotated in
+      let shorter = makes.plain.short in
+      let no_longer = makes.loops.short in
+      let bytes : length (all_bytes (placed_constants looped)) ≡ length (all_bytes (asm_constants asm))
+      = ap (λ (texts : List (List ℕ)). length (all_bytes texts)) texts_kept in
+      omega (arith, small, own, same, rotated, shorter, no_longer, bytes)
+
 memory_aligned : (text : ℕ) → (memory_start text + 32) % 32 ≡ 0
 memory_aligned text = omega arith
 
 -- The image of the text, with the memory that the runtime asks for, is an image of the assembler code.
 pub image_of : {cells depth : ℕ} {asm : Asm} {placed looped runtime : Placed} {words : Words} {text : List ℕ}
     (makes : Makes cells depth asm placed looped runtime words text) → PlacedTextAgrees → PlacedTextEnds → PlacedTextTouchesNone → PlacedTextComes
-    → (entry : ℕ) (parts : List Part) → IsProgramImage entry parts → entry ≡ text_start → parts ≡ program_parts text runtime.memory.size
+    → PlacedTextIsSmall → (entry : ℕ) (parts : List Part) → IsProgramImage entry parts → entry ≡ text_start
+    → parts ≡ program_parts text runtime.memory.size
     → IsAsmImage (asm_functions asm) (asm_constants asm) makes.made.main cells depth entry parts
-image_of {cells} {depth} {asm} {placed} {looped} {runtime} {words} {text} makes text_agrees text_ends text_touches text_comes entry parts program entry_is parts_are =
+image_of {cells} {depth} {asm} {placed} {looped} {runtime} {words} {text} makes text_agrees text_ends text_touches text_comes
+    is_small entry parts program entry_is parts_are =
     let there : start (memory_of parts) entry ≡ start (memory_of (program_parts text runtime.memory.size)) text_start
     = ap (λ (p : List Part). start (memory_of p) entry) parts_are ∙ ap (λ e. start (memory_of (program_parts text runtime.memory.size)) e) entry_is in
     record {
@@ -591,6 +614,9 @@ image_of {cells} {depth} {asm} {placed} {looped} {runtime} {words} {text} makes 
         few = λ most below.
             frame_most most (placed_functions looped) (few_slots asm placed looped makes.plain makes.loops most below);
       };
+      text =
+          subst (λ (p : List Part). length (text_of p) ≤ most_asm_bytes (asm_functions asm) (asm_constants asm)) (sym parts_are)
+          (text_small makes is_small);
       pool = pool makes;
       cells_are = refl;
       aligned = memory_aligned (text_bytes runtime looped);
@@ -645,9 +671,11 @@ pub image_made : {cells depth frame : ℕ} {asm : Asm} {placed looped runtime : 
     → IsLooped placed looped
     → frame ≡ frame_size (placed_functions looped) → IsText cells depth frame runtime → ArePlacedWords runtime looped words
     → IsTextOf words text → PlacedTextAgrees → PlacedTextEnds → PlacedTextTouchesNone → PlacedTextComes
-    → (entry : ℕ) (parts : List Part) → IsProgramImage entry parts → entry ≡ text_start → parts ≡ program_parts text runtime.memory.size
+    → PlacedTextIsSmall → (entry : ℕ) (parts : List Part) → IsProgramImage entry parts → entry ≡ text_start
+    → parts ≡ program_parts text runtime.memory.size
     → IsAsmImage (asm_functions asm) (asm_constants asm) made.main cells depth entry parts
 unfolding makes_of
-image_made {asm = asm} sizes made valid plain loops frame_is runtime_is words_are text_is text_agrees text_ends text_touches text_comes entry parts program entry_is parts_are =
-    image_of (makes_of {asm = asm} sizes made valid plain loops frame_is runtime_is words_are text_is) text_agrees text_ends text_touches text_comes entry parts program
-    entry_is parts_are
+image_made {asm = asm} sizes made valid plain loops frame_is runtime_is words_are text_is text_agrees text_ends text_touches
+    text_comes is_small entry parts program entry_is parts_are =
+    image_of (makes_of {asm = asm} sizes made valid plain loops frame_is runtime_is words_are text_is) text_agrees text_ends
+    text_touches text_comes is_small entry parts program entry_is parts_are

@@ -17,11 +17,12 @@ use Rattle.kk_counted.specs.TokenCosts.{HasRoom}
 use Rattle.kk_counted.specs.TokenLengths.{tokened_functions_length, all_tokened_computes}
 use Rattle.kk_counted.specs.TokenLowerable.{AreTokensLowerable}
 use Rattle.kk_counted.specs.TokenSpending.{AreTokensSpent}
+use Rattle.kk_counted.specs.TokenedWords.{all_tokened_prints, all_tokened_words}
 use Rattle.kk_counted.specs.TokenedCodes.{TokenedFunction, TokenedProgram}
 use Rattle.kk_counted.specs.declared.shape.Shape.{Shape}
 use Rattle.cell_heap.specs.Pool.{Pool}
 use Rattle.elf_image.specs.Parts.{memory_of}
-use Rattle.elf_image.specs.Program.{IsProgramImage}
+use Rattle.elf_image.specs.Program.{IsProgramImage, text_of}
 use Rattle.elf_image.specs.declared.part.Part.{Part}
 use Rattle.rv_isa.specs.AsmCode.{Lines}
 use Rattle.rv_isa.specs.AsmMachine.{asm_machine, asm_start}
@@ -48,7 +49,7 @@ use Rattle.kk_back.specs.Assembled.{IsPlaceable, IsAsmImage, IsImageOfAsm}
 use Rattle.kk_back.specs.Images.{counted_setting, IsRunnable, IsImageOf, HasOwnAddresses}
 use Rattle.kk_back.specs.FreeCells.{AreAllFree}
 use Rattle.kk_back.specs.Memory.{HasMemory}
-use Rattle.kk_back.specs.Sizes.{FitsText}
+use Rattle.kk_back.specs.Sizes.{FitsText, most_text_bytes}
 use Rattle.kk_back.proofs.ImageLayers.{same_some}
 use Rattle.kk_back.proofs.FreeCells.{all_are_free}
 use Rattle.kk_back.proofs.OwnAddresses.{own_addresses}
@@ -95,6 +96,16 @@ AreShortLowered =
     → IsTokenedForm shape code.texts code.functions each texts → IsNarrow (layout_in shape)
     → (Costs.functions_length each ≤ tokened_functions_length code.functions)
     × (length (all_bytes texts) ≤ most_print * all_tokened_computes code.functions)
+
+-- the law that the assembler code of a program with tokens takes no more words than its forms tell, its constants included
+abbrev pub TakeFewWords : Type 0
+TakeFewWords =
+    (shape : Shape) (code : TokenedProgram) (texts : List (List ℕ)) (each : List Lines)
+    → AreLowerable (table_of shape) (bare_program code).functions → AreTokensLowerable code.functions → AreTokensSpent code
+    → IsTokenedForm shape code.texts code.functions each texts → IsNarrow (layout_in shape)
+    → (Costs.functions_length each + 64 * all_tokened_prints code.functions
+    ≤ 8 * length code.functions + all_tokened_words code.functions)
+    × (length (all_bytes texts) ≤ most_print * all_tokened_prints code.functions)
 
 -- the law that the assembler code of a program with tokens names no more values than its variables, its slots and its temporaries
 abbrev pub HaveFewValues : Type 0
@@ -166,6 +177,17 @@ module _ (shape : Shape) (code : TokenedProgram) (functions : List Lines) (texts
           (have_few_values shape code texts functions runnable.lowerable runnable.spends form variables slots few_variables
           few_slots);
     }
+
+    -- and the text is small
+    pub text_small : TakeFewWords → length (text_of parts) ≤ most_text_bytes code
+    text_small take_few_words =
+        let few =
+        take_few_words shape code texts functions runnable.lowerable runnable.tokens runnable.spends form runnable.narrow in
+        let words = few.0 in
+        let bytes = few.1 in
+        let many = form.as_many in
+        let text = image.text in
+        omega (arith, text, words, bytes, many)
 
     abbrev constants : Constants
     constants = record { first = image.first; texts = texts }

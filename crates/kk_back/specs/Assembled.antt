@@ -5,7 +5,7 @@ use Rattle.kk_base.specs.Machines.{state, trace}
 use Rattle.cell_heap.specs.Pool.{Pool}
 use Rattle.cell_runtime.specs.Sizes.{runtime_words}
 use Rattle.elf_image.specs.Parts.{memory_of}
-use Rattle.elf_image.specs.Program.{IsProgramImage}
+use Rattle.elf_image.specs.Program.{IsProgramImage, text_of}
 use Rattle.elf_image.specs.declared.part.Part.{Part}
 use Rattle.rv_isa.specs.AsmCode.{Lines}
 use Rattle.rv_isa.specs.AsmMachine.{AsmState, asm_machine, asm_start}
@@ -22,7 +22,7 @@ use Rattle.rv_place.specs.Texts.{most_functions}
 use Rattle.rv_world.specs.Operations.{Constants, all_bytes}
 use Rattle.rv_world.specs.World.{World, first_world, primitives}
 use Rattle.kk_back.specs.Memory.{HasAsmMemory}
-use Rattle.kk_back.specs.Sizes.{FitsText}
+use Rattle.kk_back.specs.Sizes.{FitsText, most_asm_bytes}
 
 -- Assembler code that can be placed: it is well formed and small, its functions are few, and the first one takes no arguments.
 pub record IsPlaceable (functions : List Lines) (texts : List (List ℕ)) : Type 0 where
@@ -75,6 +75,7 @@ pub record IsAsmImage (functions : List Lines) (texts : List (List ℕ)) (main :
     : Type 0 where
   pub program : IsProgramImage entry parts
   pub memory : HasAsmMemory functions cells depth parts
+  pub text : length (text_of parts) ≤ most_asm_bytes functions texts
   pub pool : Pool
   pub cells_are : pool.cells ≡ cells
   pub aligned : pool.first % 32 ≡ 0

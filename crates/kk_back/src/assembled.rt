@@ -12,7 +12,7 @@ use rv_isa::{Asm, frame_bytes};
 use rv_loops::rotated;
 use rv_place::{
     place, placed_text_agrees, placed_text_comes_to_its_lines, placed_text_ends_with_its_cells,
-    placed_text_touches_no_free_cell,
+    placed_text_takes_few_bytes, placed_text_touches_no_free_cell,
 };
 use rv_regs::assign;
 use std::alloc::Global;
@@ -35,6 +35,7 @@ pub fn assembled(alloc: Global, asm: &Asm, cells: u32, depth: u32) -> Result<Ima
     placed_text_ends_with_its_cells();
     placed_text_touches_no_free_cell();
     placed_text_comes_to_its_lines();
+    placed_text_takes_few_bytes();
     let image = Image::program(alloc, Bytes::from_vec(bytes), runtime.memory.size)?;
     Ok(image)
 }

@@ -3,13 +3,14 @@
 
 mod assembled;
 
-ghost use Rattle.std.specs.Prelude.{IfOk};
+ghost use Rattle.std.specs.Prelude.{◌≤◌, length, IfOk};
 ghost use Rattle.kk_base.specs.Sizes.{AreSizes};
 ghost use Rattle.kk_counted.specs.TokenedForms.{tokened_program};
-ghost use Rattle.elf_image.specs.Program.{IsProgramImage};
+ghost use Rattle.elf_image.specs.Program.{IsProgramImage, text_of};
 ghost use Rattle.rv_cells.specs.Tables.{layout_in};
 ghost use Rattle.kk_back.specs.Memory.{HasMemory};
 ghost use Rattle.kk_back.specs.Images.{IsRunnable, IsImageOfTokened, HasOwnAddresses};
+ghost use Rattle.kk_back.specs.Sizes.{most_text_bytes};
 
 use assembled::assembled;
 use elf_image::Image;
@@ -19,7 +20,7 @@ use kk_syntax::StringLiteral;
 use rv_cells::{
     lower_tokened, lowered_tokened_programs_are_short, lowered_tokened_programs_are_well_formed,
     lowered_tokened_programs_come_to_their_lines, lowered_tokened_programs_have_few_values,
-    lowered_tokened_programs_run_the_same,
+    lowered_tokened_programs_run_the_same, lowered_tokened_programs_take_few_words,
 };
 use std::alloc::Global;
 
@@ -29,6 +30,9 @@ use std::alloc::Global;
 /// Behind its text the image has memory for the runtime's buffer, the cells, and `depth` frames of one size: that which the functions
 /// need that are placed in it. A frame has a word for each variable and each slot of a function, eight for the arguments of a call, and
 /// one for the way back, and no more; and it is at most 4,088 bytes. Where it is over 2,044, there is memory for 2,048 bytes more.
+///
+/// The text has at most four bytes for each word of the runtime, for fifteen words of each function, and for each word of the
+/// functions' forms.
 ///
 /// The loaded image does what the program does without its tokens: on every input it tells the same events, and exits with 0, 101
 /// or 102 as the program ends by itself, with the heap full or with the stack full. Where it ends by itself and no cell is counted
@@ -50,6 +54,8 @@ pub fn image(
     requires sizes { AreSizes cells depth }
     ensures program { IfOk result (λ image. IsProgramImage image.entry image.parts) }
     ensures memory { IfOk result (λ image. HasMemory (tokened_program tokened.now.functions.items texts.now) cells depth image.parts) }
+    ensures text { IfOk result (λ image. length (text_of image.parts)
+        ≤ most_text_bytes (tokened_program tokened.now.functions.items texts.now)) }
     ensures does { IfOk result (λ image. IsImageOfTokened (tokened_program tokened.now.functions.items texts.now) cells depth
         image.entry image.parts) }
     ensures own { IfOk result (λ image. HasOwnAddresses (layout_in tokened.now.shape)
@@ -61,6 +67,7 @@ pub fn image(
     lowered_tokened_programs_run_the_same();
     lowered_tokened_programs_come_to_their_lines();
     lowered_tokened_programs_have_few_values();
+    lowered_tokened_programs_take_few_words();
     let made = assembled(alloc, &asm, cells, depth)?;
     Ok(made)
 }

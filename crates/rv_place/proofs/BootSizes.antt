@@ -18,7 +18,8 @@ use Rattle.rv_place.specs.declared.reach.Reach.{Reach}
 use Rattle.rv_place.proofs.CodeLines.{jump_most, shift_most, branch_most}
 use Rattle.rv_place.proofs.MoveSimulation.{operation_weighs}
 use Rattle.rv_place.proofs.PointerShifts.{to_frame_most}
-use Rattle.rv_place.specs.Texts.{ArePlaceable, most_text_words, most_constant_bytes, text_words, text_bytes, memory_of, ArePlacedWords, jumps_of}
+use Rattle.rv_place.specs.Texts.{ArePlaceable, most_text_words, most_constant_bytes, text_words, text_bytes, most_bytes, memory_of}
+use Rattle.rv_place.specs.Texts.{ArePlacedWords, jumps_of}
 use Rattle.rv_place.specs.Bytes.{IsTextOf}
 
 -- ---- how many instructions code is
@@ -73,6 +74,10 @@ stack_most depth frame few small = mul-le depth frame greatest_depth wide_frame 
 
 -- ---- the text
 
+-- a text has no more bytes than its runtime, its functions' entries, of seven instructions each, their lines and its constants
+pub text_most : (runtime program : Placed) → text_bytes runtime program ≤ most_bytes runtime program
+text_most runtime program = omega (arith, functions_most (jumps_of runtime program) (placed_functions program))
+
 module _ {runtime program : Placed} (placeable : ArePlaceable runtime program) where
   pub words_most : text_words runtime program ≤ most_text_words
   words_most =
@@ -90,3 +95,10 @@ text_size {runtime} {program} {words} {text} placed bytes =
     let instructions : length words.instructions.items ≡ text_words runtime program = placed.size in
     let constants : length words.constants.items ≡ length (all_bytes (placed_constants program)) = ap length placed.constants in
     bytes.size ∙ ap (λ n. 4 * n + length words.constants.items) instructions ∙ ap (λ n. 4 * text_words runtime program + n) constants
+
+-- so they are no more than its parts have
+pub text_small : {runtime program : Placed} {words : Words} {text : List ℕ} → ArePlacedWords runtime program words
+    → IsTextOf words text → length text ≤ most_bytes runtime program
+text_small {runtime} {program} placed bytes =
+    let size = text_size placed bytes in
+    omega (arith, size, text_most runtime program)

@@ -79,6 +79,14 @@ text_words runtime program = words_of runtime.natives.items + words_of_functions
 abbrev pub text_bytes : Placed → Placed → ℕ
 text_bytes runtime program = 4 * text_words runtime program + length (all_bytes (placed_constants program))
 
+-- The most bytes of a text: four for each instruction of the runtime, of the functions' entries, of 7 at most, and of their lines,
+-- each line at its most, and the constants.
+abbrev pub most_bytes : Placed → Placed → ℕ
+most_bytes runtime program =
+    4 * (words_of runtime.natives.items + 7 * length (placed_functions program)
+    + placed_functions_length (placed_functions program))
+    + length (all_bytes (placed_constants program))
+
 -- the address of the memory behind it
 abbrev pub memory_of : Placed → Placed → ℕ
 memory_of runtime program = memory_start (text_bytes runtime program)

@@ -19,6 +19,6 @@ pub use arrivals::placed_text_comes_to_its_lines;
 pub use boot::{
     placed_text_agrees, placed_text_ends_with_its_cells, placed_text_touches_no_free_cell,
 };
-pub use law::placed_code_keeps_meaning;
+pub use law::{placed_code_keeps_meaning, placed_text_takes_few_bytes};
 pub use text::place;
 pub use words::Words;

@@ -77,5 +77,6 @@ returns c main there =
       outside = c.placed_text_comes_to_its_lines.ensures.outside;
       inside = c.placed_text_comes_to_its_lines.ensures.inside;
     })
+    c.placed_text_takes_few_bytes.ensures
     c.in_ok-image.image.entry c.in_ok-image.image.parts c.in_ok-image.ensures.is_program c.in_ok-image.ensures.entry
     (c.in_ok-image.ensures.parts ∙ ap (λ (text : List ℕ). program_parts text c.in_ok-runtime.runtime.memory.size) c.from_vec.ensures))
