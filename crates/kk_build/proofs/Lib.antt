@@ -5,6 +5,7 @@ pub mod FileSteps
 pub mod LentNames
 pub mod FileRuns
 pub mod Nodes
+mod TextBytes
 pub mod Numbers
 pub mod ImageConditions
 pub mod Runs

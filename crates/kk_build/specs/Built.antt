@@ -10,14 +10,17 @@ use Rattle.kk_front.specs.Judgement.{IsProgramOf}
 use Rattle.kk_build.specs.Agreement.{Agrees, IsBounded, LeavesNoCell, TouchesNoFree}
 use Rattle.kk_build.specs.Images.{IsImageFile}
 use Rattle.kk_build.specs.Memory.{HasFrames}
+use Rattle.kk_build.specs.Texts.{HasFewBytes}
 
--- These bytes are the file of an image of a program, for a heap of so many cells and so many open calls. The image agrees with the
--- program as it is run, with its owned positions, leaves no cell, and touches no free cell outside of the runtime. It does what it
--- does within a bound on instructions, and its frames are within a bound on bytes, both by the nodes of the greatest body of the
--- program, its functions called or not.
-pub record IsFileOf (program : ProgramTree) (cells depth : ℕ) (file : List ℕ) : Type 0 where
+-- These bytes are the file of an image of a program with these typings, for a heap of so many cells and so many open calls. The
+-- image agrees with the program as it is run, with its owned positions, leaves no cell, and touches no free cell outside of the
+-- runtime. It does what it does within a bound on instructions, and its frames are within a bound on bytes, both by the nodes of
+-- the greatest body of the program, its functions called or not. Its text is within a bound on bytes by these nodes and those of
+-- the program's instances.
+pub record IsFileOf (program : ProgramTree) (typings : List (List Choice)) (cells depth : ℕ) (file : List ℕ) : Type 0 where
   pub is_image : IsImageFile file
   pub memory : HasFrames (greatest_nodes program) cells depth is_image.parts
+  pub text : HasFewBytes program typings is_image.parts
   pub setting : Setting
   pub is_run : IsRun program cells depth setting
   pub agrees : Agrees file setting
@@ -33,4 +36,4 @@ pub record IsBuilt (text : List ℕ) (cells depth : ℕ) (file : List ℕ) : Typ
   pub typings : List (List Choice)
   pub principal : ArePrincipal program typings
   pub checked : IsChecked program typings
-  pub is_file : IsFileOf program cells depth file
+  pub is_file : IsFileOf program typings cells depth file

@@ -4,4 +4,5 @@ pub mod ImageAfter
 pub mod Images
 pub mod Memory
 pub mod SourceMeaning
+pub mod Texts
 pub mod WithoutLimits

@@ -22,7 +22,7 @@ use kk_front::{accepted_programs_are_typed, read};
 use kk_middle::{
     compile, compiled_programs_are_marked, compiled_programs_can_be_lowered,
     compiled_programs_have_their_kinds, compiled_programs_keep_meaning,
-    compiled_tokens_can_be_lowered,
+    compiled_programs_take_few_words, compiled_tokens_can_be_lowered,
 };
 use kk_syntax::Accepted;
 pub use law::images_follow_their_programs_without_limits;
@@ -35,8 +35,9 @@ use std::alloc::Global;
 /// every input it does on the outside what the program means, never traps, and exits exactly when and as the program ends; where
 /// it ends by itself, all cells are free. Outside of the runtime's words, which are the first ones of the image, no instruction
 /// loads or stores a byte of a free cell. It does what it does within a number of instructions that is bounded by the program's
-/// steps and the nodes of its greatest body. Its memory has room for the cells and for `depth` frames, each of at most eight bytes for a
-/// node of the greatest body, and 64.
+/// steps and the nodes of its greatest body. Its memory has room for the cells and for `depth` frames, each of at most eight
+/// bytes for a node of the greatest body, and 64. Its text has at most 16 bytes for each pair of a node of the greatest body and
+/// a node of the program's instances, and four MiB.
 pub fn build(alloc: Global, text: &[u8], cells: u32, depth: u32) -> Result<Bytes, Refusal>
     requires { AreSizes cells depth }
     ensures ok { IfOk result (IsBuilt text.now cells depth) }
@@ -56,7 +57,8 @@ fn file_of(alloc: Global, accepted: &Accepted, cells: u32, depth: u32) -> Result
     requires given { AreGiven accepted.now.typed accepted.now.instances }
     requires lent { (positions : PositionTable) → AllKeepLent (program_tree accepted.now.typed.program) positions }
     requires sizes { AreSizes cells depth }
-    ensures { IfOk result (IsFileOf (program_tree accepted.now.typed.program) cells depth) }
+    ensures { IfOk result (IsFileOf (program_tree accepted.now.typed.program) (typings_of accepted.now.typed)
+        cells depth) }
 {
     let tokened = compile(alloc, accepted)?;
     compiled_programs_keep_meaning();
@@ -64,6 +66,7 @@ fn file_of(alloc: Global, accepted: &Accepted, cells: u32, depth: u32) -> Result
     compiled_programs_have_their_kinds();
     compiled_programs_can_be_lowered();
     compiled_tokens_can_be_lowered();
+    compiled_programs_take_few_words();
     judged_programs_are_fit();
     let image = image(alloc, &tokened, &accepted.instances.texts, cells, depth)?;
     let file = write(alloc, &image)?;

@@ -1,7 +1,9 @@
-use Rattle.std.proofs.Common.{sym, subst, List, ℕ, ◌+◌, ◌-◌, arith, refl}
+use Rattle.std.proofs.Common.{◌≤◌, sym, subst, List, length, ℕ, ◌+◌, ◌-◌, arith, refl}
+use Rattle.elf_image.specs.Program.{text_of}
 use Rattle.kk_syntax.specs.GroundPrograms.{ground_program}
 use Rattle.kk_syntax.specs.Programs.{program_tree}
 use Rattle.kk_syntax.specs.Shapes.{greatest_nodes}
+use Rattle.kk_mono.specs.Grounds.{instances_of}
 use Rattle.kk_core.specs.Sizes.{most_parameters}
 use Rattle.kk_counted.specs.CountedCodes.{CountedProgram}
 use Rattle.kk_counted.specs.FunctionSizes.{AllHaveVariablesBelow}
@@ -13,10 +15,12 @@ use Rattle.kk_middle.specs.TokenLowerings.{tokened_of, token_room, TokensCanBeLo
 use Rattle.kk_source.specs.Settings.{setting_of}
 use Rattle.kk_back.specs.Images.{IsRunnable, IsImageOf, IsImageOfTokened}
 use Rattle.kk_back.specs.Memory.{HasMemory}
+use Rattle.kk_back.specs.Sizes.{most_text_bytes}
 use Rattle.kk_build.proofs.FileAgreement.{file_agrees, file_leaves, file_is_bounded}
 use Rattle.kk_build.proofs.FileRuns.{touches_as_loaded}
 use Rattle.kk_build.proofs.Nodes.{instances_have_no_more, program_has_some}
 use Rattle.kk_build.proofs.ImageConditions.{runnable}
+use Rattle.kk_build.proofs.TextBytes.{bytes_few}
 use Rattle.kk_build.proofs.file_of.Goals as goal
 
 pub image-requires-clause-runnable : goal.image-requires-clause-runnable
@@ -80,7 +84,18 @@ returns c =
     let frame = memory.few (greatest + most_parameters) (greatest - 1) variables tokens.slots in
     let most = instances_have_no_more c.requires.given.instances in
     let some = program_has_some c.requires.given.instances in
+    let words = c.compiled_programs_take_few_words.ensures typed given counted made c.requires.checked c.requires.given compiled
+    c.in_ok-tokened.ensures.2 in
+    let bytes : length (text_of parts) ≤ most_text_bytes (tokened_of made given)
+    = subst (λ (texts : List (List ℕ)). length (text_of parts) ≤ most_text_bytes (tokened_program made.functions.items texts))
+    c.deref.ensures.value c.in_ok-image.ensures.text in
     record {
+      text = record {
+        instances = instances_of given;
+        are = c.requires.given.instances.are;
+        few = bytes_few c.requires.given.instances (tokened_of made given).functions (length (text_of parts)) c.requires.given.small
+            words bytes;
+      };
       memory = record { placed = memory.placed; is = memory.is; few = omega (arith, frame, most, some) };
       is_image = record {
         entry = entry;

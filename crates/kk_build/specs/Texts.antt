@@ -1,0 +1,16 @@
+-- How many bytes the text of an image has.
+use Rattle.std.specs.Prelude.{ℕ, ◌+◌, ◌*◌, ◌≤◌, List, length}
+use Rattle.kk_syntax.specs.Programs.{ProgramTree}
+use Rattle.kk_syntax.specs.Shapes.{greatest_nodes}
+use Rattle.kk_syntax.specs.Typing.{Choice}
+use Rattle.kk_mono.specs.Counts.{summed_nodes}
+use Rattle.kk_mono.specs.Instances.{InstanceTree, AreInstances}
+use Rattle.elf_image.specs.Program.{text_of}
+use Rattle.elf_image.specs.declared.part.Part.{Part}
+
+-- The text of an image has at most 16 bytes for each pair of a node of the greatest function and a node of an instance, and four
+-- MiB: by the instances that a program has with these typings, `main` among them.
+pub record HasFewBytes (program : ProgramTree) (typings : List (List Choice)) (parts : List Part) : Type 0 where
+  pub instances : List InstanceTree
+  pub are : AreInstances program.main typings instances
+  pub few : length (text_of parts) ≤ 16 * (greatest_nodes program * summed_nodes program instances) + 4194304
