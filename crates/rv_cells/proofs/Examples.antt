@@ -1,6 +1,7 @@
 -- The assembler lines of a program of two functions with tokens, by hand: one adds 1 to each number of a list, in the cells that the
 -- list has where they are its own; `main` makes a list of two cells and calls it.
-use Rattle.std.proofs.Common.{Option, ◌≡◌, ℕ, zero, suc, ◌^◌, ◌-◌, pos, Bool, true, false, List, [], ◌∷◌, ◌++◌, Some, None, refl, subst, lit<, lit≤}
+use Rattle.std.proofs.Common.{Option, ◌≡◌, ℕ, zero, suc, ◌^◌, ◌-◌, ◌<◌, pos, Bool, true, false, List, [], ◌∷◌, ◌++◌, Some, None}
+use Rattle.std.proofs.Common.{refl, subst, lit<, lit≤, arith}
 use Rattle.std.specs.Prelude.{slice_index_or}
 use Rattle.cell_heap.specs.Pool.{Pool}
 use Rattle.cell_heap.specs.Blocks.{Block, no_block, unused}
@@ -443,6 +444,8 @@ inc_lowered = record {
   };
   few = lit≤ tt;
   low = lit≤ tt;
+  fewest = λ most below. (let last : 6 < most = below.numbered.1.0.1.1.1.1.1.1.1.0 in omega (arith, last));
+  least = lit≤ tt;
   numbered = (
     tt,
     (
@@ -615,6 +618,8 @@ main_lowered = record {
   };
   few = lit≤ tt;
   low = lit≤ tt;
+  fewest = λ most below. (let last : 6 < most = below.numbered.1.1.1.1.1.1.1.1.1.1.1.1.0 in omega (arith, last));
+  least = lit≤ tt;
   numbered = (
     lit< tt,
     (

@@ -2,8 +2,6 @@
 use Rattle.std.proofs.Common.{◌≡◌, ℕ, suc, ◌+◌, ◌*◌, ◌≤◌, Bool, true, false, not, List, [], ◌∷◌, ◌++◌, length}
 use Rattle.std.proofs.Common.{Option, Some, None, refl, ap, arith}
 use Rattle.std.specs.Prelude.{filter, if◌then◌else◌}
-use Rattle.kk_base.specs.Limits.{greatest_of}
-use Rattle.kk_base.specs.declared.limit.LimitKind.TheVariants.{Parameters, Fields}
 use Rattle.kk_syntax.specs.declared.operator.BinaryOperator.{BinaryOperator}
 use Rattle.kk_syntax.specs.declared.operator.BinaryOperator.TheVariants as OfBinary
 use Rattle.kk_syntax.specs.declared.operator.UnaryOperator.{UnaryOperator}
@@ -14,9 +12,10 @@ use Rattle.kk_syntax.specs.declared.program.Form.TheVariants.{Unary, Binary, Pri
 use Rattle.kk_syntax.specs.Programs.{text_at}
 use Rattle.kk_syntax.specs.Shapes.{is_among}
 use Rattle.kk_source.specs.FormEffects.{piece_of}
+use Rattle.kk_core.specs.CodeNodes.{form_words}
 use Rattle.kk_counted.specs.Lowerable.{HasArity}
 use Rattle.kk_counted.specs.TokenLengths.{hold_length, unhold_length, other_length}
-use Rattle.kk_counted.specs.Marks.{CellMarks, field_marks, HaveMarks, IsFormMarked}
+use Rattle.kk_counted.specs.TokenedWords.{prints_in_form}
 use Rattle.rv_isa.specs.declared.asm.Action.TheVariants.{Label, TailCall, Call as CallOf, Routine as Calls, Hold}
 use Rattle.rv_isa.specs.declared.asm.ImmediateOperation.{ImmediateOperation}
 use Rattle.rv_isa.specs.declared.asm.ImmediateOperation.TheVariants.{Addi, Sltiu, Xori}
@@ -67,14 +66,17 @@ stores_length cell i (x ∷ xs) lines is =
 
 -- ---- references
 
-pub filter_few : (takes : ℕ → Bool) (xs : List ℕ) → length (filter takes xs) ≤ length xs
-filter_few takes [] = omega arith
-filter_few takes (x ∷ xs) = by (takes x) (filter_few takes xs)
+-- those that are taken and those that are not are all together
+filter_apart : (takes : ℕ → Bool) (xs : List ℕ) → length (filter takes xs) + length (filter (λ x. not (takes x)) xs) ≡ length xs
+filter_apart takes [] = omega arith
+filter_apart takes (x ∷ xs) = by (takes x) (filter_apart takes xs)
   where
-    by : (t : Bool) → length (filter takes xs) ≤ length xs
-        → length (if t then x ∷ filter takes xs else filter takes xs) ≤ suc (length xs)
-    by true few = omega (arith, few)
-    by false few = omega (arith, few)
+    by : (t : Bool) → length (filter takes xs) + length (filter (λ y. not (takes y)) xs) ≡ length xs
+        → length (if t then x ∷ filter takes xs else filter takes xs)
+        + length (if not t then x ∷ filter (λ y. not (takes y)) xs else filter (λ y. not (takes y)) xs)
+        ≡ suc (length xs)
+    by true apart = omega (arith, apart)
+    by false apart = omega (arith, apart)
 
 module _ (holds : ℕ → Bool) where
   pub dup_length : (x : ℕ) → code_length (dup_lines holds x) ≤ 7
@@ -109,9 +111,9 @@ module _ (holds : ℕ → Bool) where
 
   -- both ways of an opening by the count of a cell, but the lines at their ends
   pub count_length : (base shared behind x : ℕ) (fields used : List ℕ) (ends begins lines : List Line)
-      → CountLines base holds shared behind x fields used ends begins lines → length fields ≤ greatest_of Fields
-      → code_length lines ≤ 175 + code_length ends + code_length begins
-  count_length base shared behind x fields used ends begins lines is few =
+      → CountLines base holds shared behind x fields used ends begins lines
+      → code_length lines ≤ 25 + 15 * length fields + code_length ends + code_length begins
+  count_length base shared behind x fields used ends begins lines is =
       let kept : List ℕ = filter (is_among used) fields in
       let others : List ℕ = filter (λ y. not (is_among used y)) fields in
       let dropped : List Line = drops_lines base holds others in
@@ -133,8 +135,7 @@ module _ (holds : ℕ → Bool) where
       let store = store_length x 0 base is.4 is.9 in
       let drops = drops_length base others in
       let dups = dups_length kept in
-      let few_kept = filter_few (is_among used) fields in
-      let few_others = filter_few (λ y. not (is_among used y)) fields in
+      let all = filter_apart (is_among used) fields in
       omega (
         arith,
         whole,
@@ -150,32 +151,29 @@ module _ (holds : ℕ → Bool) where
         store,
         drops,
         dups,
-        few_kept,
-        few_others,
-        few,
+        all,
       )
 
   pub token_unique_length : (base shared behind filled x : ℕ) (fields used : List ℕ) (token : ℕ) (into : Option ℕ)
-      (lines : List Line) → TokenUniqueLines base holds shared behind filled x fields used token into lines → length fields ≤ greatest_of Fields
-      → code_length lines ≤ 190
-  token_unique_length base shared behind filled x fields used token None lines is few =
-      let own = count_length base shared behind x fields used (token_ends None x token behind filled) (sets 0 token ∷ []) lines is
-      few
-      in
+      (lines : List Line) → TokenUniqueLines base holds shared behind filled x fields used token into lines
+      → code_length lines ≤ 38 + 15 * length fields
+  token_unique_length base shared behind filled x fields used token None lines is =
+      let own = count_length base shared behind x fields used (token_ends None x token behind filled) (sets 0 token ∷ []) lines
+      is in
       omega (arith, own)
-  token_unique_length base shared behind filled x fields used token (Some into) lines is few =
+  token_unique_length base shared behind filled x fields used token (Some into) lines is =
       let own = count_length base shared behind x fields used (token_ends (Some into) x token behind filled) (sets 0 token ∷ [])
-      lines is few in
+      lines is in
       omega (arith, own)
 
 pub construct_length : (base x header : ℕ) (arguments : List ℕ) (lines : List Line) → ConstructLines base x header arguments lines
-    → length arguments ≤ greatest_of Fields → code_length lines ≤ 60
-construct_length base x header arguments lines is few =
+    → code_length lines ≤ 19 + 5 * length arguments
+construct_length base x header arguments lines is =
     let whole = ap code_length is.6 in
     let apart = lines_append is.1 (sets 1 base ∷ is.2 ∷ []) in
     let head = store_length x 1 base is.0 is.3 in
     let fields = stores_length x 2 arguments is.1 is.4 in
-    let count = store_length x 0 base is.2 is.5 in omega (arith, whole, apart, head, fields, count, few)
+    let count = store_length x 0 base is.2 is.5 in omega (arith, whole, apart, head, fields, count)
 
 -- ---- tokens
 
@@ -216,7 +214,7 @@ both_length cell kept i position (x ∷ xs) left fields one two =
 
 -- a word is stored on one way or on the other
 set_length : (b : Bool) (base x i word : ℕ) (one two : List Line) → SetIf b base x i word one → SetIf (not b) base x i word two
-    → code_length one + code_length two ≤ 11
+    → code_length one + code_length two ≤ 8
 set_length true base x i word one two is empty =
     let whole = ap code_length is.2 in
     let store = store_length x i base is.0 is.1 in
@@ -227,9 +225,9 @@ set_length false base x i word one two empty is =
     let none = ap code_length empty in omega (arith, whole, store, none)
 
 pub fill_length : (base x token : ℕ) (others : List ℕ) (filled header : ℕ) (arguments kept : List ℕ) (head count : Bool)
-    (lines : List Line) → FillLines base x token others filled header arguments kept head count lines → length arguments ≤ greatest_of Fields
-    → code_length lines ≤ 80 + other_length * length others
-fill_length base x token others filled header arguments kept head count lines is few =
+    (lines : List Line) → FillLines base x token others filled header arguments kept head count lines
+    → code_length lines ≤ 27 + 5 * length arguments + other_length * length others
+fill_length base x token others filled header arguments kept head count lines is =
     let taken : Line = record { action = Calls Take; args = []; into = Some x } in
     let built : List Line = acts (Label filled) [] ∷ is.1 in
     let asked : List Line = taken ∷ (unhold_lines others ++ (is.0 ++ built)) in
@@ -265,7 +263,6 @@ fill_length base x token others filled header arguments kept head count lines is
       headers,
       counts,
       both,
-      few,
     )
 
 -- ---- operators
@@ -324,20 +321,20 @@ temporaries_length : (base : ℕ) (xs : List ℕ) → length (temporaries base x
 temporaries_length base [] = omega arith
 temporaries_length base (x ∷ xs) = let more = temporaries_length (base + 1) xs in omega (arith, more)
 
-call_length : (base x f : ℕ) (arguments : List ℕ) (lines : List Line) → length arguments ≤ greatest_of Parameters
-    → AppliedLines base x (Call f) arguments lines → code_length lines ≤ 56
-call_length base x f arguments lines few is =
+call_length : (base x f : ℕ) (arguments : List ℕ) (lines : List Line)
+    → AppliedLines base x (Call f) arguments lines → code_length lines ≤ 8 + 6 * length arguments
+call_length base x f arguments lines is =
     let call : Line = record { action = CallOf f; args = temporaries base arguments; into = Some x } in
     let whole = ap code_length is in
     let apart = lines_append (copies base arguments) (call ∷ []) in
     let copied = copies_length base arguments in
-    let handed = temporaries_length base arguments in omega (arith, whole, apart, copied, handed, few)
+    let handed = temporaries_length base arguments in omega (arith, whole, apart, copied, handed)
 
-pub tail_length : (base f : ℕ) (arguments : List ℕ) → length arguments ≤ greatest_of Parameters → code_length (tail_lines base f arguments) ≤ 59
-tail_length base f arguments few =
+pub tail_length : (base f : ℕ) (arguments : List ℕ) → code_length (tail_lines base f arguments) ≤ 11 + 6 * length arguments
+tail_length base f arguments =
     let apart = lines_append (copies base arguments) (acts (TailCall f) (temporaries base arguments) ∷ []) in
     let copied = copies_length base arguments in
-    let handed = temporaries_length base arguments in omega (arith, apart, copied, handed, few)
+    let handed = temporaries_length base arguments in omega (arith, apart, copied, handed)
 
 -- ---- forms on variables
 
@@ -345,42 +342,32 @@ print_length : (base : ℕ) (texts : List (List ℕ)) (bytes : List ℕ) (lines 
     → code_length lines ≤ 10
 print_length base texts bytes lines is = let whole = ap code_length is.2 in omega (arith, whole)
 
--- variables are as many as the marks that they have
-pub marks_many : (holds : ℕ → Bool) (xs : List ℕ) (marks : List Bool) → HaveMarks holds xs marks → length xs ≡ length marks
-marks_many holds [] [] are = omega arith
-marks_many holds [] (mark ∷ more) are = absurd are
-marks_many holds (x ∷ xs) [] are = absurd are
-marks_many holds (x ∷ xs) (mark ∷ more) are = let rest = marks_many holds xs more are.1 in omega (arith, rest)
-
-module _ (setting : Setting) (table : CellMarks) (narrow : (c : ℕ) → length (field_marks table c) ≤ greatest_of Fields) where
-  pub form_short : (x : ℕ) (form : Form) (arguments : List ℕ) (mark : Bool) (lines : List Line) → HasArity form arguments
-      → IsFormMarked table setting.holds form arguments mark → ComputeLines setting x form arguments lines
-      → code_length lines ≤ 200
-  form_short x (Number value) arguments mark lines arity marked is = let whole = ap code_length is.3 in omega (arith, whole)
-  form_short x Nothing arguments mark lines arity marked is = let whole = ap code_length is in omega (arith, whole)
-  form_short x ReadByte arguments mark lines arity marked is = let whole = ap code_length is in omega (arith, whole)
-  form_short x (PrintText how text) arguments mark lines arity marked is =
+-- a form is so many instructions as it has words, but for those of its string
+module _ (setting : Setting) where
+  pub form_few : (x : ℕ) (form : Form) (arguments : List ℕ) (lines : List Line) → HasArity form arguments
+      → ComputeLines setting x form arguments lines
+      → code_length lines + 64 * prints_in_form form ≤ form_words form arguments
+  form_few x (Number value) arguments lines arity is = let whole = ap code_length is.3 in omega (arith, whole)
+  form_few x Nothing arguments lines arity is = let whole = ap code_length is in omega (arith, whole)
+  form_few x ReadByte arguments lines arity is = let whole = ap code_length is in omega (arith, whole)
+  form_few x (PrintText how text) arguments lines arity is =
       let whole = ap code_length is.2 in
       let apart = lines_append is.0 (sets 1 x ∷ []) in
       let piece : List ℕ = piece_of how (text_at setting.texts.literals text) in
       let print = print_length setting.base setting.texts.constants piece is.0 is.1 in
       omega (arith, whole, apart, print)
-  form_short x (Unary operator) arguments mark lines arity marked is =
+  form_few x (Unary operator) arguments lines arity is =
       let whole = unary_length setting.base x operator arguments lines arity is in omega (arith, whole)
-  form_short x (Binary operator) [] mark lines arity marked is = absurd (omega (arith, arity))
-  form_short x (Binary operator) (a ∷ []) mark lines arity marked is = absurd (omega (arith, arity))
-  form_short x (Binary operator) (a ∷ b ∷ []) mark lines arity marked is =
+  form_few x (Binary operator) [] lines arity is = absurd (omega (arith, arity))
+  form_few x (Binary operator) (a ∷ []) lines arity is = absurd (omega (arith, arity))
+  form_few x (Binary operator) (a ∷ b ∷ []) lines arity is =
       let whole = binary_length setting.base x operator a b lines is in omega (arith, whole)
-  form_short x (Binary operator) (a ∷ b ∷ c ∷ more) mark lines arity marked is = absurd (omega (arith, arity))
-  form_short x (Print how) [] mark lines arity marked is = absurd (omega (arith, arity))
-  form_short x (Print how) (a ∷ []) mark lines arity marked is = let whole = ap code_length is in omega (arith, whole)
-  form_short x (Print how) (a ∷ b ∷ more) mark lines arity marked is = absurd (omega (arith, arity))
-  form_short x (Construct c) [] mark lines arity marked is = let whole = ap code_length is in omega (arith, whole)
-  form_short x (Construct c) (a ∷ arguments) mark lines arity marked is =
-      let many = marks_many setting.holds (a ∷ arguments) (field_marks table c) marked.0 in
-      let few = narrow c in
-      let header = header_of setting.layout c in
-      let whole = construct_length setting.base x header (a ∷ arguments) lines is (omega (arith, many, few)) in
-      omega (arith, whole)
-  form_short x (Call f) arguments mark lines arity marked is =
-      let whole = call_length setting.base x f arguments lines (omega (arith, arity)) is in omega (arith, whole)
+  form_few x (Binary operator) (a ∷ b ∷ c ∷ more) lines arity is = absurd (omega (arith, arity))
+  form_few x (Print how) [] lines arity is = absurd (omega (arith, arity))
+  form_few x (Print how) (a ∷ []) lines arity is = let whole = ap code_length is in omega (arith, whole)
+  form_few x (Print how) (a ∷ b ∷ more) lines arity is = absurd (omega (arith, arity))
+  form_few x (Construct c) [] lines arity is = let whole = ap code_length is in omega (arith, whole)
+  form_few x (Construct c) (a ∷ arguments) lines arity is =
+      let whole = construct_length setting.base x (header_of setting.layout c) (a ∷ arguments) lines is in omega (arith, whole)
+  form_few x (Call f) arguments lines arity is =
+      let whole = call_length setting.base x f arguments lines is in omega (arith, whole)

@@ -106,10 +106,17 @@ module _ (most : ℕ) where
   pub construct_below : (base x header : ℕ) (arguments : List ℕ) (lines : List Line) → base < most → x < most
       → AreValuesBelow most arguments → ConstructLines base x header arguments lines → AreLinesBelow most lines
   construct_below base x header arguments lines base_less less below is =
-      subst (AreLinesBelow most) (sym is.6)
-      ((tt, less), ((tt, base_less), (store_below x 1 base is.0 less base_less is.3,
-      lines_joined most is.1 (sets 1 base ∷ is.2 ∷ []) (stores_below x 2 arguments is.1 less below is.4)
-      ((tt, base_less), (store_below x 0 base is.2 less base_less is.5, tt)))))
+      subst (AreLinesBelow most) (sym is.6) (
+        (tt, less),
+        (
+          (tt, base_less),
+          (
+            store_below x 1 base is.0 less base_less is.3,
+            lines_joined most is.1 (sets 1 base ∷ is.2 ∷ []) (stores_below x 2 arguments is.1 less below is.4)
+                ((tt, base_less), (store_below x 0 base is.2 less base_less is.5, tt)),
+          ),
+        ),
+      )
 
   hold_below : (tokens : List ℕ) → AreValuesBelow most tokens → AreLinesBelow most (hold_lines tokens)
   hold_below [] below = tt
@@ -133,15 +140,21 @@ module _ (most : ℕ) where
       (lines : List Line) → base < most → x < most → token < most → AreValuesBelow most others → AreValuesBelow most arguments
       → FillLines base x token others filled header arguments kept head count lines → AreLinesBelow most lines
   fill_below base x token others filled header arguments kept head count lines base_less less token_less others_below below is =
-      subst (AreLinesBelow most) (sym is.4)
-      (((token_less, tt), less), (((less, tt), tt),
-      lines_joined most (hold_lines others)
-      (record { action = Calls Take; args = []; into = Some x } ∷ (unhold_lines others ++ (is.0 ++ (acts (Label filled) [] ∷ is.1))))
-      (hold_below others others_below)
-      ((tt, less), lines_joined most (unhold_lines others) (is.0 ++ (acts (Label filled) [] ∷ is.1)) (unhold_below others others_below)
-      (lines_joined most is.0 (acts (Label filled) [] ∷ is.1)
-      (words_below head count (is_kept true kept) base x header arguments is.0 base_less less below is.2)
-      ((tt, tt), words_below (not head) (not count) (is_kept false kept) base x header arguments is.1 base_less less below is.3)))))
+      subst (AreLinesBelow most) (sym is.4) (
+        ((token_less, tt), less),
+        (
+          ((less, tt), tt),
+          lines_joined most (hold_lines others)
+              (record { action = Calls Take; args = []; into = Some x } ∷ (unhold_lines others ++ (is.0 ++ (acts (Label filled) [] ∷ is.1))))
+              (hold_below others others_below) (
+                (tt, less),
+                lines_joined most (unhold_lines others) (is.0 ++ (acts (Label filled) [] ∷ is.1)) (unhold_below others others_below)
+                    (lines_joined most is.0 (acts (Label filled) [] ∷ is.1)
+                    (words_below head count (is_kept true kept) base x header arguments is.0 base_less less below is.2)
+                    ((tt, tt), words_below (not head) (not count) (is_kept false kept) base x header arguments is.1 base_less less below is.3)),
+              ),
+        ),
+      )
 
   -- an opening, by the lines at its ends
   pub count_below : (base : ℕ) (holds : ℕ → Bool) (shared behind x : ℕ) (fields used : List ℕ) (ends begins lines : List Line)
@@ -153,19 +166,35 @@ module _ (most : ℕ) where
       let unused : List ℕ = filter (λ y. not (is_among used y)) fields in
       let kept : List ℕ = filter (is_among used) fields in
       let shares : List Line = is.2 ∷ computes (Op.Immediate Addi is.3) (base ∷ []) base ∷ is.4 ∷ dups_lines holds kept in
-      subst (AreLinesBelow most) (sym is.10)
-      (load_below x 0 base is.0 less base_less is.5, ((tt, room), (((base_less, (room, tt)), tt),
-      lines_joined most (is.1 ++ (drops_lines base holds unused ++ ends))
-      ((acts (Label shared) [] ∷ (begins ++ (is.1 ++ shares))) ++ (acts (Label behind) [] ∷ []))
-      (lines_joined most is.1 (drops_lines base holds unused ++ ends) loads
-      (lines_joined most (drops_lines base holds unused) ends
-      (drops_below base holds unused base_less (some_below (λ y. not (is_among used y)) fields below)) ends_below))
-      (lines_joined most (acts (Label shared) [] ∷ (begins ++ (is.1 ++ shares))) (acts (Label behind) [] ∷ [])
-      ((tt, tt), lines_joined most begins (is.1 ++ shares) begins_below
-      (lines_joined most is.1 shares loads
-      (load_below x 0 base is.2 less base_less is.7, (((base_less, tt), base_less), (store_below x 0 base is.4 less base_less is.9,
-      dups_below holds kept (some_below (is_among used) fields below))))))
-      ((tt, tt), tt)))))
+      subst (AreLinesBelow most) (sym is.10) (
+        load_below x 0 base is.0 less base_less is.5,
+        (
+          (tt, room),
+          (
+            ((base_less, (room, tt)), tt),
+            lines_joined most (is.1 ++ (drops_lines base holds unused ++ ends))
+                ((acts (Label shared) [] ∷ (begins ++ (is.1 ++ shares))) ++ (acts (Label behind) [] ∷ []))
+                (lines_joined most is.1 (drops_lines base holds unused ++ ends) loads
+                (lines_joined most (drops_lines base holds unused) ends
+                (drops_below base holds unused base_less (some_below (λ y. not (is_among used y)) fields below)) ends_below))
+                (lines_joined most (acts (Label shared) [] ∷ (begins ++ (is.1 ++ shares))) (acts (Label behind) [] ∷ []) (
+                  (tt, tt),
+                  lines_joined most begins (is.1 ++ shares) begins_below
+                      (lines_joined most is.1 shares loads (
+                        load_below x 0 base is.2 less base_less is.7,
+                        (
+                          ((base_less, tt), base_less),
+                          (
+                            store_below x 0 base is.4 less base_less is.9,
+                            dups_below holds kept (some_below (is_among used) fields below),
+                          ),
+                        ),
+                      )),
+                )
+                ((tt, tt), tt)),
+          ),
+        ),
+      )
 
   pub ends_below : (into : Option ℕ) (x token behind filled : ℕ) → x < most → token < most
       → ((y : ℕ) → into ≡ Some y → y < most) → AreLinesBelow most (token_ends into x token behind filled)
@@ -241,9 +270,13 @@ module _ (most : ℕ) where
       subst (AreLinesBelow most) (sym is.8)
       (lines_joined most (number_tests (answer_word layout) to value temporary plain) (is.0 ++ chosen)
       (tests_below (answer_word layout) to value temporary value_less less plain)
-      (lines_joined most is.0 chosen (odd_below value temporary to otherwise is.0 value_less less is.4)
-      (load_below value 1 temporary is.1 value_less less is.5, (((less, tt), less),
-      choice_below (answer_tag layout) to temporary (temporary + 1) less room next (edge ∷ edges) other is.3 is.7))))
+      (lines_joined most is.0 chosen (odd_below value temporary to otherwise is.0 value_less less is.4) (
+        load_below value 1 temporary is.1 value_less less is.5,
+        (
+          ((less, tt), less),
+          choice_below (answer_tag layout) to temporary (temporary + 1) less room next (edge ∷ edges) other is.3 is.7,
+        ),
+      )))
 
   walked_less : (base x : ℕ) (at : List ℕ) → base < most → x < most → walked base x at < most
   walked_less base x [] base_less less = less
@@ -260,11 +293,13 @@ module _ (most : ℕ) where
     node_below (suc k) (chooses row) lines is = subst (AreLinesBelow most) (sym is) tt
     node_below k (tests at edges otherwise) lines is =
         let base_less : base < most = omega (arith, room) in
-        subst (AreLinesBelow most) (sym is.2)
-        ((tt, tt), subst (AreLinesBelow most) (sym is.1.8)
-        (lines_joined most is.1.0 is.1.1 (walk_below base x at is.1.0 base_less less is.1.5)
-        (decide_below layout ways.to (ways.behind k) (walked base x at) (spare base at) is.1.2 is.1.3 otherwise is.1.4 is.1.1
-        (walked_less base x at base_less less) (spare_less base at room) is.1.7)))
+        subst (AreLinesBelow most) (sym is.2) (
+          (tt, tt),
+          subst (AreLinesBelow most) (sym is.1.8)
+              (lines_joined most is.1.0 is.1.1 (walk_below base x at is.1.0 base_less less is.1.5)
+              (decide_below layout ways.to (ways.behind k) (walked base x at) (spare base at) is.1.2 is.1.3 otherwise is.1.4 is.1.1
+              (walked_less base x at base_less less) (spare_less base at room) is.1.7)),
+        )
 
     pub nodes_below : (k : ℕ) (decisions : List NodeTree) (lines : List Line)
         → NodesLines layout base nodes ways x k decisions lines → AreLinesBelow most lines

@@ -151,11 +151,12 @@ module _ (setting : Setting) (marks : CellMarks) (result : Bool) (variables slot
       → HasArity form arguments → AreValuesBelow most arguments → AreBelow slots others
       → AskLines setting variables low x form arguments others lines high → Below lines
   ask_below low x (Construct c) (a ∷ more) (other ∷ others) lines high less arity below few is =
-      subst Below (sym is.2)
-      ((tt, variable_less x less),
-      fill_below most setting.base x x (values_of_slots variables (other ∷ others)) low (header_of setting.layout c) (a ∷ more) []
-      false false is.0 base_less (variable_less x less) (variable_less x less)
-      (slots_below variables slots most (other ∷ others) (omega arith) few) below is.1)
+      subst Below (sym is.2) (
+        (tt, variable_less x less),
+        fill_below most setting.base x x (values_of_slots variables (other ∷ others)) low (header_of setting.layout c) (a ∷ more) []
+            false false is.0 base_less (variable_less x less) (variable_less x less)
+            (slots_below variables slots most (other ∷ others) (omega arith) few) below is.1,
+      )
   ask_below low x (Construct c) (a ∷ more) [] lines high less arity below few is =
       compute_below x (Construct c) (a ∷ more) lines less arity below is.0
   ask_below low x (Construct c) [] others lines high less arity below few is =
@@ -266,9 +267,11 @@ module _ (setting : Setting) (marks : CellMarks) (result : Bool) (variables slot
         subst Below (sym is.5)
         (lines_joined most is.0 (acts (Label low) [] ∷ is.1)
         (code_below None block bound unspent spends.0 [] (setting.holds x) (joins x low) (low + 1) is.2 is.0 tt
-        (variable_less x numbered.0) has uses.0 numbered.1.0 arities.0 few.0 spends.1.1.0 is.3)
-        ((tt, tt), code_below None rest (x ∷ bound) spends.0 left [] given goal is.2 high is.1 tt to
-        (room_more variables bound x has numbered.0) uses.1 numbered.1.1 arities.1 few.1 spends.1.1.1 is.4))
+        (variable_less x numbered.0) has uses.0 numbered.1.0 arities.0 few.0 spends.1.1.0 is.3) (
+          (tt, tt),
+          code_below None rest (x ∷ bound) spends.0 left [] given goal is.2 high is.1 tt to
+              (room_more variables bound x has numbered.0) uses.1 numbered.1.1 arities.1 few.1 spends.1.1.1 is.4,
+        ))
     code_below comes (Tokened.read x c fields rest) bound unspent left held given goal low high lines branch to has uses numbered
         arities few spends is =
         subst Below (sym is.4)
@@ -315,45 +318,53 @@ module _ (setting : Setting) (marks : CellMarks) (result : Bool) (variables slot
         (room_more variables bound x has numbered.0) uses.1.1 numbered.1.1 arities.1 few.1.1 spends.1.1.1.1 is.3))
     code_below comes (Tokened.free y rest) bound unspent left held given goal low high lines branch to has uses numbered arities few
         spends is =
-        subst Below (sym is.2)
-        (((slot_less y few.0, tt), tt),
-        code_below None rest bound (without (y ∷ []) unspent) left [] given goal low high is.0 tt to has uses numbered arities few.1
-        spends.1.1 is.1)
+        subst Below (sym is.2) (
+          ((slot_less y few.0, tt), tt),
+          code_below None rest bound (without (y ∷ []) unspent) left [] given goal low high is.0 tt to has uses numbered arities few.1
+              spends.1.1 is.1,
+        )
     code_below comes (Tokened.null y rest) bound unspent left held given goal low high lines branch to has uses numbered arities few
         spends is =
-        subst Below (sym is.2)
-        ((tt, slot_less y few.0),
-        code_below None rest bound (y ∷ unspent) left [] given goal low high is.0 tt to has uses numbered arities few.1 spends.1.1
-        is.1)
+        subst Below (sym is.2) (
+          (tt, slot_less y few.0),
+          code_below None rest bound (y ∷ unspent) left [] given goal low high is.0 tt to has uses numbered arities few.1 spends.1.1
+              is.1,
+        )
     code_below comes (Tokened.move to_slot of rest) bound unspent left held given goal low high lines branch to has uses numbered
         arities few spends is =
-        subst Below (sym is.2)
-        (((slot_less of few.1.0, tt), slot_less to_slot few.0),
-        code_below None rest bound (to_slot ∷ without (of ∷ []) unspent) left [] given goal low high is.0 tt to has uses numbered
-        arities few.1.1 spends.1.1.1 is.1)
+        subst Below (sym is.2) (
+          ((slot_less of few.1.0, tt), slot_less to_slot few.0),
+          code_below None rest bound (to_slot ∷ without (of ∷ []) unspent) left [] given goal low high is.0 tt to has uses numbered
+              arities few.1.1 spends.1.1.1 is.1,
+        )
     code_below comes (Tokened.hold y rest) bound unspent left held given goal low high lines branch to has uses numbered arities few
         spends is =
-        subst Below (sym is.2)
-        (((slot_less y few.0, tt), tt),
-        code_below None rest bound unspent left (y ∷ held) given goal low high is.0 tt to has uses numbered arities few.1 spends.1.1
-        is.1)
+        subst Below (sym is.2) (
+          ((slot_less y few.0, tt), tt),
+          code_below None rest bound unspent left (y ∷ held) given goal low high is.0 tt to has uses numbered arities few.1 spends.1.1
+              is.1,
+        )
     code_below comes (Tokened.unhold y rest) bound unspent left held given goal low high lines branch to has uses numbered arities
         few spends is =
-        subst Below (sym is.2)
-        (((slot_less y few.0, tt), tt),
-        code_below None rest bound unspent left spends.0 given goal low high is.0 tt to has uses numbered arities few.1 spends.1.1.1
-        is.1)
+        subst Below (sym is.2) (
+          ((slot_less y few.0, tt), tt),
+          code_below None rest bound unspent left spends.0 given goal low high is.0 tt to has uses numbered arities few.1 spends.1.1.1
+              is.1,
+        )
     code_below comes (Tokened.if_token y there absent) bound unspent left held given goal low high lines branch to has uses numbered
         arities few spends is =
-        subst Below (sym is.5)
-        (((slot_less y few.0, tt), tt),
-        lines_joined most is.0 (acts (Label low) [] ∷ is.1)
-        (code_below None there bound unspent left held given goal (low + 1) is.2 is.0 tt to has uses numbered arities few.1.0
-        spends.1.1.0 is.3)
-        ((tt, tt), code_below None absent bound unspent left held given goal is.2 high is.1 tt to has
-        (subst (HasUses marks setting.holds result bound given) (sym spends.1.0) uses)
-        (subst (AreNumbered variables bound) (sym spends.1.0) numbered) (subst HasArities (sym spends.1.0) arities) few.1.1
-        spends.1.1.1 is.4))
+        subst Below (sym is.5) (
+          ((slot_less y few.0, tt), tt),
+          lines_joined most is.0 (acts (Label low) [] ∷ is.1)
+              (code_below None there bound unspent left held given goal (low + 1) is.2 is.0 tt to has uses numbered arities few.1.0
+              spends.1.1.0 is.3) (
+                (tt, tt),
+                code_below None absent bound unspent left held given goal is.2 high is.1 tt to has
+                    (subst (HasUses marks setting.holds result bound given) (sym spends.1.0) uses)
+                    (subst (AreNumbered variables bound) (sym spends.1.0) numbered) (subst HasArities (sym spends.1.0) arities) few.1.1
+                    spends.1.1.1 is.4,
+              ),
+        )
 
     arms_below : (arms : TokenedArms) (bound unspent left : List ℕ) (given : Bool) (goal : Goal) (label low high : ℕ)
         (lines : List Line) → IsGoalBelow most goal → HasRoom variables bound
@@ -364,12 +375,14 @@ module _ (setting : Setting) (marks : CellMarks) (result : Bool) (variables slot
         subst Below (sym is.0) tt
     arms_below (TokenedArms.arm body rest) bound unspent left given goal label low high lines to has uses numbered arities few spends
         is =
-        subst Below (sym is.5)
-        ((tt, tt), lines_joined most is.0 is.1
-        (code_below None body bound unspent left [] given goal low is.2 is.0 tt to has uses.0 numbered.0 arities.0 few.0 spends.0
-        is.3)
-        (arms_below rest bound unspent left given goal (label + 1) is.2 high is.1 to has uses.1 numbered.1 arities.1 few.1 spends.1
-        is.4))
+        subst Below (sym is.5) (
+          (tt, tt),
+          lines_joined most is.0 is.1
+              (code_below None body bound unspent left [] given goal low is.2 is.0 tt to has uses.0 numbered.0 arities.0 few.0 spends.0
+              is.3)
+              (arms_below rest bound unspent left given goal (label + 1) is.2 high is.1 to has uses.1 numbered.1 arities.1 few.1 spends.1
+              is.4),
+        )
 
 -- ---- functions
 
@@ -443,15 +456,15 @@ pub tokened_values_below : (shape : Shape) (code : TokenedProgram) (texts : List
     → HaveValuesBelow (most_values_of variables slots) each
 tokened_values_below shape code texts each lowerable spends form variables slots few_variables few_slots =
     all_below (most_values_of variables slots) code.functions each form.as_many (λ f function is.
-        let one = form.lowered f function is in
-        let there = bare_at code.functions f function is in
-        let below = function_below (layout_in shape) (texts_of code.texts texts) (table_of shape) f function one.0
-        (lowerable f (bare_function function) there) (spends f function is) one.2 in
-        let fewest = one.2.fewest variables (few_variables f (bare_function function) there) in
-        let least = one.2.least in
-        let few = few_slots f function is in
-        let le : one.2.lowered.variables + one.2.lowered.slots + 8 ≤ most_values_of variables slots
-        = omega (arith, fewest, least, few) in (
-          one.0,
-          (one.1, (values_more _ _ one.0.params le below.0, lines_more _ _ one.0.code le below.1)),
-        ))
+    let one = form.lowered f function is in
+    let there = bare_at code.functions f function is in
+    let below = function_below (layout_in shape) (texts_of code.texts texts) (table_of shape) f function one.0
+    (lowerable f (bare_function function) there) (spends f function is) one.2 in
+    let fewest = one.2.fewest variables (few_variables f (bare_function function) there) in
+    let least = one.2.least in
+    let few = few_slots f function is in
+    let le : one.2.lowered.variables + one.2.lowered.slots + 8 ≤ most_values_of variables slots
+    = omega (arith, fewest, least, few) in (
+      one.0,
+      (one.1, (values_more _ _ one.0.params le below.0, lines_more _ _ one.0.code le below.1)),
+    ))

@@ -59,6 +59,7 @@ pub mod TokenFormedFunctions
 pub mod FormLengths
 pub mod TestLengths
 pub mod TokenCodeLengths
+pub mod TokenCodeWords
 pub mod FormPlaces
 pub mod FormArities
 pub mod FormsApart

@@ -13,7 +13,7 @@ use Rattle.kk_counted.proofs.TokenedViews as Views
 use Rattle.kk_counted.specs.Arms.{arm_count}
 use Rattle.kk_counted.specs.BareForms.{bare_arms}
 use Rattle.kk_counted.specs.CountedForms.{decisions_of}
-use Rattle.kk_counted.specs.TokenLengths.{tokened_computes, tokened_arms_computes}
+use Rattle.kk_counted.specs.TokenedWords.{prints_in_form, tokened_prints, tokened_arms_prints}
 use Rattle.kk_counted.specs.TokenedCodes.{Tokened, TokenedArms}
 use Rattle.kk_counted.specs.TokenedForms.{TokenedMove, put_tokened, plug_tokened, tokened_arms, tokened_code, tokened_last_code}
 use Rattle.kk_counted.specs.TokenedForms.{tokened_move}
@@ -73,7 +73,7 @@ steps_none facts variables behind a = record {
   lines = [];
   n = 0;
   grows = grows_none a;
-  counted = λ rest. zero_plus (tokened_computes rest);
+  counted = λ rest. zero_plus (tokened_prints rest);
   are = λ later goal rest more high is. is;
 }
 
@@ -89,8 +89,8 @@ steps_then {a} {b} {c} facts variables moves move behind wrote one = record {
   lines = wrote.lines ++ one.lines;
   n = wrote.n + one.n;
   grows = grows_then wrote.grows one.grows;
-  counted = λ rest. ap tokened_computes (plug_more moves move rest)
-      ∙ counts _ _ wrote.n one.n (tokened_computes rest) (wrote.counted (put_tokened move rest)) (one.counted rest);
+  counted = λ rest. ap tokened_prints (plug_more moves move rest)
+      ∙ counts _ _ wrote.n one.n (tokened_prints rest) (wrote.counted (put_tokened move rest)) (one.counted rest);
   are = λ later goal rest more high is.
       let next : Tokened = plug_tokened behind rest in
       subst (λ (code : Tokened). CodeLines (setting_in facts a.base (texts_written c ++ later)) variables goal a.next_label code
@@ -109,17 +109,14 @@ steps_then {a} {b} {c} facts variables moves move behind wrote one = record {
     counts : (x y n m k : ℕ) → x ≡ n + y → y ≡ m + k → x ≡ n + m + k
     counts x y n m k e f = omega (arith, e, f)
 
-one_form : (n : ℕ) → suc n ≡ 1 + n
-one_form n = omega arith
-
 pub step_asks : {a b : Lowering} (facts : Facts) (variables x : ℕ) (form : Form) (arguments others : List ℕ)
     → WroteAsk facts variables x form arguments others a b
     → WroteTokenedSteps facts variables (TokenedMove.computes x form arguments others ∷ []) [] a b
 step_asks {a} {b} facts variables x form arguments others wrote = record {
   lines = wrote.lines;
-  n = 1;
+  n = prints_in_form form;
   grows = wrote.grows;
-  counted = λ rest. one_form (tokened_computes rest);
+  counted = λ rest. refl;
   are = λ later goal rest more high is. (
     wrote.lines,
     more,
@@ -140,7 +137,7 @@ pub step_runs : {a b c d : Lowering} {label : ℕ} (facts : Facts) (variables x 
     → Wrote (acts (Label label) [] ∷ []) c d → WroteTokenedSteps facts variables (TokenedMove.runs x block ∷ []) [] a d
 step_runs {a} {b} {c} {d} {label} facts variables x block took part labelled = record {
   lines = part.lines ++ (acts (Label label) [] ∷ []);
-  n = tokened_computes block;
+  n = tokened_prints block;
   grows = grows_more (omega arith) (grows_then (grows_took took) (grows_then part.grows (grows_of labelled)));
   counted = λ rest. refl;
   are = λ later goal rest more high is. subst (λ (low : ℕ). CodeLines (setting_in facts a.base (texts_written d ++ later))
@@ -158,7 +155,7 @@ step_runs {a} {b} {c} {d} {label} facts variables x block took part labelled = r
 
 -- a step whose own lines were written, and no text
 step_alone : {a b : Lowering} (facts : Facts) (variables : ℕ) (move : TokenedMove) (lines : List Line) → Grows 0 lines a b
-    → ((rest : Tokened) → tokened_computes (put_tokened move rest) ≡ tokened_computes rest)
+    → ((rest : Tokened) → tokened_prints (put_tokened move rest) ≡ tokened_prints rest)
     → ((later : List (List ℕ)) (goal : Goal) (rest : Tokened) (more : List Line) (high : ℕ)
     → CodeLines (setting_in facts a.base (texts_written b ++ later)) variables goal b.next_label rest more high
     → CodeLines (setting_in facts a.base (texts_written b ++ later)) variables goal a.next_label (put_tokened move rest)
@@ -168,7 +165,7 @@ step_alone facts variables move lines grows same are = record {
   lines = lines;
   n = 0;
   grows = grows;
-  counted = λ rest. same rest ∙ zero_plus (tokened_computes rest);
+  counted = λ rest. same rest ∙ zero_plus (tokened_prints rest);
   are = are;
 }
 
@@ -188,7 +185,7 @@ step_opens facts variables x c fields used y into behind may wrote = record {
   lines = wrote.lines;
   n = 0;
   grows = wrote.grows;
-  counted = λ rest. zero_plus (tokened_computes rest);
+  counted = λ rest. zero_plus (tokened_prints rest);
   are = λ later goal rest more high is. (
     wrote.lines,
     more,
@@ -206,7 +203,7 @@ step_opens_unique facts variables x c fields used y into behind may wrote = reco
   lines = wrote.lines;
   n = 0;
   grows = wrote.grows;
-  counted = λ rest. zero_plus (tokened_computes rest);
+  counted = λ rest. zero_plus (tokened_prints rest);
   are = λ later goal rest more high is. (
     wrote.lines,
     more,
@@ -366,7 +363,7 @@ module _ {facts : Facts} {variables : ℕ} {goal : Goal} {label : ℕ} {positive
   abbrev ways_lines : List Line
   ways_lines = test ++ (first.lines ++ (acts (Label label) [] ∷ second.lines))
 
-  ways_grow : Grows (tokened_computes positive + tokened_computes negative) ways_lines a f
+  ways_grow : Grows (tokened_prints positive + tokened_prints negative) ways_lines a f
   ways_grow = grows_more (omega arith) (grows_then (grows_took took)
       (grows_then (grows_of tested) (grows_then first.grows (grows_then (grows_of labelled) second.grows))))
 
@@ -439,10 +436,10 @@ more_arms setting variables goal label low middle high (other ∷ each) body lin
     one_more : (n m : ℕ) → n + suc m ≡ n + 1 + m
     one_more n m = omega arith
 
-computes_of_more : (each : List Tokened) (body : Tokened)
-    → tokened_arms_computes (tokened_arms (each ++ body ∷ [])) ≡ tokened_arms_computes (tokened_arms each) + tokened_computes body
-computes_of_more [] body = omega arith
-computes_of_more (other ∷ each) body = omega (arith, computes_of_more each body)
+prints_of_more : (each : List Tokened) (body : Tokened)
+    → tokened_arms_prints (tokened_arms (each ++ body ∷ [])) ≡ tokened_arms_prints (tokened_arms each) + tokened_prints body
+prints_of_more [] body = omega arith
+prints_of_more (other ∷ each) body = omega (arith, prints_of_more each body)
 
 pub arms_then : {a b c d : Lowering} {here : ℕ} (facts : Facts) (variables : ℕ) (goal : Goal) (label : ℕ) (each : List Tokened)
     (body : Tokened)
@@ -453,7 +450,7 @@ pub arms_then : {a b c d : Lowering} {here : ℕ} (facts : Facts) (variables : �
 arms_then {a} {b} {c} {d} {here} facts variables goal label each body is wrote labelled one = record {
   lines = wrote.lines ++ (acts (Label (label + length each)) [] ∷ one.lines);
   grows = subst (λ n. Grows n (wrote.lines ++ (acts (Label (label + length each)) [] ∷ one.lines)) a d)
-      (sym (computes_of_more each body))
+      (sym (prints_of_more each body))
       (grows_more (omega arith) (grows_then wrote.grows (grows_then
       (grows_of (subst (λ n. Wrote (acts (Label n) [] ∷ []) b c) is labelled)) one.grows)));
   are = λ later. more_arms (setting_in facts a.base (texts_written d ++ later)) variables goal label a.next_label b.next_label

@@ -6,7 +6,7 @@ use Rattle.std.proofs.lemmas.List.{map-append, take_more, take_all}
 use Rattle.kk_core.specs.declared.shape.ConstructorShape.{ConstructorShape}
 use Rattle.kk_counted.specs.BareForms.{bare_function}
 use Rattle.kk_counted.specs.Lowerable.{AreLowerable}
-use Rattle.kk_counted.specs.TokenLengths.{tokened_computes, all_tokened_computes}
+use Rattle.kk_counted.specs.TokenedWords.{tokened_prints, all_tokened_prints}
 use Rattle.kk_counted.specs.TokenLowerable.{slots_in, AreTokensLowerable}
 use Rattle.kk_counted.specs.TokenedCodes.{Tokened, TokenedFunction}
 use Rattle.kk_counted.specs.TokenedForms.{tokened_function}
@@ -80,10 +80,10 @@ tokened_written {a} {b} shape literals f function constructors body params count
 
 -- ---- functions
 
-all_computes_more : (functions : List TokenedFunction) (function : TokenedFunction)
-    → all_tokened_computes (functions ++ function ∷ []) ≡ all_tokened_computes functions + tokened_computes function.body
-all_computes_more [] function = omega arith
-all_computes_more (first ∷ functions) function = omega (arith, all_computes_more functions function)
+all_prints_more : (functions : List TokenedFunction) (function : TokenedFunction)
+    → all_tokened_prints (functions ++ function ∷ []) ≡ all_tokened_prints functions + tokened_prints function.body
+all_prints_more [] function = omega arith
+all_prints_more (first ∷ functions) function = omega (arith, all_prints_more functions function)
 
 pub tokened_then : (shape : Shape) (literals : List (List ℕ)) (functions : List TokenedFunction) (each : List Lines) (f : ℕ)
     (function : TokenedFunction) (lines : Lines) (old new : List (List ℕ))
@@ -96,7 +96,7 @@ tokened_then shape literals functions each f function lines old new f_is are one
     arith,
     ap (λ ts. length (all_bytes ts)) one.texts,
     all_bytes_append old one.more,
-    all_computes_more functions function,
+    all_prints_more functions function,
     are.few,
     one.few,
   );

@@ -8,7 +8,7 @@ use Rattle.kk_core.specs.declared.decisions.Decisions.{Decisions}
 use Rattle.kk_counted.proofs.TokenedViews as Views
 use Rattle.kk_counted.specs.CountedForms.{decisions_of}
 use Rattle.kk_counted.specs.Marks.{AreUnmarked}
-use Rattle.kk_counted.specs.TokenLengths.{tokened_computes}
+use Rattle.kk_counted.specs.TokenedWords.{tokened_prints}
 use Rattle.kk_counted.specs.TokenedCodes.{Tokened}
 use Rattle.kk_counted.specs.TokenedForms.{TokenedMove, put_tokened, plug_tokened, tokened_arms, tokened_code, tokened_last_code}
 use Rattle.kk_counted.specs.TokenedForms.{tokened_move}
@@ -62,22 +62,22 @@ joins_move setting variables goal low high lines (TokenedMove.moves to of) last 
 joins_move setting variables goal low high lines (TokenedMove.holds y) last branch is are = absurd is
 joins_move setting variables goal low high lines (TokenedMove.unholds y) last branch is are = absurd is
 
--- a comparison is a form more
-computes_more : (holds : ℕ → Bool) (move : TokenedMove) (last : Tokened) (branch : Branching)
-    → IsBranchBetween holds move last branch → tokened_computes last ≤ tokened_computes (put_tokened move last)
-computes_more holds (TokenedMove.computes x form arguments others) last branch is = omega arith
-computes_more holds (TokenedMove.runs x block) last branch is = absurd is
-computes_more holds (TokenedMove.reads x c fields) last branch is = absurd is
-computes_more holds (TokenedMove.opens x c fields used y) last branch is = absurd is
-computes_more holds (TokenedMove.opens_unique x c fields used y) last branch is = absurd is
-computes_more holds (TokenedMove.dups x) last branch is = absurd is
-computes_more holds (TokenedMove.drops x) last branch is = absurd is
-computes_more holds (TokenedMove.fills x y c first arguments kept others) last branch is = absurd is
-computes_more holds (TokenedMove.frees y) last branch is = absurd is
-computes_more holds (TokenedMove.nulls y) last branch is = absurd is
-computes_more holds (TokenedMove.moves to of) last branch is = absurd is
-computes_more holds (TokenedMove.holds y) last branch is = absurd is
-computes_more holds (TokenedMove.unholds y) last branch is = absurd is
+-- a comparison takes no string from what comes behind it
+prints_more : (holds : ℕ → Bool) (move : TokenedMove) (last : Tokened) (branch : Branching)
+    → IsBranchBetween holds move last branch → tokened_prints last ≤ tokened_prints (put_tokened move last)
+prints_more holds (TokenedMove.computes x form arguments others) last branch is = omega arith
+prints_more holds (TokenedMove.runs x block) last branch is = absurd is
+prints_more holds (TokenedMove.reads x c fields) last branch is = absurd is
+prints_more holds (TokenedMove.opens x c fields used y) last branch is = absurd is
+prints_more holds (TokenedMove.opens_unique x c fields used y) last branch is = absurd is
+prints_more holds (TokenedMove.dups x) last branch is = absurd is
+prints_more holds (TokenedMove.drops x) last branch is = absurd is
+prints_more holds (TokenedMove.fills x y c first arguments kept others) last branch is = absurd is
+prints_more holds (TokenedMove.frees y) last branch is = absurd is
+prints_more holds (TokenedMove.nulls y) last branch is = absurd is
+prints_more holds (TokenedMove.moves to of) last branch is = absurd is
+prints_more holds (TokenedMove.holds y) last branch is = absurd is
+prints_more holds (TokenedMove.unholds y) last branch is = absurd is
 
 -- steps that have no lines give variables up
 no_lines : (holds : ℕ → Bool) (moves : List TokenedMove) (last : Tokened) → AreNoLines holds moves
@@ -103,9 +103,9 @@ tested_before : (holds : ℕ → Bool) (x : ℕ) (ys : List ℕ) (last : Tokened
 tested_before holds x [] last plain is = is
 tested_before holds x (y ∷ ys) last plain is = (plain.0, tested_before holds x ys last plain.1 is)
 
-computes_before : (ys : List ℕ) (last : Tokened) → tokened_computes last ≡ tokened_computes (drops_before ys last)
-computes_before [] last = refl
-computes_before (y ∷ ys) last = computes_before ys last
+prints_before : (ys : List ℕ) (last : Tokened) → tokened_prints last ≡ tokened_prints (drops_before ys last)
+prints_before [] last = refl
+prints_before (y ∷ ys) last = prints_before ys last
 
 lines_before : (setting : Setting) (variables : ℕ) (goal : Goal) (low high : ℕ) (lines : List Line) (ys : List ℕ) (last : Tokened)
     (branch : Branching) → AreUnmarked setting.holds ys → LinesBehind (Some branch) setting variables goal low last lines high
@@ -140,7 +140,7 @@ behind_before : {a b : Lowering} (facts : Facts) (variables : ℕ) (goal : Goal)
     → WroteBehind facts variables goal branch (drops_before ys last) a b
 behind_before {a} {b} facts variables goal branch ys last plain wrote = record {
   lines = wrote.lines;
-  grows = subst (λ n. Grows n wrote.lines a b) (computes_before ys last) wrote.grows;
+  grows = subst (λ n. Grows n wrote.lines a b) (prints_before ys last) wrote.grows;
   are = λ later. lines_before (setting_in facts a.base (texts_written b ++ later)) variables goal a.next_label b.next_label
       wrote.lines ys last branch plain (wrote.are later);
 }
@@ -161,10 +161,10 @@ steps_join {a} {b} {c} facts variables goal moves move last branch is wrote behi
       last branch is (behind.are later))));
 }
   where
-    few : wrote.n + tokened_computes last ≤ tokened_computes (plug_tokened moves (put_tokened move last))
+    few : wrote.n + tokened_prints last ≤ tokened_prints (plug_tokened moves (put_tokened move last))
     few =
         let all = wrote.counted (put_tokened move last) in
-        let more = computes_more facts.holds move last branch is in omega (arith, all, more)
+        let more = prints_more facts.holds move last branch is in omega (arith, all, more)
 
 -- a case that is a branch
 pub branches_written : {a b c d : Lowering} (facts : Facts) (variables : ℕ) (goal : Goal) (branch : Branching) (x : ℕ)

@@ -3,7 +3,7 @@ use Rattle.std.specs.Prelude.{◌≡◌, ℕ, ◌+◌, ◌*◌, ◌≤◌, List,
 use Rattle.kk_core.specs.Sizes.{most_parameters}
 use Rattle.kk_counted.specs.BareForms.{bare_function}
 use Rattle.kk_counted.specs.CountedCodes.{CountedFunction}
-use Rattle.kk_counted.specs.TokenLengths.{tokened_computes, all_tokened_computes}
+use Rattle.kk_counted.specs.TokenedWords.{tokened_prints, all_tokened_prints}
 use Rattle.kk_counted.specs.TokenLowerable.{slots_in}
 use Rattle.kk_counted.specs.TokenedCodes.{TokenedFunction}
 use Rattle.kk_counted.specs.declared.shape.Shape.{Shape}
@@ -53,13 +53,13 @@ pub record LoweredTokened (shape : Shape) (literals : List (List ℕ)) (f : ℕ)
     (old new : List (List ℕ)) : Type 0 where
   pub more : List (List ℕ)
   pub texts : new ≡ old ++ more
-  pub few : length (all_bytes more) ≤ most_print * tokened_computes function.body
+  pub few : length (all_bytes more) ≤ most_print * tokened_prints function.body
   pub is : (later : List (List ℕ)) → IsTokenedWritten shape literals (new ++ later) f function lines
 
 -- functions were lowered, and these are their texts: they are lowered however many texts come later
 pub record LoweredTokenedFunctions (shape : Shape) (literals : List (List ℕ)) (functions : List TokenedFunction)
     (each : List Lines) (texts : List (List ℕ)) : Type 0 where
   pub as_many : length each ≡ length functions
-  pub few : length (all_bytes texts) ≤ most_print * all_tokened_computes functions
+  pub few : length (all_bytes texts) ≤ most_print * all_tokened_prints functions
   pub are : (later : List (List ℕ)) (f : ℕ) (function : TokenedFunction) → slice_get functions f ≡ Some function
       → (lines : Lines) × ((slice_get each f ≡ Some lines) × IsTokenedWritten shape literals (texts ++ later) f function lines)

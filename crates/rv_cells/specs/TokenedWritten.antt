@@ -5,7 +5,7 @@ use Rattle.kk_counted.specs.TokenedCodes.{Tokened}
 use Rattle.kk_counted.specs.TokenedForms.{TokenedMove, plug_tokened, tokened_arms}
 use Rattle.kk_counted.specs.declared.tokened.TokenedStep.{TokenedStep}
 use Rattle.kk_counted.specs.declared.tokened.TokenedStep.TheVariants as OfStep
-use Rattle.kk_counted.specs.TokenLengths.{tokened_computes, tokened_arms_computes}
+use Rattle.kk_counted.specs.TokenedWords.{prints_in_form, tokened_prints, tokened_arms_prints}
 use Rattle.rv_isa.specs.AsmCode.{Line}
 use Rattle.rv_isa.specs.declared.asm.Action.TheVariants.{Routine as Calls, Branch}
 use Rattle.rv_isa.specs.declared.asm.Condition.TheVariants.{Equal}
@@ -60,7 +60,7 @@ pub record WroteFill (x token : ℕ) (others : List ℕ) (header : ℕ) (argumen
 -- The lines of a form on variables were written. They are its lines however many texts come later.
 pub record WroteAsk (facts : Facts) (variables x : ℕ) (form : Form) (arguments others : List ℕ) (old new : Lowering) : Type 0 where
   pub lines : List Line
-  pub grows : Grows 1 lines old new
+  pub grows : Grows (prints_in_form form) lines old new
   pub are : (later : List (List ℕ))
       → AskLines (setting_in facts old.base (texts_written new ++ later)) variables old.next_label x form arguments others lines
       new.next_label
@@ -68,7 +68,7 @@ pub record WroteAsk (facts : Facts) (variables x : ℕ) (form : Form) (arguments
 -- the same of a code, where variables are those below a number
 pub record WroteTokened (facts : Facts) (variables : ℕ) (goal : Goal) (code : Tokened) (old new : Lowering) : Type 0 where
   pub lines : List Line
-  pub grows : Grows (tokened_computes code) lines old new
+  pub grows : Grows (tokened_prints code) lines old new
   pub are : (later : List (List ℕ))
       → CodeLines (setting_in facts old.base (texts_written new ++ later)) variables goal old.next_label code lines
       new.next_label
@@ -77,7 +77,7 @@ pub record WroteTokened (facts : Facts) (variables : ℕ) (goal : Goal) (code : 
 pub record WroteBehind (facts : Facts) (variables : ℕ) (goal : Goal) (branch : Branching) (code : Tokened) (old new : Lowering)
     : Type 0 where
   pub lines : List Line
-  pub grows : Grows (tokened_computes code) lines old new
+  pub grows : Grows (tokened_prints code) lines old new
   pub are : (later : List (List ℕ))
       → LinesBehind (Some branch) (setting_in facts old.base (texts_written new ++ later)) variables goal old.next_label code lines
       new.next_label
@@ -86,7 +86,7 @@ pub record WroteBehind (facts : Facts) (variables : ℕ) (goal : Goal) (branch :
 pub record WroteTokenedArms (facts : Facts) (variables : ℕ) (goal : Goal) (label : ℕ) (arms : List Tokened) (old new : Lowering)
     : Type 0 where
   pub lines : List Line
-  pub grows : Grows (tokened_arms_computes (tokened_arms arms)) lines old new
+  pub grows : Grows (tokened_arms_prints (tokened_arms arms)) lines old new
   pub are : (later : List (List ℕ))
       → ArmsLines (setting_in facts old.base (texts_written new ++ later)) variables goal label old.next_label
       (tokened_arms arms) lines new.next_label
@@ -96,7 +96,7 @@ pub record WroteTokenedSteps (facts : Facts) (variables : ℕ) (moves behind : L
   pub lines : List Line
   pub n : ℕ
   pub grows : Grows n lines old new
-  pub counted : (rest : Tokened) → tokened_computes (plug_tokened moves rest) ≡ n + tokened_computes rest
+  pub counted : (rest : Tokened) → tokened_prints (plug_tokened moves rest) ≡ n + tokened_prints rest
   pub are : (later : List (List ℕ)) (goal : Goal) (rest : Tokened) (more : List Line) (high : ℕ)
       → CodeLines (setting_in facts old.base (texts_written new ++ later)) variables goal new.next_label (plug_tokened behind rest)
       more high

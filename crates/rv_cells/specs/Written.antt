@@ -3,6 +3,7 @@ use Rattle.std.specs.Prelude.{Option, ◌≡◌, ℕ, ◌+◌, ◌-◌, ◌^◌,
 use Rattle.kk_syntax.specs.declared.program.Form.{Form}
 use Rattle.kk_core.specs.Decisions.{node_tree}
 use Rattle.kk_core.specs.declared.decisions.Answer.{Answer}
+use Rattle.kk_counted.specs.TokenedWords.{prints_in_form}
 use Rattle.rv_isa.specs.declared.asm.Action.TheVariants.{Branch}
 use Rattle.rv_isa.specs.declared.asm.Condition.TheVariants.{NotEqual}
 use Rattle.rv_isa.specs.declared.asm.Operation.TheVariants as Op
@@ -115,6 +116,6 @@ pub record WroteOpening (holds : ℕ → Bool) (x : ℕ) (fields used : List ℕ
 -- The lines of a form on variables were written. They are its lines however many texts come later.
 pub record WroteValue (facts : Facts) (x : ℕ) (form : Form) (arguments : List ℕ) (old new : Lowering) : Type 0 where
   pub lines : List Line
-  pub grows : Grows 1 lines old new
+  pub grows : Grows (prints_in_form form) lines old new
   pub label : new.next_label ≡ old.next_label
   pub are : (later : List (List ℕ)) → ComputeLines (setting_in facts old.base (texts_written new ++ later)) x form arguments lines

@@ -14,6 +14,7 @@ ghost use Rattle.kk_counted.specs.CountBounds.{AllSpendAtMost};
 ghost use Rattle.kk_counted.specs.FunctionSizes.{AllHaveVariablesBelow, AllHaveSlotsBelow};
 ghost use Rattle.kk_counted.specs.TokenLengths.{tokened_functions_length, all_tokened_computes};
 ghost use Rattle.kk_counted.specs.TokenLowerable.{AreTokensLowerable};
+ghost use Rattle.kk_counted.specs.TokenedWords.{all_tokened_words, all_tokened_prints};
 ghost use Rattle.kk_counted.specs.TokenSpending.{AreTokensSpent};
 ghost use Rattle.kk_counted.specs.CountedStates.{CountedSetting, CountedState};
 ghost use Rattle.kk_counted.specs.Int32.{AllHaveInt32};
@@ -164,6 +165,17 @@ pub fn lowered_tokened_programs_are_short()
         → IsTokenedForm shape code.texts code.functions each texts → IsNarrow (layout_in shape)
         → (functions_length each ≤ tokened_functions_length code.functions)
         × (length (all_bytes texts) ≤ most_print * all_tokened_computes code.functions) }
+{}
+
+/// The assembler code of such a program takes no more words than its code with tokens tells, and eight for each function, where each
+/// string that it prints has 64 of them; and it has at most the bytes of one print for each string. It is a law, and does nothing.
+pub fn lowered_tokened_programs_take_few_words()
+    ensures { (shape : Shape) (code : TokenedProgram) (texts : List (List ℕ)) (each : List Lines)
+        → AreLowerable (table_of shape) (bare_program code).functions → AreTokensLowerable code.functions → AreTokensSpent code
+        → IsTokenedForm shape code.texts code.functions each texts → IsNarrow (layout_in shape)
+        → (functions_length each + 64 * all_tokened_prints code.functions
+        ≤ 8 * length code.functions + all_tokened_words code.functions)
+        × (length (all_bytes texts) ≤ most_print * all_tokened_prints code.functions) }
 {}
 
 /// The assembler code of a program with tokens whose bare form can be lowered, which spends its tokens, and is lowered, names no more

@@ -19,7 +19,7 @@ pub use law::{
     cells_in_hand_are_released, counts_are_stored, judged_programs_are_fit,
     lowered_tokened_programs_are_short, lowered_tokened_programs_are_well_formed,
     lowered_tokened_programs_come_to_their_lines, lowered_tokened_programs_have_few_values,
-    lowered_tokened_programs_run_the_same,
+    lowered_tokened_programs_run_the_same, lowered_tokened_programs_take_few_words,
     references_are_dropped, references_are_duplicated, requests_find_free_cells,
     unique_cells_are_opened, unused_cells_hold_no_heap, words_in_hand_are_stored,
 };

@@ -2,6 +2,7 @@
 use Rattle.std.specs.Prelude.{◌≡◌, ℕ, ◌+◌, ◌*◌, ◌≤◌, List, [], ◌∷◌, ◌++◌, Option, Some, None, map, length}
 use Rattle.kk_base.specs.Limits.{greatest_string}
 use Rattle.kk_syntax.specs.declared.program.Form.{Form}
+use Rattle.kk_syntax.specs.declared.program.Form.TheVariants.{PrintText}
 use Rattle.rv_isa.specs.AsmCode.{Line, line_of}
 use Rattle.rv_world.specs.Operations.{all_bytes}
 use Rattle.rv_lower.specs.declared.lowering.Reads.{Reads}
@@ -59,10 +60,15 @@ pub record Grows (n : ℕ) (lines : List Line) (old new : Lowering) : Type 0 whe
   pub texts : texts_written new ≡ texts_written old ++ more
   pub few : length (all_bytes more) ≤ most_print * n
 
+-- how many texts a form on variables adds: the string that it prints
+abbrev pub texts_in : Form → ℕ
+texts_in (PrintText how text) = 1
+texts_in form = 0
+
 -- The lines of a form on variables were written. They are its lines however many texts come later.
 pub record WroteForm (literals : List (List ℕ)) (x : ℕ) (form : Form) (arguments : List ℕ) (old new : Lowering) : Type 0 where
   pub lines : List Line
-  pub grows : Grows 1 lines old new
+  pub grows : Grows (texts_in form) lines old new
   pub label : new.next_label ≡ old.next_label
   pub are : (later : List (List ℕ)) → FormLines old.base (texts_of literals (texts_written new ++ later)) x form arguments lines
 
