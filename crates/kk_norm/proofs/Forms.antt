@@ -120,35 +120,7 @@ mutual
       let two : forms coded.0 ≤ 2 * nodes_of rest + forms_then k = forms_small constructors k (named (variable_of binder) (atom names n first) names) (n + size first) rest coded.0 coded.1 in
       omega arith
 
-  forms_-- a function has no more variables than its body has nodes, and its parameters
-variables_small : (nodes : ℕ) (constructors : List ConstructorTree) (functions : List FunctionTree) (cores : List FunctionCode)
-    → AreCoresOf constructors functions cores → AreWithin functions → greatest_of functions ≤ nodes
-    → (f : ℕ) (core : FunctionCode) → slice_get cores f ≡ Some core → core.variables ≤ nodes + most_parameters
-variables_small nodes constructors [] cores are limits le f core there =
-    absurd (none_there f core (subst (λ (all : List FunctionCode). slice_get all f ≡ Some core) are there))
-  where
-    none_there : (f : ℕ) (core : FunctionCode) → slice_get [] f ≡ Some core → ⊥
-    none_there f core there = cc
-variables_small nodes constructors (function ∷ functions) [] are limits le f core there = absurd are
-variables_small nodes constructors (function ∷ functions) (first ∷ cores) are limits le zero core there =
-    let is = are.0.variables in
-    let few = limits.0.parameters in
-    let size = size_small function.body in
-    let variables : first.variables ≤ nodes + most_parameters = omega (arith, is, few, size, le) in
-    subst (λ (one : FunctionCode). one.variables ≤ nodes + most_parameters) (same there) variables
-  where
-    same : Some first ≡ Some core → first ≡ core
-    same is = cc
-variables_small nodes constructors (function ∷ functions) (first ∷ cores) are limits le (suc f) core there =
-    variables_small nodes constructors functions cores are.1 limits.1
-    (omega (arith, le)) f core there
-
-pub few_variables : (program : ProgramTree) (code : ProgramCode) → IsCoreForm program code → IsWithin program → (nodes : ℕ)
-    → greatest_nodes program ≤ nodes → HaveVariablesAtMost (nodes + most_parameters) code
-few_variables program code form limits nodes le =
-    variables_small nodes program.constructors program.functions code.functions form.functions limits.functions le
-
-all_small : (constructors : List ConstructorTree) (names : Names) (n : ℕ) (es : Trees) (last c : Code) → AreCodes constructors names n es last c → forms c ≤ 2 * nodes_of_all es + forms last
+  forms_all_small : (constructors : List ConstructorTree) (names : Names) (n : ℕ) (es : Trees) (last c : Code) → AreCodes constructors names n es last c → forms c ≤ 2 * nodes_of_all es + forms last
   forms_all_small constructors names n no_tree last c coded = omega (arith, ap forms coded)
   forms_all_small constructors names n (tree first rest) last c coded =
       let one : forms c ≤ 2 * nodes_of first + forms coded.0 = forms_small constructors (next coded.0) names n first c coded.2 in
@@ -180,6 +152,34 @@ are_small constructors [] cores are limits = subst (λ (all : List FunctionCode)
 are_small constructors (function ∷ functions) [] are limits = absurd are
 are_small constructors (function ∷ functions) (core ∷ cores) are limits =
     (function_small constructors function core are.0 limits.0, are_small constructors functions cores are.1 limits.1)
+
+-- a function has no more variables than its body has nodes, and its parameters
+variables_small : (nodes : ℕ) (constructors : List ConstructorTree) (functions : List FunctionTree) (cores : List FunctionCode)
+    → AreCoresOf constructors functions cores → AreWithin functions → greatest_of functions ≤ nodes
+    → (f : ℕ) (core : FunctionCode) → slice_get cores f ≡ Some core → core.variables ≤ nodes + most_parameters
+variables_small nodes constructors [] cores are limits le f core there =
+    absurd (none_there f core (subst (λ (all : List FunctionCode). slice_get all f ≡ Some core) are there))
+  where
+    none_there : (f : ℕ) (core : FunctionCode) → slice_get [] f ≡ Some core → ⊥
+    none_there f core there = cc
+variables_small nodes constructors (function ∷ functions) [] are limits le f core there = absurd are
+variables_small nodes constructors (function ∷ functions) (first ∷ cores) are limits le zero core there =
+    let is = are.0.variables in
+    let few = limits.0.parameters in
+    let size = size_small function.body in
+    let variables : first.variables ≤ nodes + most_parameters = omega (arith, is, few, size, le) in
+    subst (λ (one : FunctionCode). one.variables ≤ nodes + most_parameters) (same there) variables
+  where
+    same : Some first ≡ Some core → first ≡ core
+    same is = cc
+variables_small nodes constructors (function ∷ functions) (first ∷ cores) are limits le (suc f) core there =
+    variables_small nodes constructors functions cores are.1 limits.1
+    (omega (arith, le)) f core there
+
+pub few_variables : (program : ProgramTree) (code : ProgramCode) → IsCoreForm program code → IsWithin program → (nodes : ℕ)
+    → greatest_nodes program ≤ nodes → HaveVariablesAtMost (nodes + most_parameters) code
+few_variables program code form limits nodes le =
+    variables_small nodes program.constructors program.functions code.functions form.functions limits.functions le
 
 all_small : (constructors : List ConstructorTree) (functions : List FunctionTree) (cores : List FunctionCode) → AreCoresOf constructors functions cores → all_forms cores ≤ 2 * all_nodes functions
 all_small constructors [] cores are = omega (arith, ap all_forms are)

@@ -10,6 +10,7 @@ mod slots;
 
 pub use law::{
     paired_code_can_be_lowered, paired_code_costs_what_it_has_room_for, paired_code_has_few_slots,
-    paired_code_is_short, paired_code_runs_the_same, paired_code_spends_its_tokens, paired_code_takes_few_words,
+    paired_code_is_short, paired_code_runs_the_same, paired_code_spends_its_tokens,
+    paired_code_takes_few_words,
 };
 pub use program::run;

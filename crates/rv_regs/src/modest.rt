@@ -108,9 +108,7 @@ fn has_slots_below(most: u32, item: &Item) -> bool
                 && is_result_below(most, *into)
         }
         Item::Moves { alive, way, .. } => {
-            are_listed_below(most, alive)
-                && is_below(most, from(*way))
-                && is_below(most, to(*way))
+            are_listed_below(most, alive) && is_below(most, from(*way)) && is_below(most, to(*way))
         }
     }
 }
