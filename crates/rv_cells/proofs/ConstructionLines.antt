@@ -124,10 +124,10 @@ module _ (target : Target) (layout : Layout) (address : ℕ → ℕ) (owners : �
 
 -- ---- the words of a whole cell
 
-cell_words : (layout : Layout) (address : ℕ → ℕ) (c : ℕ) (vs : List Value) (words : ℕ → Option ℕ) → FitFields (layout.fields c) vs
+words_filled : (layout : Layout) (address : ℕ → ℕ) (c : ℕ) (vs : List Value) (words : ℕ → Option ℕ) → FitFields (layout.fields c) vs
     → IsBlockOf layout address (record { count = 1; cell = record { made_by = c; fields = vs } })
     (with_word 0 1 (with_words 2 (words_in layout address vs) (with_word 1 (header_of layout c) words)))
-cell_words layout address c vs words fits =
+words_filled layout address c vs words fits =
     let ws = words_in layout address vs in
     let head = with_word 1 (header_of layout c) words in
     record {
@@ -357,7 +357,7 @@ module _ (known : Known) (rest : List Line) (fs : List (Frame Line)) (s : Spot) 
       → Here known (made_spot s x c (values_of s.environment arguments) at (ended_frame f) cells)
   counts f at known_words cells whole values =
       counts_made known s x c arguments here making f at (last_words known_words) cells whole
-      (cell_words known.layout s.address c (values_of s.environment arguments) known_words making.fits) values
+      (words_filled known.layout s.address c (values_of s.environment arguments) known_words making.fits) values
 
   -- what is set aside stays so, once a cell is counted that was not set aside
   others_aside : (at y : ℕ) → is_aside (s.owners at) ≡ false → is_aside (s.owners y) ≡ true
