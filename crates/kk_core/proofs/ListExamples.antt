@@ -1,4 +1,5 @@
--- Codes on lists of numbers that the examples share: patterns, decisions, a function with a nested pattern, and codes that make a list.
+-- Codes on lists of numbers that the examples share: patterns and decisions, a function with a nested pattern, and codes that make
+-- a list.
 use Rattle.std.proofs.Common.{ℕ, pos, List, [], ◌∷◌, Some, None, refl, arith}
 use Rattle.kk_syntax.specs.declared.operator.BinaryOperator.TheVariants.{Add}
 use Rattle.kk_syntax.specs.declared.program.Form.TheVariants.{Number, Binary, Construct}
