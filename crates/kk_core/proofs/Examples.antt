@@ -7,17 +7,15 @@ use Rattle.kk_base.specs.Trace.{output}
 use Rattle.kk_base.specs.Machines.{trace, state, ending_after}
 use Rattle.kk_syntax.specs.declared.operator.BinaryOperator.TheVariants.{Add, Subtract, Multiply, Equal}
 use Rattle.kk_syntax.specs.declared.operator.PrintForm.TheVariants.{PrintLine}
-use Rattle.kk_syntax.specs.declared.program.Form.TheVariants.{Number, Binary, Print, Construct, Call}
-use Rattle.kk_syntax.specs.Patterns.{Pattern, anything, constructor, no_part, part}
+use Rattle.kk_syntax.specs.declared.program.Form.TheVariants.{Number, Binary, Print, Call}
 use Rattle.kk_syntax.specs.PositionsOf.{all_owned}
 use Rattle.kk_source.specs.State.{ended, stack_full}
 use Rattle.kk_source.specs.Notes.{seen, built, called}
-use Rattle.kk_core.specs.declared.decisions.Answer.TheVariants.{Constructor}
-use Rattle.kk_core.specs.Codes.{Code, give, case, compute, unpack, no_arm, arm, FunctionCode}
+use Rattle.kk_core.specs.Codes.{Code, give, case, compute, unpack, no_arm, FunctionCode}
 use Rattle.kk_core.specs.CoreStates.{CoreSetting, CoreState, core_first_state}
-use Rattle.kk_core.specs.Decisions.{NodeTree, chooses, tests}
 use Rattle.kk_core.specs.CoreMachine.{core_machine}
 use Rattle.kk_core.specs.Truths.{truth_case}
+use Rattle.kk_core.proofs.ListExamples.{one_or_more, first_two, with_list}
 
 abbrev setting : List FunctionCode → ℕ → ℕ → CoreSetting
 setting functions main depth = record {
@@ -87,47 +85,12 @@ deep_is_too_deep : ending_after (core_machine (λ s. 1) (deep 3)) 14 (core_first
 unfolding int_wrap digits
 deep_is_too_deep = refl
 
--- type list<a> { Nil; Cons(head: a, tail: list<a>) }: constructors 2 and 3
-abbrev nil : Pattern
-nil = constructor 2 no_part
-
-abbrev cons : Pattern → Pattern → Pattern
-cons head tail = constructor 3 (part head (part tail no_part))
-
--- the rows Cons(_, Nil), Cons(_, Cons(_, _)) and Nil: the list is tested, and then the tail of a cell
-abbrev one_or_more : List NodeTree
-one_or_more =
-    tests [] (record { found = Constructor 3; next = 1 } ∷ record { found = Constructor 2; next = 4 } ∷ []) None
-    ∷ tests (1 ∷ []) (record { found = Constructor 2; next = 2 } ∷ record { found = Constructor 3; next = 3 } ∷ []) None
-    ∷ chooses 0 ∷ chooses 1 ∷ chooses 2 ∷ []
-
--- fun first_two(xs) { match xs { Cons(x, Nil) -> x; Cons(x, Cons(y, _)) -> x + y; Nil -> 0 } }
-abbrev first_two : FunctionCode
-first_two = record {
-  parameters = 1;
-  variables = 9;
-  body = case 0 one_or_more
-      (arm (cons anything nil) (unpack 0 3 (1 ∷ 2 ∷ []) (give 1))
-      (arm (cons anything (cons anything anything))
-      (unpack 0 3 (3 ∷ 4 ∷ []) (unpack 4 3 (5 ∷ 6 ∷ []) (compute 7 (Binary Add) (3 ∷ 5 ∷ []) (give 7))))
-      (arm nil (compute 8 (Number (pos 0)) [] (give 8))
-      no_arm)));
-}
-
--- with a list of the numbers 8 and 7, which variable 4 names, and its tail, which variable 2 names
-abbrev with_list : Code → CoreSetting
-with_list rest =
-    setting
-    (first_two ∷ record {
-      parameters = 0;
-      variables = 7;
-      body = compute 0 (Construct 2) [] (compute 1 (Number (pos 7)) [] (compute 2 (Construct 3) (1 ∷ 0 ∷ [])
-          (compute 3 (Number (pos 8)) [] (compute 4 (Construct 3) (3 ∷ 2 ∷ []) rest))));
-    } ∷ [])
-    1 4
+-- `first_two`, and a `main` that has a list of the numbers 8 and 7
+abbrev on_list : Code → CoreSetting
+on_list rest = setting (first_two ∷ record { parameters = 0; variables = 7; body = with_list rest } ∷ []) 1 4
 
 abbrev shows_first_two : ℕ → CoreSetting
-shows_first_two xs = with_list (compute 5 (Call 0) (xs ∷ []) (compute 6 (Print PrintLine) (5 ∷ []) (give 6)))
+shows_first_two xs = on_list (compute 5 (Call 0) (xs ∷ []) (compute 6 (Print PrintLine) (5 ∷ []) (give 6)))
 
 two_are_added : trace (core_machine (λ s. 1) (shows_first_two 4)) 40 (core_first_state (shows_first_two 4) []) ≡ built 0 ∷ built 1 ∷ called 1 ∷ seen (output (codes "15\n")) ∷ []
 unfolding int_wrap digits
@@ -146,7 +109,7 @@ abbrev after : ℕ → CoreSetting → CoreState
 after steps setting = state (core_machine (λ s. 1) setting) steps (core_first_state setting [])
 
 abbrev opens : ℕ → ℕ → CoreSetting
-opens x c = with_list (unpack x c [] (give x))
+opens x c = on_list (unpack x c [] (give x))
 
 opened_as_made : ending_after (core_machine (λ s. 1) (opens 4 3)) 7 (core_first_state (opens 4 3) []) ≡ Some ended
 opened_as_made = refl
@@ -157,5 +120,5 @@ opened_as_another = refl
 opened_without_a_cell : after 6 (opens 3 3) ≡ after 5 (opens 3 3)
 opened_without_a_cell = refl
 
-chosen_without_an_arm : after 6 (with_list (case 4 one_or_more no_arm)) ≡ after 5 (with_list (case 4 one_or_more no_arm))
+chosen_without_an_arm : after 6 (on_list (case 4 one_or_more no_arm)) ≡ after 5 (on_list (case 4 one_or_more no_arm))
 chosen_without_an_arm = refl

@@ -1,6 +1,8 @@
+pub mod CallFrames
 mod CodeDemands
 mod ChosenArms
 mod Examples
+pub mod ListExamples
 pub mod PartBounds
 mod TypeSafety
 mod SafeRuns

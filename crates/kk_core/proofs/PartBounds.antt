@@ -3,12 +3,10 @@ use Rattle.std.proofs.Common.{◌≡◌, ℕ, zero, suc, ◌+◌, ◌*◌, ◌�
 use Rattle.std.specs.Prelude.{slice_get, nat_le, if◌then◌else◌}
 use Rattle.std.proofs.lemmas.Option.{get_or_from_slice_get}
 use Rattle.kk_base.specs.Machines.{state}
-use Rattle.kk_syntax.specs.PositionsOf.{is_lent}
 use Rattle.kk_source.specs.FormEffects.{FormEffect, gives, prints, reads, makes, enters, form_effect, effect_step}
 use Rattle.kk_source.specs.Live.{value_of, live}
 use Rattle.kk_source.specs.Matching.{and_then}
 use Rattle.kk_source.specs.State.{Value, unit, place, Store, Environment, heap_full, stack_full}
-use Rattle.kk_source.specs.Step.{lent_places}
 use Rattle.kk_source.proofs.RunInvariants.{LeadsTo, print_leads, run_keeps}
 use Rattle.kk_core.specs.Codes.{Code, give, tail_call, case, compute, use_of, unpack, inside, Arms, no_arm, arm, FunctionCode}
 use Rattle.kk_core.specs.CoreMachine.{arm_at, held_for, held_by_frames, fields_opened, bound_then, at_end, unpack_step, case_step, give_step, in_code, tail_step, construct_step, call_step, code_step, core_step_at, core_step_of, core_ending_of, core_machine}
@@ -16,6 +14,7 @@ use Rattle.kk_core.specs.CoreStates.{CoreSetting, Join, CallFrame, CoreControl, 
 use Rattle.kk_core.specs.Costs.{parts_seen, step_cost, part_cost, control_cost, core_cost}
 use Rattle.kk_core.specs.Decisions.{chosen}
 use Rattle.kk_core.specs.Looks.{HasFewLooks}
+use Rattle.kk_core.proofs.CallFrames.{call_frame}
 
 -- the most that is seen: arguments or fields of a form, and what a case looks at
 pub record MostSeen : Type 0 where
@@ -122,15 +121,7 @@ module _ (setting : CoreSetting) (most : MostSeen)
     call_few f None values x rest environment joins from is few later stays = stays
     call_few f (Some function) values x rest environment joins from is few later stays =
         either_few most (nat_le setting.depth (suc (length from.frames))) (at_end stack_full from)
-        (in_code function values (record from {
-          frames = record {
-            variable = x;
-            rest = rest;
-            joins = joins;
-            environment = environment;
-            lent = lent_places (is_lent setting.positions f) 0 values;
-          } ∷ from.frames;
-        }))
+        (in_code function values (record from { frames = call_frame setting x rest joins environment f values ∷ from.frames }))
         (tt, stays.1) ((all f function is, tt), ((few, later), stays.1))
 
     effect_few : (effect : FormEffect) (x : ℕ) (rest : Code) (environment : Environment) (joins : List Join) (from : CoreConfiguration)

@@ -5,13 +5,12 @@ use Rattle.kk_syntax.specs.declared.program.Form.{Form}
 use Rattle.kk_syntax.specs.GroundTyping.{Table}
 use Rattle.kk_syntax.specs.Patterns.{part}
 use Rattle.kk_syntax.specs.GroundTyping.{Signature}
-use Rattle.kk_syntax.specs.PositionsOf.{is_lent}
 use Rattle.kk_syntax.specs.Types.{TypeTree}
 use Rattle.kk_source.specs.FormEffects.{FormEffect, gives, prints, reads, makes, enters, byte_value, form_effect, effect_step}
 use Rattle.kk_source.specs.Live.{value_of, live}
 use Rattle.kk_source.specs.Matching.{and_then}
 use Rattle.kk_source.specs.State.{Value, unit, place, Store, Environment, heap_full, stack_full}
-use Rattle.kk_source.specs.Step.{bind_parameters, lent_places}
+use Rattle.kk_source.specs.Step.{bind_parameters}
 use Rattle.kk_source.specs.ValueTypes.{IsOf, AreOf}
 use Rattle.kk_source.proofs.RunInvariants.{LeadsTo, print_leads}
 use Rattle.kk_source.proofs.Operators.{byte_typed, EffectTyped, effect_typed}
@@ -25,6 +24,7 @@ use Rattle.kk_core.proofs.ChosenArms.{ordered_le}
 use Rattle.kk_core.proofs.TypeSafety.{code_there, value_typed, values_typed, taken, opened_cell}
 use Rattle.kk_core.proofs.VariableFacts.{Stand, unchanged, of_type, stand_none, stand_move, stand_bound, stand_known, parameters_stand, fields_stand, rise_le, same_bound, same_fields, stand_longer}
 use Rattle.kk_core.proofs.TypedStates.{JoinsWait, FrameWaits, FramesWait, Runs, ControlTyped, IsStateTyped, joins_move, joins_longer, frames_longer}
+use Rattle.kk_core.proofs.CallFrames.{call_frame}
 
 module _ (table : Table) where
   -- a variable takes a value of its type, and the rest comes
@@ -160,15 +160,7 @@ module _ (table : Table) (setting : CoreSetting) (typed : IsCoreTyped table sett
         let there =
         code_there table setting.code.functions table.functions f (record { parameters = ts; result = s }) typed.functions
         effect.1 in
-        let frame : CallFrame =
-        record {
-          variable = x;
-          rest = rest;
-          joins = joins;
-          environment = environment;
-          lent = lent_places
-              (is_lent setting.positions f) 0 vs;
-        } in
+        let frame : CallFrame = call_frame setting x rest joins environment f vs in
         let waits : FrameWaits table from.store frame s r =
         record {
           facts = runs.facts;

@@ -1,17 +1,15 @@
 -- A program with a match and an opening is typed; and a machine that no step serves.
-use Rattle.std.proofs.Common.{◌≡◌, ◌⊎◌, ◌≤◌, inl, inr, ℕ, zero, suc, pos, false, List, [], ◌∷◌, Option, Some, None, refl, sym, map, ne_eqb, ◌==◌, arith}
+use Rattle.std.proofs.Common.{◌≡◌, inl, inr, ℕ, zero, suc, pos, false, List, [], ◌∷◌, Option, Some, None, refl, map, ne_eqb, ◌==◌, arith}
 use Rattle.std.specs.Prelude.{slice_get}
 use Rattle.std.proofs.lemmas.Bool.{both_ways}
 use Rattle.kk_syntax.specs.declared.operator.PrintForm.TheVariants.{PrintLine}
-use Rattle.kk_syntax.specs.declared.program.Form.TheVariants.{Number, Print, Construct, Call}
+use Rattle.kk_syntax.specs.declared.program.Form.TheVariants.{Number, Print, Call}
 use Rattle.kk_syntax.specs.Covered.{IsCovered}
 use Rattle.kk_syntax.specs.GroundTyping.{Table}
-use Rattle.kk_syntax.specs.OfType.{field_types, values_of}
-use Rattle.kk_syntax.specs.Outlines.{Outline, any, exactly, made, Outlines, no_outline, outline, outline_of, Clash, ClashIn}
-use Rattle.kk_syntax.specs.Patterns.{Pattern, anything, constructor, no_part, part}
-use Rattle.kk_syntax.specs.Programs.{ConstructorTree}
-use Rattle.kk_syntax.specs.Types.{TypeTree, int32, unit_type, named, no_type}
-use Rattle.kk_syntax.specs.Typing.{bool}
+use Rattle.kk_syntax.specs.OfType.{values_of}
+use Rattle.kk_syntax.specs.Outlines.{any, exactly, made, Outlines, no_outline, outline, outline_of, ClashIn}
+use Rattle.kk_syntax.specs.Patterns.{Pattern, anything, no_part, part}
+use Rattle.kk_syntax.specs.Types.{int32, unit_type}
 use Rattle.kk_source.specs.State.{Value, integer, unit, constant, place, Cell, Store}
 use Rattle.kk_core.specs.declared.decisions.Answer.TheVariants.{Constructor}
 use Rattle.kk_core.specs.RowChoice.{first_row, Decides}
@@ -20,20 +18,12 @@ use Rattle.kk_core.specs.CoreStates.{running, CoreConfiguration}
 use Rattle.kk_core.specs.CoreTyping.{IsCodeTyped, IsCoreTyped}
 use Rattle.kk_core.specs.Decisions.{NodeTree, chooses, tests, chosen}
 use Rattle.kk_core.specs.NeverStuck.{StateFits}
-
--- type list { Nil; Cons(head: int32, tail: list) }: constructors 2 and 3, behind `False` and `True`
-abbrev list : TypeTree
-list = named 1 no_type
-
-abbrev declared : ℕ → ℕ → List TypeTree → ConstructorTree
-declared of_type tag fields = record { name = []; at = 0; of_type = of_type; arguments = None; tag = tag; fields = fields }
-
-abbrev constructors : List ConstructorTree
-constructors = declared 0 0 [] ∷ declared 0 1 [] ∷ declared 1 0 [] ∷ declared 1 1 (int32 ∷ list ∷ []) ∷ []
+use Rattle.kk_source.proofs.ListType.{list, constructors, makers, has_truths, clash_any, clash_none}
+use Rattle.kk_core.proofs.ListExamples.{nil, cons, with_one, with_one_ordered}
 
 -- fun first(xs : list) : int32 { match xs { Nil -> 0; Cons(x, _) -> x } }
 abbrev rows : List Pattern
-rows = constructor 2 no_part ∷ constructor 3 (part anything (part anything no_part)) ∷ []
+rows = nil ∷ cons anything anything ∷ []
 
 abbrev nil_or_cons : List NodeTree
 nil_or_cons =
@@ -45,8 +35,8 @@ first = record {
   parameters = 1;
   variables = 4;
   body = case 0 nil_or_cons
-      (arm (constructor 2 no_part) (compute 1 (Number (pos 0)) [] (give 1))
-      (arm (constructor 3 (part anything (part anything no_part))) (unpack 0 3 (2 ∷ 3 ∷ []) (give 2))
+      (arm nil (compute 1 (Number (pos 0)) [] (give 1))
+      (arm (cons anything anything) (unpack 0 3 (2 ∷ 3 ∷ []) (give 2))
       no_arm));
 }
 
@@ -55,8 +45,7 @@ abbrev main : FunctionCode
 main = record {
   parameters = 0;
   variables = 5;
-  body = compute 0 (Number (pos 1)) [] (compute 1 (Construct 2) [] (compute 2 (Construct 3) (0 ∷ 1 ∷ [])
-      (compute 3 (Call 0) (2 ∷ []) (compute 4 (Print PrintLine) (3 ∷ []) (give 4)))));
+  body = with_one 1 (compute 3 (Call 0) (2 ∷ []) (compute 4 (Print PrintLine) (3 ∷ []) (give 4)));
 }
 
 abbrev program : ProgramCode
@@ -70,23 +59,6 @@ table = record {
 }
 
 -- ---- the rows are covered
-
-clash_any : (e : Outline) → Clash e any → ⊥
-clash_any any h = h
-clash_any (exactly n) h = h
-clash_any (made c ps) h = h
-
-clash_none : (ps : Outlines) → ClashIn ps no_outline → ⊥
-clash_none no_outline h = h
-clash_none (outline p ps) h = h
-
-makers : (c : ℕ) (us : List TypeTree) → field_types constructors list c ≡ Some us
-    → ((c ≡ 2) × (us ≡ [])) ⊎ ((c ≡ 3) × (us ≡ int32 ∷ list ∷ []))
-makers zero us is = absurd (cc)
-makers (suc zero) us is = absurd (cc)
-makers (suc (suc zero)) us is = let same : [] ≡ us = cc in inl (refl, sym same)
-makers (suc (suc (suc zero))) us is = let same : int32 ∷ list ∷ [] ≡ us = cc in inr (refl, sym same)
-makers (suc (suc (suc (suc c)))) us is = absurd (cc)
 
 inside_cons : (ps : Outlines) → ClashIn ps (outline any (outline any no_outline)) → ⊥
 inside_cons no_outline h = h
@@ -186,15 +158,15 @@ main_typed =
     record {
       parameters = refl;
       body = (
-        int32,
+        list,
         [],
         tt,
-        (refl, refl),
+        refl,
         (
-          list,
+          int32,
           [],
           tt,
-          refl,
+          (refl, refl),
           (
             list,
             int32 ∷ list ∷ [],
@@ -210,32 +182,9 @@ main_typed =
           ),
         ),
       );
-      ordered = (
-        tt,
-        omega arith,
-        (
-          tt,
-          omega arith,
-          (
-            (refl, (refl, tt)),
-            omega arith,
-            ((refl, tt), omega arith, ((refl, tt), omega arith, (refl, omega arith))),
-          ),
-        ),
-      );
+      ordered = with_one_ordered 1 (compute 3 (Call 0) (2 ∷ []) (compute 4 (Print PrintLine) (3 ∷ []) (give 4))) 5
+          ((refl, tt), omega arith, ((refl, tt), omega arith, (refl, omega arith)));
     }
-
-truths_are : (c : ℕ) → c ≤ 1 → field_types constructors bool c ≡ Some []
-truths_are zero le = refl
-truths_are (suc zero) le = refl
-truths_are (suc (suc c)) le = absurd (omega (arith, le))
-
-truths_alone : (c : ℕ) (us : List TypeTree) → field_types constructors bool c ≡ Some us → c ≤ 1
-truths_alone zero us is = omega arith
-truths_alone (suc zero) us is = omega arith
-truths_alone (suc (suc zero)) us is = absurd (cc)
-truths_alone (suc (suc (suc zero))) us is = absurd (cc)
-truths_alone (suc (suc (suc (suc c)))) us is = absurd (cc)
 
 program_typed : IsCoreTyped table program
 program_typed =
@@ -243,7 +192,7 @@ program_typed =
       functions = (first_typed, (main_typed, tt));
       texts = refl;
       main = refl;
-      truths = record { truths = truths_are; no_others = truths_alone };
+      truths = has_truths;
     }
 
 -- ---- a machine that no step serves: it would open `Nil` as a `Cons`

@@ -74,43 +74,44 @@ module _ (table : Table) where
 
   -- ---- where more is bound, and in a longer store
 
+  -- A join waits in another store and with more bound, where its facts stand there and what is behind it waits.
+  join_waits_on : (store later_store : Store) (environment later : Environment) (low low_after high high_after : ℕ) (join : Join)
+      (joins : List Join) (t r : TypeTree) (waits : JoinsWait store environment low high (join ∷ joins) t r)
+      → Stand table.constructors later_store waits.facts later low_after → high_after ≤ high
+      → JoinsWait later_store later low_after waits.top joins waits.type r
+      → JoinsWait later_store later low_after high_after (join ∷ joins) t r
+  join_waits_on store later_store environment later low low_after high high_after join joins t r waits stand ge wait =
+      record {
+        facts = waits.facts;
+        names = waits.names;
+        top = waits.top;
+        tail = waits.tail;
+        type = waits.type;
+        stand = stand;
+        above = omega (arith, waits.above, ge);
+        ordered = waits.ordered;
+        typed = waits.typed;
+        alone = waits.alone;
+        wait = wait;
+      }
+
   pub joins_move : (store : Store) (environment later : Environment) (low low_after high high_after : ℕ) (joins : List Join)
       (t r : TypeTree) → SameBelow low environment later → low ≤ low_after → high_after ≤ high
       → JoinsWait store environment low high joins t r → JoinsWait store later low_after high_after joins t r
   joins_move store environment later low low_after high high_after [] t r same le ge wait = wait
   joins_move store environment later low low_after high high_after (join ∷ joins) t r same le ge wait =
-      record {
-        facts = wait.facts;
-        names = wait.names;
-        top = wait.top;
-        tail = wait.tail;
-        type = wait.type;
-        stand = stand_move table.constructors store wait.facts environment later low low_after same le wait.stand;
-        above = omega (arith, wait.above, ge);
-        ordered = wait.ordered;
-        typed = wait.typed;
-        alone = wait.alone;
-        wait = joins_move store environment later low low_after wait.top wait.top joins wait.type r same le (omega arith) wait.wait;
-      }
+      join_waits_on store store environment later low low_after high high_after join joins t r wait
+      (stand_move table.constructors store wait.facts environment later low low_after same le wait.stand) ge
+      (joins_move store environment later low low_after wait.top wait.top joins wait.type r same le (omega arith) wait.wait)
 
   module _ (store more : Store) where
     pub joins_longer : (environment : Environment) (low high : ℕ) (joins : List Join) (t r : TypeTree)
         → JoinsWait store environment low high joins t r → JoinsWait (store ++ more) environment low high joins t r
     joins_longer environment low high [] t r wait = wait
     joins_longer environment low high (join ∷ joins) t r wait =
-        record {
-          facts = wait.facts;
-          names = wait.names;
-          top = wait.top;
-          tail = wait.tail;
-          type = wait.type;
-          stand = stand_longer table.constructors store more wait.facts environment low wait.stand;
-          above = wait.above;
-          ordered = wait.ordered;
-          typed = wait.typed;
-          alone = wait.alone;
-          wait = joins_longer environment low wait.top joins wait.type r wait.wait;
-        }
+        join_waits_on store (store ++ more) environment environment low low high high join joins t r wait
+        (stand_longer table.constructors store more wait.facts environment low wait.stand) (omega arith)
+        (joins_longer environment low wait.top joins wait.type r wait.wait)
 
     frame_longer : (frame : CallFrame) (t r : TypeTree) → FrameWaits store frame t r → FrameWaits (store ++ more) frame t r
     frame_longer frame t r wait =

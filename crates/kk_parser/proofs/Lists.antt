@@ -1,16 +1,17 @@
 -- Phrases with commas between them, as they are read one by one.
-use Rattle.std.proofs.Common.{◌≡◌, true, false, List, [], ◌∷◌, ◌++◌, map, Some, None, refl, sym, ◌∙◌, append_assoc}
+use Rattle.std.proofs.Common.{◌≡◌, true, false, List, [], ◌∷◌, ◌++◌, map, Some, None, Result, IsErrAnd, refl, sym, ◌∙◌, append_assoc}
 use Rattle.std.proofs.lemmas.List.{append-nil}
 use Rattle.kk_syntax.specs.declared.token.Symbol.TheVariants.{Comma, Semicolon}
+use Rattle.kk_parser.specs.declared.fault.Fault.{Fault}
 use Rattle.kk_parser.specs.declared.parser.Parser.{Parser}
 use Rattle.kk_parser.specs.Classes.{is_at}
 use Rattle.kk_parser.specs.Grammar.{semicolons, some_listed, some_listed_of, listed, listed_of}
 use Rattle.kk_parser.specs.Forms.{and_more, separated, separated_of, those_given}
 use Rattle.kk_parser.specs.Kinds.{symbol, classes_of}
-use Rattle.kk_parser.specs.Methods.{Read}
+use Rattle.kk_parser.specs.Methods.{behind, Read, FailedBy, ReadsAs}
 use Rattle.kk_parser.specs.Phrases.{Phrase, PhraseValue, token, ◌▸◌, many, optional}
 use Rattle.kk_parser.specs.Reading.{first, Failure, ReadingFails, finds_both, finds_absence, finds_presence, fails_front, fails_behind, fails_one, fails_presence}
-use Rattle.kk_parser.proofs.Steps.{Continues, continues_many, ends_many}
+use Rattle.kk_parser.proofs.Steps.{Continues, continues_many, ends_many, symbol_read, gives_up_as_in}
 use Rattle.kk_parser.specs.Depths.{most_levels}
 
 -- a comma, and one more
@@ -77,6 +78,29 @@ some_lists_more a given u start here mid next l h r s = record {
   read = continues_many (some_listed a) (next_listed a) l.says (tt, u) start here next l.read h (finds_both r s);
   meant = λ vs. l.meant ((tt, u) ∷ vs) ∙ sym (append_assoc given (u ∷ []) (map (λ m. m.1) vs));
 }
+
+-- Those given were read and a comma behind them: what stands behind it is one more, or fails as the list.
+pub record SomeListsNext (a : Phrase) (given : List (PhraseValue a)) (start here : Parser) : Type 0 where
+  pub more : (u : PhraseValue a) (next : Parser) → Read a u here next → SomeLists a (given ++ u ∷ []) start next
+  pub failed : (f : Failure) → ReadingFails most_levels a here.depth here.rest.now f
+      → ReadingFails most_levels (some_listed a) start.depth start.rest.now f
+
+pub some_lists_next : (a : Phrase) {given : List (PhraseValue a)} {start here : Parser} (mid : Parser)
+    → SomeLists a given start here → is_at (classes_of (symbol Comma)) here.rest.now ≡ true → mid.rest.now ≡ behind here.rest.now → mid.depth ≡ here.depth
+    → SomeListsNext a given start mid
+some_lists_next a {given = given} {start = start} {here = here} mid l h passed depth =
+    let comma = symbol_read Comma here mid h passed depth in
+    record {
+      more = λ u next r. some_lists_more a given u start here mid next l h comma r;
+      failed = λ f r. l.read.failed f (fails_one h (fails_behind comma r));
+    }
+
+-- where that fails, the list is given up
+pub some_lists_failed : {A B : Type 0} (a : Phrase) (means : PhraseValue (some_listed a) → B) (view : A → B) (r : Result A Fault)
+    (e : Fault) {given : List (PhraseValue a)} (start here next : Parser) → IsErrAnd r (λ y. y ≡ e) → FailedBy e a here next
+    → SomeListsNext a given start here → ReadsAs (some_listed a) means view r start next
+some_lists_failed a means view r e start here next is fails behind_comma =
+    gives_up_as_in (some_listed a) a means view r e start here next behind_comma.failed is fails
 
 pub some_lists_end : (a : Phrase) (given : List (PhraseValue a)) (start here : Parser) → SomeLists a given start here → is_at (classes_of (symbol Comma)) here.rest.now ≡ false → ReadsSomeList a given start here
 some_lists_end a given start here l h =

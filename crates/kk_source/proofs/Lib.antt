@@ -3,6 +3,7 @@ pub mod Builder
 mod Examples
 pub mod RunInvariants
 pub mod Laws
+pub mod ListType
 pub mod Live
 pub mod Matching
 pub mod ResourceBounds

@@ -1,33 +1,24 @@
 -- A program with a nested match is typed and covered; and a machine where no row matches is stuck.
-use Rattle.std.proofs.Common.{◌≡◌, ◌⊎◌, ◌≤◌, inl, inr, ℕ, zero, suc, pos, false, List, [], ◌∷◌, Some, None, refl, sym, subst, arith}
+use Rattle.std.proofs.Common.{◌≡◌, ◌⊎◌, inl, inr, ℕ, zero, suc, pos, false, [], ◌∷◌, Some, None, refl, sym, subst}
 use Rattle.std.specs.Prelude.{slice_get, codes}
 use Rattle.std.specs.Fmt.{digits}
 use Rattle.std.proofs.lemmas.Bool.{both_ways}
 use Rattle.kk_base.specs.Trace.{output}
 use Rattle.kk_syntax.specs.Covered.{IsCovered, asked_by}
 use Rattle.kk_syntax.specs.GroundTyping.{Table, table_of, HasType, AreRowsTyped, IsFunctionTyped, IsGroundTyped}
-use Rattle.kk_syntax.specs.OfType.{IsPatternOf, ArePatternsOf, field_types, values_of}
-use Rattle.kk_syntax.specs.Outlines.{Outline, any, exactly, made as made_by, Outlines, no_outline, outline, Clash, ClashIn}
+use Rattle.kk_syntax.specs.OfType.{IsPatternOf, ArePatternsOf, values_of}
+use Rattle.kk_syntax.specs.Outlines.{Outline, any, exactly, made as made_by, Outlines, no_outline, outline, Clash}
 use Rattle.kk_syntax.specs.Patterns.{anything, variable as names}
-use Rattle.kk_syntax.specs.Programs.{ConstructorTree, FunctionTree, ProgramTree}
+use Rattle.kk_syntax.specs.Programs.{FunctionTree, ProgramTree}
 use Rattle.kk_syntax.specs.PositionsOf.{all_owned}
 use Rattle.kk_syntax.specs.Trees.{variable, match, Rows, no_row, row, row_parts}
-use Rattle.kk_syntax.specs.Types.{TypeTree, int32, unit_type, named, no_type}
-use Rattle.kk_syntax.specs.Typing.{bool, with_parameters}
+use Rattle.kk_syntax.specs.Types.{int32, unit_type}
+use Rattle.kk_syntax.specs.Typing.{with_parameters}
 use Rattle.kk_source.specs.NeverStuck.{StateFits}
 use Rattle.kk_source.specs.SourceAfter.{source_after}
 use Rattle.kk_source.specs.State.{Setting, constant, rows, value, ended, Configuration}
 use Rattle.kk_source.proofs.Builder.{number, called, made, printed, of_made}
-
--- type list { Nil; Cons(head: int32, tail: list) }: constructors 2 and 3, behind `False` and `True`
-abbrev list : TypeTree
-list = named 1 no_type
-
-abbrev declared : ℕ → ℕ → List TypeTree → ConstructorTree
-declared of_type tag fields = record { name = []; at = 0; of_type = of_type; arguments = None; tag = tag; fields = fields }
-
-abbrev constructors : List ConstructorTree
-constructors = declared 0 0 [] ∷ declared 0 1 [] ∷ declared 1 0 [] ∷ declared 1 1 (int32 ∷ list ∷ []) ∷ []
+use Rattle.kk_source.proofs.ListType.{list, constructors, makers, has_truths, clash_any, clash_none}
 
 -- fun second(xs : list) : int32 { match xs { Nil -> 0; Cons(x, Nil) -> x; Cons(_, Cons(y, _)) -> y } }
 abbrev second_rows : Rows
@@ -62,23 +53,6 @@ unfolding digits
 second_is_printed = refl
 
 -- ---- the match is covered
-
-clash_any : (e : Outline) → Clash e any → ⊥
-clash_any any h = h
-clash_any (exactly n) h = h
-clash_any (made_by c ps) h = h
-
-clash_none : (ps : Outlines) → ClashIn ps no_outline → ⊥
-clash_none no_outline h = h
-clash_none (outline p ps) h = h
-
-makers : (c : ℕ) (us : List TypeTree) → field_types constructors list c ≡ Some us
-    → ((c ≡ 2) × (us ≡ [])) ⊎ ((c ≡ 3) × (us ≡ int32 ∷ list ∷ []))
-makers zero us is = absurd (cc)
-makers (suc zero) us is = absurd (cc)
-makers (suc (suc zero)) us is = let same : [] ≡ us = cc in inl (refl, sym same)
-makers (suc (suc (suc zero))) us is = let same : int32 ∷ list ∷ [] ≡ us = cc in inr (refl, sym same)
-makers (suc (suc (suc (suc c)))) us is = absurd (cc)
 
 abbrev cons_of : Outline → Outline → Outline
 cons_of p q = made_by 3 (outline p (outline q no_outline))
@@ -160,21 +134,9 @@ functions_typed zero function is = let same : second ≡ function = cc in subst 
 functions_typed (suc zero) function is = let same : main ≡ function = cc in subst (IsFunctionTyped table) same main_typed
 functions_typed (suc (suc f)) function is = absurd (cc)
 
-truths_are : (c : ℕ) → c ≤ 1 → field_types constructors bool c ≡ Some []
-truths_are zero le = refl
-truths_are (suc zero) le = refl
-truths_are (suc (suc c)) le = absurd (omega (arith, le))
-
-truths_alone : (c : ℕ) (us : List TypeTree) → field_types constructors bool c ≡ Some us → c ≤ 1
-truths_alone zero us is = omega arith
-truths_alone (suc zero) us is = omega arith
-truths_alone (suc (suc zero)) us is = absurd (cc)
-truths_alone (suc (suc (suc zero))) us is = absurd (cc)
-truths_alone (suc (suc (suc (suc c)))) us is = absurd (cc)
-
 program_typed : IsGroundTyped program
 program_typed =
-    record { functions = functions_typed; main = refl; truths = record { truths = truths_are; no_others = truths_alone } }
+    record { functions = functions_typed; main = refl; truths = has_truths }
 
 -- ---- a machine that is stuck: no row is there for the value
 
