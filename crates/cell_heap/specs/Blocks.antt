@@ -1,6 +1,7 @@
 -- The cells of a program as its code may see them: for each a block of eight words, of which some are known.
 use Rattle.std.specs.Prelude.{ℕ, zero, suc, ◌+◌, ◌/◌, ◌%◌, ◌^◌, List, [], ◌∷◌, Option, Some, None, option_map, Bool, true, false, ◌&&◌, if◌then◌else◌, nat_eq, nat_le, nat_lt, length}
 use Rattle.rv_isa.specs.Arithmetic.{sum_word}
+use Rattle.rv_isa.specs.Numbers.{cell_size}
 use Rattle.cell_heap.specs.Cells.{Cell, no_cell, free, token, counted, Heap}
 use Rattle.cell_heap.specs.Pool.{Pool, end_of, places}
 use Rattle.cell_heap.specs.Counts.{credit}
@@ -28,7 +29,7 @@ with_block at block cells = record cells { blocks = λ x. if nat_eq x at then bl
 -- the cells of a pool of which none was ever used
 abbrev pub unused_cells : Pool → Cells
 unused_cells pool = record {
-  blocks = λ at. if nat_le pool.first at && nat_lt at (end_of pool) && nat_eq (at % 32) 0 then unused else no_block;
+  blocks = λ at. if nat_le pool.first at && nat_lt at (end_of pool) && nat_eq (at % cell_size) 0 then unused else no_block;
   frees = [];
   border = pool.first;
 }
@@ -44,7 +45,7 @@ with_word i word words j = if nat_eq j i then Some word else words j
 
 -- which word of a block is so many bytes from its begin
 abbrev pub index_of : ℕ → Option ℕ
-index_of offset = if nat_eq (offset % 4) 0 && nat_lt offset 32 then Some (offset / 4) else None
+index_of offset = if nat_eq (offset % 4) 0 && nat_lt offset cell_size then Some (offset / 4) else None
 
 -- words of the program's own blocks alone are loaded, where they are known, and stored
 abbrev pub word_in : Block → Option ℕ → Option ℕ
@@ -82,7 +83,7 @@ takes at frees border cells = with_block at (own nothing) (record cells { frees 
 abbrev pub request_by : Pool → List ℕ → Option ℕ → Cells → Option (ℕ × Cells × Bool)
 request_by pool (at ∷ frees) top cells = Some (at, takes at frees cells.border cells, false)
 request_by pool [] top cells =
-    if nat_lt cells.border (end_of pool) then Some (cells.border, takes cells.border [] (cells.border + 32) cells, false)
+    if nat_lt cells.border (end_of pool) then Some (cells.border, takes cells.border [] (cells.border + cell_size) cells, false)
     else option_map (λ at. (at, takes at [] cells.border cells, true)) top
 
 abbrev pub request : Pool → Option ℕ → Cells → Option (ℕ × Cells × Bool)

@@ -1,6 +1,6 @@
 -- When a machine's memory has the blocks of a program.
 use Rattle.std.specs.Prelude.{◌≡◌, ℕ, ◌+◌, ◌*◌, ◌%◌, ◌^◌, ◌<◌, ◌≤◌, ◌⊎◌, List, map, Option, Some, true}
-use Rattle.rv_isa.specs.Numbers.{cell_words}
+use Rattle.rv_isa.specs.Numbers.{cell_words, cell_size}
 use Rattle.rv_isa.specs.Processor.{Processor, value, can_load, can_store}
 use Rattle.cell_heap.specs.Cells.{free, occurs}
 use Rattle.cell_heap.specs.Pool.{Pool}
@@ -40,8 +40,8 @@ pub record SameRoots (s t : Processor) : Type 0 where
 
 -- a word of a block of the program's own, so many bytes from its begin: it may be loaded and stored, and no byte of it is one of a free cell
 pub record IsOwnWord (cells : Cells) (at offset : ℕ) (s : Processor) : Type 0 where
-  pub within : offset + 4 ≤ 32
+  pub within : offset + 4 ≤ cell_size
   pub aligned : (at + offset) % 4 ≡ 0
   pub loads : can_load s.parts (at + offset) 4 ≡ true
   pub stores : can_store s.parts (at + offset) 4 ≡ true
-  pub no_free : (x : ℕ) → seen_cells cells x ≡ free → (at + offset + 4 ≤ x) ⊎ (x + 32 ≤ at + offset)
+  pub no_free : (x : ℕ) → seen_cells cells x ≡ free → (at + offset + 4 ≤ x) ⊎ (x + cell_size ≤ at + offset)

@@ -1,5 +1,6 @@
 -- What a reader sees of the cells: each of them, the chain of free cells, the border behind which no cell was ever used, and the held tokens.
 use Rattle.std.specs.Prelude.{◌≡◌, ◌≢◌, ℕ, ◌%◌, ◌<◌, ◌≤◌, ◌↔◌, List}
+use Rattle.rv_isa.specs.Numbers.{cell_size}
 use Rattle.cell_heap.specs.Cells.{free, Heap, occurs}
 use Rattle.cell_heap.specs.Pool.{Pool, end_of, IsCell}
 
@@ -18,7 +19,7 @@ pub record View : Type 0 where
 
 -- the free cells are those of the chain and those from the border on
 pub record HasBorder (pool : Pool) (view : View) : Type 0 where
-  pub aligned : view.border % 32 ≡ 0
+  pub aligned : view.border % cell_size ≡ 0
   pub behind : pool.first ≤ view.border
   pub within : view.border ≤ end_of pool
   pub fresh : (at : ℕ) → IsCell pool at → view.border ≤ at → view.heap at ≡ free

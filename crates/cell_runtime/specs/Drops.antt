@@ -29,13 +29,26 @@ pub record BeforeDrop (pool : Pool) (reference : ℕ) (view : View) (dropped : D
   pub memory : Memory pool view s
   pub turns : Drops reference view dropped
 
+-- the most instructions of a drop: for each reference that is given up, for each cell that is freed, and for its begin and end
+abbrev pub given_cost : ℕ
+given_cost = 8
+
+abbrev pub freed_cost : ℕ
+freed_cost = 52
+
+abbrev pub begun_cost : ℕ
+begun_cost = 5
+
+abbrev pub most_drop_cost : ℕ → ℕ → ℕ
+most_drop_cost gave freed = given_cost * gave + freed_cost * freed + begun_cost
+
 -- The heap and the chain of free cells are exactly those that the turns come to. Border, held tokens and every byte of memory that is none of a
--- count stay. That takes 8 instructions at most for each reference that is given up, 52 for each cell that is freed, and 5
+-- count stay. That takes no more instructions than that
 pub record AfterDrop (code : Code) (pool : Pool) (view : View) (dropped : Dropped) (s t : Processor) : Type 0 where
   pub count : ℕ
   pub memory : Memory pool (record view { heap = dropped.heap; frees = dropped.frees }) t
   pub returns : Returns code (Routine Drop) count s t
-  pub bounded : count ≤ 8 * dropped.gave + 52 * dropped.freed + 5
+  pub bounded : count ≤ most_drop_cost dropped.gave dropped.freed
   pub trace : t.trace ≡ s.trace
   pub left : t.left ≡ s.left
   pub others : (x : ℕ) → IsNoCount view.heap x → t.memory x ≡ s.memory x

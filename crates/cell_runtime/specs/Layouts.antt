@@ -1,5 +1,6 @@
 -- Where the runtime's data stand in the image's memory part: the buffer, the cells, and the frames of the stack.
 use Rattle.std.specs.Prelude.{ℕ, ◌+◌, ◌*◌, cond, nat_lt}
+use Rattle.rv_isa.specs.Numbers.{cell_size}
 use Rattle.rv_isa.specs.Sizes.{reach_down, narrow_frame}
 use Rattle.cell_runtime.specs.declared.layout.Layout.{Layout}
 
@@ -8,11 +9,15 @@ use Rattle.cell_runtime.specs.declared.layout.Layout.{Layout}
 abbrev pub below_pointer : ℕ → ℕ
 below_pointer frame_bytes = cond (nat_lt narrow_frame frame_bytes) reach_down 0
 
--- The cells stand behind the buffer's 32 bytes, and the lowest frame at their end.
+-- the bytes before the cells: the buffer, and what is missing to a multiple of a cell's
+abbrev pub bytes_before_cells : ℕ
+bytes_before_cells = cell_size
+
+-- The cells stand behind these, and the lowest frame at their end.
 abbrev pub layout_of : ℕ → ℕ → ℕ → Layout
 layout_of cells depth frame_bytes = record {
-  cells = 32;
-  cells_end = 32 + 32 * cells;
-  stack = 32 + 32 * cells + below_pointer frame_bytes;
-  stack_end = 32 + 32 * cells + below_pointer frame_bytes + depth * frame_bytes;
+  cells = bytes_before_cells;
+  cells_end = bytes_before_cells + cell_size * cells;
+  stack = bytes_before_cells + cell_size * cells + below_pointer frame_bytes;
+  stack_end = bytes_before_cells + cell_size * cells + below_pointer frame_bytes + depth * frame_bytes;
 }

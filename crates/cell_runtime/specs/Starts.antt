@@ -3,6 +3,7 @@ use Rattle.std.specs.Prelude.{◌≡◌, ℕ, ◌+◌, ◌*◌, ◌%◌, ◌^◌
 use Rattle.rv_isa.specs.Processor.{Processor, value}
 use Rattle.rv_isa.specs.Conventions.{one_register}
 use Rattle.rv_isa.specs.Execution.{Leads, Along}
+use Rattle.rv_isa.specs.Numbers.{cell_size}
 use Rattle.rv_isa.specs.Standing.{Code, Inside}
 use Rattle.cell_heap.specs.Cells.{no_cell, free, Heap}
 use Rattle.cell_heap.specs.Pool.{Pool, end_of, IsUsable}
@@ -17,7 +18,7 @@ use Rattle.cell_runtime.specs.Calls.{IsAt}
 -- all cells are free, and none was ever used
 abbrev pub all_free : Pool → Heap
 all_free pool at =
-    if nat_le pool.first at && nat_lt at (end_of pool) && nat_eq (at % 32) 0 then free else no_cell
+    if nat_le pool.first at && nat_lt at (end_of pool) && nat_eq (at % cell_size) 0 then free else no_cell
 
 abbrev pub first_view : Pool → View
 first_view pool = record { heap = all_free pool; frees = []; border = pool.first; held = [] }

@@ -1,6 +1,7 @@
 -- The request for a cell.
 use Rattle.std.specs.Prelude.{◌≡◌, ℕ, ◌+◌, ◌<◌, ◌≤◌, ◌⊎◌, List, [], ◌∷◌, Option, Some, None}
 use Rattle.kk_base.specs.Exits.{heap_full_exit}
+use Rattle.rv_isa.specs.Numbers.{cell_size}
 use Rattle.rv_isa.specs.Processor.{Processor, value}
 use Rattle.rv_isa.specs.Standing.{Code}
 use Rattle.cell_heap.specs.Cells.{token, changed}
@@ -17,7 +18,7 @@ pub data Taken (pool : Pool) (view : View) : ℕ → View → Option ℕ → ℕ
   from_chain : {cell : ℕ} {frees : List ℕ} → view.frees ≡ cell ∷ frees
       → Taken pool view cell (record view { heap = changed cell (token []) view.heap; frees = frees }) None 4
   at_border : view.frees ≡ [] → view.border < end_of pool
-      → Taken pool view view.border (record view { heap = changed view.border (token []) view.heap; border = view.border + 32 }) None 5
+      → Taken pool view view.border (record view { heap = changed view.border (token []) view.heap; border = view.border + cell_size }) None 5
   from_held : {link : Link} {links : List Link} → view.frees ≡ [] → end_of pool ≤ view.border → view.held ≡ link ∷ links
       → Taken pool view link.cell (record view { held = links }) (Some link.slot) 8
 

@@ -11,7 +11,7 @@ use Rattle.rv_isa.specs.Standing.{Code, Has}
 use Rattle.cell_heap.specs.Pool.{Pool}
 use Rattle.cell_runtime.specs.declared.layout.Layout.{Layout}
 use Rattle.cell_runtime.specs.declared.process.Ending.TheVariants as ending
-use Rattle.cell_runtime.specs.Layouts.{layout_of}
+use Rattle.cell_runtime.specs.Layouts.{bytes_before_cells, layout_of}
 use Rattle.cell_runtime.specs.Lines.{Spells, words_of, labels_of, AreWithin}
 use Rattle.cell_runtime.specs.Prints.{IsPrintInt, IsPrintText, IsReadByte}
 use Rattle.cell_runtime.specs.Stops.{IsStop}
@@ -22,7 +22,7 @@ use Rattle.cell_runtime.specs.Sizes.{runtime_words}
 
 -- the cells of an image, of whose memory this is the begin
 abbrev pub pool_of : ℕ → ℕ → Pool
-pool_of cells memory = record { first = memory + 32; cells = cells }
+pool_of cells memory = record { first = memory + bytes_before_cells; cells = cells }
 
 -- the code at an address and behind it: each routine at its place. `main` stands behind the last one
 pub record IsRuntime (cells : ℕ) (layout : Layout) (memory : ℕ) (code : Code) (at : ℕ) : Type 0 where

@@ -9,7 +9,7 @@ use rv_isa::environment::CELL_SIZE;
 use rv_isa::sizes::{NARROW_FRAME, REACH_DOWN};
 
 /// Bytes before the cells: the buffer, and what is missing to a multiple of a cell's.
-const BYTES_BEFORE_CELLS: u32 = 32;
+const BYTES_BEFORE_CELLS: u32 = CELL_SIZE;
 
 /// Where the runtime's data stand, as distances in bytes from the start of the image's memory part. The buffer of prints
 /// and reads stands at that start.

@@ -12,6 +12,7 @@ use Rattle.rv_isa.specs.AsmMachine.{AsmState, asm_machine, asm_start}
 use Rattle.rv_isa.specs.Execution.{rv32im, run}
 use Rattle.rv_isa.specs.FreeTouches.{TouchesNoFreeCell}
 use Rattle.rv_isa.specs.LinePlaces.{AsmIsAt, AsmHasOwnLine}
+use Rattle.rv_isa.specs.Numbers.{cell_size}
 use Rattle.rv_isa.specs.Primitives.{go, ended, stuck}
 use Rattle.rv_isa.specs.Processor.{Processor, Ending, can_fetch, start, goes}
 use Rattle.rv_isa.specs.ProcessorMachine.{processor_machine}
@@ -78,7 +79,7 @@ pub record IsAsmImage (functions : List Lines) (texts : List (List ℕ)) (main :
   pub text : length (text_of parts) ≤ most_asm_bytes functions texts
   pub pool : Pool
   pub cells_are : pool.cells ≡ cells
-  pub aligned : pool.first % 32 ≡ 0
+  pub aligned : pool.first % cell_size ≡ 0
   pub behind : 0 < pool.first
   pub first : ℕ
   pub constants_fit : first + length (all_bytes texts) < 2 ^ 32

@@ -10,6 +10,7 @@ use Rattle.kk_syntax.specs.Typing.{Choice}
 use Rattle.kk_mono.specs.Counts.{IsSmall, summed_nodes}
 use Rattle.kk_mono.specs.Instances.{InstanceTree, origin_in, IsInstanceProgram}
 use Rattle.kk_mono.proofs.BodyCopies.{nodes_renamed}
+use Rattle.kk_core.specs.CodeNodes.{drops_words, most_node_words, most_pair_words}
 use Rattle.kk_counted.specs.TokenedCodes.{TokenedFunction}
 use Rattle.kk_counted.specs.TokenedWords.{all_tokened_words}
 use Rattle.kk_middle.specs.FunctionWords.{HaveFewWords}
@@ -33,7 +34,8 @@ as_many (instance ∷ instances) (function ∷ functions) few = ap suc (as_many 
 -- the words of all functions are bounded by the nodes of all, and by these times those of the greatest one
 words_few : (most : ℕ) (instances : List FunctionTree) (functions : List TokenedFunction) → greatest_of instances ≤ most
     → HaveFewWords instances functions
-    → all_tokened_words functions ≤ 4 * (most * all_nodes instances) + 119 * all_nodes instances + 56 * length functions
+    → all_tokened_words functions ≤ most_pair_words * (most * all_nodes instances) + most_node_words * all_nodes instances
+    + drops_words * length functions
 words_few most [] [] within few = omega arith
 words_few most [] (function ∷ functions) within few = absurd few
 words_few most (instance ∷ instances) [] within few = absurd few

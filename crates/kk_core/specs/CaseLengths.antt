@@ -8,9 +8,21 @@ use Rattle.kk_core.specs.Sizes.{most_nodes, most_program_nodes}
 abbrev pub choice_length : ℕ
 choice_length = 2
 
--- the most of a test: so many, and more for each field on the way to its position and for each edge
+-- the most of a test, but for the fields on the way to its position and for its edges
+abbrev pub plain_test_length : ℕ
+plain_test_length = 22
+
+-- of each field on the way
+abbrev pub way_length : ℕ
+way_length = 4
+
+-- of each edge
+abbrev pub edge_length : ℕ
+edge_length = 12
+
+-- of a test
 abbrev pub length_of_test : ℕ → ℕ → ℕ
-length_of_test fields edges = 22 + 4 * fields + 12 * edges
+length_of_test fields edges = plain_test_length + way_length * fields + edge_length * edges
 
 abbrev pub node_length : NodeTree → ℕ
 node_length (chooses row) = choice_length
@@ -19,6 +31,17 @@ node_length (tests at edges otherwise) = length_of_test (length at) (length edge
 abbrev pub tests_length : List NodeTree → ℕ
 tests_length [] = 0
 tests_length (node ∷ nodes) = node_length node + tests_length nodes
+
+-- Brief tests are no longer than this for each node of the patterns, and more for each two of these nodes.
+abbrev pub brief_node_length : ℕ
+brief_node_length = 56
+
+abbrev pub brief_pair_length : ℕ
+brief_pair_length = 2
+
+-- the most that brief tests of so many nodes of patterns are long
+abbrev pub most_brief : ℕ → ℕ
+most_brief nodes = brief_node_length * nodes + brief_pair_length * nodes * nodes
 
 -- of all cases in a code
 abbrev mutual

@@ -7,7 +7,8 @@ use Rattle.kk_syntax.specs.Patterns.{Pattern, constructor, no_part}
 use Rattle.kk_syntax.specs.Programs.{FunctionTree}
 use Rattle.kk_syntax.specs.Shapes.{is_among, nodes_of}
 use Rattle.kk_core.specs.Codes.{Code, give, tail_call, case, compute, use_of, unpack, inside, Arms, no_arm, arm, patterns_of, FunctionCode}
-use Rattle.kk_core.specs.CaseLengths.{tests_length}
+use Rattle.kk_core.specs.CaseLengths.{tests_length, brief_node_length, most_brief}
+use Rattle.kk_core.specs.Sizes.{most_parameters}
 
 -- ---- nodes
 
@@ -76,7 +77,7 @@ case_nodes (arm pattern body rest) = 1 + first_fields body + case_nodes rest
 -- the tests of a case are brief, unless it is that of an `if`: by the nodes of its patterns
 abbrev pub AreBriefFor : Bool → ℕ → ℕ → Type 0
 AreBriefFor true nodes tests = Unit {0}
-AreBriefFor false nodes tests = tests ≤ 56 * nodes + 2 * nodes * nodes
+AreBriefFor false nodes tests = tests ≤ most_brief nodes
 
 -- the tests of each case are brief, and each opening has a field
 abbrev mutual
@@ -96,28 +97,85 @@ abbrev mutual
 
 -- ---- words
 
--- the words of a form on values: those of a string are at most 64, and a call copies its arguments
+-- the most of a reference more, or of one that is given up
+abbrev pub reference_length : ℕ
+reference_length = 7
+
+-- of an end that gives a value
+abbrev pub give_words : ℕ
+give_words = 6
+
+-- of a call and a tail call, but for their arguments
+abbrev pub call_words : ℕ
+call_words = 8
+
+abbrev pub tail_call_words : ℕ
+tail_call_words = 11
+
+-- of each argument of a call, which is copied
+abbrev pub argument_words : ℕ
+argument_words = 6
+
+-- of a construction without fields; of one with fields, but for these; and of each field
+abbrev pub constant_words : ℕ
+constant_words = 3
+
+abbrev pub construction_words : ℕ
+construction_words = 30
+
+abbrev pub field_words : ℕ
+field_words = 5
+
+-- of a string, and of a form that prints it
+abbrev pub string_words : ℕ
+string_words = 64
+
+abbrev pub print_words : ℕ
+print_words = 13
+
+-- of any other form on values
+abbrev pub other_form_words : ℕ
+other_form_words = 23
+
+-- of a case, but for its tests
+abbrev pub case_words : ℕ
+case_words = 5
+
+-- of an opening, whose token can be freed once, but for its fields; and of each field
+abbrev pub opening_words : ℕ
+opening_words = 43
+
+abbrev pub opened_field_words : ℕ
+opened_field_words = 15
+
+-- of a drop of each parameter
+abbrev pub drops_words : ℕ
+drops_words = reference_length * most_parameters
+
+-- the words of a form on values: those of a string too
 abbrev pub form_words : Form → List ℕ → ℕ
-form_words (Call f) arguments = 8 + 6 * length arguments
-form_words (Construct c) [] = 3
-form_words (Construct c) (x ∷ xs) = 30 + 5 * length (x ∷ xs)
-form_words (PrintText how text) arguments = 77
-form_words form arguments = 23
+form_words (Call f) arguments = call_words + argument_words * length arguments
+form_words (Construct c) [] = constant_words
+form_words (Construct c) (x ∷ xs) = construction_words + field_words * length (x ∷ xs)
+form_words (PrintText how text) arguments = print_words + string_words
+form_words form arguments = other_form_words
 
 -- The words of a code but for those that grow with pairs of nodes: its forms; a dup and a drop for each argument, and a drop for
--- each value; the tests of an `if`, and 56 for each node of the patterns of another case; and for each arm but one a drop of each
--- of eight parameters.
+-- each value; the tests of an `if`, and as many as brief ones have for each node of the patterns of another case; and for each arm
+-- but one a drop of each parameter.
 abbrev mutual
   pub plain_words : Code → ℕ
-  plain_words (give x) = 13
-  plain_words (tail_call f arguments) = 11 + 13 * length arguments
+  plain_words (give x) = give_words + reference_length
+  plain_words (tail_call f arguments) = tail_call_words + (argument_words + reference_length) * length arguments
   plain_words (case x decisions arms) =
-      12 + (if are_truths (patterns_of arms) then tests_length decisions else 56 * case_nodes arms)
-      + 56 * (length (patterns_of arms) - 1) + arms_plain_words arms
-  plain_words (compute x form arguments rest) = form_words form arguments + 14 * length arguments + 7 + plain_words rest
-  plain_words (use_of x rest) = 7 + plain_words rest
-  plain_words (unpack x c xs rest) = 43 + 15 * length xs + plain_words rest
-  plain_words (inside x block rest) = 7 + plain_words block + plain_words rest
+      case_words + reference_length
+      + (if are_truths (patterns_of arms) then tests_length decisions else brief_node_length * case_nodes arms)
+      + drops_words * (length (patterns_of arms) - 1) + arms_plain_words arms
+  plain_words (compute x form arguments rest) =
+      form_words form arguments + 2 * reference_length * length arguments + reference_length + plain_words rest
+  plain_words (use_of x rest) = reference_length + plain_words rest
+  plain_words (unpack x c xs rest) = opening_words + opened_field_words * length xs + plain_words rest
+  plain_words (inside x block rest) = reference_length + plain_words block + plain_words rest
 
   pub arms_plain_words : Arms → ℕ
   arms_plain_words no_arm = 0
@@ -128,6 +186,10 @@ abbrev mutual
 -- the most words of a node, but for those that grow with pairs of nodes
 abbrev pub most_node_words : ℕ
 most_node_words = 119
+
+-- and the most for each pair of nodes
+abbrev pub most_pair_words : ℕ
+most_pair_words = 4
 
 -- A code stands for a text of so many nodes: it has no more of them, its forms take few words for each, its tests are brief, and
 -- its openings have fields.

@@ -1,15 +1,13 @@
 -- How long counted code is, at most, once it is in an image.
 use Rattle.std.specs.Prelude.{◌≤◌, ℕ, suc, ◌+◌, ◌*◌, List, [], ◌∷◌}
 use Rattle.kk_core.specs.CaseLengths.{tests_length, most_cases_length}
+pub use Rattle.kk_core.specs.CodeNodes.{reference_length}
 use Rattle.kk_core.specs.Sizes.{most_variables, most_instances, most_program_forms}
 use Rattle.kk_counted.specs.CountedCodes.{Counted, give, tail_call, case, compute, inside, read, open_cell, if_unique, dup, drop, CountedArms, no_arm, arm, CountedFunction}
 
--- the most instructions of a form but for the tests of a case, and of a reference more or one that is given up
+-- the most instructions of a form but for the tests of a case; a reference more, or one that is given up, has `reference_length`
 abbrev pub form_length : ℕ
 form_length = 200
-
-abbrev pub reference_length : ℕ
-reference_length = 7
 
 abbrev mutual
   pub code_length : Counted → ℕ

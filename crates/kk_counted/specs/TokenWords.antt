@@ -3,23 +3,28 @@ use Rattle.std.specs.Prelude.{ℕ, suc, ◌+◌, ◌-◌, ◌*◌, ◌==◌, Boo
 use Rattle.kk_syntax.specs.declared.program.Form.{Form}
 use Rattle.kk_syntax.specs.declared.program.Form.TheVariants.{Construct, Call}
 use Rattle.kk_core.specs.CaseLengths.{tests_length}
-use Rattle.kk_core.specs.CodeNodes.{form_words}
+use Rattle.kk_core.specs.CodeNodes.{form_words, reference_length, give_words, tail_call_words, argument_words, case_words, opening_words, opened_field_words}
 use Rattle.kk_counted.specs.CountedCodes.{Counted, give, tail_call, case, compute, inside, read, open_cell, if_unique, dup, drop, CountedArms, no_arm, arm}
 use Rattle.kk_counted.specs.TokenCosts.{openings, openings_of}
+use Rattle.kk_counted.specs.TokenLengths.{other_length, free_length, move_length}
+
+-- the words of each field that is read and stays in its cell
+abbrev pub read_field_words : ℕ
+read_field_words = 4
 
 -- The words of each form. Those of an opening can free its token once besides.
 abbrev mutual
   pub code_words : Counted → ℕ
-  code_words (give x) = 6
-  code_words (tail_call f arguments) = 11 + 6 * length arguments
-  code_words (case x decisions arms) = 5 + tests_length decisions + arms_words arms
+  code_words (give x) = give_words
+  code_words (tail_call f arguments) = tail_call_words + argument_words * length arguments
+  code_words (case x decisions arms) = case_words + tests_length decisions + arms_words arms
   code_words (compute x form arguments rest) = form_words form arguments + code_words rest
   code_words (inside x block rest) = code_words block + code_words rest
-  code_words (read x c fields rest) = 4 * length fields + code_words rest
-  code_words (open_cell x c fields used rest) = 43 + 15 * length fields + code_words rest
-  code_words (if_unique x c fields used rest) = 43 + 15 * length fields + code_words rest
-  code_words (dup x rest) = 7 + code_words rest
-  code_words (drop x rest) = 7 + code_words rest
+  code_words (read x c fields rest) = read_field_words * length fields + code_words rest
+  code_words (open_cell x c fields used rest) = opening_words + opened_field_words * length fields + code_words rest
+  code_words (if_unique x c fields used rest) = opening_words + opened_field_words * length fields + code_words rest
+  code_words (dup x rest) = reference_length + code_words rest
+  code_words (drop x rest) = reference_length + code_words rest
 
   pub arms_words : CountedArms → ℕ
   arms_words no_arm = 0
@@ -79,9 +84,9 @@ abbrev mutual
   token_words tokens (tail_call f arguments) = 0
   token_words tokens (case x decisions arms) = arms_token_words tokens arms
   token_words tokens (compute x form arguments rest) =
-      (if holds_tokens form arguments then 11 * tokens else 0) + token_words tokens rest
+      (if holds_tokens form arguments then other_length * tokens else 0) + token_words tokens rest
   token_words tokens (inside x block rest) =
-      token_words tokens block + 4 * lacking (openings block) block + token_words (tokens + openings block) rest
+      token_words tokens block + move_length * lacking (openings block) block + token_words (tokens + openings block) rest
   token_words tokens (read x c fields rest) = token_words tokens rest
   token_words tokens (open_cell x c fields used rest) = token_words (suc tokens) rest
   token_words tokens (if_unique x c fields used rest) = token_words (suc tokens) rest
@@ -90,4 +95,4 @@ abbrev mutual
 
   pub arms_token_words : ℕ → CountedArms → ℕ
   arms_token_words tokens no_arm = 0
-  arms_token_words tokens (arm body rest) = 5 * tokens + token_words tokens body + arms_token_words tokens rest
+  arms_token_words tokens (arm body rest) = free_length * tokens + token_words tokens body + arms_token_words tokens rest

@@ -6,11 +6,11 @@ use Rattle.kk_syntax.specs.Patterns.{Pattern, anything, variable, exactly, const
 use Rattle.kk_syntax.specs.Programs.{ConstructorTree}
 use Rattle.kk_syntax.specs.Shapes.{nodes_of_pattern, nodes_of_patterns}
 use Rattle.kk_core.specs.declared.decisions.Answer.TheVariants.{Constructor}
-use Rattle.kk_core.specs.CaseLengths.{choice_length, length_of_test, tests_length}
+use Rattle.kk_core.specs.CaseLengths.{choice_length, length_of_test, tests_length, brief_pair_length, most_brief}
 use Rattle.kk_core.specs.Cases.{IsLean}
 use Rattle.kk_core.specs.RowChoice.{Decides}
 use Rattle.kk_core.specs.Decisions.{NodeTree, chooses, tests}
-use Rattle.kk_match.specs.Decided.{is_test, most_tests, most_brief, brief_length, rows_in_turn, many_tests, long_tests, IsFormed, IsBrieflyFormed}
+use Rattle.kk_match.specs.Decided.{is_test, most_tests, brief_length, rows_in_turn, many_tests, long_tests, IsFormed, IsBrieflyFormed}
 use Rattle.kk_match.specs.Graphs.{lines_from, weight, HasMoreTests}
 use Rattle.kk_match.specs.InTurn.{with_parts, with_rows}
 use Rattle.kk_match.specs.Parts.{Part, has_several, parts_of, parts_of_all, AreTypeNumbers}
@@ -43,7 +43,7 @@ with_parts_length other (q ∷ qs) nodes =
 mutual
   pattern_brief : (types at : List ℕ) (d : ℕ) (p : Pattern) → length at ≡ d
       → parts_length (parts_of types at p) + choice_length * nodes_of_pattern p
-      ≤ nodes_of_pattern p * length_of_test d 1 + 2 * nodes_of_pattern p * nodes_of_pattern p
+      ≤ nodes_of_pattern p * length_of_test d 1 + brief_pair_length * nodes_of_pattern p * nodes_of_pattern p
   pattern_brief types at d anything deep = omega arith
   pattern_brief types at d (variable x) deep = omega arith
   pattern_brief types at d (exactly n) deep = omega (arith, deep)
@@ -53,16 +53,16 @@ mutual
       m = nodes_of_patterns ps
 
       by : (several : Bool)
-          → parts_length (parts_of_all types at 0 ps) + choice_length * m ≤ m * length_of_test (d + 1) 1 + 2 * m * m
+          → parts_length (parts_of_all types at 0 ps) + choice_length * m ≤ m * length_of_test (d + 1) 1 + brief_pair_length * m * m
           → parts_length ((if several then record { at = at; asked = Constructor c } ∷ [] else []) ++ parts_of_all types at 0 ps)
           + choice_length * (m + 1)
-          ≤ (m + 1) * length_of_test d 1 + 2 * (m + 1) * (m + 1)
+          ≤ (m + 1) * length_of_test d 1 + brief_pair_length * (m + 1) * (m + 1)
       by true few = omega (arith, few, deep)
       by false few = omega (arith, few)
 
   patterns_brief : (types at : List ℕ) (d field : ℕ) (ps : Patterns) → length at ≡ d
       → parts_length (parts_of_all types at field ps) + choice_length * nodes_of_patterns ps
-      ≤ nodes_of_patterns ps * length_of_test (d + 1) 1 + 2 * nodes_of_patterns ps * nodes_of_patterns ps
+      ≤ nodes_of_patterns ps * length_of_test (d + 1) 1 + brief_pair_length * nodes_of_patterns ps * nodes_of_patterns ps
   patterns_brief types at d field no_part deep = omega arith
   patterns_brief types at d field (part first rest) deep =
       let inner : length (at ++ field ∷ []) ≡ d + 1 = let long = length-append at (field ∷ []) in omega (arith, long, deep) in

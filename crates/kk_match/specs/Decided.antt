@@ -4,7 +4,7 @@ use Rattle.kk_syntax.specs.Patterns.{Pattern}
 use Rattle.kk_syntax.specs.Programs.{ConstructorTree}
 use Rattle.kk_syntax.specs.Shapes.{is_among, nodes_of_pattern}
 use Rattle.kk_core.specs.declared.decisions.Edge.{Edge}
-use Rattle.kk_core.specs.CaseLengths.{choice_length, length_of_test, tests_length}
+use Rattle.kk_core.specs.CaseLengths.{choice_length, length_of_test, tests_length, most_brief}
 use Rattle.kk_core.specs.Cases.{IsLean}
 use Rattle.kk_core.specs.Decisions.{NodeTree, chooses, tests, targets}
 use Rattle.kk_core.specs.Kinds.{AsksTyped}
@@ -75,11 +75,7 @@ IsFormed types patterns nodes count true =
 
 -- ---- brief tests
 
--- The most that brief tests of so many nodes of patterns are long, once they are in an image: so much for each node, and more for
--- each two of the nodes.
-abbrev pub most_brief : ℕ → ℕ
-most_brief nodes = 56 * nodes + 2 * nodes * nodes
-
+-- the most that brief tests of patterns are long, once they are in an image
 abbrev pub brief_length : List Pattern → ℕ
 brief_length patterns = most_brief (sum_by nodes_of_pattern patterns)
 

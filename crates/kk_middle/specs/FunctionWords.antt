@@ -2,15 +2,14 @@
 use Rattle.std.specs.Prelude.{ℕ, ◌+◌, ◌*◌, ◌≤◌, List, [], ◌∷◌}
 use Rattle.kk_syntax.specs.Programs.{FunctionTree}
 use Rattle.kk_syntax.specs.Shapes.{nodes_of}
-use Rattle.kk_core.specs.CodeNodes.{most_node_words}
-use Rattle.kk_core.specs.Sizes.{most_parameters}
+use Rattle.kk_core.specs.CodeNodes.{drops_words, most_node_words, most_pair_words}
 use Rattle.kk_counted.specs.TokenedCodes.{TokenedFunction}
 use Rattle.kk_counted.specs.TokenedWords.{tokened_words}
 
--- The most words of a function whose body has so many nodes: seven for each parameter, so many for each node, and four for each
--- pair of nodes.
+-- The most words of a function whose body has so many nodes: those of a drop of each parameter, so many for each node, and so many
+-- for each pair of nodes.
 abbrev pub most_function_words : ℕ → ℕ
-most_function_words nodes = 7 * most_parameters + most_node_words * nodes + 4 * (nodes * nodes)
+most_function_words nodes = drops_words + most_node_words * nodes + most_pair_words * (nodes * nodes)
 
 -- each function takes no more, by the nodes of the body that it is made of
 abbrev pub HaveFewWords : List FunctionTree → List TokenedFunction → Type 0

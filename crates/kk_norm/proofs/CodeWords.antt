@@ -8,8 +8,8 @@ use Rattle.kk_syntax.specs.Patterns.{Pattern, anything, variable as pattern_vari
 use Rattle.kk_syntax.specs.Programs.{ConstructorTree, FunctionTree, ProgramTree}
 use Rattle.kk_syntax.specs.Shapes.{nodes_of, nodes_of_all, nodes_of_rows, nodes_of_pattern, variable_of}
 use Rattle.kk_syntax.specs.Trees.{Tree, variable, apply, branch, match, sequence, Trees, no_tree, tree, Rows, no_row, row, row_parts}
-use Rattle.kk_core.specs.CaseLengths.{tests_length}
-use Rattle.kk_core.specs.CodeNodes.{is_plain_pattern, are_truths, first_fields, case_nodes, AreBriefFor, HasBriefTests, HaveBriefTests, plain_words, arms_plain_words, StandsForNodes, StandForNodes}
+use Rattle.kk_core.specs.CaseLengths.{tests_length, brief_node_length, brief_pair_length, most_brief}
+use Rattle.kk_core.specs.CodeNodes.{is_plain_pattern, are_truths, first_fields, case_nodes, AreBriefFor, HasBriefTests, HaveBriefTests, drops_words, plain_words, arms_plain_words, most_node_words, StandsForNodes, StandForNodes}
 use Rattle.kk_core.specs.Codes.{Code, case, Arms, patterns_of, FunctionCode, ProgramCode}
 use Rattle.kk_core.specs.Decisions.{NodeTree}
 use Rattle.kk_core.specs.Truths.{truth_case}
@@ -169,26 +169,31 @@ truths_two (first ∷ second ∷ []) is =
     )
 truths_two (first ∷ second ∷ third ∷ rest) is = absurd (cc)
 
--- so their tests take at most eight words more than the tests of other patterns are counted for
-tests_words : (ps : List Pattern) (nodes tests : ℕ) → sum_by nodes_of_pattern ps ≡ nodes → tests ≤ 56 * nodes + 2 * nodes * nodes
-    → (if are_truths ps then tests else 56 * nodes) ≤ 56 * nodes + 8
+-- what the tests of an `if` may have for the pairs of the two nodes of its patterns
+abbrev most_truth_pairs : ℕ
+most_truth_pairs = brief_pair_length * 2 * 2
+
+-- so their tests take at most so many words more than the tests of other patterns are counted for
+tests_words : (ps : List Pattern) (nodes tests : ℕ) → sum_by nodes_of_pattern ps ≡ nodes → tests ≤ most_brief nodes
+    → (if are_truths ps then tests else brief_node_length * nodes) ≤ brief_node_length * nodes + most_truth_pairs
 tests_words ps nodes tests are brief = by_truths (are_truths ps) refl
   where
-    by_truths : (b : Bool) → are_truths ps ≡ b → (if b then tests else 56 * nodes) ≤ 56 * nodes + 8
+    by_truths : (b : Bool) → are_truths ps ≡ b
+        → (if b then tests else brief_node_length * nodes) ≤ brief_node_length * nodes + most_truth_pairs
     by_truths true is =
         let two : nodes ≡ 2 = sym are ∙ truths_two ps is in
-        let few : tests ≤ 56 * 2 + 2 * 2 * 2 = subst (λ (m : ℕ). tests ≤ 56 * m + 2 * m * m) two brief in
+        let few : tests ≤ most_brief 2 = subst (λ (m : ℕ). tests ≤ most_brief m) two brief in
         omega (arith, few, two)
     by_truths false is = omega arith
 
-tests_brief : (truths : Bool) (nodes tests : ℕ) → tests ≤ 56 * nodes + 2 * nodes * nodes → AreBriefFor truths nodes tests
+tests_brief : (truths : Bool) (nodes tests : ℕ) → tests ≤ most_brief nodes → AreBriefFor truths nodes tests
 tests_brief true nodes tests brief = tt
 tests_brief false nodes tests brief = brief
 
 -- the tests of a match by the openings of its arms
 match_brief : (constructors : List ConstructorTree) (k : Then) (names : Names) (a n : ℕ) (rows : Rows) (decisions : List NodeTree)
     (arms : Arms) → AreDecisions constructors (patterns_in rows) decisions → AreArms constructors k names a n rows arms
-    → tests_length decisions ≤ 56 * case_nodes arms + 2 * case_nodes arms * case_nodes arms
+    → tests_length decisions ≤ most_brief (case_nodes arms)
 match_brief constructors k names a n rows decisions arms decided are =
     rw (arms_case_nodes constructors k names a n rows arms are) decided.brief
 
@@ -203,7 +208,7 @@ abbrev words_then : Then → ℕ
 words_then (final tail) = 0
 words_then (next rest) = plain_words rest
 
-after_use_words : (k : Then) (a : ℕ) → plain_words (after_use k a) + words_left k ≤ 119 + words_then k
+after_use_words : (k : Then) (a : ℕ) → plain_words (after_use k a) + words_left k ≤ most_node_words + words_then k
 after_use_words (final tail) a = omega arith
 after_use_words (next rest) a = omega arith
 
@@ -212,17 +217,17 @@ after_words (final tail) a = omega arith
 after_words (next rest) a = omega arith
 
 finish_call_words : (k : Then) (m f : ℕ) (xs : List ℕ)
-    → plain_words (finish_call k m f xs) + words_left k ≤ 119 + 20 * length xs + words_then k
+    → plain_words (finish_call k m f xs) + words_left k ≤ most_node_words + 20 * length xs + words_then k
 finish_call_words (final true) m f xs = omega arith
 finish_call_words k m f xs = omega (arith, after_words k m)
 
 construct_words : (k : Then) (m c : ℕ) (xs : List ℕ)
-    → plain_words (finish k m (Construct c) xs) + words_left k ≤ 119 + 20 * length xs + words_then k
+    → plain_words (finish k m (Construct c) xs) + words_left k ≤ most_node_words + 20 * length xs + words_then k
 construct_words k m c [] = omega (arith, after_words k m)
 construct_words k m c (x ∷ xs) = omega (arith, after_words k m)
 
 finish_words : (k : Then) (m : ℕ) (form : Form) (xs : List ℕ)
-    → plain_words (finish k m form xs) + words_left k ≤ 119 + 20 * length xs + words_then k
+    → plain_words (finish k m form xs) + words_left k ≤ most_node_words + 20 * length xs + words_then k
 finish_words k m (Call f) xs = finish_call_words k m f xs
 finish_words k m (Construct c) xs = construct_words k m c xs
 finish_words k m form xs = omega (arith, after_words k m)
@@ -238,8 +243,9 @@ words_within (next rest) = (refl, refl)
 
 -- a case of a match, by what its arms leave for it
 match_words : (x : ℕ) (decisions : List NodeTree) (arms : Arms) (words : ℕ)
-    → (if are_truths (patterns_of arms) then tests_length decisions else 56 * case_nodes arms) ≤ 56 * case_nodes arms + 8
-    → arms_plain_words arms + 56 * case_nodes arms + 56 * length (patterns_of arms) ≤ words
+    → (if are_truths (patterns_of arms) then tests_length decisions else brief_node_length * case_nodes arms)
+    ≤ brief_node_length * case_nodes arms + most_truth_pairs
+    → arms_plain_words arms + brief_node_length * case_nodes arms + drops_words * length (patterns_of arms) ≤ words
     → plain_words (case x decisions arms) ≤ 20 + words
 match_words x decisions arms words tests few = omega (arith, tests, few)
 
@@ -247,7 +253,7 @@ match_words x decisions arms words tests few = omega (arith, tests, few)
 
 mutual
   code_words : (constructors : List ConstructorTree) (k : Then) (names : Names) (n : ℕ) (e : Tree) (c : Code)
-      → IsCode constructors k names n e c → plain_words c + words_left k ≤ 119 * nodes_of e + words_then k
+      → IsCode constructors k names n e c → plain_words c + words_left k ≤ most_node_words * nodes_of e + words_then k
   code_words constructors k names n (variable x) c coded =
       omega (arith, after_use_words k (name_of names x), ap plain_words coded)
   code_words constructors k names n (apply form es) c coded =
@@ -276,7 +282,7 @@ mutual
       (match_brief constructors (within k) names x (n + size e) rows coded.0 coded.1 coded.2 coded.3) in
       let inner = words_within k in
       let arms = arms_words constructors (within k) names x (n + size e) rows coded.1 coded.3 inner.0 inner.1 in
-      omega (arith, whole, match_words x coded.0 coded.1 (119 * nodes_of_rows rows) tests arms, joined_words k m own)
+      omega (arith, whole, match_words x coded.0 coded.1 (most_node_words * nodes_of_rows rows) tests arms, joined_words k m own)
   code_words constructors k names n (sequence binder first rest) c coded =
       let one = code_words constructors (next coded.0) names n first c coded.2 in
       let two = code_words constructors k (named (variable_of binder) (atom names n first) names) (n + size first) rest
@@ -285,7 +291,7 @@ mutual
 
   codes_words : (constructors : List ConstructorTree) (names : Names) (n : ℕ) (es : Trees) (last c : Code)
       → AreCodes constructors names n es last c
-      → plain_words c + 20 * length (atoms names n es) ≤ 119 * nodes_of_all es + plain_words last
+      → plain_words c + 20 * length (atoms names n es) ≤ most_node_words * nodes_of_all es + plain_words last
   codes_words constructors names n no_tree last c coded = omega (arith, ap plain_words coded)
   codes_words constructors names n (tree first rest) last c coded =
       let one = code_words constructors (next coded.0) names n first c coded.2 in
@@ -295,7 +301,8 @@ mutual
   -- A row leaves what its patterns count for in tests, and eight drops at the start of its arm.
   arms_words : (constructors : List ConstructorTree) (k : Then) (names : Names) (a n : ℕ) (rows : Rows) (arms : Arms)
       → AreArms constructors k names a n rows arms → words_left k ≡ 22 → words_then k ≡ 0
-      → arms_plain_words arms + 56 * case_nodes arms + 56 * length (patterns_of arms) ≤ 119 * nodes_of_rows rows
+      → arms_plain_words arms + brief_node_length * case_nodes arms + drops_words * length (patterns_of arms)
+      ≤ most_node_words * nodes_of_rows rows
   arms_words constructors k names a n no_row arms are left none =
       omega (arith, ap arms_plain_words are, ap case_nodes are, ap (λ each. length (patterns_of each)) are)
   arms_words constructors k names a n (row (row_parts pattern body) rest) arms are left none =

@@ -9,11 +9,10 @@ use Rattle.kk_syntax.specs.Shapes.{nodes_of, nodes_of_all, nodes_of_rows, nodes_
 use Rattle.kk_syntax.specs.Trees.{Tree, variable, apply, branch, match, sequence, Trees, no_tree, tree, Rows, no_row, row, row_parts}
 use Rattle.kk_syntax.specs.Programs.{ConstructorTree, FunctionTree}
 use Rattle.kk_core.specs.Codes.{Code, case, Arms, FunctionCode}
-use Rattle.kk_core.specs.CaseLengths.{tests_length, cases_length, arms_cases_length, all_cases_length}
+use Rattle.kk_core.specs.CaseLengths.{tests_length, most_brief, cases_length, arms_cases_length, all_cases_length}
 use Rattle.kk_core.specs.Decisions.{NodeTree}
 use Rattle.kk_core.specs.Sizes.{most_nodes}
 use Rattle.kk_core.specs.Truths.{truth_case}
-use Rattle.kk_match.specs.Decided.{most_brief}
 use Rattle.kk_norm.specs.MatchDecisions.{AreDecisions}
 use Rattle.kk_norm.specs.Names.{Names, name_of, named}
 use Rattle.kk_norm.specs.Normal.{AreWithin, all_nodes}

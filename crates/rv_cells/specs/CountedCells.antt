@@ -2,6 +2,7 @@
 -- cell that is not counted: it is in hand, or held as a token.
 use Rattle.std.specs.Prelude.{◌≡◌, ◌≢◌, ℕ, zero, suc, ◌%◌, ◌<◌, ◌≤◌, Bool, true, false, List, [], ◌∷◌, Option, Some, nat_eq, if◌then◌else◌}
 use Rattle.rv_isa.specs.Arithmetic.{bit_of}
+use Rattle.rv_isa.specs.Numbers.{cell_size}
 use Rattle.cell_heap.specs.Cells.{occurs}
 use Rattle.cell_heap.specs.Counts.{total}
 use Rattle.cell_heap.specs.Pool.{Pool, end_of, IsCell, places}
@@ -53,7 +54,7 @@ BlockOf pool layout address heap at (kept_aside words) block = IsCell pool at ×
 
 -- the free blocks are those of the chain, each once, and all cells from the border on
 pub record HasChain (pool : Pool) (cells : Cells) : Type 0 where
-  pub aligned : cells.border % 32 ≡ 0
+  pub aligned : cells.border % cell_size ≡ 0
   pub behind : pool.first ≤ cells.border
   pub within : cells.border ≤ end_of pool
   pub fresh : (at : ℕ) → IsCell pool at → cells.border ≤ at → cells.blocks at ≡ unused

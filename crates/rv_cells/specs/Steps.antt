@@ -3,6 +3,7 @@ use Rattle.std.specs.Prelude.{◌≡◌, ℕ, ◌+◌, ◌*◌, ◌≤◌, Optio
 use Rattle.cell_heap.specs.Pool.{Pool}
 use Rattle.cell_heap.specs.Turns.{Work}
 use Rattle.cell_heap.specs.Blocks.{Cells, nothing, request, dup, hold, unhold, past_links, release, drop_cells, merged_cells}
+use Rattle.cell_runtime.specs.Drops.{given_cost, freed_cost}
 use Rattle.kk_source.specs.State.{Value}
 use Rattle.kk_counted.specs.Heaps.{Heap, busy, weight}
 use Rattle.kk_counted.specs.Cost.{drop_turns}
@@ -59,7 +60,8 @@ pub record Dropped (pool : Pool) (layout : Layout) (address : ℕ → ℕ) (owne
 -- what the heap has saved pays for the routine, but for one reference
 abbrev pub IsPaid : Heap → Heap → Work → Type 0
 IsPaid heap next work =
-    8 * work.gave + 52 * work.freed + (52 * busy next + 8 * weight next) ≤ 8 + (52 * busy heap + 8 * weight heap)
+    given_cost * work.gave + freed_cost * work.freed + (freed_cost * busy next + given_cost * weight next)
+    ≤ given_cost + (freed_cost * busy heap + given_cost * weight heap)
 
 -- a cell in hand was given back
 pub record Released (pool : Pool) (layout : Layout) (address : ℕ → ℕ) (owners : ℕ → Owner) (heap : Heap) (cells : Cells)

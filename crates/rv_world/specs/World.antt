@@ -14,6 +14,7 @@ use Rattle.cell_heap.specs.Turns.{Work}
 use Rattle.cell_heap.specs.Blocks.{Cells, unused_cells, load, store, dup, release, request, drop_cells, merged_cells}
 use Rattle.cell_heap.specs.Blocks as OfBlocks
 use Rattle.cell_runtime.specs.declared.process.Ending.TheVariants as OfEnding
+use Rattle.cell_runtime.specs.Drops.{most_drop_cost}
 use Rattle.cell_runtime.specs.Prints.{int_piece, int_count, put_of}
 use Rattle.cell_runtime.specs.Stops.{number_of}
 use Rattle.rv_world.specs.Operations.{Constants, computed, holds, bytes_at}
@@ -88,7 +89,7 @@ served constants pool _ _ held world = fails
 -- by how many references are given up, and how many cells are freed
 abbrev pub drop_count : Option Work → ℕ
 drop_count None = 0
-drop_count (Some work) = 8 * work.gave + 52 * work.freed + 5
+drop_count (Some work) = most_drop_cost work.gave work.freed
 
 -- the most instructions of a routine
 abbrev pub lasts : Pool → Routine → List ℕ → Option ℕ → World → ℕ

@@ -13,6 +13,8 @@ use Rattle.kk_middle.specs.Compiled.{instance_positions}
 use Rattle.kk_middle.specs.Meaning.{store_steps}
 use Rattle.kk_middle.specs.TokenLowerings.{tokened_of, token_room, TokensCanBeLowered}
 use Rattle.kk_source.specs.Settings.{setting_of}
+use Rattle.rv_isa.specs.FrameSizes.{frame_size}
+use Rattle.rv_isa.specs.PlacedCode.{placed_functions}
 use Rattle.kk_back.specs.Images.{IsRunnable, IsImageOf, IsImageOfTokened}
 use Rattle.kk_back.specs.Memory.{HasMemory}
 use Rattle.kk_back.specs.Sizes.{most_text_bytes}
@@ -96,7 +98,11 @@ returns c =
         few = bytes_few c.requires.given.instances (tokened_of made given).functions (length (text_of parts)) c.requires.given.small
             words bytes;
       };
-      memory = record { placed = memory.placed; is = memory.is; few = omega (arith, frame, most, some) };
+      memory = record {
+        frame = frame_size (placed_functions memory.placed);
+        size = memory.is.size;
+        few = omega (arith, frame, most, some);
+      };
       is_image = record {
         entry = entry;
         parts = parts;
