@@ -37,7 +37,7 @@ use Rattle.rv_lower.proofs.FormEffects.{put_same, put_other}
 use Rattle.rv_cells.proofs.Values.{HasValues, among_none, has_bound, has_temporary, has_cell}
 use Rattle.rv_cells.proofs.Runs.{Target, left_at, turn_of, Runs, runs_none, runs_then}
 use Rattle.rv_cells.proofs.CellActions.{put_in, take_runs, full_runs, sets_runs, store_runs}
-use Rattle.rv_cells.proofs.Spots.{Spot, Known, Here, Did}
+use Rattle.rv_cells.proofs.Spots.{Spot, Known, Here, Did, did_here}
 use Rattle.rv_cells.proofs.LineCosts.{row_more, most_moves, row_cost}
 
 -- ---- words one behind the other
@@ -396,23 +396,13 @@ module _ (known : Known) (rest : List Line) (fs : List (Frame Line)) (s : Spot) 
         at,
         ended_frame f1,
         filled.0,
-        record {
-          cost = (moves + 10) + (4 * moves + 10 + row);
-          steps = 1 + (1 + (1 + (length arguments + (1 + 1))));
-          within = omega (arith, row_more arguments (most_moves + 2), few);
-          runs = runs;
-          here = counts f1 at nothing filled.0 filled.2 (names_cell at);
-          aside = λ y is. others_aside at y (ap is_aside took.free) is;
-          was = λ y is. others_were at y is;
-          grown = λ z none. (among_none x s.bound z none).1;
-          spared = λ z low none. ended_spare f1 z low ∙ put_other x z at s.frame.cells (among_none x s.bound z none).0;
-          left = refl;
-          trace = refl;
-          whole = refl;
-          function = refl;
-          held = refl;
-          into = refl;
-        },
+        did_here known (construct_cost known arguments) lines rest fs s
+            (made_spot s x c (values_of s.environment arguments) at (ended_frame f1) filled.0)
+            ((moves + 10) + (4 * moves + 10 + row)) (1 + (1 + (1 + (length arguments + (1 + 1)))))
+            (omega (arith, row_more arguments (most_moves + 2), few)) runs (counts f1 at nothing filled.0 filled.2 (names_cell at))
+            refl refl (λ y is. others_aside at y (ap is_aside took.free) is) (λ y is. others_were at y is)
+            (λ z none. (among_none x s.bound z none).1)
+            (λ z low none. ended_spare f1 z low ∙ put_other x z at s.frame.cells (among_none x s.bound z none).0),
       )
 
   -- the heap is full, where no token is held

@@ -32,7 +32,7 @@ use Rattle.rv_lower.specs.Lines.{computes, sets, copies_to, acts}
 use Rattle.rv_lower.specs.Lowered.{returns}
 use Rattle.rv_cells.specs.Layout.{Layout}
 use Rattle.rv_cells.specs.declared.standing.Standing.TheVariants.{Nothing}
-use Rattle.rv_cells.specs.CellLines.{SomeWords, is_kept, ConstructLines, FillLines, AllLoads, TokenUniqueLines}
+use Rattle.rv_cells.specs.CellLines.{SomeWords, is_kept, ConstructLines, FillLines, AllLoads, CountLines, token_ends, TokenUniqueLines}
 use Rattle.rv_cells.proofs.Standings.{nothing_kept}
 use Rattle.rv_cells.specs.CountedLines.{Setting}
 use Rattle.rv_cells.specs.Meaning.{setting_on}
@@ -195,8 +195,13 @@ two_loads_are = (
   refl,
 )
 
-opens : TokenUniqueLines 8 inc_holds 5 6 7 0 (1 ∷ 2 ∷ []) (1 ∷ 2 ∷ []) 7 None opening_lines
-opens = (
+-- an opening of a Cons, with these lines where the cell has no other reference
+opened_by : (ends : List Line) → CountLines 8 inc_holds 5 6 0 (1 ∷ 2 ∷ []) (1 ∷ 2 ∷ []) ends (sets 0 7 ∷ [])
+    (loads immediate_0 0 8 ∷ sets 1 9 ∷ acts (Branch NotEqual 5) (8 ∷ 9 ∷ []) ∷ loads immediate_8 0 1 ∷ loads immediate_12 0 2
+    ∷ (ends ++ (acts (Label 5) [] ∷ sets 0 7 ∷ loads immediate_8 0 1 ∷ loads immediate_12 0 2 ∷ loads immediate_0 0 8
+    ∷ computes (Op.Immediate Addi minus_one) (8 ∷ []) 8 ∷ stores immediate_0 0 8 ∷ acts (Compute Op.Dup) (2 ∷ [])
+    ∷ acts (Label 6) [] ∷ [])))
+opened_by ends = (
   loads immediate_0 0 8,
   two_loads,
   loads immediate_0 0 8,
@@ -210,6 +215,9 @@ opens = (
   refl,
 )
 
+opens : TokenUniqueLines 8 inc_holds 5 6 7 0 (1 ∷ 2 ∷ []) (1 ∷ 2 ∷ []) 7 None opening_lines
+opens = opened_by (token_ends None 0 7 6 7)
+
 -- in front of a construction in the cell of its token an opening goes on behind that one's test
 enters : OpeningLines (setting inc_holds 8) 7 5 0 (1 ∷ 2 ∷ []) (1 ∷ 2 ∷ []) 0 (Tokened.fill 6 0 3 1 (2 ∷ []) [] [] (Tokened.give 6))
     (loads immediate_0 0 8 ∷ sets 1 9 ∷ acts (Branch NotEqual 5) (8 ∷ 9 ∷ [])
@@ -217,23 +225,7 @@ enters : OpeningLines (setting inc_holds 8) 7 5 0 (1 ∷ 2 ∷ []) (1 ∷ 2 ∷ 
     ∷ acts (Label 5) [] ∷ sets 0 7 ∷ loads immediate_8 0 1 ∷ loads immediate_12 0 2
     ∷ loads immediate_0 0 8 ∷ computes (Op.Immediate Addi minus_one) (8 ∷ []) 8 ∷ stores immediate_0 0 8
     ∷ acts (Compute Op.Dup) (2 ∷ []) ∷ acts (Label 6) [] ∷ [])
-enters = (
-  Some 6,
-  (refl, refl),
-  (
-    loads immediate_0 0 8,
-    two_loads,
-    loads immediate_0 0 8,
-    minus_one,
-    stores immediate_0 0 8,
-    (immediate_0, refl, refl),
-    two_loads_are,
-    (immediate_0, refl, refl),
-    refl,
-    (immediate_0, refl, refl),
-    refl,
-  ),
-)
+enters = (Some 6, (refl, refl), opened_by (token_ends (Some 6) 0 7 6 7))
 
 -- all words of a Cons, and those but its second field
 stores_all : (base x head rest : ℕ)

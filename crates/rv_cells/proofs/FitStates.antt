@@ -32,52 +32,45 @@ sound_of positions functions heap below (running code environment joins) kept =
 sound_of positions functions heap below (stopped by) kept = kept
 sound_of positions functions heap below stuck kept = kept
 
-pub always_fits : (positions : PositionTable) (marks : CellMarks) (holds : ℕ → ℕ → Bool) (setting : CountedSetting)
-    (layout : Layout)
-    (weight : CountedState → ℕ) (input : List ℕ) (most : ℕ)
-    → IsSpent positions setting.program → FitsAlways weight setting input → HasShapeAlways weight setting input
-    → AreMarked marks holds setting.program → AllSpendAtMost setting.program most
-    → most ≤ greatest_spent → ((c : ℕ) → length (field_marks marks c) ≤ greatest_of Fields) → 1 ≤ setting.depth
-    → setting.depth ≤ greatest_depth → setting.cells ≤ greatest_cells
-    → ((n : ℕ) → FitsControl layout (counted_after weight setting input n).heap (counted_after weight setting input n).control)
-    → (n : ℕ) → IsFit layout (counted_after weight setting input n)
-always_fits positions marks holds setting layout weight input most spent fits shaped marked spends small few deep shallow cells
-    typed n =
-    let kept = keeps_sound positions setting weight input spent fits n in
-    let sound = sound_of positions setting.program.functions (counted_after weight setting input n).heap kept.0
-    (counted_after weight setting input n).control kept.1.1 in
-    record {
-      going = never_stuck positions setting weight input spent fits shaped n;
-      owned = sound.0;
-      sound = sound.1;
-      counts = λ code environment joins here name.
-          omega (
-            arith,
-            counts_few positions marks holds setting weight input most (greatest_of Fields) spent fits marked spends few deep n code environment joins
-                here
-                name,
-            mul-le-mul_right most shallow,
-            mul-le-mul_left greatest_depth small,
-            cells,
-          );
-      fits = typed n;
-    }
+-- a program that spends its references and is marked by types, within the limits of cells, call frames and code
+module _ (positions : PositionTable) (marks : CellMarks) (holds : ℕ → ℕ → Bool) (setting : CountedSetting) (layout : Layout)
+    (weight : CountedState → ℕ) (input : List ℕ) (most : ℕ) (spent : IsSpent positions setting.program)
+    (fits : FitsAlways weight setting input) (shaped : HasShapeAlways weight setting input)
+    (marked : AreMarked marks holds setting.program) (spends : AllSpendAtMost setting.program most)
+    (small : most ≤ greatest_spent) (few : (c : ℕ) → length (field_marks marks c) ≤ greatest_of Fields)
+    (deep : 1 ≤ setting.depth) (shallow : setting.depth ≤ greatest_depth) (cells : setting.cells ≤ greatest_cells) where
+  always_fits : ((n : ℕ) → FitsControl layout (counted_after weight setting input n).heap
+      (counted_after weight setting input n).control)
+      → (n : ℕ) → IsFit layout (counted_after weight setting input n)
+  always_fits typed n =
+      let kept = keeps_sound positions setting weight input spent fits n in
+      let sound = sound_of positions setting.program.functions (counted_after weight setting input n).heap kept.0
+      (counted_after weight setting input n).control kept.1.1 in
+      record {
+        going = never_stuck positions setting weight input spent fits shaped n;
+        owned = sound.0;
+        sound = sound.1;
+        counts = λ code environment joins here name.
+            omega (
+              arith,
+              counts_few positions marks holds setting weight input most (greatest_of Fields) spent fits marked spends few deep n code environment joins
+                  here
+                  name,
+              mul-le-mul_right most shallow,
+              mul-le-mul_left greatest_depth small,
+              cells,
+            );
+        fits = typed n;
+      }
 
--- so where its values are of the kinds that its types tell, and its numbers are of 32 bits
-pub typed_fits : (positions : PositionTable) (marks : CellMarks) (holds : ℕ → ℕ → Bool) (setting : CountedSetting)
-    (layout : Layout)
-    (weight : CountedState → ℕ) (input : List ℕ) (most : ℕ)
-    → IsSpent positions setting.program → FitsAlways weight setting input → HasShapeAlways weight setting input
-    → AreMarked marks holds setting.program → AllSpendAtMost setting.program most
-    → most ≤ greatest_spent → ((c : ℕ) → length (field_marks marks c) ≤ greatest_of Fields) → 1 ≤ setting.depth
-    → setting.depth ≤ greatest_depth → setting.cells ≤ greatest_cells
-    → HasKindsAlways (AreTagged layout) (count_of_fields layout) weight setting input → AllHaveInt32 setting.program.functions
-    → All (λ byte. byte < 256) input → (n : ℕ) → IsFit layout (counted_after weight setting input n)
-typed_fits positions marks holds setting layout weight input most spent fits shaped marked spends small few deep shallow cells
-    kinds numbers bytes n =
-    always_fits positions marks holds setting layout weight input most spent fits shaped marked spends small few deep shallow cells
-    (λ k.
-    let now = stay_int32 setting numbers weight input bytes k in
-    control_fits layout (counted_after weight setting input k).heap (counted_after weight setting input k).control (kinds k)
-    now.control now.heap)
-    n
+  -- so where its values are of the kinds that its types tell, and its numbers are of 32 bits
+  pub typed_fits : HasKindsAlways (AreTagged layout) (count_of_fields layout) weight setting input
+      → AllHaveInt32 setting.program.functions → All (λ byte. byte < 256) input
+      → (n : ℕ) → IsFit layout (counted_after weight setting input n)
+  typed_fits kinds numbers bytes n =
+      always_fits
+      (λ k.
+      let now = stay_int32 setting numbers weight input bytes k in
+      control_fits layout (counted_after weight setting input k).heap (counted_after weight setting input k).control (kinds k)
+      now.control now.heap)
+      n

@@ -1,14 +1,13 @@
 -- The assembler code of a function names few values: its variables, the values of its slots, and eight temporaries.
-use Rattle.std.proofs.Common.{◌≡◌, ℕ, zero, suc, ◌+◌, ◌<◌, ◌≤◌, Bool, true, false, List, [], ◌∷◌, ◌++◌, length, map, Option, Some, None, refl, sym, ap, subst, arith}
+use Rattle.std.proofs.Common.{◌≡◌, ℕ, suc, ◌+◌, ◌<◌, ◌≤◌, Bool, true, false, List, [], ◌∷◌, ◌++◌, length, Option, Some, None, refl, sym, subst, arith}
 use Rattle.std.specs.Prelude.{slice_get}
 use Rattle.kk_syntax.specs.declared.operator.BinaryOperator.{BinaryOperator}
 use Rattle.kk_syntax.specs.declared.operator.BinaryOperator.TheVariants as Of
 use Rattle.kk_syntax.specs.declared.program.Form.{Form}
 use Rattle.kk_syntax.specs.declared.program.Form.TheVariants.{Number, Unit as Nothing, ReadByte, PrintText, Unary, Binary, Print, Construct, Call}
-use Rattle.kk_syntax.specs.Shapes.{is_among as is_bound, without}
+use Rattle.kk_syntax.specs.Shapes.{without}
 use Rattle.kk_core.specs.Decisions.{NodeTree}
 use Rattle.kk_core.specs.Sizes.{AreBound}
-use Rattle.kk_counted.specs.Arms.{arm_count}
 use Rattle.kk_counted.specs.BareForms.{bare, bare_arms, bare_function, bare_program}
 use Rattle.kk_counted.specs.FunctionSizes.{AllHaveVariablesBelow, AllHaveSlotsBelow}
 use Rattle.kk_counted.specs.Lowerable.{AreBelow, AreNumbered, AreArmsNumbered, HasArity, HasArities, HaveArities, IsLowerable, AreLowerable}
@@ -24,7 +23,6 @@ use Rattle.rv_isa.proofs.ValueBounds.{lines_joined}
 use Rattle.rv_lower.specs.Lines.{Texts, sets, acts}
 use Rattle.rv_lower.specs.Lowered.{Goal, returns, joins}
 use Rattle.rv_lower.specs.Written.{texts_of}
-use Rattle.rv_lower.proofs.Operations.{HasArguments}
 use Rattle.rv_lower.proofs.ValueBounds.{handed_below, from_to_below, IsGoalBelow, goal_below, form_below}
 use Rattle.rv_lower.proofs.WellFormedness.{HasRoom, room_more}
 use Rattle.rv_cells.specs.declared.compare.Branching.{Branching}
@@ -222,16 +220,20 @@ module _ (setting : Setting) (marks : CellMarks) (result : Bool) (variables slot
       same : Some z ≡ Some x → z ≡ x
       same is = cc is
 
-  opening_below : (low x : ℕ) (fields used : List ℕ) (y : ℕ) (rest : Tokened) (bound : List ℕ) (lines : List Line) → x < variables
-      → AreBelow variables fields → y < slots → AreNumbered variables bound (bare rest)
-      → OpeningLines setting variables low x fields used y rest lines → Below lines
-  opening_below low x fields used y rest bound lines less below few numbered is =
-      count_below most setting.base setting.holds low (low + 1) x fields used
-      (token_ends is.0 x (variables + y) (low + 1) (low + 2)) (sets 0 (variables + y) ∷ []) lines (omega (arith, base_is)) (variable_less x less)
+  -- an opening's lines, in front of those of the code behind it
+  opening_below : (low x : ℕ) (fields used : List ℕ) (y : ℕ) (rest : Tokened) (bound : List ℕ) (lines own more : List Line)
+      → x < variables → AreBelow variables fields → y < slots → AreNumbered variables bound (bare rest)
+      → OpeningLines setting variables low x fields used y rest own → lines ≡ own ++ more → Below more → Below lines
+  opening_below low x fields used y rest bound lines own more less below few numbered is lines_are later =
+      subst Below (sym lines_are)
+      (lines_joined most own more
+      (count_below most setting.base setting.holds low (low + 1) x fields used
+      (token_ends is.0 x (variables + y) (low + 1) (low + 2)) (sets 0 (variables + y) ∷ []) own (omega (arith, base_is)) (variable_less x less)
       (fields_below variables most fields variables_le below)
       (ends_below most is.0 x (variables + y) (low + 1) (low + 2) (variable_less x less) (slot_less y few)
       (may_fill_less is.0 y rest bound is.1 numbered))
-      ((tt, slot_less y few), tt) is.2
+      ((tt, slot_less y few), tt) is.2)
+      later)
 
   mutual
     pub code_below : (comes : Option Branching) (code : Tokened) (bound unspent left held : List ℕ) (given : Bool) (goal : Goal)
@@ -282,18 +284,16 @@ module _ (setting : Setting) (marks : CellMarks) (result : Bool) (variables slot
         (room_front variables bound fields has numbered.0.0) uses.1 numbered.1 arities few spends.1 is.3))
     code_below comes (Tokened.open_cell x c fields used y rest) bound unspent left held given goal low high lines branch to has uses
         numbered arities few spends is =
-        subst Below (sym is.4)
-        (lines_joined most is.0 is.1
-        (opening_below low x fields used y rest (fields ++ bound) is.0 (has.low x uses.0.0) numbered.0.0 few.0 numbered.1 is.2)
+        opening_below low x fields used y rest (fields ++ bound) lines is.0 is.1 (has.low x uses.0.0) numbered.0.0 few.0 numbered.1
+        is.2 is.4
         (code_below None rest (fields ++ bound) (y ∷ unspent) left [] given goal (low + 2) high is.1 tt to
-        (room_front variables bound fields has numbered.0.0) uses.1 numbered.1 arities few.1 spends.1.1 is.3))
+        (room_front variables bound fields has numbered.0.0) uses.1 numbered.1 arities few.1 spends.1.1 is.3)
     code_below comes (Tokened.if_unique x c fields used y rest) bound unspent left held given goal low high lines branch to has uses
         numbered arities few spends is =
-        subst Below (sym is.4)
-        (lines_joined most is.0 is.1
-        (opening_below low x fields used y rest (fields ++ bound) is.0 (has.low x uses.0.0) numbered.0.0 few.0 numbered.1 is.2)
+        opening_below low x fields used y rest (fields ++ bound) lines is.0 is.1 (has.low x uses.0.0) numbered.0.0 few.0 numbered.1
+        is.2 is.4
         (code_below None rest (fields ++ bound) (y ∷ unspent) left [] given goal (low + 2) high is.1 tt to
-        (room_front variables bound fields has numbered.0.0) uses.1 numbered.1 arities few.1 spends.1.1 is.3))
+        (room_front variables bound fields has numbered.0.0) uses.1 numbered.1 arities few.1 spends.1.1 is.3)
     code_below comes (Tokened.dup x rest) bound unspent left held given goal low high lines branch to has uses numbered arities few
         spends is =
         subst Below (sym is.2)

@@ -50,17 +50,17 @@ use Rattle.rv_cells.proofs.Spots.{Spot, Known, Here, saved}
 use Rattle.rv_cells.proofs.Values.{HasValues, has_cell as carries_cell, among_by}
 use Rattle.rv_cells.proofs.Words.{hand_owned, aside_owned}
 use Rattle.rv_cells.proofs.TokenCells.{token_aside, cells_stay, cell_goes}
-use Rattle.rv_cells.proofs.TokenFields.{grown_words}
+use Rattle.rv_cells.proofs.TokenFields.{grown_words, grown_stays}
 use Rattle.rv_cells.proofs.TokenRequestCells.{none_out, slots_apart, slots_unbound, aside_some, slots_tokens, named_before}
 use Rattle.rv_cells.proofs.TokenRequestCells.{slots_below, AllKept, same_kept, null_kept, aside_restored, restored, linked_here}
 use Rattle.rv_cells.proofs.TokenRequestCells.{linked_behind, marked_more}
 use Rattle.rv_cells.proofs.TokenFrames.{slots_moved, slots_put, all_carried, all_wait_at}
 use Rattle.rv_cells.proofs.TokenLineCosts.{forms}
-use Rattle.rv_cells.proofs.TokenContinuations.{token_at, machine_at, seen_action, silent_builds, GoesTo, does_by, goes_on}
+use Rattle.rv_cells.proofs.TokenContinuations.{token_at, machine_at, StepsOn, seen_action, silent_builds, GoesTo, does_by, goes_on}
 use Rattle.rv_cells.proofs.TokenContinuations.{kept_after}
 use Rattle.rv_cells.proofs.TokenRequests.{live_slots, Requested, by_free, by_own, by_older, by_none, requested}
 use Rattle.rv_cells.proofs.TokenRelation.{SlotIs, IsTokenCell, token_words, HaveSlotValues, HaveTokenCells, held_values, Lowering}
-use Rattle.rv_cells.proofs.TokenRelation.{target, setting, upper, lines_setting, known_of, AllWait, At, IsFitFrom, Follows_step}
+use Rattle.rv_cells.proofs.TokenRelation.{target, setting, upper, lines_setting, known_of, AllWait, At, IsFitFrom}
 use Rattle.rv_cells.proofs.TokenRelation.{by_lines}
 use Rattle.rv_cells.proofs.TokenContents.{none_stands}
 use Rattle.rv_cells.proofs.TokenTakes.{taken_from, none_held}
@@ -197,8 +197,7 @@ module _ (program : Lowering) (code : Tokened) (x c first : ℕ) (arguments kept
   from = machine_at program code s.environment inner frames s.heap tokens
 
   abbrev Steps_on : Type 0
-  Steps_on = Follows_step program idle (token_at program code s.environment inner frames s.heap tokens input)
-      (turn_of left s.frame fs s.world)
+  Steps_on = StepsOn program idle code inner frames tokens input s fs left
 
   abbrev Serves : Room → Type 0
   Serves room = request program.pool.cells others (length at.lists.older) s.heap a.asking ≡ room
@@ -228,9 +227,6 @@ module _ (program : Lowering) (code : Tokened) (x c first : ℕ) (arguments kept
 
   abbrev later : ℕ → ℕ → ℕ
   later one = assign size one s.address
-
-  stays : (one r : ℕ) → r < size → later one r ≡ s.address r
-  stays one r less = chosen_other r size one s.address (λ e. omega (arith, e, less))
 
   -- the fields of the names that are there keep their words
   made_words : (one r : ℕ) → r < size
@@ -296,12 +292,12 @@ module _ (program : Lowering) (code : Tokened) (x c first : ℕ) (arguments kept
         cells = cells;
         stand = none_stands program.layout at.shape.standing to.address to.owners (after.slots n) others a.unspent a.holds
             judged.slots_are a.all_are;
-        slots_are = slots_moved {later = later one} {others = f.cells} slots_there (λ z r is. stays one r (old n z r is))
+        slots_are = slots_moved {later = later one} {others = f.cells} slots_there (λ z r is. grown_stays size one r s.address (old n z r is))
             (λ z low unspent. made.3 (v + z) (omega (arith, low)) (λ e. let under = a.variable in omega (arith, e, under)));
         held_is = made.2.held ∙ holds_none ∙ sym (ap (held_values (after.slots n) v) a.none_held);
         waits = all_carried program s.address size (later one) (suc size) after.slots at.lists.older frames gs at.shape.result
             (λ holds most bound environment values_too has. carries_cell has one)
-            (λ g z r is. stays one r (old g z r is)) waiting;
+            (λ g z r is. grown_stays size one r s.address (old g z r is)) waiting;
       })
       (silent_builds program (busy s.heap)) a.cheap
       (ap (λ action. seen_action program action input) step) (omega (arith, idle_is, forms_are)) (omega (arith, few, forms_are))
@@ -372,7 +368,7 @@ module _ (program : Lowering) (code : Tokened) (x c first : ℕ) (arguments kept
       let one = done.0 in
       goes_there fs (owners_back a.values one) a.values one asking done.2 served
       (cells_stay a.cells (later one) (owners_made a.values one) heap_made
-      (λ g z r is. stays one r (a.now.are.pooled.there g z r is))
+      (λ g z r is. grown_stays size one r s.address (a.now.are.pooled.there g z r is))
       (λ g z r is. made_words one r (a.now.are.pooled.there g z r is))
       (λ place linked ws is. stays_cell a.values one (same_values one) place linked ws
       (other one done.1 place linked ws is) is)
@@ -422,7 +418,7 @@ module _ (program : Lowering) (code : Tokened) (x c first : ℕ) (arguments kept
       goes_there fs (owners_back values place) values place after made served
       (cell_goes a.cells program.aligned n z p (later place) (owners_made values place) heap_made after
       (hand_owned at.follows place hand.0 hand.1).0 below mark refl
-      (λ g w r differ is. stays place r (a.now.are.pooled.there g w r is))
+      (λ g w r differ is. grown_stays size place r s.address (a.now.are.pooled.there g w r is))
       (λ g w r is. made_words place r (a.now.are.pooled.there g w r is))
       (λ g w r differ is. refl)
       (λ one linked ws differ is. stays_cell values place kept one linked ws differ is)
@@ -461,7 +457,7 @@ module _ (program : Lowering) (code : Tokened) (x c first : ℕ) (arguments kept
       goes_there taken.gs (owners_back values place) values place after made served
       (cell_goes a.cells program.aligned link.frame link.slot p (later place) (owners_made values place) heap_made after
       (aside_owned at.follows place kept.0 kept.1).0 below mark refl
-      (λ g w r differ is. stays place r (pooled.there g w r is))
+      (λ g w r differ is. grown_stays size place r s.address (pooled.there g w r is))
       (λ g w r is. made_words place r (pooled.there g w r is))
       (λ g w r differ is. linked_behind program.pool.cells s.heap asking pooled link links chain p has g w r differ is)
       (λ one held ws differ is. stays_cell values place (same_values place) one held ws differ is)

@@ -18,7 +18,7 @@ use Rattle.rv_lower.specs.Lowered.{Goal, joins}
 use Rattle.rv_cells.specs.declared.compare.Branching.{Branching}
 use Rattle.rv_cells.specs.ComparisonBranch.{branch_of}
 use Rattle.rv_cells.specs.CountedLines.{Setting}
-use Rattle.rv_cells.specs.TokenedLines.{LinesBehind, ArmsLines}
+use Rattle.rv_cells.specs.TokenedLines.{LinesBehind, ArmsLines, CodeLines}
 use Rattle.rv_cells.proofs.FormArities.{is_own_act, lead}
 use Rattle.rv_cells.proofs.FormPlaces.{Tree, tree, Parts, no_part, part, code_of, own_of, parts_of, Step, IsPart, Leads, way_of, lines_before, lines_before_entry, behind_entry, arms_in, tree_behind}
 
@@ -199,6 +199,27 @@ false_not : false ≡ true → ⊥
 false_not is = cc is
 
 module _ (setting : Setting) (variables : ℕ) where
+  -- the step from an opening to the code behind it
+  abbrev step_behind : (goal : Goal) (low x c : ℕ) (fields used : List ℕ) (y : ℕ) (rest : Tokened) (own : List Line) (high : ℕ)
+      → CodeLines setting variables goal low (Tokened.open_cell x c fields used y rest) own high → Step
+  step_behind goal low x c fields used y rest own high lines = record {
+    way = 0 ∷ [];
+    before = lines.0;
+    inner = tree_behind setting variables None goal (low + 2) rest lines.1 high
+        lines.3;
+  }
+
+  opening_part : (goal : Goal) (low x c : ℕ) (fields used : List ℕ) (y : ℕ) (rest : Tokened) (own : List Line) (high : ℕ)
+      → (lines : CodeLines setting variables goal low (Tokened.open_cell x c fields used y rest) own high)
+      → IsPart (step_behind goal low x c fields used y rest own high lines)
+      (parts_of (tree_behind setting variables None goal low (Tokened.open_cell x c fields used y rest) own high lines))
+  opening_part goal low x c fields used y rest own high lines =
+      behind_entry lines.2.0 (variables + y) (low + 2)
+      (lines_before_entry setting.base setting.holds low (low + 1) (low + 2) x fields used (variables + y) lines.2.0 lines.0
+      lines.2.2) rest
+      (part (0 ∷ []) lines.0 (tree_behind setting variables None goal (low + 2) rest lines.1 high lines.3) no_part)
+      (step_behind goal low x c fields used y rest own high lines) (inl refl)
+
   mutual
     pub way_there : (left : Option Branching) (goal : Goal) (low : ℕ) (code : Tokened) (own : List Line) (high : ℕ)
         (lines : LinesBehind left setting variables goal low code own high) (way : List ℕ) (act : Counted)
@@ -246,48 +267,14 @@ module _ (setting : Setting) (variables : ℕ) where
         absurd (false_not (act_here (bare (Tokened.open_cell x c fields used y rest)) act is does))
     way_there left goal low (Tokened.open_cell x c fields used y rest) own high lines (zero ∷ way) act is does =
         reaches_behind (tree_behind setting variables left goal low (Tokened.open_cell x c fields used y rest) own high lines)
-        (record {
-          way = 0 ∷ [];
-          before = lines.0;
-          inner = tree_behind setting variables None goal (low + 2) rest lines.1 high
-              lines.3;
-        })
-        way
-        (behind_entry lines.2.0 (variables + y) (low + 2)
-        (lines_before_entry setting.base setting.holds low (low + 1) (low + 2) x fields used (variables + y) lines.2.0 lines.0
-        lines.2.2) rest
-        (part (0 ∷ []) lines.0 (tree_behind setting variables None goal (low + 2) rest lines.1 high lines.3) no_part)
-        (record {
-          way = 0 ∷ [];
-          before = lines.0;
-          inner = tree_behind setting variables None goal (low + 2) rest lines.1 high
-              lines.3;
-        })
-        (inl refl))
+        (step_behind goal low x c fields used y rest own high lines) way (opening_part goal low x c fields used y rest own high lines)
         (way_there None goal (low + 2) rest lines.1 high lines.3 way act is does)
     way_there left goal low (Tokened.open_cell x c fields used y rest) own high lines (suc n ∷ way) act is does = cc is
     way_there left goal low (Tokened.if_unique x c fields used y rest) own high lines [] act is does =
         absurd (false_not (act_here (bare (Tokened.if_unique x c fields used y rest)) act is does))
     way_there left goal low (Tokened.if_unique x c fields used y rest) own high lines (zero ∷ way) act is does =
         reaches_behind (tree_behind setting variables left goal low (Tokened.if_unique x c fields used y rest) own high lines)
-        (record {
-          way = 0 ∷ [];
-          before = lines.0;
-          inner = tree_behind setting variables None goal (low + 2) rest lines.1 high
-              lines.3;
-        })
-        way
-        (behind_entry lines.2.0 (variables + y) (low + 2)
-        (lines_before_entry setting.base setting.holds low (low + 1) (low + 2) x fields used (variables + y) lines.2.0 lines.0
-        lines.2.2) rest
-        (part (0 ∷ []) lines.0 (tree_behind setting variables None goal (low + 2) rest lines.1 high lines.3) no_part)
-        (record {
-          way = 0 ∷ [];
-          before = lines.0;
-          inner = tree_behind setting variables None goal (low + 2) rest lines.1 high
-              lines.3;
-        })
-        (inl refl))
+        (step_behind goal low x c fields used y rest own high lines) way (opening_part goal low x c fields used y rest own high lines)
         (way_there None goal (low + 2) rest lines.1 high lines.3 way act is does)
     way_there left goal low (Tokened.if_unique x c fields used y rest) own high lines (suc n ∷ way) act is does = cc is
     way_there left goal low (Tokened.dup x rest) own high lines [] act is does =

@@ -6,7 +6,8 @@ use Rattle.kk_syntax.specs.Shapes.{is_among}
 use Rattle.kk_source.specs.State.{Value, heap_full}
 use Rattle.kk_source.specs.Live.{value_of}
 use Rattle.kk_source.specs.Actions.{builds}
-use Rattle.kk_counted.specs.Heaps.{Heap, busy}
+use Rattle.kk_source.specs.Sound.{AllWithin}
+use Rattle.kk_counted.specs.Heaps.{Heap, busy, fields_held}
 use Rattle.kk_counted.specs.Keeping.{values_of}
 use Rattle.kk_counted.specs.Marks.{field_marks}
 use Rattle.kk_counted.specs.TokenKeeping.{chain_of, Lists, IsJudged, ListsAfter, AreKeptBy}
@@ -47,13 +48,12 @@ use Rattle.rv_cells.proofs.Words.{aside_owned}
 use Rattle.rv_cells.proofs.TokenCells.{token_aside, cells_stay, cell_goes}
 use Rattle.rv_cells.proofs.TokenCalls.{arguments_fit}
 use Rattle.rv_cells.proofs.TokenRequestCells.{named_before, slots_below, linked_here, linked_behind, marked_more}
-use Rattle.rv_cells.proofs.TokenFields.{grown_words}
+use Rattle.rv_cells.proofs.TokenFields.{grown_words, grown_stays}
 use Rattle.rv_cells.proofs.TokenFrames.{none_behind, slots_moved, all_carried}
 use Rattle.rv_cells.proofs.TokenLineCosts.{forms}
-use Rattle.rv_cells.proofs.TokenContinuations.{Lands, lands_did, lands_leads, token_at, machine_at, CodeSteps, seen_action, silent_builds, does_by, goes_on, kept_after}
-use Rattle.rv_cells.proofs.TokenOpenings.{Leads}
+use Rattle.rv_cells.proofs.TokenContinuations.{Lands, lands_did, token_at, machine_at, StepsOn, CodeSteps, seen_action, silent_builds, does_by, goes_on, kept_after}
 use Rattle.rv_cells.proofs.TokenRequests.{Requested, by_free, by_own, by_older, by_none, requested}
-use Rattle.rv_cells.proofs.TokenRelation.{IsTokenCell, token_words, HaveSlotValues, HaveTokenCells, held_values, Lowering, target, setting, upper, known_of, AllWait, At, IsFitFrom, Follows_step, by_lines}
+use Rattle.rv_cells.proofs.TokenRelation.{IsTokenCell, token_words, HaveSlotValues, HaveTokenCells, held_values, Lowering, target, setting, upper, known_of, AllWait, At, IsFitFrom, by_lines}
 use Rattle.rv_cells.proofs.TokenContents.{none_stands}
 use Rattle.rv_cells.proofs.TokenTakes.{taken_from, none_held}
 use Rattle.rv_cells.proofs.TokenUniques.{row_times}
@@ -70,8 +70,9 @@ module _ (known : Known) (rest : List Line) (fs : List (Frame Line)) (s : Spot) 
   pub construct_held : (gs : List (Frame Line)) (at : ℕ) (words : ℕ → Option ℕ) → s.frame.held ≡ [] → top fs ≡ Some at
       → top_taken fs ≡ Some gs → s.owners at ≡ kept_aside words
       → known.target.pool.cells ≤ busy s.heap + set_aside known.target.pool s.owners
-      → (cells : Cells) × Leads known (construct_cost known arguments) lines rest fs gs s
-      (made_spot s x c (values_of s.environment arguments) at (last_frame at) cells) []
+      → (cells : Cells) × Lands known (construct_cost known arguments) lines rest fs gs s
+      (made_spot s x c (values_of s.environment arguments) at (last_frame at) cells)
+      × ((z : ℕ) → z < known.base → is_among (x ∷ s.bound) z ≡ false → (last_frame at).cells z ≡ s.frame.cells z)
   construct_held gs at words none newest taken kept full =
       let moves = most_moves in
       let row = row_cost arguments (moves + 3) in
@@ -102,20 +103,36 @@ module _ (known : Known) (rest : List Line) (fs : List (Frame Line)) (s : Spot) 
           runs = runs;
           here = Construct.counts known rest fs s x c arguments lines here making constructs f1 at nothing filled.0 filled.2
               (Construct.names_cell known rest fs s x c arguments lines here making constructs at);
-          grown = λ z apart. (among_none x s.bound z apart).1;
-          spared = λ z low free apart.
-              Construct.ended_spare known rest fs s x c arguments lines here making constructs f1 z low
-              ∙ put_other x z at s.frame.cells (among_none x s.bound z apart).0;
           left = refl {a = s.world.left};
-          trace = refl {a = s.world.trace};
           whole = refl;
           function = refl;
-          held = refl;
-          into = refl;
         },
+        λ z low apart.
+            Construct.ended_spare known rest fs s x c arguments lines here making constructs f1 z low
+            ∙ put_other x z at s.frame.cells (among_none x s.bound z apart).0,
       )
 
 -- ---- the step
+
+-- what is known of a construction with fields with which a code begins, with any frame
+pub making_of : (program : Lowering) (x c a : ℕ) (more others : List ℕ) (rest : Tokened) (inner : List TokenJoin)
+    (frames : List TokenFrame) (tokens : Tokens) (input : List ℕ) (s : Spot) (fs : List (Frame Line)) (left : List Line)
+    (at : At program (Tokened.compute x (Construct c) (a ∷ more) others rest) inner frames tokens input s fs left)
+    (frame : Frame Line) → ((name : ℕ) → AllWithin name (fields_held s.heap name))
+    → IsMaking (known_of program at.shape) (record s { frame = frame }) x c (a ∷ more)
+making_of program x c a more others rest inner frames tokens input s fs left at frame older =
+    let p = at.does.placed in
+    let all = all_among (a ∷ more) s.bound p.marked.0 in
+    let low = p.numbered.0 in
+    record {
+      below = omega arith;
+      bound = all;
+      apart = apart_above x (a ∷ more) s.bound p.numbered.1.0 all;
+      holds = p.marked.1.0.1;
+      fits = subst (λ marks. FitFields marks (values_of s.environment (a ∷ more))) (sym (program.fields_are c))
+          (arguments_fit at.has.values (a ∷ more) (field_marks program.marks c) all p.marked.1.0.0);
+      older = older;
+    }
 
 module _ (program : Lowering) (x c a : ℕ) (more : List ℕ) (rest : Tokened) (idle : ℕ) (inner : List TokenJoin)
     (frames : List TokenFrame) (tokens : Tokens) (input : List ℕ) (s : Spot) (fs : List (Frame Line)) (left : List Line)
@@ -151,8 +168,7 @@ module _ (program : Lowering) (x c a : ℕ) (more : List ℕ) (rest : Tokened) (
   from = machine_at program code s.environment inner frames s.heap tokens
 
   abbrev Steps_on : Type 0
-  Steps_on = Follows_step program idle (token_at program code s.environment inner frames s.heap tokens input)
-      (turn_of left s.frame fs s.world)
+  Steps_on = StepsOn program idle code inner frames tokens input s fs left
 
   abbrev Serves : Room → Type 0
   Serves room = request program.pool.cells [] (length at.lists.older) s.heap tokens ≡ room
@@ -176,19 +192,7 @@ module _ (program : Lowering) (x c a : ℕ) (more : List ℕ) (rest : Tokened) (
   here = record { follows = at.follows; values = at.has.values }
 
   making : IsMaking known s x c (a ∷ more)
-  making =
-      let p = at.does.placed in
-      let all = all_among (a ∷ more) s.bound p.marked.0 in
-      let low = p.numbered.0 in
-      record {
-        below = omega arith;
-        bound = all;
-        apart = apart_above x (a ∷ more) s.bound p.numbered.1.0 all;
-        holds = p.marked.1.0.1;
-        fits = subst (λ marks. FitFields marks (values_of s.environment (a ∷ more))) (sym (program.fields_are c))
-            (arguments_fit at.has.values (a ∷ more) (field_marks program.marks c) all p.marked.1.0.0);
-        older = (fit 0).bare.sound.older;
-      }
+  making = making_of program x c a more [] rest inner frames tokens input s fs left at s.frame (fit 0).bare.sound.older
 
   asked : (room : Room) → Serves room → token_code_step (setting program) code s.environment inner from
       ≡ make_step room c vs (λ w. bound_to x w rest s.environment inner from) from
@@ -197,9 +201,6 @@ module _ (program : Lowering) (x c a : ℕ) (more : List ℕ) (rest : Tokened) (
       ap (λ g. make_step (request program.pool.cells [] g s.heap tokens) c vs puts from)
       (frames_many tokens.slots at.lists.older frames at.judged.waiting)
       ∙ ap (λ o. make_step o c vs puts from) is
-
-  stays : (one r : ℕ) → r < size → later one r ≡ s.address r
-  stays one r less = chosen_other r size one s.address (λ e. omega (arith, e, less))
 
   -- the fields of the names that are there keep their words
   made_words : (one r : ℕ) → r < size
@@ -253,12 +254,12 @@ module _ (program : Lowering) (x c a : ℕ) (more : List ℕ) (rest : Tokened) (
         cells = cells_are;
         stand = none_stands program.layout at.shape.standing to.address to.owners (after.slots n) [] at.lists.unspent tt
             judged.slots_are (λ z is. at.judged.spends.0.1.1 z ∙ is);
-        slots_are = slots_moved {later = later one} {others = frame.cells} slots_are (λ z r is. stays one r (old n z r is))
+        slots_are = slots_moved {later = later one} {others = frame.cells} slots_are (λ z r is. grown_stays size one r s.address (old n z r is))
             (λ z low unspent. spared z low);
         held_is = held_same ∙ holds_none ∙ sym (ap (held_values (after.slots n) v) none_holds);
         waits = all_carried program s.address size (later one) (suc size) after.slots at.lists.older frames gs at.shape.result
             (λ holds most bound environment values has. has_cell has one)
-            (λ g z r is. stays one r (old g z r is)) waiting;
+            (λ g z r is. grown_stays size one r s.address (old g z r is)) waiting;
       })
       (silent_builds program (busy s.heap)) (omega (arith, row))
       (ap (λ action. seen_action program action input) step) (omega (arith, idle_is)) (omega arith)
@@ -282,7 +283,7 @@ module _ (program : Lowering) (x c a : ℕ) (more : List ℕ) (rest : Tokened) (
       goes_there fs one done.1 done.2 tokens (lands_did did) did.held
       (λ z low. did.spared (v + z) (omega (arith, low)) (slot_spare z)) served
       (cells_stay at.cells (later one) (with_owner one (cell_of size) s.owners) heap_made
-      (λ g z r is. stays one r (at.judged.are.pooled.there g z r is))
+      (λ g z r is. grown_stays size one r s.address (at.judged.are.pooled.there g z r is))
       (λ g z r is. made_words one r (at.judged.are.pooled.there g z r is))
       (λ place linked ws is. subst (IsTokenCell linked ws) (sym (did.aside place (token_aside linked ws (s.owners place) is))) is)
       (λ place. did_aside did place)
@@ -312,11 +313,10 @@ module _ (program : Lowering) (x c a : ℕ) (more : List ℕ) (rest : Tokened) (
       let owners = with_owner place (cell_of size) s.owners in
       goes_there taken.gs place
       (last_frame known rest_lines fs s x c (a ∷ more) at.does.placed.lines.0 here making at.does.placed.lines.4.0 place) made.0
-      after (lands_leads made.1) refl
-      (λ z low. made.1.spared (v + z) (omega (arith, low)) refl (slot_spare z)) served
+      after made.1 refl (λ z low. made.2 (v + z) (omega (arith, low)) (slot_spare z)) served
       (cell_goes at.cells program.aligned link.frame link.slot p (later place) owners heap_made after
       (aside_owned at.follows place kept.0 kept.1).0 (pooled.there link.frame link.slot p mark) mark refl
-      (λ g w r differ is. stays place r (pooled.there g w r is))
+      (λ g w r differ is. grown_stays size place r s.address (pooled.there g w r is))
       (λ g w r is. made_words place r (pooled.there g w r is))
       (λ g w r differ is. linked_behind program.pool.cells s.heap tokens pooled link links chain p has g w r differ is)
       (λ one held ws differ is. subst (IsTokenCell held ws) (sym (chosen_other one place (cell_of size) s.owners differ)) is)

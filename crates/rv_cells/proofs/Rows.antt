@@ -30,7 +30,7 @@ use Rattle.rv_cells.proofs.Values.{put_list, among_none, has_list, named_made, l
 use Rattle.rv_cells.proofs.Drops.{fits_length}
 use Rattle.rv_cells.proofs.Runs.{Target, turn_of, Runs, runs_none, runs_then}
 use Rattle.rv_cells.proofs.CellActions.{put_in, load_runs}
-use Rattle.rv_cells.proofs.Spots.{Spot, Known, Here, Did, did_none, did_then, with_heap, AreSmall, Changed, dup_did, drop_did}
+use Rattle.rv_cells.proofs.Spots.{Spot, Known, Here, Did, did_here, did_none, did_then, with_heap, AreSmall, Changed, dup_did, drop_did}
 
 pub then_some : {A B : Type 0} (o : Option A) (f : A → Option B) (b : B) → and_then o f ≡ Some b → (a : A) × (o ≡ Some a)
     × (f a ≡ Some b)
@@ -108,33 +108,22 @@ read_did known rest fs s x c fields lines named here reads loads =
     let length_is : length (words_in known.layout s.address named.fields) ≡ length named.fields = length-map named.fields
     (word_in known.layout s.address) in
     let low = held_within s.heap named.at made.held made.there in
-    record {
-      cost = row_cost fields (most_moves + 2);
-      steps = length fields;
-      within = omega arith;
-      runs = loads_run known.target rest fs s.world x (s.address named.at) stands.words stands.is fields
-          (words_in known.layout s.address named.fields) 2 lines s.frame loads
-          (here.values.words x reads.bound ∙ ap (λ v. Some (word_in known.layout s.address v)) made.is) words (omega arith)
-          (omega arith) reads.apart;
-      here = record {
-        follows = here.follows;
-        values = has_list fields named.fields here.values reads.below
-            (subst (λ bits. FitFields bits named.fields) (sym reads.kinds) fits)
-            (within_all named.at (length s.heap) named.fields (omega (arith, low))
-            (subst (AllWithin named.at) (held_fields s.heap named.at made.held made.there ∙ made.fields)
-            (reads.older named.at)));
-      };
-      aside = λ at is. refl;
-      was = λ at is. refl;
-      grown = λ z none. list_grown fields s.bound z none;
-      spared = λ z low none. list_spared fields (words_in known.layout s.address named.fields) s.bound z s.frame.cells none;
-      left = refl;
-      trace = refl;
-      whole = refl;
-      function = refl;
-      held = refl;
-      into = refl;
-    }
+    did_here known (row_cost fields (most_moves + 2)) lines rest fs s (with_fields known.layout s fields named.fields)
+    (row_cost fields (most_moves + 2)) (length fields) (omega arith)
+    (loads_run known.target rest fs s.world x (s.address named.at) stands.words stands.is fields
+    (words_in known.layout s.address named.fields) 2 lines s.frame loads
+    (here.values.words x reads.bound ∙ ap (λ v. Some (word_in known.layout s.address v)) made.is) words (omega arith) (omega arith)
+    reads.apart)
+    (record {
+      follows = here.follows;
+      values = has_list fields named.fields here.values reads.below
+          (subst (λ bits. FitFields bits named.fields) (sym reads.kinds) fits)
+          (within_all named.at (length s.heap) named.fields (omega (arith, low))
+          (subst (AllWithin named.at) (held_fields s.heap named.at made.held made.there ∙ made.fields)
+          (reads.older named.at)));
+    })
+    refl refl (λ at is. refl) (λ at is. refl) (λ z none. list_grown fields s.bound z none)
+    (λ z low none. list_spared fields (words_in known.layout s.address named.fields) s.bound z s.frame.cells none)
 
 -- ---- dups and drops
 

@@ -73,25 +73,39 @@ pub record Did (known : Known) (most : ℕ) (lines rest : List Line) (fs : List 
   pub held : t.frame.held ≡ s.frame.held
   pub into : t.frame.into ≡ s.frame.into
 
+-- Lines lead so where of the world they change the cells alone, and of the frame values alone.
+pub did_here : (known : Known) (most : ℕ) (lines rest : List Line) (fs : List (Frame Line)) (s t : Spot) (cost steps : ℕ)
+    → cost + saved t.heap ≤ most + saved s.heap
+    → Runs known.target cost steps (turn_of (lines ++ rest) s.frame fs s.world) (turn_of rest t.frame fs t.world)
+    → Here known t → t.world ≡ with_cells s.world t.world.cells → t.frame ≡ record s.frame { cells = t.frame.cells }
+    → ((at : ℕ) → is_aside (s.owners at) ≡ true → t.owners at ≡ s.owners at)
+    → ((at : ℕ) → is_aside (t.owners at) ≡ true → t.owners at ≡ s.owners at)
+    → ((z : ℕ) → is_among t.bound z ≡ false → is_among s.bound z ≡ false)
+    → ((z : ℕ) → z < known.base → is_among t.bound z ≡ false → t.frame.cells z ≡ s.frame.cells z)
+    → Did known most lines rest fs s t
+did_here known most lines rest fs s t cost steps within runs here world_is frame_is aside was grown spared = record {
+  cost = cost;
+  steps = steps;
+  within = within;
+  runs = runs;
+  here = here;
+  aside = aside;
+  was = was;
+  grown = grown;
+  spared = spared;
+  left = ap (λ (w : World). w.left) world_is;
+  trace = ap (λ (w : World). w.trace) world_is;
+  whole = ap (λ (f : Frame Line). f.whole) frame_is;
+  function = ap (λ (f : Frame Line). f.function) frame_is;
+  held = ap (λ (f : Frame Line). f.held) frame_is;
+  into = ap (λ (f : Frame Line). f.into) frame_is;
+}
+
 did_idle : (known : Known) (most : ℕ) (rest : List Line) (fs : List (Frame Line)) (s : Spot) → Here known s
     → Did known most [] rest fs s s
-did_idle known most rest fs s here = record {
-  cost = 0;
-  steps = 0;
-  within = omega arith;
-  runs = runs_none known.target (turn_of rest s.frame fs s.world);
-  here = here;
-  aside = λ at is. refl;
-  was = λ at is. refl;
-  grown = λ z none. none;
-  spared = λ z low none. refl;
-  left = refl;
-  trace = refl;
-  whole = refl;
-  function = refl;
-  held = refl;
-  into = refl;
-}
+did_idle known most rest fs s here =
+    did_here known most [] rest fs s s 0 0 (omega arith) (runs_none known.target (turn_of rest s.frame fs s.world)) here refl refl
+    (λ at is. refl) (λ at is. refl) (λ z none. none) (λ z low none. refl)
 
 pub did_none : (known : Known) (rest : List Line) (fs : List (Frame Line)) (s : Spot) → Here known s → Did known 0 [] rest fs s s
 did_none known rest fs s here = did_idle known 0 rest fs s here
@@ -271,24 +285,12 @@ module _ (known : Known) (rest : List Line) (fs : List (Frame Line)) (s : Spot) 
       let fields = dup_weight (value_of s.environment x) s.heap next is in (
         s.owners,
         done.now,
-        record {
-          cost = most_moves + 5;
-          steps = 1;
-          within = omega arith;
-          runs = dup_runs known.target rest s.frame fs s.world x (word_in known.layout s.address (value_of s.environment x))
-              done.now (here.values.words x bound) done.is;
-          here = record { follows = done.holds; values = values_there known s next long here };
-          aside = λ at is. refl;
-          was = λ at is. refl;
-          grown = λ z none. none;
-          spared = λ z low none. refl;
-          left = refl;
-          trace = refl;
-          whole = refl;
-          function = refl;
-          held = refl;
-          into = refl;
-        },
+        did_here known (most_moves + 5) (acts (Compute Op.Dup) (x ∷ []) ∷ []) rest fs s (with_heap s next s.owners done.now)
+            (most_moves + 5) 1 (omega arith)
+            (dup_runs known.target rest s.frame fs s.world x (word_in known.layout s.address (value_of s.environment x)) done.now
+            (here.values.words x bound) done.is)
+            (record { follows = done.holds; values = values_there known s next long here }) refl refl (λ at is. refl)
+            (λ at is. refl) (λ z none. none) (λ z low none. refl),
       )
 
   -- a dup
@@ -321,31 +323,20 @@ module _ (known : Known) (rest : List Line) (fs : List (Frame Line)) (s : Spot) 
         copied,
         (λ at. still next (s.owners at)),
         merged_cells done.work s.world.cells,
-        record {
-          cost = (most_moves + 2) + (8 * done.work.gave + 52 * done.work.freed + 8);
-          steps = 2;
-          within = omega arith;
-          runs = runs_then known.target (most_moves + 2)
-              (8 * done.work.gave + 52 * done.work.freed + 8) 1 1
-              (turn_of (copies_to x known.base ∷ acts (Calls Drop) (known.base ∷ []) ∷ rest) s.frame fs s.world)
-              (turn_of (acts (Calls Drop) (known.base ∷ []) ∷ rest) copied fs s.world)
-              (turn_of rest copied fs (with_cells s.world (merged_cells done.work s.world.cells))) first second;
-          here = record {
-            follows = done.holds;
-            values = has_temporary (values_there known s next long here) known.base word
-                (omega arith);
-          };
-          aside = λ at is. still_aside next (s.owners at) is;
-          was = λ at is. still_was next (s.owners at) is;
-          grown = λ z none. none;
-          spared = λ z low none. put_other known.base z word s.frame.cells (λ e. omega (arith, e, low));
-          left = refl;
-          trace = refl;
-          whole = refl;
-          function = refl;
-          held = refl;
-          into = refl;
-        },
+        did_here known (2 * most_moves + 16) (copies_to x known.base ∷ acts (Calls Drop) (known.base ∷ []) ∷ []) rest fs s
+            (record (with_heap s next (λ at. still next (s.owners at)) (merged_cells done.work s.world.cells)) { frame = copied })
+            ((most_moves + 2) + (8 * done.work.gave + 52 * done.work.freed + 8)) 2 (omega arith)
+            (runs_then known.target (most_moves + 2) (8 * done.work.gave + 52 * done.work.freed + 8) 1 1
+            (turn_of (copies_to x known.base ∷ acts (Calls Drop) (known.base ∷ []) ∷ rest) s.frame fs s.world)
+            (turn_of (acts (Calls Drop) (known.base ∷ []) ∷ rest) copied fs s.world)
+            (turn_of rest copied fs (with_cells s.world (merged_cells done.work s.world.cells))) first second)
+            (record {
+              follows = done.holds;
+              values = has_temporary (values_there known s next long here) known.base word
+                  (omega arith);
+            })
+            refl refl (λ at is. still_aside next (s.owners at) is) (λ at is. still_was next (s.owners at) is) (λ z none. none)
+            (λ z low none. put_other known.base z word s.frame.cells (λ e. omega (arith, e, low))),
       )
 
   -- a drop with all that it frees

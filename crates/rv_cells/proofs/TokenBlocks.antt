@@ -32,7 +32,7 @@ use Rattle.rv_cells.proofs.Words.{hand_owned, aside_owned}
 use Rattle.rv_cells.proofs.TokenFrames.{slots_moved}
 use Rattle.rv_cells.proofs.TokenLineCosts.{forms}
 use Rattle.rv_cells.proofs.TokenRelation.{SlotIs, IsTokenCell, token_words, Lowering, target, setting, upper, Placed, At, IsFitFrom, by_lines, finds, Follows_step}
-use Rattle.rv_cells.proofs.TokenContinuations.{token_at, machine_at, CodeSteps, seen_action, does_by, kept_quiet}
+use Rattle.rv_cells.proofs.TokenContinuations.{token_at, machine_at, at_here, at_other, CodeSteps, seen_action, does_by, kept_quiet}
 
 -- the cell of a token, whether it is held or in hand
 pub token_cell : {pool : Pool} {layout : Layout} {address : ℕ → ℕ} {owners : ℕ → Owner} {heap : Heap} {cells : Cells}
@@ -68,39 +68,10 @@ module _ (program : Lowering) where
         does_by program idle start end [] t0 is fit
         (λ later. by_lines program n cost ((upper program).weight start) (saved s.heap) idle end t0 t1 runs
         (omega (arith, cheap)) (omega (arith, few)) later
-        (record {
-          spot = record s { frame = f };
-          fs = fs;
-          left = there;
-          environment_is = refl;
-          heap_is = refl;
-          turn_is = refl;
-          at = record {
-            shape = at.shape;
-            lists = at.lists;
-            judged = judged;
-            does = record {
-              goal = at.does.goal;
-              given = at.does.given;
-              placed = placed;
-              continues = at.does.continues;
-            };
-            follows = at.follows;
-            cells = at.cells;
-            stand = at.stand;
-            has = record {
-              values = has_same at.has.values values (λ z among. same z (at.has.values.below z among));
-              below = at.has.below;
-              tokens = slots_moved at.has.tokens (λ y p is. refl) (λ y low unspent. same (v + y) (omega (arith, low)));
-              held_is = at.has.held_is;
-              formed = at.has.formed;
-              in_function = at.has.in_function;
-            };
-            waits = at.waits;
-            input_is = at.input_is;
-            bytes = at.bytes;
-          };
-        }))
+        (at_here program
+        (at_other program code inner frames tokens input s fs left at next there s.environment values placed judged
+        (has_same at.has.values values (λ z among. same z (at.has.values.below z among)))
+        (slots_moved at.has.tokens (λ y p is. refl) (λ y low unspent. same (v + y) (omega (arith, low)))))))
 
   -- ---- tests of tokens
 

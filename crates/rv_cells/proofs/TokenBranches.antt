@@ -59,7 +59,7 @@ use Rattle.rv_cells.proofs.Values.{among_by, value_same}
 use Rattle.rv_cells.proofs.TokenCases.{ArmAt, arm_stands, arm_first, arm_part, arm_bare, arm_short, arm_numbered, arm_marked}
 use Rattle.rv_cells.proofs.TokenCases.{arm_slots, arm_keeps, tree_moved, case_there}
 use Rattle.rv_cells.proofs.TokenFills.{fills_behind}
-use Rattle.rv_cells.proofs.TokenContinuations.{machine_at, token_at, seen_action, does_by, kept_after}
+use Rattle.rv_cells.proofs.TokenContinuations.{machine_at, token_at, at_here, near_here, at_other, seen_action, does_by, kept_after}
 use Rattle.rv_cells.proofs.TokenLineCosts.{forms}
 use Rattle.rv_cells.proofs.TokenRelation.{Lowering, target, texts, setting, upper, At, GivesUp, ComesTo, IsAhead, IsBehind, IsFilling, IsNear}
 use Rattle.rv_cells.proofs.TokenRelation.{MayStandFor, IsFitFrom, by_near, finds, Follows_step}
@@ -152,15 +152,7 @@ module _ (program : Lowering) where
       (turn_of left s.frame fs s.world)
   gives_up_step y rest inner frames tokens input s fs left idle lists plain judged at idle_is fit =
       let later = drop_judged y rest inner frames tokens input s lists plain judged fit in
-      drop_idle y rest inner frames tokens input s lists plain judged fit idle fs left idle_is (inl (record {
-        spot = s;
-        fs = fs;
-        left = left;
-        environment_is = refl;
-        heap_is = refl;
-        turn_is = refl;
-        at = at later;
-      }))
+      drop_idle y rest inner frames tokens input s lists plain judged fit idle fs left idle_is (inl (at_here program (at later)))
 
   -- ---- the case
 
@@ -170,25 +162,9 @@ module _ (program : Lowering) where
       → At program body inner frames tokens input s fs there ⊎ GivesUp program body inner frames tokens input s fs there
       → MayStandFor program (TokenControl.running body s.environment inner)
       (machine_at program body s.environment inner frames s.heap tokens) input (turn_of there s.frame fs s.world)
-  reached body inner frames tokens input s fs there holds (inl at) = inl (record {
-    spot = s;
-    fs = fs;
-    left = there;
-    environment_is = refl;
-    heap_is = refl;
-    turn_is = refl;
-    at = at;
-  })
-  reached body inner frames tokens input s fs there holds (inr gives) = inr (record {
-    spot = s;
-    fs = fs;
-    left = there;
-    environment_is = refl;
-    heap_is = refl;
-    turn_is = refl;
-    follows = holds;
-    near = inr (inl gives);
-  })
+  reached body inner frames tokens input s fs there holds (inl at) = inl (at_here program at)
+  reached body inner frames tokens input s fs there holds (inr gives) =
+      inr (near_here program body inner frames tokens input s fs there holds (inr (inl gives)))
 
   -- behind a comparison a case comes to its arm
   case_step : (x : ℕ) (arms : TokenedArms) (test : Bool) (idle : ℕ) (inner : List TokenJoin) (frames : List TokenFrame)
@@ -242,26 +218,18 @@ module _ (program : Lowering) where
       → Follows_step program idle (token_at program code s.environment inner frames s.heap tokens input)
       (turn_of left s.frame fs s.world)
   behind_step (Tokened.drop y rest) idle inner frames tokens input s fs left is idle_is fit =
-      drop_idle y rest inner frames tokens input s is.lists is.ahead.0 is.judged fit idle fs left idle_is (inr (record {
-        spot = s;
-        fs = fs;
-        left = left;
-        environment_is = refl;
-        heap_is = refl;
-        turn_is = refl;
+      drop_idle y rest inner frames tokens input s is.lists is.ahead.0 is.judged fit idle fs left idle_is (inr (near_here program rest inner frames tokens input s fs left is.follows
+      (inl (record {
+        x = is.x;
+        arms = is.arms;
+        test = is.test;
+        lists = is.lists;
+        ahead = is.ahead.1;
+        truth_is = is.truth_is;
         follows = is.follows;
-        near = inl (record {
-          x = is.x;
-          arms = is.arms;
-          test = is.test;
-          lists = is.lists;
-          ahead = is.ahead.1;
-          truth_is = is.truth_is;
-          follows = is.follows;
-          judged = drop_judged y rest inner frames tokens input s is.lists is.ahead.0 is.judged fit;
-          comes = is.comes;
-        });
-      }))
+        judged = drop_judged y rest inner frames tokens input s is.lists is.ahead.0 is.judged fit;
+        comes = is.comes;
+      }))))
   behind_step (Tokened.case y decisions others) idle inner frames tokens input s fs left is idle_is fit =
       let same : Tokened.case is.x truth_decisions is.arms ≡ Tokened.case y decisions others
       = sym (λ i. Tokened.case (is.ahead.0 i) (is.ahead.1.0 i) (is.ahead.1.1 i)) in
@@ -535,23 +503,20 @@ module _ (program : Lowering) (x : ℕ) (operator : BinaryOperator) (a b : ℕ) 
         omega (arith, short, few, some)
 
     -- a code stands where the arm does
-    stands_there : (code : Tokened)
-        (lines : CodeLines lines_setting at.shape.variables at.does.goal stands.low code stands.first stands.high)
+    stands_there : (next : Tokened)
+        (lines : CodeLines lines_setting at.shape.variables at.does.goal stands.low next stands.first stands.high)
         → StandsAt at.shape.root (((at.does.placed.before ++ parts.choice) ++ stands.before) ++ (label ∷ []))
-        (tree_in lines_setting at.shape.variables at.does.goal stands.low code stands.first stands.high lines)
-        → HasMark program.marks at.shape.holds at.shape.result s.bound at.does.given (bare code)
-        → AreNumbered at.shape.variables (x ∷ s.bound) (bare code) → HasSlots at.shape.slots code → Keeps at.shape.standing code
-        → forms code ≤ program.most
-        → IsJudged program.pool.cells at.lists.left at.lists.unspent at.lists.held at.lists.older code inner frames s.heap tokens
-        → At program code inner frames tokens input later_spot fs behind
-    stands_there code lines code_stands marked numbered has keeps short judged = record {
-      shape = at.shape;
-      lists = at.lists;
-      judged = judged;
-      does = record {
-        goal = at.does.goal;
-        given = at.does.given;
-        placed = record {
+        (tree_in lines_setting at.shape.variables at.does.goal stands.low next stands.first stands.high lines)
+        → HasMark program.marks at.shape.holds at.shape.result s.bound at.does.given (bare next)
+        → AreNumbered at.shape.variables (x ∷ s.bound) (bare next) → HasSlots at.shape.slots next → Keeps at.shape.standing next
+        → forms next ≤ program.most
+        → IsJudged program.pool.cells at.lists.left at.lists.unspent at.lists.held at.lists.older next inner frames s.heap tokens
+        → At program next inner frames tokens input later_spot fs behind
+    stands_there next lines next_stands marked numbered has keeps short judged =
+        at_other program
+        (Tokened.compute x (Binary operator) (a ∷ b ∷ []) others (drops_before ys (Tokened.case x truth_decisions arms))) inner frames
+        tokens input s fs left at next behind later_spot.environment s.frame.cells
+        (record {
           before = ((at.does.placed.before ++ parts.choice) ++ stands.before) ++ (label ∷ []);
           own = stands.first;
           after = stands.rest ++ after;
@@ -561,30 +526,14 @@ module _ (program : Lowering) (x : ℕ) (operator : BinaryOperator) (a b : ℕ) 
           left_is = refl;
           place = place
               ∙ sym (append_assoc ((at.does.placed.before ++ parts.choice) ++ stands.before) (label ∷ []) behind);
-          stands = code_stands;
+          stands = next_stands;
           marked = marked;
-          numbered = numbered_fewer at.shape.variables (bare code) (x ∷ s.bound) s.bound (within_one x s.bound) numbered;
+          numbered = numbered_fewer at.shape.variables (bare next) (x ∷ s.bound) s.bound (within_one x s.bound) numbered;
           has = has;
           keeps = keeps;
           short = short;
-        };
-        continues = at.does.continues;
-      };
-      follows = at.follows;
-      cells = at.cells;
-      has = record {
-        values = values_stay at.has.values x value at.does.placed.numbered.1.0;
-        below = at.has.below;
-        tokens = at.has.tokens;
-        held_is = at.has.held_is;
-        formed = at.has.formed;
-        in_function = at.has.in_function;
-      };
-      stand = at.stand;
-      waits = at.waits;
-      input_is = at.input_is;
-      bytes = at.bytes;
-    }
+        })
+        judged (values_stay at.has.values x value at.does.placed.numbered.1.0) at.has.tokens
 
     -- an arm that does not name the variable
     apart_at : names x (bare body) ≡ false

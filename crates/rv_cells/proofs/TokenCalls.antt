@@ -41,12 +41,12 @@ use Rattle.rv_cells.specs.TokenedLines.{IsFunctionOf}
 use Rattle.rv_cells.proofs.Values.{HasValues, among_by}
 use Rattle.rv_cells.proofs.Runs.{left_at, turn_of, Runs, runs_then}
 use Rattle.rv_cells.proofs.CallLines.{temporaries_many, put_row, row_below, row_has, copies_run, has_parameters, call_runs, full_call_runs, tail_call_runs}
-use Rattle.rv_cells.proofs.FormPlaces.{stands_itself, stands_behind}
+use Rattle.rv_cells.proofs.FormPlaces.{stands_itself}
 use Rattle.rv_cells.proofs.Spots.{Spot, saved}
-use Rattle.rv_cells.proofs.TokenRelation.{SlotIs, HaveSlotValues, HaveTokenCells, held_values, Shape, Lowering, target, texts, setting, upper, pace, root_in, IsRootOf, continues_more, HasFrame, AllWait, At, by_lines, Follows_step}
+use Rattle.rv_cells.proofs.TokenRelation.{Placed, SlotIs, HaveSlotValues, HaveTokenCells, held_values, Shape, Lowering, target, texts, setting, upper, pace, root_in, IsRootOf, HasFrame, AllWait, At, by_lines, Follows_step}
 use Rattle.rv_cells.proofs.TokenFrames.{slots_moved, as_many_wait}
 use Rattle.rv_cells.proofs.BoundVariables.{within_one, all_among}
-use Rattle.rv_cells.proofs.TokenContinuations.{token_at, CodeSteps, seen_action, does_by, kept_after}
+use Rattle.rv_cells.proofs.TokenContinuations.{token_at, does_behind, CodeSteps, seen_action, does_by, kept_after}
 
 -- ---- arguments and parameters
 
@@ -161,6 +161,42 @@ module _ {layout : Layout} {address : ℕ → ℕ} {holds : ℕ → Bool} {base 
 module _ (program : Lowering) where
   -- ---- a function that is entered
 
+  -- the shape of a function whose lines these are
+  abbrev pub shape_of : (f : ℕ) (function : TokenedFunction) (lines : Lines)
+      → IsFunctionOf program.layout (texts program) program.marks f function lines → Shape
+  shape_of f function lines of = record {
+    function = f;
+    root = root_in program f function lines of;
+    holds = of.lowered.holds;
+    variables = of.lowered.variables;
+    slots = of.lowered.slots;
+    result = result_mark program.marks f;
+    standing = of.lowered.standing;
+  }
+
+  -- its body is placed at all of them
+  pub body_placed : (f : ℕ) (function : TokenedFunction) (lines : Lines)
+      (of : IsFunctionOf program.layout (texts program) program.marks f function lines)
+      → slice_get program.code.functions f ≡ Some function
+      → Placed program (shape_of f function lines of) returns (result_mark program.marks f)
+      (numbers_from 0 function.parameters) lines.code function.body lines.code
+  body_placed f function lines of function_is = record {
+    before = [];
+    own = lines.code;
+    after = [];
+    low = 0;
+    high = of.lowered.labels;
+    lines = of.lowered.code;
+    left_is = sym (append-nil lines.code);
+    place = refl;
+    stands = stands_itself (root_in program f function lines of);
+    marked = of.marked.body_marked;
+    numbered = of.numbered;
+    has = of.has;
+    keeps = of.lowered.keeps;
+    short = program.short f function function_is;
+  }
+
   module _ (s : Spot) (shape : Shape) (slots : ℕ → Slot) (held : List ℕ)
       (has : HasFrame program shape s.address (length s.heap) slots held s.bound s.environment s.frame) (f : ℕ) (xs : List ℕ)
       (all : AllAmong xs s.bound) (have : HaveMarks shape.holds xs (parameter_marks program.marks f)) (function : TokenedFunction)
@@ -226,36 +262,13 @@ module _ (program : Lowering) where
         → At program function.body [] frames tokens input (entered_spot entry.values) fs lines.code
     body_at there function_is root_is frames tokens helds input fs judged none stands cells waits input_is bytes =
         record {
-          shape = record {
-            function = f;
-            root = root_in program f function lines of;
-            holds = of.lowered.holds;
-            variables = of.lowered.variables;
-            slots = of.lowered.slots;
-            result = result_mark program.marks f;
-            standing = of.lowered.standing;
-          };
+          shape = shape_of f function lines of;
           lists = record { left = []; unspent = []; held = []; older = helds };
           judged = judged;
           does = record {
             goal = returns;
             given = result_mark program.marks f;
-            placed = record {
-              before = [];
-              own = lines.code;
-              after = [];
-              low = 0;
-              high = of.lowered.labels;
-              lines = of.lowered.code;
-              left_is = sym (append-nil lines.code);
-              place = refl;
-              stands = stands_itself (root_in program f function lines of);
-              marked = of.marked.body_marked;
-              numbered = of.numbered;
-              has = of.has;
-              keeps = of.lowered.keeps;
-              short = program.short f function function_is;
-            };
+            placed = body_placed f function lines of function_is;
             continues = refl;
           };
           follows = stands;
@@ -333,28 +346,9 @@ module _ (program : Lowering) where
               below = p.numbered.0;
               kind = p.marked.1.0.1;
               nothing = p.keeps.0;
-              does = record {
-                goal = at.does.goal;
-                given = at.does.given;
-                placed = record {
-                  before = p.before ++ p.lines.0;
-                  own = p.lines.1;
-                  after = p.after;
-                  low = p.lines.2;
-                  high = p.high;
-                  lines = p.lines.5;
-                  left_is = refl;
-                  place = place;
-                  stands = stands_behind p.stands (record { way = 0 ∷ []; is_part = inl refl; code_is = refl });
-                  marked = p.marked.1.1;
-                  numbered = p.numbered.1.1;
-                  has = p.has.1;
-                  keeps = p.keeps.1.1;
-                  short = omega arith;
-                };
-                continues = continues_more program at.shape s.frame.whole inner at.does.goal at.does.given s.bound (x ∷ s.bound)
-                    (within_one x s.bound) at.does.continues;
-              };
+              does = does_behind program code inner frames tokens input s fs left at rest p.lines.0 p.lines.1 p.lines.2 p.lines.5
+                  (record { way = 0 ∷ []; is_part = inl refl; code_is = refl }) s.frame.whole refl place (x ∷ s.bound) (within_one x s.bound)
+                  p.marked.1.1 p.numbered.1.1 p.has.1 p.keeps.1.1 (omega arith);
               has = record {
                 values = has_row at.has.values ws;
                 below = at.has.below;

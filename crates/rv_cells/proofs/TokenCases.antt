@@ -62,23 +62,33 @@ pub record NodeAt (layout : Layout) (base nodes : ℕ) (ways : Ways) (x k : ℕ)
   pub test : TestLines layout base ways.to (ways.behind k) x at edges otherwise own
   pub later : NodesLines layout base nodes ways x (suc k) behind rest
 
+-- the first of the nodes that are left, which tests
+node_first : (layout : Layout) (base nodes : ℕ) (ways : Ways) (x k : ℕ) (one : NodeTree) (more : List NodeTree) (lines : List Line)
+    (at : List ℕ) (edges : List Edge) (otherwise : Option ℕ) → NodesLines layout base nodes ways x k (one ∷ more) lines
+    → one ≡ tests at edges otherwise
+    → (stands : NodeAt layout base nodes ways x k at edges otherwise more lines) × (stands.before ≡ [])
+node_first layout base nodes ways x k one more lines at edges otherwise are same =
+    let node = subst (λ t. NodeLines layout base nodes ways x k t are.0) same are.2 in (
+      record {
+        before = [];
+        own = node.0;
+        rest = are.1;
+        is = are.4 ∙ ap (λ ls. ls ++ are.1) node.2;
+        test = node.1;
+        later = are.3;
+      },
+      refl,
+    )
+
 pub node_at : (layout : Layout) (base nodes : ℕ) (ways : Ways) (x k j n : ℕ) (decisions : List NodeTree) (lines : List Line)
     (at : List ℕ) (edges : List Edge) (otherwise : Option ℕ) → n ≡ k + j → NodesLines layout base nodes ways x k decisions lines
     → slice_get decisions j ≡ Some (tests at edges otherwise)
     → NodeAt layout base nodes ways x n at edges otherwise (drop (suc j) decisions) lines
 node_at layout base nodes ways x k j n [] lines at edges otherwise number are is = cc
 node_at layout base nodes ways x k zero n (one ∷ more) lines at edges otherwise number are is =
-    let same : one ≡ tests at edges otherwise = some-is is in
     let here : k ≡ n = omega (arith, number) in
-    let node = subst (λ t. NodeLines layout base nodes ways x k t are.0) same are.2 in
-    subst (λ n. NodeAt layout base nodes ways x n at edges otherwise more lines) here (record {
-      before = [];
-      own = node.0;
-      rest = are.1;
-      is = are.4 ∙ ap (λ ls. ls ++ are.1) node.2;
-      test = node.1;
-      later = are.3;
-    })
+    subst (λ n. NodeAt layout base nodes ways x n at edges otherwise more lines) here
+    (node_first layout base nodes ways x k one more lines at edges otherwise are (some-is is)).0
 node_at layout base nodes ways x k (suc j) n (one ∷ more) lines at edges otherwise number are is =
     let later = node_at layout base nodes ways x (suc k) j n more are.1 at edges otherwise (omega (arith, number)) are.3 is in
     record {
@@ -563,19 +573,8 @@ module _ (program : Lowering) (x : ℕ) (decisions : List NodeTree) (arms : Toke
             × (stands.before ≡ [])
         first_at [] way edges otherwise are node_is = cc
         first_at (one ∷ more) way edges otherwise are node_is =
-            let same : one ≡ tests way edges otherwise = some-is node_is in
-            let node = subst (λ t. NodeLines program.layout base at.does.placed.lines.2
-            (ways_of decisions at.does.placed.lines.2 at.does.placed.low) x 0 t are.0) same are.2 in (
-              record {
-                before = [];
-                own = node.0;
-                rest = are.1;
-                is = are.4 ∙ ap (λ ls. ls ++ are.1) node.2;
-                test = node.1;
-                later = are.3;
-              },
-              refl,
-            )
+            node_first program.layout base at.does.placed.lines.2 (ways_of decisions at.does.placed.lines.2 at.does.placed.low) x 0
+            one more at.does.placed.lines.0 way edges otherwise are (some-is node_is)
 
         by : (node : NodeTree) → slice_get decisions 0 ≡ Some node
             → Goes (walk_cost (length decisions) 0) (choice ++ tail) there s.frame.cells

@@ -1,5 +1,5 @@
 -- The lines of forms that leave the tokens as they are, and do the steps of the machine with tokens.
-use Rattle.std.proofs.Common.{inl, ◌≡◌, ℕ, suc, ◌+◌, ◌*◌, ◌<◌, ◌≤◌, true, List, [], ◌∷◌, ◌++◌, length, map, Option, Some, None, refl, sym, ◌∙◌, ap, subst, arith}
+use Rattle.std.proofs.Common.{inl, ◌≡◌, ℕ, suc, ◌+◌, ◌*◌, ◌<◌, ◌≤◌, true, false, List, [], ◌∷◌, ◌++◌, length, map, Option, Some, None, refl, sym, ◌∙◌, ap, subst, arith}
 use Rattle.kk_syntax.specs.Shapes.{is_among}
 use Rattle.kk_source.specs.Live.{value_of}
 use Rattle.kk_source.specs.Actions.{Action, goes}
@@ -11,13 +11,14 @@ use Rattle.kk_counted.specs.References.{cells_of}
 use Rattle.kk_counted.specs.Marks.{HasMark}
 use Rattle.kk_counted.specs.TokenKeeping.{Lists, IsJudged, ListsAfter, AreKeptBy}
 use Rattle.kk_counted.specs.TokenMachine.{token_code_step, at_code, to_heap}
-use Rattle.kk_counted.specs.TokenRuns.{AllLead}
+use Rattle.kk_counted.specs.TokenRuns.{is_quiet, AllLead}
 use Rattle.kk_counted.specs.TokenStates.{TokenJoin, TokenFrame, TokenConfiguration, bare_join, bare_configuration}
 use Rattle.kk_counted.specs.TokenedCodes.{Tokened}
 use Rattle.kk_counted.specs.Tokens.{Tokens, is_linked, marked}
 use Rattle.rv_isa.specs.AsmCode.{Line}
 use Rattle.rv_isa.specs.Frames.{Frame}
-use Rattle.rv_world.specs.World.{with_cells}
+use Rattle.rv_world.specs.World.{World, with_cells}
+use Rattle.rv_cells.specs.CountedCells.{Owner}
 use Rattle.rv_cells.specs.CellLines.{dup_lines, drop_lines}
 use Rattle.rv_cells.specs.TokenedLines.{CodeLines, HasSlots, Keeps}
 use Rattle.rv_cells.proofs.BoundVariables.{AreWithin, within_itself}
@@ -32,7 +33,7 @@ use Rattle.rv_cells.proofs.TokenLineCosts.{forms}
 use Rattle.rv_cells.proofs.TokenRelation.{lines_setting}
 use Rattle.rv_cells.proofs.TokenRelation.{IsTokenCell, token_words, Lowering, setting, upper, known_of, At, IsFitFrom, Follows_step}
 use Rattle.rv_cells.proofs.TokenContents.{stand_moved}
-use Rattle.rv_cells.proofs.TokenContinuations.{lands_did, token_at, machine_at, CodeSteps, IsSilent, silent_goes, seen_action, GoesTo, goes_on, kept_after}
+use Rattle.rv_cells.proofs.TokenContinuations.{lands_did, token_at, machine_at, StepsOn, CodeSteps, IsSilent, silent_goes, seen_action, GoesTo, goes_on, kept_after}
 
 heap_there : (o : Option Heap) (from to : TokenConfiguration) → NotStuck (bare_configuration (to_heap o from to)).control
     → (next : Heap) × (o ≡ Some next)
@@ -108,6 +109,33 @@ module _ (program : Lowering) where
         })
         silent cheap is less short
 
+    -- so where no variable is bound, and the step changes counts alone
+    goes_counted : (idle : ℕ) (fit : IsFitFrom program (token_at program code s.environment inner frames s.heap tokens input))
+        (rest : Tokened) (own more : List Line) (heap : Heap) (frame : Frame Line) (owners : ℕ → Owner) (world : World) (most : ℕ)
+        → Did (known_of program at.shape) most own (more ++ at.does.placed.after) fs s
+        (record s { heap = heap; frame = frame; owners = owners; world = world })
+        → length heap ≡ length s.heap → cells_of heap ≡ cells_of s.heap → at.does.placed.own ≡ own ++ more
+        → (lines : CodeLines (lines_setting program at.shape)
+        at.shape.variables at.does.goal at.does.placed.low rest more at.does.placed.high)
+        → GoesTo program code inner frames tokens input s fs left at rest own more at.does.placed.low lines
+        → HasMark program.marks at.shape.holds at.shape.result s.bound at.does.given (bare rest)
+        → AreNumbered at.shape.variables s.bound (bare rest) → HasSlots at.shape.slots rest → Keeps at.shape.standing rest
+        → token_code_step (setting program) code s.environment inner (machine_at program code s.environment inner frames s.heap tokens)
+        ≡ goes (machine_at program rest s.environment inner frames heap tokens)
+        → is_quiet code ≡ false → ((next : Lists) → ListsAfter code inner at.lists next → next ≡ at.lists)
+        → most ≤ (upper program).weight (token_at program code s.environment inner frames s.heap tokens input)
+        → suc (forms rest) ≤ idle → forms rest ≤ program.most → StepsOn program idle code inner frames tokens input s fs left
+    goes_counted idle fit rest own more heap frame owners world most did long recounted parts lines part_is marked_is numbered has
+        keeps step loud stay cheap less short =
+        let kept = subst (AllLead (AreKeptBy program.pool.cells (ListsAfter code inner at.lists))) step
+        (kept_after program code inner frames tokens input s fs left at (fit 0).keeps loud) in
+        goes_did idle fit rest own more (record s { heap = heap; frame = frame; owners = owners; world = world }) s.bound most goes did
+        refl long recounted parts at.does.placed.low lines part_is (within_itself s.bound) (within_itself s.bound) at.has.below
+        marked_is numbered has keeps
+        (subst (λ (l : Lists). IsJudged program.pool.cells l.left l.unspent l.held l.older rest inner frames heap tokens)
+        (stay kept.0 kept.1.0) kept.1.1)
+        (silent_goes program) cheap (ap (λ action. seen_action program action input) step) less short
+
   pub at_dup : (x : ℕ) (rest : Tokened) → CodeSteps program (Tokened.dup x rest)
   at_dup x rest idle inner frames tokens input s fs left idle_is at fit =
       let p = at.does.placed in
@@ -121,18 +149,12 @@ module _ (program : Lowering) where
       (λ name. let small = counts name in omega arith) in
       let step : token_code_step (setting program) code s.environment inner from
       ≡ goes (machine_at program rest s.environment inner frames next.0 tokens) = ap (λ o. goes (to_heap o from there)) next.1 in
-      let kept = subst (AllLead (AreKeptBy program.pool.cells (ListsAfter code inner at.lists))) step
-      (kept_after program code inner frames tokens input s fs left at (fit 0).keeps refl) in
       let few = p.short in
-      goes_did code inner frames tokens input s fs left at idle fit rest (dup_lines at.shape.holds x) p.lines.0
-      (record s { heap = next.0; owners = done.0; world = with_cells s.world done.1 }) s.bound (most_moves + 5) goes done.2 refl
+      goes_counted code inner frames tokens input s fs left at idle fit rest (dup_lines at.shape.holds x) p.lines.0 next.0 s.frame
+      done.0 (with_cells s.world done.1) (most_moves + 5) done.2
       (dup_length (value_of s.environment x) s.heap next.0 next.1) (dup_cells (value_of s.environment x) s.heap next.0 next.1)
-      p.lines.2 p.low p.lines.1 (record { way = 0 ∷ []; is_part = inl refl; code_is = refl }) (within_itself s.bound)
-      (within_itself s.bound) at.has.below p.marked.1 p.numbered p.has p.keeps
-      (subst (λ (l : Lists). IsJudged program.pool.cells l.left l.unspent l.held l.older rest inner frames next.0 tokens) kept.1.0
-      kept.1.1)
-      (silent_goes program) (omega arith) (ap (λ action. seen_action program action input) step) (omega (arith, idle_is))
-      (omega arith)
+      p.lines.2 p.lines.1 (record { way = 0 ∷ []; is_part = inl refl; code_is = refl }) p.marked.1 p.numbered p.has p.keeps step refl
+      (λ lists is. is) (omega arith) (omega (arith, idle_is)) (omega arith)
 
   pub at_drop : (x : ℕ) (rest : Tokened) → CodeSteps program (Tokened.drop x rest)
   at_drop x rest idle inner frames tokens input s fs left idle_is at fit =
@@ -145,16 +167,9 @@ module _ (program : Lowering) where
       let done = drop_did (known_of program at.shape) (p.lines.0 ++ p.after) fs s here x p.marked.0 next.0 next.1 in
       let step : token_code_step (setting program) code s.environment inner from
       ≡ goes (machine_at program rest s.environment inner frames next.0 tokens) = ap (λ o. goes (to_heap o from there)) next.1 in
-      let kept = subst (AllLead (AreKeptBy program.pool.cells (ListsAfter code inner at.lists))) step
-      (kept_after program code inner frames tokens input s fs left at (fit 0).keeps refl) in
       let few = p.short in
-      goes_did code inner frames tokens input s fs left at idle fit rest (drop_lines (at.shape.variables + at.shape.slots) at.shape.holds x) p.lines.0
-      (record s { heap = next.0; frame = done.0; owners = done.1; world = with_cells s.world done.2 }) s.bound (2 * most_moves + 16)
-      goes done.3 refl
+      goes_counted code inner frames tokens input s fs left at idle fit rest (drop_lines (at.shape.variables + at.shape.slots) at.shape.holds x) p.lines.0
+      next.0 done.0 done.1 (with_cells s.world done.2) (2 * most_moves + 16) done.3
       (drop_length (value_of s.environment x) s.heap next.0 next.1) (drop_cells (value_of s.environment x) s.heap next.0 next.1)
-      p.lines.2 p.low p.lines.1 (record { way = 0 ∷ []; is_part = inl refl; code_is = refl }) (within_itself s.bound)
-      (within_itself s.bound) at.has.below p.marked.1 p.numbered p.has p.keeps
-      (subst (λ (l : Lists). IsJudged program.pool.cells l.left l.unspent l.held l.older rest inner frames next.0 tokens) kept.1.0
-      kept.1.1)
-      (silent_goes program) (omega arith) (ap (λ action. seen_action program action input) step) (omega (arith, idle_is))
-      (omega arith)
+      p.lines.2 p.lines.1 (record { way = 0 ∷ []; is_part = inl refl; code_is = refl }) p.marked.1 p.numbered p.has p.keeps step refl
+      (λ lists is. is) (omega arith) (omega (arith, idle_is)) (omega arith)

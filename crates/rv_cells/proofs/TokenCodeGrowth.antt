@@ -153,7 +153,24 @@ step_runs {a} {b} {c} {d} {label} facts variables x block took part labelled = r
       );
 }
 
--- a step whose own lines were written, and no text
+-- a step before others whose own lines were written, and no text
+step_before : {a b : Lowering} (facts : Facts) (variables : ℕ) (move : TokenedMove) (behind : List TokenedMove) (lines : List Line)
+    → Grows 0 lines a b
+    → ((rest : Tokened) → tokened_prints (put_tokened move rest) ≡ tokened_prints rest)
+    → ((later : List (List ℕ)) (goal : Goal) (rest : Tokened) (more : List Line) (high : ℕ)
+    → CodeLines (setting_in facts a.base (texts_written b ++ later)) variables goal b.next_label (plug_tokened behind rest) more high
+    → CodeLines (setting_in facts a.base (texts_written b ++ later)) variables goal a.next_label
+    (put_tokened move (plug_tokened behind rest)) (lines ++ more) high)
+    → WroteTokenedSteps facts variables (move ∷ []) behind a b
+step_before facts variables move behind lines grows same are = record {
+  lines = lines;
+  n = 0;
+  grows = grows;
+  counted = λ rest. same rest ∙ zero_plus (tokened_prints rest);
+  are = are;
+}
+
+-- and one whose lines tell nothing of the steps behind it
 step_alone : {a b : Lowering} (facts : Facts) (variables : ℕ) (move : TokenedMove) (lines : List Line) → Grows 0 lines a b
     → ((rest : Tokened) → tokened_prints (put_tokened move rest) ≡ tokened_prints rest)
     → ((later : List (List ℕ)) (goal : Goal) (rest : Tokened) (more : List Line) (high : ℕ)
@@ -161,13 +178,7 @@ step_alone : {a b : Lowering} (facts : Facts) (variables : ℕ) (move : TokenedM
     → CodeLines (setting_in facts a.base (texts_written b ++ later)) variables goal a.next_label (put_tokened move rest)
     (lines ++ more) high)
     → WroteTokenedSteps facts variables (move ∷ []) [] a b
-step_alone facts variables move lines grows same are = record {
-  lines = lines;
-  n = 0;
-  grows = grows;
-  counted = λ rest. same rest ∙ zero_plus (tokened_prints rest);
-  are = are;
-}
+step_alone facts variables move lines grows same are = step_before facts variables move [] lines grows same are
 
 pub step_reads : {a b : Lowering} (facts : Facts) (variables x c : ℕ) (fields : List ℕ) → WroteLines (ReadLines x fields) a b
     → WroteTokenedSteps facts variables (TokenedMove.reads x c fields ∷ []) [] a b
@@ -176,42 +187,37 @@ step_reads facts variables x c fields wrote =
     (λ later goal rest more high is.
     (wrote.lines, more, wrote.are, code_same facts variables goal rest more high refl refl wrote.wrote.label is, refl))
 
--- an opening, behind which its slot's construction may come
+-- the lines of an opening, behind which its slot's construction may come, stand before those of the steps behind it
+opens_before : {a b : Lowering} (facts : Facts) (variables x c : ℕ) (fields used : List ℕ) (y : ℕ) (into : Option ℕ)
+    (behind : List TokenedMove) → ((rest : Tokened) → MayFill into y (plug_tokened behind rest))
+    → (wrote : WroteOpening facts.holds x fields used (variables + y) into a b)
+    → (later : List (List ℕ)) (goal : Goal) (rest : Tokened) (more : List Line) (high : ℕ)
+    → CodeLines (setting_in facts a.base (texts_written b ++ later)) variables goal b.next_label (plug_tokened behind rest) more high
+    → CodeLines (setting_in facts a.base (texts_written b ++ later)) variables goal a.next_label
+    (Tokened.open_cell x c fields used y (plug_tokened behind rest)) (wrote.lines ++ more) high
+opens_before facts variables x c fields used y into behind may wrote later goal rest more high is = (
+  wrote.lines,
+  more,
+  (into, may rest, wrote.are),
+  code_same facts variables goal (plug_tokened behind rest) more high refl refl wrote.label is,
+  refl,
+)
+
 pub step_opens : {a b : Lowering} (facts : Facts) (variables x c : ℕ) (fields used : List ℕ) (y : ℕ) (into : Option ℕ)
     (behind : List TokenedMove) → ((rest : Tokened) → MayFill into y (plug_tokened behind rest))
     → WroteOpening facts.holds x fields used (variables + y) into a b
     → WroteTokenedSteps facts variables (TokenedMove.opens x c fields used y ∷ []) behind a b
-step_opens facts variables x c fields used y into behind may wrote = record {
-  lines = wrote.lines;
-  n = 0;
-  grows = wrote.grows;
-  counted = λ rest. zero_plus (tokened_prints rest);
-  are = λ later goal rest more high is. (
-    wrote.lines,
-    more,
-    (into, may rest, wrote.are),
-    code_same facts variables goal (plug_tokened behind rest) more high refl refl wrote.label is,
-    refl,
-  );
-}
+step_opens facts variables x c fields used y into behind may wrote =
+    step_before facts variables (TokenedMove.opens x c fields used y) behind wrote.lines wrote.grows (λ rest. refl)
+    (opens_before facts variables x c fields used y into behind may wrote)
 
 pub step_opens_unique : {a b : Lowering} (facts : Facts) (variables x c : ℕ) (fields used : List ℕ) (y : ℕ) (into : Option ℕ)
     (behind : List TokenedMove) → ((rest : Tokened) → MayFill into y (plug_tokened behind rest))
     → WroteOpening facts.holds x fields used (variables + y) into a b
     → WroteTokenedSteps facts variables (TokenedMove.opens_unique x c fields used y ∷ []) behind a b
-step_opens_unique facts variables x c fields used y into behind may wrote = record {
-  lines = wrote.lines;
-  n = 0;
-  grows = wrote.grows;
-  counted = λ rest. zero_plus (tokened_prints rest);
-  are = λ later goal rest more high is. (
-    wrote.lines,
-    more,
-    (into, may rest, wrote.are),
-    code_same facts variables goal (plug_tokened behind rest) more high refl refl wrote.label is,
-    refl,
-  );
-}
+step_opens_unique facts variables x c fields used y into behind may wrote =
+    step_before facts variables (TokenedMove.opens_unique x c fields used y) behind wrote.lines wrote.grows (λ rest. refl)
+    (opens_before facts variables x c fields used y into behind may wrote)
 
 pub step_dups : {a b : Lowering} (facts : Facts) (variables x : ℕ) → Wrote (dup_lines facts.holds x) a b
     → WroteTokenedSteps facts variables (TokenedMove.dups x ∷ []) [] a b

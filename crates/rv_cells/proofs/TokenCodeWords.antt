@@ -31,7 +31,7 @@ use Rattle.rv_cells.specs.ComparisonBranch.{branch_of}
 use Rattle.rv_cells.specs.CountedLines.{Setting, ways_of}
 use Rattle.rv_cells.specs.Layout.{Layout, header_of}
 use Rattle.rv_cells.specs.Tables.{table_of, layout_in}
-use Rattle.rv_cells.specs.TokenedLines.{values_of_slots, header_stands, count_stands, AskLines, OwnLines, CaseLines, LinesBehind}
+use Rattle.rv_cells.specs.TokenedLines.{CodeLines, values_of_slots, header_stands, count_stands, AskLines, OwnLines, CaseLines, LinesBehind}
 use Rattle.rv_cells.specs.TokenedLines.{ArmsLines, IsFunctionOf}
 use Rattle.rv_cells.specs.TokenedLowered.{IsTokenedForm}
 use Rattle.rv_cells.proofs.FormLengths.{lines_append, loads_length, dup_length, drop_length, token_unique_length, fill_length}
@@ -99,6 +99,17 @@ module _ (setting : Setting) (variables : ℕ) where
       omega (arith, short)
   choice_few (Some branch) nodes arms x decisions choice is = let whole = ap code_length is in omega (arith, whole)
 
+  -- the lines of an opening and those of the code behind it are few, however many tokens are left then
+  opening_few : (x c : ℕ) (fields used : List ℕ) (y : ℕ) (rest : Tokened) (goal : Goal) (low high : ℕ) (lines : List Line)
+      → (is : CodeLines setting variables goal low (Tokened.open_cell x c fields used y rest) lines high) → AreFew rest is.1
+      → AreFew (Tokened.open_cell x c fields used y rest) lines
+  opening_few x c fields used y rest goal low high lines is more =
+      let whole = ap code_length is.4 in
+      let apart = lines_append is.0 is.1 in
+      let own = token_unique_length setting.holds setting.base low (low + 1) (low + 2) x fields used (variables + y) is.2.0
+      is.0 is.2.2 in
+      omega (arith, whole, apart, own, more)
+
   mutual
     code_few : (branch : Option Branching) (code : Tokened) (goal : Goal) (low high : ℕ) (lines : List Line)
         (left unspent held : List ℕ) → HasArities (bare code) → SpendsTokens left unspent held code
@@ -135,19 +146,11 @@ module _ (setting : Setting) (variables : ℕ) where
         let more = code_few None rest goal low high is.1 left unspent [] arities spends.1 is.3 in
         omega (arith, whole, apart, own, more)
     code_few branch (Tokened.open_cell x c fields used y rest) goal low high lines left unspent held arities spends is =
-        let whole = ap code_length is.4 in
-        let apart = lines_append is.0 is.1 in
-        let own = token_unique_length setting.holds setting.base low (low + 1) (low + 2) x fields used (variables + y) is.2.0
-        is.0 is.2.2 in
-        let more = code_few None rest goal (low + 2) high is.1 left (y ∷ unspent) [] arities spends.1.1 is.3 in
-        omega (arith, whole, apart, own, more)
+        opening_few x c fields used y rest goal low high lines is
+        (code_few None rest goal (low + 2) high is.1 left (y ∷ unspent) [] arities spends.1.1 is.3)
     code_few branch (Tokened.if_unique x c fields used y rest) goal low high lines left unspent held arities spends is =
-        let whole = ap code_length is.4 in
-        let apart = lines_append is.0 is.1 in
-        let own = token_unique_length setting.holds setting.base low (low + 1) (low + 2) x fields used (variables + y) is.2.0
-        is.0 is.2.2 in
-        let more = code_few None rest goal (low + 2) high is.1 left (y ∷ unspent) [] arities spends.1.1 is.3 in
-        omega (arith, whole, apart, own, more)
+        opening_few x c fields used y rest goal low high lines is
+        (code_few None rest goal (low + 2) high is.1 left (y ∷ unspent) [] arities spends.1.1 is.3)
     code_few branch (Tokened.dup x rest) goal low high lines left unspent held arities spends is =
         let whole = ap code_length is.2 in
         let apart = lines_append (dup_lines setting.holds x) is.0 in

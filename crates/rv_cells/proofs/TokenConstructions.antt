@@ -5,7 +5,6 @@ use Rattle.std.proofs.lemmas.List.{length-map}
 use Rattle.kk_syntax.specs.declared.program.Form.TheVariants.{Construct}
 use Rattle.kk_source.specs.State.{Value}
 use Rattle.kk_counted.specs.Keeping.{values_of}
-use Rattle.kk_counted.specs.Marks.{field_marks}
 use Rattle.kk_counted.specs.TokenKeeping.{AreTokens}
 use Rattle.kk_counted.specs.TokenMachine.{make_step, bound_to}
 use Rattle.kk_counted.specs.TokenStates.{TokenConfiguration}
@@ -15,16 +14,14 @@ use Rattle.kk_counted.proofs.TokenChain.{frames_many}
 use Rattle.rv_isa.specs.AsmCode.{Line}
 use Rattle.rv_isa.specs.Frames.{put}
 use Rattle.rv_lower.proofs.FormEffects.{put_same, put_other}
-use Rattle.rv_cells.specs.Layout.{FitFields}
 use Rattle.rv_cells.specs.TokenedLines.{values_of_slots}
 use Rattle.rv_cells.proofs.CellActions.{put_in, sets_runs}
-use Rattle.rv_cells.proofs.BoundVariables.{all_among, apart_above, not_bound}
+use Rattle.rv_cells.proofs.BoundVariables.{all_among, not_bound}
 use Rattle.rv_cells.proofs.LineCosts.{most_moves}
 use Rattle.rv_cells.proofs.Runs.{turn_of, Runs}
 use Rattle.rv_cells.proofs.Values.{has_other}
 use Rattle.rv_cells.proofs.HeldConstructions.{steps_asking}
-use Rattle.rv_cells.proofs.PlainConstructions.{at_construct}
-use Rattle.rv_cells.proofs.TokenCalls.{arguments_fit}
+use Rattle.rv_cells.proofs.PlainConstructions.{making_of, at_construct}
 use Rattle.rv_cells.proofs.TokenFrames.{slots_moved}
 use Rattle.rv_cells.proofs.TokenContinuations.{machine_at, CodeSteps}
 use Rattle.rv_cells.proofs.TokenRelation.{Lowering, target}
@@ -89,15 +86,7 @@ at_asked program x c a more other others rest idle inner frames tokens input s f
       among = λ z is. sym (at.judged.spends.0.1.1 z) ∙ is;
       all_are = λ z is. at.judged.spends.0.1.1 z ∙ is;
       values = values;
-      making = record {
-        below = omega (arith, below);
-        bound = all;
-        apart = apart_above x (a ∷ more) s.bound p.numbered.1.0 all;
-        holds = p.marked.1.0.1;
-        fits = subst (λ marks. FitFields marks (values_of s.environment (a ∷ more))) (sym (program.fields_are c))
-            (arguments_fit at.has.values (a ∷ more) (field_marks program.marks c) all p.marked.1.0.0);
-        older = (fit 0).bare.sound.older;
-      };
+      making = making_of program x c a more named rest inner frames tokens input s fs left at (put_in x 0 s.frame) (fit 0).bare.sound.older;
       has_values = has_other at.has.values x 0 (not_bound x s.bound p.numbered.1.0);
       slots_are = slots_moved at.has.tokens (λ z q is. refl)
           (λ z few unspent. put_other x (v + z) 0 s.frame.cells (λ e. omega (arith, e, below)));

@@ -1,5 +1,5 @@
 -- Lines of one form lead to those of the code behind it, in the same function: what is to be shown of the place where it goes on.
-use Rattle.std.proofs.Common.{◌≡◌, ℕ, suc, ◌+◌, ◌<◌, ◌≤◌, true, false, List, [], ◌∷◌, ◌++◌, length, flat_map, refl, sym, ◌∙◌, ap, subst, arith, append_assoc}
+use Rattle.std.proofs.Common.{◌≡◌, ℕ, suc, ◌+◌, ◌<◌, ◌≤◌, ◌⊎◌, true, false, List, [], ◌∷◌, ◌++◌, length, flat_map, Option, Some, refl, sym, ◌∙◌, ap, subst, arith, append_assoc}
 use Rattle.kk_base.specs.Trace.{Event}
 use Rattle.kk_syntax.specs.Shapes.{is_among}
 use Rattle.kk_source.specs.State.{Environment}
@@ -10,12 +10,13 @@ use Rattle.kk_counted.specs.Heaps.{Heap}
 use Rattle.kk_counted.specs.Lowerable.{AreNumbered}
 use Rattle.kk_counted.specs.Marks.{HasMark}
 use Rattle.kk_counted.specs.TokenKeeping.{Lists, IsJudged, ListsAfter, AreKeptBy}
-use Rattle.kk_counted.specs.TokenMachine.{token_code_step}
+use Rattle.kk_counted.specs.TokenMachine.{token_code_step, at_code, to_tokens}
 use Rattle.kk_counted.specs.TokenRuns.{is_quiet, AllLead}
 use Rattle.kk_counted.specs.TokenStates.{TokenJoin, TokenFrame, TokenControl, TokenConfiguration, TokenState}
 use Rattle.kk_counted.specs.TokenedCodes.{Tokened}
 use Rattle.kk_counted.specs.Tokens.{Tokens}
 use Rattle.kk_counted.proofs.KeptFields.{KeepsAt, keeps_fills}
+use Rattle.kk_counted.proofs.TokenChain.{frames_many}
 use Rattle.kk_counted.proofs.TokenSteps.{follows}
 use Rattle.kk_counted.proofs.TokenOnlyForms.{unseen}
 use Rattle.rv_isa.specs.AsmCode.{Line}
@@ -29,12 +30,13 @@ use Rattle.rv_cells.specs.TokenedLines.{CodeLines, HasSlots, Keeps}
 use Rattle.rv_cells.proofs.Runs.{turn_of, Runs}
 use Rattle.rv_cells.proofs.Spots.{Spot, Known, Here, Did, saved}
 use Rattle.rv_cells.proofs.TokenOpenings.{LeadsTo}
-use Rattle.rv_cells.specs.CountedCells.{Owner}
+use Rattle.rv_cells.specs.CountedCells.{Owner, Follows}
 use Rattle.rv_cells.proofs.BoundVariables.{AreWithin, has_fewer, within_itself}
 use Rattle.rv_cells.proofs.FormPlaces.{tree_in, Next, stands_behind}
+use Rattle.rv_cells.proofs.Values.{HasValues}
 use Rattle.rv_cells.proofs.TokenLineCosts.{forms}
 use Rattle.rv_cells.proofs.TokenRelation.{lines_setting}
-use Rattle.rv_cells.proofs.TokenRelation.{HaveSlotValues, HaveTokenCells, AllStand, held_values, Lowering, setting, upper, known_of, Continues, continues_more, AllWait, At, IsFitFrom, Follow, by_lines, Follows_step}
+use Rattle.rv_cells.proofs.TokenRelation.{Placed, Does, IsAt, GivesUp, IsBehind, IsFilling, IsNear, HaveSlotValues, HaveTokenCells, AllStand, held_values, Lowering, setting, upper, known_of, Continues, continues_more, AllWait, At, IsFitFrom, Follow, by_lines, Follows_step}
 
 -- ---- lines
 
@@ -89,13 +91,35 @@ module _ (program : Lowering) where
   token_at code environment inner frames heap tokens input =
       record { machine = machine_at code environment inner frames heap tokens; input = input }
 
+  -- The lines that are left from a spot on do the step of the machine with tokens at a code.
+  abbrev pub StepsOn : ℕ → Tokened → List TokenJoin → List TokenFrame → Tokens → List ℕ → Spot → List (Frame Line) → List Line → Type 0
+  StepsOn idle code inner frames tokens input s fs left =
+      Follows_step program idle (token_at code s.environment inner frames s.heap tokens input) (turn_of left s.frame fs s.world)
+
   -- The step of each form, as its lines do it: one type for all of them.
   abbrev pub CodeSteps : Tokened → Type 0
   CodeSteps code =
       (idle : ℕ) (inner : List TokenJoin) (frames : List TokenFrame) (tokens : Tokens) (input : List ℕ) (s : Spot)
       (fs : List (Frame Line)) (left : List Line) → idle ≡ forms code → At program code inner frames tokens input s fs left
       → IsFitFrom program (token_at code s.environment inner frames s.heap tokens input)
-      → Follows_step program idle (token_at code s.environment inner frames s.heap tokens input) (turn_of left s.frame fs s.world)
+      → StepsOn idle code inner frames tokens input s fs left
+
+  -- a turn at a spot where a code stands, and one where lines are near it
+  pub at_here : {code : Tokened} {inner : List TokenJoin} {frames : List TokenFrame} {tokens : Tokens} {input : List ℕ} {s : Spot}
+      {fs : List (Frame Line)} {left : List Line} → At program code inner frames tokens input s fs left
+      → IsAt program code s.environment inner (machine_at code s.environment inner frames s.heap tokens) input
+      (turn_of left s.frame fs s.world)
+  at_here {s = s} {fs = fs} {left = left} at =
+      record { spot = s; fs = fs; left = left; environment_is = refl; heap_is = refl; turn_is = refl; at = at }
+
+  pub near_here : (code : Tokened) (inner : List TokenJoin) (frames : List TokenFrame) (tokens : Tokens) (input : List ℕ) (s : Spot)
+      (fs : List (Frame Line)) (left : List Line) → Follows program.pool program.layout s.address s.owners s.heap s.world.cells
+      → IsBehind program code inner frames tokens input s fs left
+      ⊎ (GivesUp program code inner frames tokens input s fs left ⊎ IsFilling program code inner frames tokens input s fs left)
+      → IsNear program code s.environment inner (machine_at code s.environment inner frames s.heap tokens) input
+      (turn_of left s.frame fs s.world)
+  near_here code inner frames tokens input s fs left follows near =
+      record { spot = s; fs = fs; left = left; environment_is = refl; heap_is = refl; turn_is = refl; follows = follows; near = near }
 
   -- an action as the world sees it
   abbrev pub seen_action : Action TokenConfiguration → List ℕ → List Event × TokenState
@@ -161,6 +185,75 @@ module _ (program : Lowering) where
         (tree_in (lines_setting program at.shape)
         at.shape.variables at.does.goal low rest more at.does.placed.high lines)
 
+    -- Another code of the function stands where its lines are placed, with other values of the same variables, and temporaries.
+    pub at_other : (next : Tokened) (there : List Line) (environment : Environment) (values : ℕ → Option ℕ)
+        → Placed program at.shape at.does.goal at.does.given s.bound s.frame.whole next there
+        → IsJudged program.pool.cells at.lists.left at.lists.unspent at.lists.held at.lists.older next inner frames s.heap tokens
+        → HasValues program.layout s.address at.shape.holds (at.shape.variables + at.shape.slots) (length s.heap) s.bound environment
+        values
+        → HaveSlotValues s.address (tokens.slots (length at.lists.older)) at.shape.variables at.shape.slots values
+        → At program next inner frames tokens input (record s { environment = environment; frame = record s.frame { cells = values } })
+        fs there
+    at_other next there environment values placed judged has_values slots_are = record {
+      shape = at.shape;
+      lists = at.lists;
+      judged = judged;
+      does = record {
+        goal = at.does.goal;
+        given = at.does.given;
+        placed = placed;
+        continues = at.does.continues;
+      };
+      follows = at.follows;
+      cells = at.cells;
+      stand = at.stand;
+      has = record {
+        values = has_values;
+        below = at.has.below;
+        tokens = slots_are;
+        held_is = at.has.held_is;
+        formed = at.has.formed;
+        in_function = at.has.in_function;
+      };
+      waits = at.waits;
+      input_is = at.input_is;
+      bytes = at.bytes;
+    }
+
+    -- the function at the rest of the code, behind these own lines of the code, with more variables bound
+    abbrev pub does_behind : (rest : Tokened) (own more : List Line) (low : ℕ)
+        (lines : CodeLines (lines_setting program at.shape) at.shape.variables at.does.goal low rest more at.does.placed.high)
+        → GoesTo rest own more low lines → (whole : List Line) → s.frame.whole ≡ whole
+        → whole ≡ (at.does.placed.before ++ own) ++ (more ++ at.does.placed.after) → (later : List ℕ) → AreWithin s.bound later
+        → HasMark program.marks at.shape.holds at.shape.result later at.does.given (bare rest)
+        → AreNumbered at.shape.variables later (bare rest) → HasSlots at.shape.slots rest → Keeps at.shape.standing rest
+        → forms rest ≤ program.most → Does program at.shape later whole rest inner (more ++ at.does.placed.after)
+    does_behind rest own more low lines part_is whole whole_is place later within marked numbered has keeps short =
+        let p = at.does.placed in
+        record {
+          goal = at.does.goal;
+          given = at.does.given;
+          placed = record {
+            before = p.before ++ own;
+            own = more;
+            after = p.after;
+            low = low;
+            high = p.high;
+            lines = lines;
+            left_is = refl;
+            place = place;
+            stands = stands_behind p.stands part_is;
+            marked = marked;
+            numbered = numbered;
+            has = has;
+            keeps = keeps;
+            short = short;
+          };
+          continues = subst (λ w. Continues program at.shape w inner at.does.goal at.does.given later) whole_is
+              (continues_more program at.shape s.frame.whole inner at.does.goal at.does.given s.bound later within
+              at.does.continues);
+        }
+
     -- What is to be shown of a spot, with older frames, tokens and lists, for a code to go on there behind some own lines.
     pub record GoesOn (rest : Tokened) (own more : List Line) (to : Spot) (gs : List (Frame Line)) (after : Tokens) (later : List ℕ)
         (next : Lists) : Type 0 where
@@ -196,30 +289,10 @@ module _ (program : Lowering) where
           shape = at.shape;
           lists = next;
           judged = on.judged;
-          does = record {
-            goal = at.does.goal;
-            given = at.does.given;
-            placed = record {
-              before = p.before ++ own;
-              own = more;
-              after = p.after;
-              low = on.low;
-              high = p.high;
-              lines = on.lines;
-              left_is = refl;
-              place = whole_is ∙ split_at s.frame.whole p.before left own more p.after p.place
-                  (p.left_is ∙ ap (λ ls. ls ++ p.after) on.parts);
-              stands = stands_behind p.stands on.part_is;
-              marked = on.marked;
-              numbered = on.numbered;
-              has = on.has;
-              keeps = on.keeps;
-              short = short;
-            };
-            continues = subst (λ w. Continues program at.shape w inner at.does.goal at.does.given later) whole
-                (continues_more program at.shape s.frame.whole inner at.does.goal at.does.given s.bound later on.older
-                at.does.continues);
-          };
+          does = does_behind rest own more on.low on.lines on.part_is to.frame.whole whole
+              (whole_is ∙ split_at s.frame.whole p.before left own more p.after p.place
+              (p.left_is ∙ ap (λ ls. ls ++ p.after) on.parts))
+              later on.older on.marked on.numbered on.has on.keeps short;
           follows = here.follows;
           cells = on.cells;
           stand = on.stand;
@@ -304,6 +377,35 @@ module _ (program : Lowering) where
       pub numbered : AreNumbered at.shape.variables s.bound (bare rest)
       pub has : HasSlots at.shape.slots rest
       pub keeps : Keeps at.shape.standing rest
+
+    -- That line stands in front of the lines of the code behind it, and the code says no more without its tokens than that one.
+    pub acts_by : (rest : Tokened) (line : Line)
+        → (lines : (more : List Line) × CodeLines (lines_setting program at.shape)
+        at.shape.variables at.does.goal at.does.placed.low rest more at.does.placed.high
+        × (at.does.placed.own ≡ line ∷ more))
+        → forms code ≡ suc (forms rest) → bare code ≡ bare rest
+        → GoesTo rest (line ∷ []) lines.0 at.does.placed.low lines.1 → HasSlots at.shape.slots rest → Keeps at.shape.standing rest
+        → ActsOnTokens rest line lines.0
+    acts_by rest line lines forms_are bare_is part_is has keeps = record {
+      forms_are = forms_are;
+      parts = lines.2;
+      lines = lines.1;
+      part_is = part_is;
+      marked = subst (HasMark program.marks at.shape.holds at.shape.result s.bound at.does.given) bare_is at.does.placed.marked;
+      numbered = subst (AreNumbered at.shape.variables s.bound) bare_is at.does.placed.numbered;
+      has = has;
+      keeps = keeps;
+    }
+
+    -- the step of such a code, by what becomes of the tokens, for which the number of the newest frame is told
+    pub tokens_step : (rest : Tokened) (does : ℕ → Option Tokens) (after : Tokens) → does (length at.lists.older) ≡ Some after
+        → goes (to_tokens (does (length frames)) (machine_at code s.environment inner frames s.heap tokens)
+        (at_code rest s.environment inner (machine_at code s.environment inner frames s.heap tokens)))
+        ≡ goes (machine_at rest s.environment inner frames s.heap after)
+    tokens_step rest does after is =
+        let before = machine_at code s.environment inner frames s.heap tokens in
+        ap (λ o. goes (to_tokens o before (at_code rest s.environment inner before)))
+        (ap does (frames_many tokens.slots at.lists.older frames at.judged.waiting) ∙ is)
 
     -- what is to be shown of the tokens behind it, by their lists, where a spot has this heap still
     pub record HasTokens (rest : Tokened) (to : Spot) (after : Tokens) (next : Lists) : Type 0 where

@@ -14,6 +14,7 @@ use Rattle.cell_heap.specs.Blocks.{past_links}
 use Rattle.rv_cells.specs.Layout.{Layout, words_in}
 use Rattle.rv_cells.specs.CountedCells.{AreFrom, assign}
 use Rattle.rv_cells.proofs.NameContents.{some-is}
+use Rattle.rv_cells.proofs.Owners.{chosen_other}
 use Rattle.rv_cells.proofs.Words.{words_older, all_within_more}
 use Rattle.rv_cells.proofs.TokenRelation.{token_words}
 
@@ -48,6 +49,10 @@ grown_words layout address heap made at p older low =
     (fields_below made heap p (ne_eqb (length heap) p (λ e. omega (arith, e, low))))
     ∙ words_older layout (length heap) at address (fields_held heap p)
     (all_within_more p (length heap) (fields_held heap p) (omega (arith, low)) (older p))
+
+-- and the addresses of those stay
+pub grown_stays : (size at p : ℕ) (address : ℕ → ℕ) → p < size → assign size at address p ≡ address p
+grown_stays size at p address less = chosen_other p size at address (λ e. omega (arith, e, less))
 
 -- the cell that a value names, and its fields, which are held at its name
 pub cell_is : (c count : ℕ) (heap : Heap) (v : Value) (named : Named) → cell_named c count heap v ≡ Some named

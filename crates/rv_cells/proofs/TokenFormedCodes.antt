@@ -41,7 +41,7 @@ use Rattle.rv_cells.specs.CountedLines.{Setting, ComputeLines}
 use Rattle.rv_cells.specs.declared.compare.Branching.{Branching}
 use Rattle.rv_cells.specs.ComparisonBranch.{branch_of, IsTested, MayJoin}
 use Rattle.rv_cells.specs.TokenedLines.{values_of_slots, HasSlots, HaveSlots, header_stands, count_stands, OwnLines, IsFillOf, MayFill}
-use Rattle.rv_cells.specs.TokenedLines.{OpeningLines, LinesBehind, CodeLines, ArmsLines}
+use Rattle.rv_cells.specs.TokenedLines.{LinesBehind, CodeLines, ArmsLines}
 use Rattle.rv_cells.proofs.AskedForms.{Asks, ask_either}
 use Rattle.rv_cells.proofs.CellForms.{effect, kept_list, bound_later}
 use Rattle.rv_cells.proofs.BoundVariables.{within_one}
@@ -296,23 +296,23 @@ module _ (layout : Layout) (holds : ℕ → Bool) (texts : Texts) (standing : St
       (λ own is. (let less = is.0 in omega (arith, less), (_, own.4 ∙ ap (λ ls. ls ++ own.1) own.2.4))) there.is are numbered
 
   -- an opening, before the code behind it
-  opening_fits : (x : ℕ) (fields used : List ℕ) (y : ℕ) (rest : Tokened) (bound outer unspent left held : List ℕ) (goal : Goal)
-      (low high : ℕ) (lines own more : List Line) → HasRoom variables bound → held ≡ [] → is_among bound x ≡ true → AreBelow
-      variables fields
-      → y < slots → OpeningLines setting variables low x fields used y rest own
-      → CodeLines setting variables goal (low + 2) rest more high → AreNumbered variables (fields ++ bound) (bare rest)
-      → lines ≡ own ++ more
-      → HeldFits [] (reads (y ∷ unspent) (fields ++ bound)) (reads left outer) goal (low + 2) high more
+  opening_fits : (x c : ℕ) (fields used : List ℕ) (y : ℕ) (rest : Tokened) (bound outer unspent left held : List ℕ) (goal : Goal)
+      (low high : ℕ) (lines : List Line) → (is : CodeLines setting variables goal low (Tokened.open_cell x c fields used y rest) lines
+      high) → HasRoom variables bound → held ≡ [] → is_among bound x ≡ true
+      → AreNumbered variables bound (bare (Tokened.open_cell x c fields used y rest)) → y < slots
+      → HeldFits [] (reads (y ∷ unspent) (fields ++ bound)) (reads left outer) goal (low + 2) high is.1
       → HeldFits held (reads unspent bound) (reads left outer) goal low high lines
-  opening_fits x fields used y rest bound outer unspent left held goal low high lines own more has none there below few opening
-      are numbered lines_are later =
+  opening_fits x c fields used y rest bound outer unspent left held goal low high lines is has none there numbered few later =
+      let own = is.0 in
+      let more = is.1 in
+      let opening = is.2 in
       none_held held (reads unspent bound) (reads left outer) goal low high lines none
-      (subst (FitsCode (reads unspent bound) (reads left outer) goal low high) (sym lines_are)
+      (subst (FitsCode (reads unspent bound) (reads left outer) goal low high) (sym is.4)
       (fits_token_unique (variables + slots) (reads unspent bound) (reads left outer) (has_room unspent bound has) holds x
-      (variable_there variables slots unspent bound x there) fields used (below_more variables slots fields below)
+      (variable_there variables slots unspent bound x there) fields used (below_more variables slots fields numbered.0.0)
       (variables + y) (omega (arith, few)) goal low high opening.0 own more opening.2
-      (λ made is. fill_begins made y rest (subst (λ into. MayFill into y rest) is opening.1) (fields ++ bound) goal (low + 2) high
-      more are numbered)
+      (λ made into_is. fill_begins made y rest (subst (λ into. MayFill into y rest) into_is opening.1) (fields ++ bound) goal (low + 2)
+      high more is.3 numbered.1)
       (fits_weaker (variables + slots) (reads (y ∷ unspent) (fields ++ bound))
       ((variables + y) ∷ bound_list fields (reads unspent bound)) (reads left outer) goal (low + 2) high more
       (slot_more y unspent (fields ++ bound) (bound_list fields (reads unspent bound))
@@ -428,15 +428,13 @@ module _ (layout : Layout) (holds : ℕ → Bool) (texts : Texts) (standing : St
         arities few at.1 spends.1 tt tt is.3)))))
     code_fits (Tokened.open_cell x c fields used y rest) bound outer unspent left held given goal low high lines has within marked
         numbered arms some arities few at spends below apart is =
-        opening_fits x fields used y rest bound outer unspent left held goal low high lines is.0 is.1 has at.0 marked.0.0
-        numbered.0.0 few.0 is.2 is.3 numbered.1 is.4
+        opening_fits x c fields used y rest bound outer unspent left held goal low high lines is has at.0 marked.0.0 numbered few.0
         (code_fits rest (fields ++ bound) outer (y ∷ unspent) left [] given goal (low + 2) high is.1
         (room_front variables bound fields has numbered.0.0) (behind fields bound outer within) marked.1 numbered.1 arms some
         arities few.1 at.1 spends.1.1 tt tt is.3)
     code_fits (Tokened.if_unique x c fields used y rest) bound outer unspent left held given goal low high lines has within marked
         numbered arms some arities few at spends below apart is =
-        opening_fits x fields used y rest bound outer unspent left held goal low high lines is.0 is.1 has at.0 marked.0.0
-        numbered.0.0 few.0 is.2 is.3 numbered.1 is.4
+        opening_fits x c fields used y rest bound outer unspent left held goal low high lines is has at.0 marked.0.0 numbered few.0
         (code_fits rest (fields ++ bound) outer (y ∷ unspent) left [] given goal (low + 2) high is.1
         (room_front variables bound fields has numbered.0.0) (behind fields bound outer within) marked.1 numbered.1 arms some
         arities few.1 at.1 spends.1.1 tt tt is.3)

@@ -140,11 +140,13 @@ first_of slots variables (y ∷ ys) apart = by (is_token (slots y)) refl (first_
 module _ (program : Lowering) where
   -- ---- frames that wait
 
-  -- the same slots, by what they have
-  abbrev pub waits_at : {address : ℕ → ℕ} {next : ℕ} {slots others : ℕ → Slot} {held : List ℕ} {waiting : TokenFrame} {f : Frame Line}
-      {awaited : Bool} → Waits program address next slots held waiting f awaited → ((y : ℕ) → slots y ≡ others y)
-      → Waits program address next others held waiting f awaited
-  waits_at {address} {next} {slots} {others} {held} {waiting} {f} {awaited} w equal = record {
+  -- A frame still waits where its values and its held slots are others, by what it has then.
+  abbrev pub waits_so : {address : ℕ → ℕ} {next : ℕ} {slots : ℕ → Slot} {held : List ℕ} {waiting : TokenFrame} {f : Frame Line}
+      {awaited : Bool} → (w : Waits program address next slots held waiting f awaited) → (later : ℕ → ℕ) (more : ℕ)
+      (others : ℕ → Slot) (values : ℕ → Option ℕ) (row : List ℕ)
+      → HasFrame program w.shape later more others held w.bound waiting.environment (record f { cells = values; held = row })
+      → Waits program later more others held waiting (record f { cells = values; held = row }) awaited
+  waits_so w later more others values row has = record {
     shape = w.shape;
     bound = w.bound;
     into = w.into;
@@ -152,8 +154,16 @@ module _ (program : Lowering) where
     kind = w.kind;
     nothing = w.nothing;
     does = w.does;
-    has = subst (λ sl. HasFrame program w.shape address next sl held w.bound waiting.environment f) (fun_ext equal) w.has;
+    has = has;
   }
+
+  -- the same slots, by what they have
+  abbrev pub waits_at : {address : ℕ → ℕ} {next : ℕ} {slots others : ℕ → Slot} {held : List ℕ} {waiting : TokenFrame} {f : Frame Line}
+      {awaited : Bool} → Waits program address next slots held waiting f awaited → ((y : ℕ) → slots y ≡ others y)
+      → Waits program address next others held waiting f awaited
+  waits_at {address} {next} {slots} {others} {held} {waiting} {f} {awaited} w equal =
+      waits_so w address next others f.cells f.held
+      (subst (λ sl. HasFrame program w.shape address next sl held w.bound waiting.environment f) (fun_ext equal) w.has)
 
   pub all_wait_at : (address : ℕ → ℕ) (next : ℕ) (slots others : ℕ → ℕ → Slot) (helds : List (List ℕ)) (frames : List TokenFrame)
       (fs : List (Frame Line)) (awaited : Bool) → EqualBelow (length helds) slots others
@@ -180,23 +190,15 @@ module _ (program : Lowering) where
   all_carried address next later more slots (held ∷ helds) (waiting ∷ frames) [] awaited carries same wait = absurd wait
   all_carried address next later more slots (held ∷ helds) (waiting ∷ frames) (f ∷ fs) awaited carries same wait =
       let w = wait.0 in (
-        record {
-          shape = w.shape;
-          bound = w.bound;
-          into = w.into;
-          below = w.below;
-          kind = w.kind;
-          nothing = w.nothing;
-          does = w.does;
-          has = record {
-            values = carries w.shape.holds (w.shape.variables + w.shape.slots) w.bound waiting.environment f.cells w.has.values;
-            below = w.has.below;
-            tokens = slots_moved w.has.tokens (λ y p is. same (length helds) y p is) (λ y low unspent. refl);
-            held_is = w.has.held_is;
-            formed = w.has.formed;
-            in_function = w.has.in_function;
-          };
-        },
+        waits_so w later more (slots (length helds)) f.cells f.held
+            (record {
+              values = carries w.shape.holds (w.shape.variables + w.shape.slots) w.bound waiting.environment f.cells w.has.values;
+              below = w.has.below;
+              tokens = slots_moved w.has.tokens (λ y p is. same (length helds) y p is) (λ y low unspent. refl);
+              held_is = w.has.held_is;
+              formed = w.has.formed;
+              in_function = w.has.in_function;
+            }),
         all_carried address next later more slots helds frames fs w.shape.result carries same wait.1,
       )
 

@@ -2,15 +2,13 @@
 use Rattle.std.proofs.Common.{inl, ◌≡◌, ℕ, ◌+◌, ◌==◌, Bool, true, false, List, [], ◌∷◌, ◌++◌, length, Some, None, refl, sym, ◌∙◌, ap, subst, arith, eqb-true}
 use Rattle.std.specs.Prelude.{if◌then◌else◌, ◌||◌}
 use Rattle.kk_syntax.specs.Shapes.{is_among}
-use Rattle.kk_source.specs.Actions.{goes}
 use Rattle.kk_counted.specs.TokenKeeping.{chain_of, Lists, IsJudged}
-use Rattle.kk_counted.specs.TokenMachine.{token_code_step, at_code, to_tokens}
 use Rattle.kk_counted.specs.TokenStates.{TokenJoin, TokenFrame}
 use Rattle.kk_counted.specs.TokenedCodes.{Tokened}
-use Rattle.kk_counted.specs.Tokens.{Slot, token, is_token, Link, Tokens, is_linked, hold_link, unlinked, with_chain, unheld, held as holds_slot}
-use Rattle.kk_counted.proofs.TokenChain.{frames_many, not_linked}
+use Rattle.kk_counted.specs.Tokens.{Slot, null, token, is_token, Link, Tokens, is_linked, hold_link, unlinked, with_chain, unheld, held as holds_slot}
+use Rattle.kk_counted.proofs.TokenChain.{not_linked}
 use Rattle.kk_counted.proofs.SlotMarks.{by_null, by_cell}
-use Rattle.kk_counted.proofs.TokenForms.{Has, is_null, has_cell, unspent_has}
+use Rattle.kk_counted.proofs.TokenForms.{is_null, has_cell, unspent_has}
 use Rattle.rv_isa.specs.declared.asm.Action.TheVariants.{Hold, Unhold}
 use Rattle.rv_isa.specs.AsmCode.{Line}
 use Rattle.rv_isa.specs.Frames.{Frame, is_among as is_out}
@@ -22,13 +20,12 @@ use Rattle.rv_cells.specs.CountedCells.{in_hand, kept_aside, with_owner}
 use Rattle.rv_cells.proofs.Counts.{put_aside, taken_back}
 use Rattle.rv_cells.proofs.Words.{hand_owned, aside_owned}
 use Rattle.rv_cells.proofs.HeldTokens.{holding_now, hold_runs, hold_null_runs, unhold_runs, unhold_null_runs}
-use Rattle.rv_cells.proofs.Runs.{turn_of}
 use Rattle.rv_cells.proofs.Spots.{Spot}
 use Rattle.rv_cells.proofs.TokenCells.{cell_turns}
 use Rattle.rv_cells.proofs.TokenFields.{past_from}
-use Rattle.rv_cells.proofs.TokenRelation.{SlotIs, IsTokenCell, token_words, HaveSlotValues, held_values, Lowering, AllWait, target, setting, At, Follows_step}
+use Rattle.rv_cells.proofs.TokenRelation.{SlotIs, IsTokenCell, token_words, HaveSlotValues, held_values, Lowering, AllWait, target, At}
 use Rattle.rv_cells.proofs.TokenContents.{nothing_stands}
-use Rattle.rv_cells.proofs.TokenContinuations.{token_at, machine_at, CodeSteps, kept_quiet, ActsOnTokens, acts_on_tokens}
+use Rattle.rv_cells.proofs.TokenContinuations.{machine_at, StepsOn, CodeSteps, kept_quiet, ActsOnTokens, acts_by, tokens_step, acts_on_tokens}
 
 -- a slot that is not among the held ones has a value that is not held
 held_out : (slots : ℕ → Slot) (variables y : ℕ) (ys : List ℕ) → is_among ys y ≡ false
@@ -80,42 +77,31 @@ module _ (program : Lowering) (y : ℕ) (rest : Tokened) where
       → ActsOnTokens program (Tokened.hold y rest) inner frames tokens input s fs left at rest
       (acts Hold ((at.shape.variables + y) ∷ [])) at.does.placed.lines.0
   hold_acts inner frames tokens input s fs left at =
-      let p = at.does.placed in
-      record {
-        forms_are = refl;
-        parts = p.lines.2;
-        lines = p.lines.1;
-        part_is = record { way = []; is_part = inl refl; code_is = refl };
-        marked = p.marked;
-        numbered = p.numbered;
-        has = p.has.1;
-        keeps = p.keeps.1;
-      }
+      acts_by program (Tokened.hold y rest) inner frames tokens input s fs left at rest
+      (acts Hold ((at.shape.variables + y) ∷ [])) at.does.placed.lines refl refl
+      (record { way = []; is_part = inl refl; code_is = refl }) at.does.placed.has.1 at.does.placed.keeps.1
 
   pub at_hold : CodeSteps program (Tokened.hold y rest)
   at_hold idle inner frames tokens input s fs left idle_is at fit =
-      by (unspent_has (tokens.slots (length at.lists.older) y) (at.judged.slots_are y ∙ at.judged.spends.0))
+      elim (unspent_has (tokens.slots (length at.lists.older) y) (at.judged.slots_are y ∙ at.judged.spends.0)) [
+        | is_null empty ↦ holds_null empty
+        | has_cell q has ↦ holds_cell q has
+      ]
     where
-      by : Has (tokens.slots (length at.lists.older) y)
-          → Follows_step program idle (token_at program (Tokened.hold y rest) s.environment inner frames s.heap tokens input)
-          (turn_of left s.frame fs s.world)
-      by (is_null empty) =
+      holds_null : tokens.slots (length at.lists.older) y ≡ null
+          → StepsOn program idle (Tokened.hold y rest) inner frames tokens input s fs left
+      holds_null empty =
           let p = at.does.placed in
           let v = at.shape.variables in
           let n = length at.lists.older in
-          let many = frames_many tokens.slots at.lists.older frames at.judged.waiting in
           let slots = tokens.slots (length at.lists.older) in
           let line = acts Hold ((v + y) ∷ []) in
           let out : is_out (v + y) s.frame.held ≡ false = ap (is_out (v + y)) at.has.held_is
           ∙ held_out slots v y at.lists.held at.judged.spends.1.0 in
           let value : s.frame.cells (v + y) ≡ Some 0 = subst (λ slot. SlotIs s.address slot (s.frame.cells (v + y))) empty
           (at.has.tokens.are y) in
-          let from = machine_at program (Tokened.hold y rest) s.environment inner frames s.heap tokens in
-          let step : token_code_step (setting program) (Tokened.hold y rest) s.environment inner from
-          ≡ goes (machine_at program rest s.environment inner frames s.heap tokens)
-          = ap (λ o. goes (to_tokens o from (at_code rest s.environment inner from)))
-          (ap (λ f. holds_slot f y tokens) many
-          ∙ by_null program.pool.cells None (Some tokens) (λ q. hold_link n y tokens) n y tokens empty) in
+          let step = tokens_step program (Tokened.hold y rest) inner frames tokens input s fs left at rest (λ f. holds_slot f y tokens) tokens
+          (by_null program.pool.cells None (Some tokens) (λ q. hold_link n y tokens) n y tokens empty) in
           let kept = kept_quiet program (Tokened.hold y rest) inner frames tokens input s fs left at
           (machine_at program rest s.environment inner frames s.heap tokens) step refl in
           acts_on_tokens program (Tokened.hold y rest) inner frames tokens input s fs left at idle idle_is fit rest line
@@ -143,11 +129,13 @@ module _ (program : Lowering) (y : ℕ) (rest : Tokened) where
             waits = at.waits;
           })
           (omega arith) step
-      by (has_cell q has) =
+
+      holds_cell : (q : ℕ) → tokens.slots (length at.lists.older) y ≡ token q
+          → StepsOn program idle (Tokened.hold y rest) inner frames tokens input s fs left
+      holds_cell q has =
           let p = at.does.placed in
           let v = at.shape.variables in
           let n = length at.lists.older in
-          let many = frames_many tokens.slots at.lists.older frames at.judged.waiting in
           let slots = tokens.slots (length at.lists.older) in
           let pooled = at.judged.are.pooled in
           let line = acts Hold ((v + y) ∷ []) in
@@ -157,14 +145,10 @@ module _ (program : Lowering) (y : ℕ) (rest : Tokened) where
           (at.has.tokens.are y) in
           let links : List Link = record { frame = n; slot = y } ∷ tokens.chain in
           let after : Tokens = record tokens { chain = links } in
-          let from = machine_at program (Tokened.hold y rest) s.environment inner frames s.heap tokens in
           let free : is_linked n y tokens.chain ≡ false = ap (is_linked n y) at.judged.are.chain
           ∙ not_linked tokens.slots at.lists.held at.lists.older y at.judged.spends.1.0 in
-          let step : token_code_step (setting program) (Tokened.hold y rest) s.environment inner from
-          ≡ goes (machine_at program rest s.environment inner frames s.heap after)
-          = ap (λ o. goes (to_tokens o from (at_code rest s.environment inner from)))
-          (ap (λ f. holds_slot f y tokens) many
-          ∙ by_cell program.pool.cells None (Some tokens) (λ r. hold_link n y tokens) n y q s.heap tokens pooled has
+          let step = tokens_step program (Tokened.hold y rest) inner frames tokens input s fs left at rest (λ f. holds_slot f y tokens) after
+          (by_cell program.pool.cells None (Some tokens) (λ r. hold_link n y tokens) n y q s.heap tokens pooled has
           ∙ ap (λ b. if b then None else Some after) free) in
           let kept = kept_quiet program (Tokened.hold y rest) inner frames tokens input s fs left at
           (machine_at program rest s.environment inner frames s.heap after) step refl in
@@ -215,41 +199,30 @@ module _ (program : Lowering) (y : ℕ) (rest : Tokened) where
       → ActsOnTokens program (Tokened.unhold y rest) inner frames tokens input s fs left at rest
       (acts Unhold ((at.shape.variables + y) ∷ [])) at.does.placed.lines.0
   unhold_acts inner frames tokens input s fs left at =
-      let p = at.does.placed in
-      record {
-        forms_are = refl;
-        parts = p.lines.2;
-        lines = p.lines.1;
-        part_is = record { way = []; is_part = inl refl; code_is = refl };
-        marked = p.marked;
-        numbered = p.numbered;
-        has = p.has.1;
-        keeps = p.keeps.1;
-      }
+      acts_by program (Tokened.unhold y rest) inner frames tokens input s fs left at rest
+      (acts Unhold ((at.shape.variables + y) ∷ [])) at.does.placed.lines refl refl
+      (record { way = []; is_part = inl refl; code_is = refl }) at.does.placed.has.1 at.does.placed.keeps.1
 
   pub at_unhold : CodeSteps program (Tokened.unhold y rest)
   at_unhold idle inner frames tokens input s fs left idle_is at fit =
-      by (unspent_has (tokens.slots (length at.lists.older) y) (at.judged.slots_are y ∙ at.judged.spends.1.1.0))
+      elim (unspent_has (tokens.slots (length at.lists.older) y) (at.judged.slots_are y ∙ at.judged.spends.1.1.0)) [
+        | is_null empty ↦ unholds_null empty
+        | has_cell q has ↦ unholds_cell q has
+      ]
     where
       lists_held : (a b : Lists) → a ≡ record b { held = y ∷ b.held } → (a.held ≡ y ∷ b.held) × (a.older ≡ b.older)
       lists_held a b e = (ap (λ (l : Lists). l.held) e, ap (λ (l : Lists). l.older) e)
 
-      by : Has (tokens.slots (length at.lists.older) y)
-          → Follows_step program idle (token_at program (Tokened.unhold y rest) s.environment inner frames s.heap tokens input)
-          (turn_of left s.frame fs s.world)
-      by (is_null empty) =
+      unholds_null : tokens.slots (length at.lists.older) y ≡ null
+          → StepsOn program idle (Tokened.unhold y rest) inner frames tokens input s fs left
+      unholds_null empty =
           let p = at.does.placed in
           let v = at.shape.variables in
           let n = length at.lists.older in
-          let many = frames_many tokens.slots at.lists.older frames at.judged.waiting in
           let slots = tokens.slots (length at.lists.older) in
           let line = acts Unhold ((v + y) ∷ []) in
-          let from = machine_at program (Tokened.unhold y rest) s.environment inner frames s.heap tokens in
-          let step : token_code_step (setting program) (Tokened.unhold y rest) s.environment inner from
-          ≡ goes (machine_at program rest s.environment inner frames s.heap tokens)
-          = ap (λ o. goes (to_tokens o from (at_code rest s.environment inner from)))
-          (ap (λ f. unheld f y tokens) many
-          ∙ by_null program.pool.cells None (Some tokens) (λ q. with_chain tokens (unlinked n y tokens.chain)) n y tokens empty) in
+          let step = tokens_step program (Tokened.unhold y rest) inner frames tokens input s fs left at rest (λ f. unheld f y tokens) tokens
+          (by_null program.pool.cells None (Some tokens) (λ q. with_chain tokens (unlinked n y tokens.chain)) n y tokens empty) in
           let kept = kept_quiet program (Tokened.unhold y rest) inner frames tokens input s fs left at
           (machine_at program rest s.environment inner frames s.heap tokens) step refl in
           let next = kept.0 in
@@ -284,15 +257,16 @@ module _ (program : Lowering) (y : ℕ) (rest : Tokened) where
             waits = subst (λ o. AllWait program s.address (length s.heap) tokens.slots o frames fs at.shape.result) parts.1 at.waits;
           })
           (omega arith) step
-      by (has_cell q has) =
+
+      unholds_cell : (q : ℕ) → tokens.slots (length at.lists.older) y ≡ token q
+          → StepsOn program idle (Tokened.unhold y rest) inner frames tokens input s fs left
+      unholds_cell q has =
           let p = at.does.placed in
           let v = at.shape.variables in
           let n = length at.lists.older in
-          let many = frames_many tokens.slots at.lists.older frames at.judged.waiting in
           let slots = tokens.slots (length at.lists.older) in
           let pooled = at.judged.are.pooled in
           let line = acts Unhold ((v + y) ∷ []) in
-          let from = machine_at program (Tokened.unhold y rest) s.environment inner frames s.heap tokens in
           let older_held = at.judged.spends.0 in
           let held_eq : at.lists.held ≡ y ∷ older_held = at.judged.spends.1.0 in
           let fresh : is_among older_held y ≡ false = (subst AreApart held_eq at.judged.apart).0 in
@@ -303,11 +277,8 @@ module _ (program : Lowering) (y : ℕ) (rest : Tokened) where
           ∙ ap (λ slot. if is_token slot then record { frame = n; slot = y } ∷ links else links) has in
           let top_is : with_chain tokens (unlinked n y tokens.chain) ≡ Some after
           = ap (λ ls. with_chain tokens (unlinked n y ls)) chain_is ∙ ap (with_chain tokens) (unlinked_here n y links) in
-          let step : token_code_step (setting program) (Tokened.unhold y rest) s.environment inner from
-          ≡ goes (machine_at program rest s.environment inner frames s.heap after)
-          = ap (λ o. goes (to_tokens o from (at_code rest s.environment inner from)))
-          (ap (λ f. unheld f y tokens) many
-          ∙ by_cell program.pool.cells None (Some tokens) (λ r. with_chain tokens (unlinked n y tokens.chain)) n y q s.heap tokens
+          let step = tokens_step program (Tokened.unhold y rest) inner frames tokens input s fs left at rest (λ f. unheld f y tokens) after
+          (by_cell program.pool.cells None (Some tokens) (λ r. with_chain tokens (unlinked n y tokens.chain)) n y q s.heap tokens
           pooled has ∙ top_is) in
           let kept = kept_quiet program (Tokened.unhold y rest) inner frames tokens input s fs left at
           (machine_at program rest s.environment inner frames s.heap after) step refl in

@@ -1,14 +1,12 @@
 -- The line that moves a token to another slot does the step of the machine with tokens.
 use Rattle.std.proofs.Common.{inl, ◌≡◌, ℕ, suc, ◌+◌, ◌<◌, ◌==◌, Bool, true, false, List, [], ◌∷◌, ◌++◌, length, Some, None, refl, sym, ◌∙◌, ap, subst, arith, eqb-true}
 use Rattle.kk_syntax.specs.Shapes.{is_among, without}
-use Rattle.kk_source.specs.Actions.{goes}
 use Rattle.kk_counted.specs.Heaps.{Heap}
 use Rattle.kk_counted.specs.TokenKeeping.{Lists, IsJudged}
-use Rattle.kk_counted.specs.TokenMachine.{token_code_step, at_code, to_tokens}
 use Rattle.kk_counted.specs.TokenStates.{TokenJoin, TokenFrame}
 use Rattle.kk_counted.specs.TokenedCodes.{Tokened}
 use Rattle.kk_counted.specs.Tokens.{Slot, spent, null, token, Mark, plain, token_of, one_if_token, Tokens, is_linked, slots_with, marks_with, marked, blanked, released, gained, moved}
-use Rattle.kk_counted.proofs.TokenChain.{equal_one, frames_many, not_linked}
+use Rattle.kk_counted.proofs.TokenChain.{equal_one, not_linked}
 use Rattle.kk_counted.proofs.SlotMarks.{slot_here, slot_there, by_null, by_cell, mark_here, mark_there, marked_with}
 use Rattle.kk_counted.proofs.TokenForms.{Has, is_null, has_cell, unspent_has}
 use Rattle.cell_heap.specs.Pool.{Pool}
@@ -23,9 +21,9 @@ use Rattle.rv_cells.proofs.Spots.{Spot, Here}
 use Rattle.rv_cells.proofs.TokenForms.{moves_token}
 use Rattle.rv_cells.proofs.TokenFrames.{none_behind, slots_put, all_wait_at}
 use Rattle.rv_cells.proofs.TokenLineCosts.{forms}
-use Rattle.rv_cells.proofs.TokenRelation.{SlotIs, IsTokenCell, token_words, HaveTokenCells, HaveSlotValues, held_values, Lowering, AllWait, setting, known_of, At, IsFitFrom, Follows_step}
+use Rattle.rv_cells.proofs.TokenRelation.{SlotIs, IsTokenCell, token_words, HaveTokenCells, HaveSlotValues, held_values, Lowering, AllWait, known_of, At, IsFitFrom, Follows_step}
 use Rattle.rv_cells.proofs.TokenContents.{nothing_stands}
-use Rattle.rv_cells.proofs.TokenContinuations.{lands_leads, token_at, machine_at, CodeSteps, kept_quiet, ActsOnTokens}
+use Rattle.rv_cells.proofs.TokenContinuations.{token_at, machine_at, CodeSteps, kept_quiet, ActsOnTokens, acts_by, tokens_step}
 use Rattle.rv_cells.proofs.TokenContinuations.{acts_on_tokens}
 use Rattle.rv_cells.proofs.TokenUniques.{slots_set, another}
 
@@ -87,17 +85,9 @@ module _ (program : Lowering) (to of : ℕ) (rest : Tokened) where
     move_acts : ActsOnTokens program (Tokened.move to of rest) inner frames tokens input s fs left at rest
         (copies_to (at.shape.variables + of) (at.shape.variables + to)) at.does.placed.lines.0
     move_acts =
-        let p = at.does.placed in
-        record {
-          forms_are = refl;
-          parts = p.lines.2;
-          lines = p.lines.1;
-          part_is = record { way = []; is_part = inl refl; code_is = refl };
-          marked = p.marked;
-          numbered = p.numbered;
-          has = p.has.1.1;
-          keeps = p.keeps.1;
-        }
+        acts_by program (Tokened.move to of rest) inner frames tokens input s fs left at rest
+        (copies_to (at.shape.variables + of) (at.shape.variables + to)) at.does.placed.lines refl refl
+        (record { way = []; is_part = inl refl; code_is = refl }) at.does.placed.has.1.1 at.does.placed.keeps.1
 
     -- the slot has this token with this word
     moves_it : (word : ℕ) (slot : Slot) (after : Tokens) → s.frame.cells (at.shape.variables + of) ≡ Some word
@@ -110,12 +100,9 @@ module _ (program : Lowering) (to of : ℕ) (rest : Tokened) where
         let p = at.does.placed in
         let v = at.shape.variables in
         let n = length at.lists.older in
-        let many = frames_many tokens.slots at.lists.older frames at.judged.waiting in
         let here : Here (known_of program at.shape) s = record { follows = at.follows; values = at.has.values } in
-        let from = machine_at program (Tokened.move to of rest) s.environment inner frames s.heap tokens in
-        let step : token_code_step (setting program) (Tokened.move to of rest) s.environment inner from
-        ≡ goes (machine_at program rest s.environment inner frames s.heap after)
-        = ap (λ o. goes (to_tokens o from (at_code rest s.environment inner from))) (ap (λ f. moved f to of tokens) many ∙ moved_is) in
+        let step = tokens_step program (Tokened.move to of rest) inner frames tokens input s fs left at rest
+        (λ f. moved f to of tokens) after moved_is in
         let kept = kept_quiet program (Tokened.move to of rest) inner frames tokens input s fs left at
         (machine_at program rest s.environment inner frames s.heap after) step refl in
         let nothing = at.judged.spends.0 in
@@ -128,8 +115,8 @@ module _ (program : Lowering) (to of : ℕ) (rest : Tokened) where
         acts_on_tokens program (Tokened.move to of rest) inner frames tokens input s fs left at idle idle_is fit rest
         (copies_to (v + of) (v + to)) p.lines.0 move_acts (put_in (v + to) word s.frame) s.owners s.world after
         (record at.lists { unspent = to ∷ without (of ∷ []) at.lists.unspent }) 4
-        (lands_leads (moves_token (known_of program at.shape) (p.lines.0 ++ p.after) fs s here (v + of) (v + to) word
-        (none_behind s.bound v to at.has.below) value))
+        (moves_token (known_of program at.shape) (p.lines.0 ++ p.after) fs s here (v + of) (v + to) word
+        (none_behind s.bound v to at.has.below) value)
         (record {
           judged = subst (λ (l : Lists). IsJudged program.pool.cells l.left l.unspent l.held l.older rest inner frames s.heap after)
               kept.1.0 kept.1.1;

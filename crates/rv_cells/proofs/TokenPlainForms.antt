@@ -44,7 +44,7 @@ use Rattle.rv_cells.specs.declared.compare.Branching.{Branching}
 use Rattle.rv_cells.specs.ComparisonBranch.{branch_of, MayJoin}
 use Rattle.rv_cells.specs.TokenedLines.{CodeLines}
 use Rattle.rv_cells.proofs.BoundVariables.{within_one, below_among}
-use Rattle.rv_cells.proofs.FormPlaces.{Tree, Next, tree_in, stands_behind}
+use Rattle.rv_cells.proofs.FormPlaces.{Tree, Next, tree_in}
 use Rattle.rv_cells.proofs.FormWords.{has_same, number_word, word_follows, IsPlainForm, put_some, is_true_of, fits_constant, bytes_behind, turns_are}
 use Rattle.rv_cells.proofs.Runs.{turn_of}
 use Rattle.rv_cells.proofs.Spots.{Spot, saved}
@@ -54,8 +54,8 @@ use Rattle.rv_cells.proofs.TokenBranches.{at_joined}
 use Rattle.rv_cells.proofs.TokenCalls.{at_call}
 use Rattle.rv_cells.proofs.TokenFrames.{slots_moved}
 use Rattle.rv_cells.proofs.TokenLineCosts.{forms}
-use Rattle.rv_cells.proofs.TokenContinuations.{token_at, machine_at, CodeSteps, seen_action, does_by, kept_after}
-use Rattle.rv_cells.proofs.TokenRelation.{held_values, Lowering, upper, continues_more, At, IsFitFrom, arrives, Follows_step, lines_setting}
+use Rattle.rv_cells.proofs.TokenContinuations.{token_at, machine_at, does_behind, CodeSteps, seen_action, does_by, kept_after}
+use Rattle.rv_cells.proofs.TokenRelation.{held_values, Lowering, upper, At, IsFitFrom, arrives, Follows_step, lines_setting}
 
 -- no token is held at a plain form, and the lists stay
 holds_none : (form : Form) (arguments others unspent held : List ℕ) → IsPlainForm form arguments
@@ -202,28 +202,9 @@ module _ (program : Lowering) where
             lists = at.lists;
             judged = subst (λ (l : Lists). IsJudged program.pool.cells l.left l.unspent l.held l.older rest inner frames s.heap
                 tokens) (lists_stay form arguments at.lists after.0 is_plain after.1.0) after.1.1;
-            does = record {
-              goal = at.does.goal;
-              given = at.does.given;
-              placed = record {
-                before = p.before ++ form_own;
-                own = p.lines.1;
-                after = p.after;
-                low = p.lines.2;
-                high = p.high;
-                lines = rests.0;
-                left_is = refl;
-                place = place;
-                stands = stands_behind p.stands rests.1;
-                marked = p.marked.1.1;
-                numbered = p.numbered.1.1;
-                has = p.has.1;
-                keeps = p.keeps.1.1;
-                short = omega arith;
-              };
-              continues = continues_more program at.shape s.frame.whole inner at.does.goal at.does.given s.bound (x ∷ s.bound)
-                  (within_one x s.bound) at.does.continues;
-            };
+            does = does_behind program (Tokened.compute x form arguments others rest) inner frames tokens input s fs left at rest
+                form_own p.lines.1 p.lines.2 rests.0 rests.1 s.frame.whole refl place (x ∷ s.bound) (within_one x s.bound) p.marked.1.1 p.numbered.1.1
+                p.has.1 p.keeps.1.1 (omega arith);
             follows = subst (λ c. Follows program.pool program.layout s.address s.owners s.heap c) (sym cells_are) at.follows;
             cells = at.cells;
             stand = at.stand;

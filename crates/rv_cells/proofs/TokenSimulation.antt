@@ -1,7 +1,6 @@
 -- The assembler's machine does each step of the machine with tokens, from the start of a run to its end.
 use Rattle.std.proofs.Common.{◌≡◌, ◌⊎◌, inl, inr, ℕ, ◌+◌, ◌<◌, true, List, [], Some, None, All, refl, sym, ◌∙◌, ap, subst, arith}
 use Rattle.std.specs.Prelude.{slice_get, slice_index_or}
-use Rattle.std.proofs.lemmas.List.{append-nil}
 use Rattle.std.proofs.Math.Path.{path_j, subst_refl}
 use Rattle.std.proofs.lemmas.Option.{get_or_from_slice_get}
 use Rattle.kk_base.specs.Simulations.{Reaches, Simulates}
@@ -28,7 +27,6 @@ use Rattle.rv_cells.specs.CountedCells.{nobody}
 use Rattle.rv_cells.specs.TokenedLines.{IsFunctionOf}
 use Rattle.rv_cells.proofs.UsedCells.{none_aside}
 use Rattle.rv_cells.proofs.StartHeap.{starts as begins}
-use Rattle.rv_cells.proofs.FormPlaces.{stands_itself}
 use Rattle.rv_cells.proofs.Values.{HasValues}
 use Rattle.rv_cells.proofs.Runs.{turn_of}
 use Rattle.rv_cells.proofs.Spots.{Spot, saved}
@@ -36,7 +34,7 @@ use Rattle.rv_cells.proofs.TokenLineCosts.{forms}
 use Rattle.rv_cells.proofs.TokenRelation.{Lowering, texts, setting, upper, lower, pace, root_in, Passing, At, IsAt, IsNear, MayStandFor, IsFitFrom, Related, Follows_step, HaveTokenCells}
 use Rattle.rv_cells.proofs.TokenContinuations.{machine_at, token_at, CodeSteps}
 use Rattle.rv_cells.proofs.TokenReturns.{at_give}
-use Rattle.rv_cells.proofs.TokenCalls.{at_tail}
+use Rattle.rv_cells.proofs.TokenCalls.{at_tail, shape_of, body_placed}
 use Rattle.rv_cells.proofs.TokenInnerBlocks.{at_inside, at_read}
 use Rattle.rv_cells.proofs.TokenUniques.{at_open, at_unique}
 use Rattle.rv_cells.proofs.TokenCellForms.{at_dup, at_drop}
@@ -228,36 +226,13 @@ module _ (program : Lowering) (main : TokenedFunction) (main_is : slice_get prog
       let same : low.0 ≡ lines = lines_same (sym low.1 ∙ lines_are) in
       let of = subst (λ ls. IsFunctionOf program.layout (texts program) program.marks program.code.main main ls) same low.2 in
       record {
-        shape = record {
-          function = program.code.main;
-          root = root_in program program.code.main main lines of;
-          holds = of.lowered.holds;
-          variables = of.lowered.variables;
-          slots = of.lowered.slots;
-          result = result_mark program.marks program.code.main;
-          standing = of.lowered.standing;
-        };
+        shape = shape_of program program.code.main main lines of;
         lists = record { left = []; unspent = []; held = []; older = [] };
         judged = judged_at_start program.pool.cells main.body (program.spends program.code.main main main_is);
         does = record {
           goal = returns;
           given = result_mark program.marks program.code.main;
-          placed = record {
-            before = [];
-            own = lines.code;
-            after = [];
-            low = 0;
-            high = of.lowered.labels;
-            lines = of.lowered.code;
-            left_is = sym (append-nil lines.code);
-            place = refl;
-            stands = stands_itself (root_in program program.code.main main lines of);
-            marked = of.marked.body_marked;
-            numbered = of.numbered;
-            has = of.has;
-            keeps = of.lowered.keeps;
-            short = program.short program.code.main main main_is;
-          };
+          placed = body_placed program program.code.main main lines of main_is;
           continues = refl;
         };
         follows = begins program.pool program.layout (λ name. 0) program.aligned;

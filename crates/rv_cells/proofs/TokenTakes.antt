@@ -10,7 +10,7 @@ use Rattle.rv_isa.specs.AsmCode.{Line}
 use Rattle.rv_isa.specs.Frames.{Frame, put, top, top_in, top_taken, taken_in}
 use Rattle.rv_cells.proofs.Values.{has_other}
 use Rattle.rv_cells.proofs.TokenRelation.{SlotIs, held_values, Lowering, Waits, AllWait}
-use Rattle.rv_cells.proofs.TokenFrames.{none_behind, slots_put, First, one, none, first_of, waits_at, all_wait_at}
+use Rattle.rv_cells.proofs.TokenFrames.{none_behind, slots_put, First, one, none, first_of, waits_so, waits_at, all_wait_at}
 
 module _ (program : Lowering) (address : ℕ → ℕ) (next : ℕ) (slots : ℕ → ℕ → Slot) where
   -- the token of a slot is taken
@@ -43,23 +43,15 @@ module _ (program : Lowering) (address : ℕ → ℕ) (next : ℕ) (slots : ℕ 
         newest = ap (λ h. top_in h f.cells (top fs)) is ∙ value;
         taken = ap (λ h. taken_in h f fs (top_taken fs)) is;
         waits = (
-          record {
-            shape = w.shape;
-            bound = w.bound;
-            into = w.into;
-            below = w.below;
-            kind = w.kind;
-            nothing = w.nothing;
-            does = w.does;
-            has = record {
-              values = has_other w.has.values (v + y) 0 (none_behind w.bound v y w.has.below);
-              below = w.has.below;
-              tokens = slots_put w.has.tokens y 0 null low (slot_here n y null slots) refl there;
-              held_is = sym (drops (slots_with n y null slots n) (slot_here n y null slots) there);
-              formed = w.has.formed;
-              in_function = w.has.in_function;
-            };
-          },
+          waits_so program w address next (slots_with n y null slots n) (put (v + y) (Some 0) f.cells) more
+              (record {
+                values = has_other w.has.values (v + y) 0 (none_behind w.bound v y w.has.below);
+                below = w.has.below;
+                tokens = slots_put w.has.tokens y 0 null low (slot_here n y null slots) refl there;
+                held_is = sym (drops (slots_with n y null slots n) (slot_here n y null slots) there);
+                formed = w.has.formed;
+                in_function = w.has.in_function;
+              }),
           all_wait_at program address next slots (slots_with n y null slots) helds frames fs w.shape.result
               (equal_one n n y null slots (omega arith)) rest,
         );
