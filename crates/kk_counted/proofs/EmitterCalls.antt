@@ -21,7 +21,7 @@ use Rattle.kk_counted.specs.CountedForms.{reads, dups, drops, plug, last_code}
 use Rattle.kk_counted.specs.Marks.{CellMarks}
 use Rattle.kk_counted.specs.Spending.{total, AreEven, AllAmong, AreFresh, at_positions, numbers_from, used_by, lent_by, FitsForm}
 use Rattle.kk_counted.specs.Drafts.{minus_all, chosen_of, Split, Draft, outside, all_owed, parameters_where, begun, fallen, given, duplicated, dropped, opened, read_of, computed, forked, entered, entered_in, entered_by, end_code, is_tail, ended_in, ended_by_value, ended_by_call, resumed_as, joined, joined_in, finished, Writes, Awaits, Reaches, IsLentTo, IsAtHand, Owns, OwnsAll, HoldsAll, IsPlain, Takes, used_in, lent_in, LendsAll, IsOnly, IsBetween, AreNewest, IsInArm, EndsByCall}
-use Rattle.kk_counted.specs.Emitting.{IsJudged, AreLow, Spent, owned_parameters, parameter_count, IsWholeDraft, IsSoundBy, IsSoundDraft, Works, AreIn, AreLater, first, first_of}
+use Rattle.kk_counted.specs.Emitting.{IsJudged, IsBody, AreLow, Spent, owned_parameters, parameter_count, IsWholeDraft, IsSoundBy, IsSoundDraft, Works, AreIn, AreLater, first, first_of}
 use Rattle.kk_counted.specs.Works.{used_at, lends_at, passes, back_to_front, split_of, draft}
 use Rattle.kk_counted.proofs.CountChanges.{same}
 use Rattle.kk_counted.proofs.Evenness.{among_front, among_behind, minus_all_even, low_up, low_both, low_numbers, total_append}
@@ -505,13 +505,19 @@ joined_instance instance new positions counts marks work becomes is =
 
 -- ---- the end of a function
 
-pub finished_judged : (d : Draft) (emitter x : ℕ) → d.failed ≡ false → (d.failed ≡ false → d.inside ≡ true) → (d.failed ≡ false → d.splits ≡ []) → (d.failed ≡ false → d.uncalled ≡ []) → IsOnly d emitter x → Works d
-    → IsJudged d.positions d.instance (record { parameters = d.parameters; body = finished d x })
-finished_judged d emitter x going inside joins called only works =
+-- the body that gives a value, as it was written
+pub finished_body : (d : Draft) (emitter x : ℕ) → d.failed ≡ false → (d.failed ≡ false → d.inside ≡ true) → (d.failed ≡ false → d.splits ≡ []) → (d.failed ≡ false → d.uncalled ≡ []) → IsOnly d emitter x → Works d
+    → IsBody d (finished d x)
+finished_body d emitter x going inside joins called only works =
     let sound : IsSoundDraft d = works going in
     let now : IsSoundBy sound.lent d = sound_now d sound in
     let spent : Spent d.positions sound.lent None (owned_parameters d) (finished d x) = finished_spent sound.lent d x now (inside going) (joins going) (called going) (only going).1 in
-    subst (λ n. IsJudged d.positions d.instance (record { parameters = n; body = finished d x })) (sym now.parameters) (judged sound.lent d (finished d x) spent sound.own)
+    record {
+      parameters = now.parameters;
+      judged =
+          subst (λ n. IsJudged d.positions d.instance (record { parameters = n; body = finished d x })) (sym now.parameters) (judged sound.lent d (finished d x) spent sound.own);
+      arms = whole_body d.steps (end_code d.ending x) sound.whole.written (whole_end d.ending x sound.whole.end);
+    }
 
 -- a function that ends by a tail call
 tail_spent : (lent : List ℕ) (d : Draft) (f : ℕ) (arguments : List ℕ) → d.failed ≡ false → Writes d → (d.failed ≡ false → d.splits ≡ []) → Takes d f arguments → EndsByCall d f arguments → IsSoundBy lent d
@@ -531,10 +537,6 @@ tail_judged d f arguments going writes joins takes ends works =
     subst (λ n. IsJudged d.positions d.instance (record { parameters = n; body = plug d.steps (tail_call f arguments) })) (sym now.parameters)
     (judged sound.lent d (plug d.steps (tail_call f arguments)) (tail_spent sound.lent d f arguments going writes joins takes ends now) sound.own)
 
--- each case of a function has an arm for each row
-pub finished_arms : (d : Draft) (x : ℕ) → d.failed ≡ false → Works d → HasArms (finished d x)
-finished_arms d x going works =
-    let whole : IsWholeDraft d = (works going).whole in whole_body d.steps (end_code d.ending x) whole.written (whole_end d.ending x whole.end)
-
+-- each case of it has an arm for each row
 pub tail_arms : (d : Draft) (f : ℕ) (arguments : List ℕ) → d.failed ≡ false → Works d → HasArms (plug d.steps (tail_call f arguments))
 tail_arms d f arguments going works = whole_body d.steps (tail_call f arguments) (works going).whole.written tt

@@ -46,6 +46,7 @@ pub mod Evenness
 pub mod OwnershipSteps
 pub mod DraftSoundness
 pub mod DraftJoins
+pub mod ClosedBlocks
 pub mod FormViews
 pub mod PlaceLists
 pub mod CaseArms
@@ -54,6 +55,7 @@ pub mod EmitterCalls
 pub mod EmitterViews
 pub mod Programs
 pub mod TokenedViews
+pub mod ClosedTokens
 pub mod TokenDraftChanges
 pub mod TokenDraftBranches
 pub mod TokenDrafted

@@ -61,7 +61,7 @@ mutual
 
 -- ---- variables that have just been read may be duplicated
 
-spends_readable : (positions : PositionTable) (functions : List CountedFunction) (lent readable : List ℕ) (left : Option (List ℕ)) (owned : List ℕ) (code : Counted) → Spends positions functions lent [] left owned code → Spends positions functions lent readable left owned code
+pub spends_readable : (positions : PositionTable) (functions : List CountedFunction) (lent readable : List ℕ) (left : Option (List ℕ)) (owned : List ℕ) (code : Counted) → Spends positions functions lent [] left owned code → Spends positions functions lent readable left owned code
 spends_readable positions functions lent readable left owned (give x) spends = spends
 spends_readable positions functions lent readable left owned (tail_call f arguments) spends = spends
 spends_readable positions functions lent readable left owned (case x decisions arms) spends = spends

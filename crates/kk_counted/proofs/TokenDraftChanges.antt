@@ -1,6 +1,6 @@
 -- What calls of an emitter of code with tokens change of what it has written leaves it such code.
 use Rattle.std.proofs.Common.{◌≡◌, ℕ, suc, ◌<◌, ◌==◌, ◌||◌, Bool, true, false, not, List, [], ◌∷◌, ◌++◌, map, reverse, length, append_assoc, arith, refl, sym, ap, ◌∙◌, subst}
-use Rattle.std.specs.Prelude.{filter, if◌then◌else◌, Option, Some, None, option_map}
+use Rattle.std.specs.Prelude.{filter, if◌then◌else◌, Option, Some, None, option_map, slice_index_or}
 use Rattle.std.proofs.lemmas.Grind.{reverse_onto}
 use Rattle.std.proofs.lemmas.Bool.Decides.{nat_tests}
 use Rattle.std.proofs.lemmas.List.{map-append}
@@ -16,7 +16,7 @@ use Rattle.kk_counted.specs.declared.tokened.TokenedFun.{TokenedFun}
 use Rattle.kk_syntax.specs.PositionsOf.{PositionTable}
 use Rattle.kk_counted.specs.Arms.{HasArms}
 use Rattle.kk_counted.specs.Marks.{CellMarks, CanBeMarked}
-use Rattle.kk_counted.specs.Programs.{IsFunctionOf, function_of}
+use Rattle.kk_counted.specs.Programs.{IsFunctionOf}
 use Rattle.kk_counted.proofs.CountChanges.{itself}
 use Rattle.kk_counted.specs.CountedCodes.{Counted, tail_call, compute, inside, read, open_cell, if_unique, dup, drop}
 use Rattle.kk_counted.specs.CountedForms.{computes, reads, dups, plug, block_code}
@@ -27,9 +27,11 @@ use Rattle.kk_counted.specs.TokenSpending.{SpendsTokens}
 use Rattle.kk_counted.specs.BareForms.{bare, bare_function}
 use Rattle.kk_counted.specs.KeptFields.{KnownFields, fields_in, forget_variable, forget_variables, KeepsKnown, LeavesKnown}
 use Rattle.kk_counted.specs.Drafts.{Split, Draft, given, duplicated, dropped, unpacked, looked, fields_given, computed, opens_by, end_code, finished, IsPlain, Writes}
-use Rattle.kk_counted.specs.Emitting.{IsJudged, AreLow}
-use Rattle.kk_counted.specs.TokenDrafts.{TokenSplit, TokenDraft, token_draft, tokened_end, tokens_finished, next_slot, adds, gains, spends, under_holds, opens_with, reads_with, fills_with, bare_move, bare_moves}
+use Rattle.kk_counted.specs.Emitting.{IsJudged, IsBody, AreLow}
+use Rattle.kk_counted.specs.TokenDrafts.{TokenSplit, TokenDraft, token_draft, tokened_end, tokens_finished, tokens_closed, next_slot, adds, gains, spends, under_holds, opens_with, reads_with, fills_with, bare_move, bare_moves}
 use Rattle.kk_counted.specs.TokenEmitting.{LeadsTokens, AreFalling, known_by, known_behind, AllLeave, first_spare, first_known, known_now, AreTokenSplits, IsTokened, KeepsTokens, IsTokenedFunctionOf, fields_at}
+use Rattle.kk_counted.proofs.ClosedBlocks.{body_ends, marked_ends}
+use Rattle.kk_counted.proofs.ClosedTokens.{TokensEnd, bare_ends, tokens_end, leaves_end, tokens_closed_end}
 
 -- ---- steps without tokens
 
@@ -479,29 +481,29 @@ module _ (d e : Draft) (t u : TokenDraft) (keeps : KeepsTokens d t) (writes : Wr
 
 -- ---- the end of a function
 
--- a function of counted code whose draft is the same without tokens
-pub tokened_function_is : (positions : PositionTable) (f : ℕ) (fun : CountedFun) (made : TokenedFun) (body : Tokened)
-    → IsFunctionOf positions f fun → block_code fun.body ≡ bare body → made.parameters ≡ fun.parameters → tokened_code made.body ≡ body
+-- a function whose code without tokens is judged
+pub tokened_function_is : (positions : PositionTable) (f n : ℕ) (code : Counted) (made : TokenedFun) (body : Tokened) → n ≡ length (slice_index_or positions f [])
+    → IsJudged positions f (record { parameters = n; body = code }) → HasArms code → code ≡ bare body → made.parameters ≡ n → tokened_code made.body ≡ body
     → SpendsTokens [] [] [] body → LeavesKnown [] body → IsTokenedFunctionOf positions f made
-tokened_function_is positions f fun made body of plain many code spent leaves =
-    let same : block_code fun.body ≡ bare (tokened_code made.body) = plain ∙ sym (ap bare code) in
+tokened_function_is positions f n code made body parameters judged arms plain many written spent leaves =
+    let same : code ≡ bare (tokened_code made.body) = plain ∙ sym (ap bare written) in
     record {
-      parameters = many ∙ of.parameters;
+      parameters = many ∙ parameters;
       judged =
-          subst (λ n. IsJudged positions f (record { parameters = n; body = bare (tokened_code made.body) })) (sym many)
-          (subst (λ (c : Counted). IsJudged positions f (record { parameters = fun.parameters; body = c })) same of.judged);
-      arms = subst HasArms same of.arms;
-      tokens = subst (SpendsTokens [] [] []) (sym code) spent;
-      leaves = subst (LeavesKnown []) (sym code) leaves;
+          subst (λ k. IsJudged positions f (record { parameters = k; body = bare (tokened_code made.body) })) (sym many)
+          (subst (λ (c : Counted). IsJudged positions f (record { parameters = n; body = c })) same judged);
+      arms = subst HasArms same arms;
+      tokens = subst (SpendsTokens [] [] []) (sym written) spent;
+      leaves = subst (LeavesKnown []) (sym written) leaves;
     }
 
 -- its variables are marked, too
-pub tokened_marked : (marks : CellMarks) (f : ℕ) (fun : CountedFun) (made : TokenedFun) (body : Tokened)
-    → CanBeMarked marks f (function_of fun) → block_code fun.body ≡ bare body → made.parameters ≡ fun.parameters
+pub tokened_marked : (marks : CellMarks) (f n : ℕ) (code : Counted) (made : TokenedFun) (body : Tokened)
+    → CanBeMarked marks f (record { parameters = n; body = code }) → code ≡ bare body → made.parameters ≡ n
     → tokened_code made.body ≡ body → CanBeMarked marks f (bare_function (tokened_function made))
-tokened_marked marks f fun made body marked plain many code =
-    subst (λ n. CanBeMarked marks f (record { parameters = n; body = bare (tokened_code made.body) })) (sym many)
-    (subst (λ (c : Counted). CanBeMarked marks f (record { parameters = fun.parameters; body = c })) (plain ∙ sym (ap bare code)) marked)
+tokened_marked marks f n code made body marked plain many written =
+    subst (λ k. CanBeMarked marks f (record { parameters = k; body = bare (tokened_code made.body) })) (sym many)
+    (subst (λ (c : Counted). CanBeMarked marks f (record { parameters = n; body = c })) (plain ∙ sym (ap bare written)) marked)
 
 none_open : (branches : List TokenSplit) (splits : List Split) → splits ≡ [] → AreTokenSplits splits branches → branches ≡ []
 none_open [] splits none are = refl
@@ -542,14 +544,16 @@ pub called_bare : (d : Draft) (t : TokenDraft) (f : ℕ) (arguments : List ℕ) 
 called_bare d t f arguments is =
     ap (λ moves. plug moves (tail_call f arguments)) (sym is.plain) ∙ sym (bare_plug t.moves (Tokened.tail_call f arguments))
 
-pub given_function : (d : Draft) (t : TokenDraft) (fun : CountedFun) (made : TokenedFun) (x : ℕ) → IsTokened d t → t.spare ≡ [] → d.splits ≡ [] → d.inside ≡ true
-    → IsFunctionOf d.positions d.instance fun → block_code fun.body ≡ finished d x → made.parameters ≡ fun.parameters → tokened_code made.body ≡ tokens_finished t x
-    → IsTokenedFunctionOf d.positions d.instance made
-given_function d t fun made x is none joined within of body many code =
+pub given_function : (d : Draft) (t : TokenDraft) (made : TokenedFun) (x : ℕ) → IsTokened d t → t.spare ≡ [] → d.splits ≡ [] → d.inside ≡ true
+    → IsBody d (finished d x) → made.parameters ≡ d.parameters → tokened_code made.body ≡ tokens_closed t x → IsTokenedFunctionOf d.positions d.instance made
+given_function d t made x is none joined within written many code =
+    let one = tokens_finished t x in
+    let two = tokens_closed t x in
     let both = spent_by t.ending refl in
-    tokened_function_is d.positions d.instance fun made (tokens_finished t x) of
-    (body ∙ finished_bare d t x is)
-    many code both.0 both.1
+    let end : TokensEnd one two = tokens_closed_end t.moves t.ending x in
+    let body : IsBody d (bare two) = body_ends d (bare one) (bare two) (bare_ends one two end) (subst (IsBody d) (finished_bare d t x is) written) in
+    tokened_function_is d.positions d.instance d.parameters (bare two) made two body.parameters body.judged body.arms refl many code
+    (tokens_end [] [] one two end both.0) (leaves_end [] one two end both.1)
   where
     spent_by : (ending : Option Tokened) → t.ending ≡ ending
         → SpendsTokens [] [] [] (plug_tokened t.moves (tokened_end ending x)) × LeavesKnown [] (plug_tokened t.moves (tokened_end ending x))
@@ -557,11 +561,21 @@ given_function d t fun made x is none joined within of body many code =
         ends_spent d t (Tokened.give x) is joined within (sym is.ending ∙ ap (option_map bare) ends) none (refl, λ y. ap (λ ys. is_among ys y) none) tt
     spent_by (Some last) ends = closed_spent d t last is joined ends
 
+pub given_marked : (d : Draft) (t : TokenDraft) (made : TokenedFun) (x : ℕ) → IsTokened d t → CanBeMarked d.marks d.instance (record { parameters = d.parameters; body = finished d x })
+    → made.parameters ≡ d.parameters → tokened_code made.body ≡ tokens_closed t x → CanBeMarked d.marks d.instance (bare_function (tokened_function made))
+given_marked d t made x is marked many code =
+    let one = tokens_finished t x in
+    let two = tokens_closed t x in
+    tokened_marked d.marks d.instance d.parameters (bare two) made two
+    (marked_ends d.marks d.instance d.parameters (bare one) (bare two) (bare_ends one two (tokens_closed_end t.moves t.ending x))
+    (subst (λ (c : Counted). CanBeMarked d.marks d.instance (record { parameters = d.parameters; body = c })) (finished_bare d t x is) marked))
+    refl many code
+
 pub called_function : (d : Draft) (t : TokenDraft) (fun : CountedFun) (made : TokenedFun) (f : ℕ) (arguments : List ℕ) → IsTokened d t → t.spare ≡ [] → d.splits ≡ [] → d.inside ≡ true → d.ending ≡ None
     → IsFunctionOf d.positions d.instance fun → block_code fun.body ≡ plug d.steps (tail_call f arguments) → made.parameters ≡ fun.parameters
     → tokened_code made.body ≡ plug_tokened t.moves (Tokened.tail_call f arguments) → IsTokenedFunctionOf d.positions d.instance made
 called_function d t fun made f arguments is none joined within open_end of body many code =
     let both = ends_spent d t (Tokened.tail_call f arguments) is joined within open_end none (refl, λ y. ap (λ ys. is_among ys y) none) tt in
-    tokened_function_is d.positions d.instance fun made (plug_tokened t.moves (Tokened.tail_call f arguments)) of
+    tokened_function_is d.positions d.instance fun.parameters (block_code fun.body) made (plug_tokened t.moves (Tokened.tail_call f arguments)) of.parameters of.judged of.arms
     (body ∙ called_bare d t f arguments is)
     many code both.0 both.1

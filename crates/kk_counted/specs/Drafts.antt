@@ -1,5 +1,5 @@
 -- What an emitter has written of a function and what it owes, and what its calls change of that.
-use Rattle.std.specs.Prelude.{◌≡◌, ℕ, zero, suc, ◌+◌, ◌<◌, ◌/◌, ◌%◌, ◌==◌, ◌||◌, Bool, true, false, not, List, [], ◌∷◌, ◌++◌, map}
+use Rattle.std.specs.Prelude.{◌≡◌, ℕ, zero, suc, ◌+◌, ◌<◌, ◌/◌, ◌%◌, ◌==◌, ◌&&◌, ◌||◌, Bool, true, false, not, List, [], ◌∷◌, ◌++◌, map}
 use Rattle.std.specs.Prelude.{length, take, Option, Some, None, if◌then◌else◌, slice_index_or}
 use Rattle.kk_syntax.specs.declared.program.Form.{Form}
 use Rattle.kk_syntax.specs.declared.program.Form.TheVariants.{Unary, Binary, Print, Construct, Call}
@@ -11,7 +11,7 @@ use Rattle.kk_counted.specs.declared.debts.ArmEnd.TheVariants.{Value, Tail}
 use Rattle.kk_counted.specs.declared.debts.Held.{Held}
 use Rattle.kk_counted.specs.declared.debts.Held.TheVariants.{Nothing, One}
 use Rattle.kk_counted.specs.CountedCodes.{Counted, give, tail_call, case}
-use Rattle.kk_counted.specs.CountedForms.{Move, computes, runs, reads, opens, opens_unique, dups, drops, plug, arms_of}
+use Rattle.kk_counted.specs.CountedForms.{Move, computes, runs, reads, opens, opens_unique, dups, drops, put, plug, arms_of}
 use Rattle.kk_counted.specs.Marks.{CellMarks}
 use Rattle.kk_counted.specs.Spending.{AllAmong, at_positions, numbers_from}
 
@@ -386,6 +386,35 @@ joined_in d (split ∷ splits) = resumed (record d { next = d.next + 1; splits =
 abbrev pub joined : Draft → Draft
 joined d = joined_in d d.splits
 
--- the body of a function that gives a variable's value
+-- the body of a function that gives a variable's value, as its steps were written
 abbrev pub finished : Draft → ℕ → Counted
 finished d x = plug d.steps (end_code d.ending x)
+
+-- a block is no more than a branch
+abbrev pub is_branch : Counted → Bool
+is_branch (case on decisions arms) = true
+is_branch code = false
+
+-- the branch that a step runs for a variable
+abbrev pub branch_into : ℕ → Move → Option Counted
+branch_into x (runs y block) = if y == x && is_branch block then Some block else None
+branch_into x move = None
+
+-- how a block ends by a step and the variable's value behind it: by the branch itself, if that step runs one for the variable
+abbrev pub given_behind : ℕ → Move → Option Counted → Counted
+given_behind x move None = put move (give x)
+given_behind x move (Some branch) = branch
+
+-- so with its other steps
+abbrev pub closed_steps : List Move → ℕ → Counted
+closed_steps [] x = give x
+closed_steps (move ∷ []) x = given_behind x move (branch_into x move)
+closed_steps (move ∷ next ∷ moves) x = put move (closed_steps (next ∷ moves) x)
+
+-- the body of a function that gives a variable's value, where a branch that is joined last and gives it ends the body itself
+abbrev pub closed_by : List Move → Option Counted → ℕ → Counted
+closed_by moves None x = closed_steps moves x
+closed_by moves (Some code) x = plug moves code
+
+abbrev pub closed_body : Draft → ℕ → Counted
+closed_body d x = closed_by d.steps d.ending x

@@ -136,3 +136,9 @@ pub record IsSoundDraft (d : Draft) : Type 0 where
 -- a draft is sound, if no call found no memory
 abbrev pub Works : Draft → Type 0
 Works d = d.failed ≡ false → IsSoundDraft d
+
+-- the body of a draft is that of its instance's function
+pub record IsBody (d : Draft) (body : Counted) : Type 0 where
+  pub parameters : d.parameters ≡ parameter_count d
+  pub judged : IsJudged d.positions d.instance (record { parameters = d.parameters; body = body })
+  pub arms : HasArms body

@@ -1,5 +1,5 @@
 -- What an emitter has written of a function in code with tokens, and which of its tokens are unspent.
-use Rattle.std.specs.Prelude.{◌≡◌, ℕ, suc, ◌-◌, ◌==◌, ◌||◌, max, Bool, true, false, List, [], ◌∷◌, ◌++◌, map, reverse, length, Option, Some, None, option_map, is_some, if◌then◌else◌}
+use Rattle.std.specs.Prelude.{◌≡◌, ℕ, suc, ◌-◌, ◌==◌, ◌&&◌, ◌||◌, max, Bool, true, false, List, [], ◌∷◌, ◌++◌, map, reverse, length, Option, Some, None, option_map, is_some, if◌then◌else◌}
 use Rattle.std.specs.Global.{Vec}
 use Rattle.kk_syntax.specs.declared.program.Form.TheVariants.{Construct}
 use Rattle.kk_syntax.specs.Shapes.{without}
@@ -16,7 +16,7 @@ use Rattle.kk_counted.specs.declared.token_work.TokenFork.{TokenFork}
 use Rattle.kk_counted.specs.declared.token_work.TokenWork.{TokenWork}
 use Rattle.kk_counted.specs.CountedForms.{Move, computes, runs, reads, opens, opens_unique, dups, drops, decisions_of}
 use Rattle.kk_counted.specs.TokenedCodes.{Tokened}
-use Rattle.kk_counted.specs.TokenedForms.{TokenedMove, tokened_move, tokened_last_code, tokened_arms, plug_tokened}
+use Rattle.kk_counted.specs.TokenedForms.{TokenedMove, tokened_move, tokened_last_code, tokened_arms, put_tokened, plug_tokened}
 use Rattle.kk_counted.specs.Spending.{numbers_from}
 use Rattle.kk_counted.specs.Drafts.{Draft, chosen_of, copies, ended_by_value, ended_by_call}
 use Rattle.kk_counted.specs.Works.{back_to_front, left_in}
@@ -241,9 +241,35 @@ tokens_joined_in t x (split ∷ splits) = tokens_resumed (record t { splits = sp
 abbrev pub tokens_joined : TokenDraft → ℕ → TokenDraft
 tokens_joined t x = tokens_joined_in t x t.splits
 
--- the body of a function that gives a variable's value
+-- the body of a function that gives a variable's value, as its steps were written
 abbrev pub tokens_finished : TokenDraft → ℕ → Tokened
 tokens_finished t x = plug_tokened t.moves (tokened_end t.ending x)
+
+-- The same where a branch that is joined last and gives the value ends the body itself. Where a token is freed behind the branch,
+-- it is not the last step.
+abbrev pub is_tokened_branch : Tokened → Bool
+is_tokened_branch (Tokened.case on decisions arms) = true
+is_tokened_branch code = false
+
+abbrev pub tokened_branch_into : ℕ → TokenedMove → Option Tokened
+tokened_branch_into x (TokenedMove.runs y block) = if y == x && is_tokened_branch block then Some block else None
+tokened_branch_into x move = None
+
+abbrev pub tokens_given_behind : ℕ → TokenedMove → Option Tokened → Tokened
+tokens_given_behind x move None = put_tokened move (Tokened.give x)
+tokens_given_behind x move (Some branch) = branch
+
+abbrev pub closed_moves : List TokenedMove → ℕ → Tokened
+closed_moves [] x = Tokened.give x
+closed_moves (move ∷ []) x = tokens_given_behind x move (tokened_branch_into x move)
+closed_moves (move ∷ next ∷ moves) x = put_tokened move (closed_moves (next ∷ moves) x)
+
+abbrev pub tokens_closed_by : List TokenedMove → Option Tokened → ℕ → Tokened
+tokens_closed_by moves None x = closed_moves moves x
+tokens_closed_by moves (Some code) x = plug_tokened moves code
+
+abbrev pub tokens_closed : TokenDraft → ℕ → Tokened
+tokens_closed t x = tokens_closed_by t.moves t.ending x
 
 -- ---- what is handed back
 

@@ -10,7 +10,7 @@ ghost use Rattle.kk_counted.specs.TokenedForms.{TokenedMove, tokened_move, token
 ghost use Rattle.kk_counted.specs.Spending.{numbers_from};
 ghost use Rattle.kk_counted.specs.Drafts.{begun, fallen, given, duplicated, dropped, unpacked, looked, fields_given, computed, chosen_of, Writes, Awaits, Reaches, IsLentTo, IsAtHand, Owns, OwnsAll, HoldsAll, HasConstructor, HasField, HasFields, IsPlain, IsOnly, Takes, EndsByCall, used_in, LendsAll, finished};
 ghost use Rattle.kk_counted.specs.InstancePositions.{positions_in, fields_in};
-ghost use Rattle.kk_counted.specs.TokenDrafts.{no_tokens, adds, gains, spends, next_slot, under_holds, opens_with, reads_with, fills_with, kept_by, tokens_finished};
+ghost use Rattle.kk_counted.specs.TokenDrafts.{no_tokens, adds, gains, spends, next_slot, under_holds, opens_with, reads_with, fills_with, kept_by, tokens_closed};
 ghost use Rattle.kk_counted.specs.TokenEmissions.{counted_of, tokens_of};
 ghost use Rattle.kk_counted.specs.TokenEmitting.{HasKnown, HasSpare, HasNoSpare, IsTokenedFunctionOf, fields_at};
 
@@ -601,7 +601,8 @@ impl<'a> TokenEmitter<'a> {
     }
 
     /// Ends the function by giving the value that a reference owns. No other reference and no token is unspent. Each value that
-    /// a step takes has cells exactly where the field, the parameter or the result that takes it has them.
+    /// a step takes has cells exactly where the field, the parameter or the result that takes it has them. Where the last step is
+    /// a join, and the value is that of its branch, the branch itself ends the function.
     pub fn finish(self, owed: Owed) -> Result<TokenedFun, Kept>
         requires inside { (counted_of self).failed ≡ false → (counted_of self).inside ≡ true }
         requires joined { (counted_of self).failed ≡ false → (counted_of self).splits ≡ [] }
@@ -610,7 +611,7 @@ impl<'a> TokenEmitter<'a> {
         requires none { HasNoSpare (counted_of self) (tokens_of self) }
         requires marked { BecomesMarked (counted_of self) (finished (counted_of self) owed.variable) }
         ensures going { OnOk result ((counted_of self.entry).failed ≡ false) }
-        ensures body { IfOk result (λ function. tokened_code function.body ≡ tokens_finished (tokens_of self.entry) owed.variable) }
+        ensures body { IfOk result (λ function. tokened_code function.body ≡ tokens_closed (tokens_of self.entry) owed.variable) }
         ensures function { IfOk result (λ function. IsTokenedFunctionOf (counted_of self.entry).positions (counted_of self.entry).instance function) }
         ensures marked { IfOk result (λ function. CanBeMarked (counted_of self.entry).marks (counted_of self.entry).instance (bare_function (tokened_function function))) }
         ensures kept { IfErr result (λ kept. kept.held ≡ Held.One owed) }
@@ -618,9 +619,9 @@ impl<'a> TokenEmitter<'a> {
     {
         let TokenEmitter { plain, work } = self;
         let variable = owed.var();
-        let function = plain.finish(owed)?;
+        let counted = plain.end(owed)?;
         Ok(TokenedFun {
-            parameters: function.parameters(),
+            parameters: counted.parameters,
             body: work.finish(variable),
         })
     }

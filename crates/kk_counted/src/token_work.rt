@@ -1,10 +1,10 @@
-ghost use Rattle.std.specs.Prelude.{◌≡◌, ◌+◌, ◌<◌, ◌≤◌, ◌∷◌, ◌++◌, [], true, map, reverse, length, option_map, is_some, vec_len, vec_capacity, IfOk, OnOk};
+ghost use Rattle.std.specs.Prelude.{◌≡◌, ◌+◌, ◌<◌, ◌≤◌, ◌∷◌, ◌++◌, [], Some, None, true, map, reverse, length, option_map, is_some, vec_len, vec_capacity, IfOk, IfErr, OnOk, OnErr};
 ghost use Rattle.kk_syntax.specs.Shapes.{without};
 ghost use Rattle.kk_counted.specs.CountedForms.{decisions_of};
 ghost use Rattle.kk_counted.specs.Drafts.{chosen_of, copies};
-ghost use Rattle.kk_counted.specs.TokenDrafts.{token_draft, token_split_of, arm_of, next_slot, adds, gains, spends, under_holds, opens_with, reads_with, fills_with, tokens_forked, tokens_entered, tokens_ended_in, tokened_end, more_ended, tokens_joined, tokens_resumed, tokens_finished};
+ghost use Rattle.kk_counted.specs.TokenDrafts.{token_draft, token_split_of, arm_of, next_slot, adds, gains, spends, under_holds, opens_with, reads_with, fills_with, tokens_forked, tokens_entered, tokens_ended_in, tokened_end, more_ended, tokens_joined, tokens_resumed, is_tokened_branch, tokened_branch_into, closed_moves, tokens_closed_by, tokens_closed};
 ghost use Rattle.kk_counted.specs.TokenedCodes.{Tokened};
-ghost use Rattle.kk_counted.specs.TokenedForms.{TokenedMove, tokened_move, tokened_last_code, tokened_code};
+ghost use Rattle.kk_counted.specs.TokenedForms.{TokenedMove, tokened_move, tokened_last_code, tokened_code, plug_tokened};
 ghost use Rattle.kk_counted.specs.Works.{items_of};
 
 use crate::copies::copied_decisions;
@@ -263,18 +263,19 @@ impl TokenWork {
         Ok(())
     }
 
-    /// The block of the function that ends by giving a variable's value.
+    /// The block of the function that ends by giving a variable's value. A branch that gives it as the last step ends it itself.
     pub fn finish(self, variable: u32) -> TokenedBlock
-        ensures { tokened_code result ≡ tokens_finished (token_draft self) variable }
+        ensures { tokened_code result ≡ tokens_closed (token_draft self) variable }
     {
         let TokenWork {
             alloc: _,
-            steps,
+            mut steps,
             spare: _,
             forks: _,
             ending,
         } = self;
-        block_of(steps, end_of(ending, variable))
+        let last = end_of(&mut steps, ending, variable);
+        block_of(steps, last)
     }
 }
 
@@ -323,13 +324,69 @@ fn run_of(alloc: Global, variable: u32, last: TokenedLast) -> TokenedStep
     }
 }
 
-// How a block ends that gives a variable's value.
-fn end_of(ending: Option<TokenedLast>, variable: u32) -> TokenedLast
-    ensures { tokened_last_code result ≡ tokened_end (option_map tokened_last_code ending) variable }
+// How a block ends that gives a variable's value. A branch that gives it as the last step is that end, and no step.
+fn end_of(steps: &mut Vec<TokenedStep>, ending: Option<TokenedLast>, variable: u32) -> TokenedLast
+    ensures { plug_tokened (map tokened_move steps.new.items) (tokened_last_code result) ≡ tokens_closed_by (map tokened_move steps.old.items) (option_map tokened_last_code ending) variable }
 {
     match ending {
-        None => TokenedLast::Return(variable),
         Some(last) => last,
+        None => given_behind(steps, variable),
+    }
+}
+
+// The same where the end is not known yet.
+fn given_behind(steps: &mut Vec<TokenedStep>, variable: u32) -> TokenedLast
+    ensures { plug_tokened (map tokened_move steps.new.items) (tokened_last_code result) ≡ closed_moves (map tokened_move steps.old.items) variable }
+{
+    let Some(step) = steps.pop() else {
+        return TokenedLast::Return(variable);
+    };
+    match branch_into(step, variable) {
+        Ok(branch) => branch,
+        Err(step) => {
+            steps.push_reserved(step);
+            TokenedLast::Return(variable)
+        }
+    }
+}
+
+// The branch that a step runs for a variable, or else the step.
+fn branch_into(step: TokenedStep, variable: u32) -> Result<TokenedLast, TokenedStep>
+    ensures branch { IfOk result (λ branch. tokened_branch_into variable (tokened_move step) ≡ Some (tokened_last_code branch)) }
+    ensures none { OnErr result (tokened_branch_into variable (tokened_move step) ≡ None) }
+    ensures kept { IfErr result (λ kept. kept ≡ step) }
+{
+    match step {
+        TokenedStep::Inside {
+            variable: value,
+            block,
+        } => {
+            if value == variable && is_branch(&block) {
+                let TokenedBlock { steps: _, last } = block;
+                return Ok(last);
+            }
+            Err(TokenedStep::Inside {
+                variable: value,
+                block,
+            })
+        }
+        other => Err(other),
+    }
+}
+
+// Whether a block is no more than a branch.
+fn is_branch(block: &TokenedBlock) -> bool
+    ensures test { result ≡ is_tokened_branch (tokened_code block.now) }
+    ensures alone { result ≡ true → tokened_code block.now ≡ tokened_last_code block.now.last }
+{
+    if !block.steps.is_empty() {
+        return false;
+    }
+    match &block.last {
+        TokenedLast::Return(_) => false,
+        TokenedLast::TailCall(_, _) => false,
+        TokenedLast::Case(_, _, _) => true,
+        TokenedLast::IfToken(_, _, _) => false,
     }
 }
 

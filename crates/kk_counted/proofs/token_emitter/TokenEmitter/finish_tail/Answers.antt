@@ -29,7 +29,7 @@ returns-clause-marked c =
     let f = c.args.instance in
     let arguments = c.args.arguments.items in
     let going : (counted_of now).failed ≡ false = ap (λ x. (counted_of x).failed) (sym c.self.view_is) ∙ of.going in
-    tokened_marked (counted_of now).marks (counted_of now).instance c.in_ok-function.function _ (plug_tokened (tokens_of now).moves (Tokened.tail_call f arguments))
+    tokened_marked (counted_of now).marks (counted_of now).instance _ _ _ (plug_tokened (tokens_of now).moves (Tokened.tail_call f arguments))
     (subst (λ x. CanBeMarked (counted_of x).marks (counted_of x).instance (function_of c.in_ok-function.function)) c.self.view_is of.marked)
     (of.body
     ∙ (ap (λ x. plug (counted_of x).steps (tail_call f arguments)) c.self.view_is
