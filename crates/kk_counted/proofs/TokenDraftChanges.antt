@@ -185,7 +185,7 @@ pub leads_still : (spare : List ℕ) (x : ℕ) → LeadsTokens spare spare (Toke
 leads_still spare x left rest spent = (refl, spent)
 
 pub leads_drop : (spare : List ℕ) (x : ℕ) → LeadsTokens spare spare (TokenedMove.drops x ∷ [])
-leads_drop spare x left rest spent = (refl, spent)
+leads_drop spare x left rest spent = spent
 
 pub leads_open : (spare : List ℕ) (by_count : Bool) (x c : ℕ) (fields used : List ℕ) → AreFalling spare
     → LeadsTokens spare (next_slot spare ∷ spare) (opens_with by_count x c fields used (next_slot spare) ∷ [])

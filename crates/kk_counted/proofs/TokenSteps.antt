@@ -29,7 +29,7 @@ use Rattle.kk_counted.specs.TokenRuns.{is_quiet, IsFollowed}
 use Rattle.kk_counted.specs.TokenKeeping.{AreTokens, WaitTokens, IsHeldFrame, IsJudged, Lists, ListsAfter, ListsAfterForm, AreKeptBy, FillsAt}
 use Rattle.kk_counted.proofs.CountChanges.{same}
 use Rattle.kk_counted.proofs.HeapChanges.{EasedTo, eased_dup, eased_drop, eased_opening, eased_unique}
-use Rattle.kk_counted.proofs.SlotMarks.{released_room}
+use Rattle.kk_counted.proofs.SlotMarks.{released_room, pooled_eased}
 use Rattle.kk_counted.proofs.FillSteps.{fill_null, fill_cell}
 use Rattle.kk_counted.proofs.TokenChain.{frames_many}
 use Rattle.kk_counted.proofs.CellRequests.{Asked, full, served, asked}
@@ -212,6 +212,36 @@ module _ (setting : TokenSetting) (program_spends : AreTokensSpent setting.progr
           does = refl;
           keeps = kept_now setting.cells P left unspent older rest environment joins (record from { heap = heap }) next spends waits
               (eased_now setting.cells unspent older from.frames from.heap heap from.tokens eased now);
+        }
+
+    -- where a reference is given up tokens may be held, and stay so
+    drop_followed : (P : Lists → Type 0) (held : List ℕ) (result : Option Heap) → P (lists_of left unspent held older)
+        → EasedTo from.heap result → IsJudged setting.cells left unspent held older rest joins from.frames from.heap from.tokens
+        → IsFollowed setting.cells P (goes (to_heap result from (at_code rest environment joins from)))
+        (goes (with_heap result (bare_configuration from)
+        (at_counted (bare rest) environment (map bare_join joins) (bare_configuration from))))
+    drop_followed P held None next eased judged = record { does = refl; keeps = (held ∷ older, judged.are) }
+    drop_followed P held (Some heap) next eased judged =
+        record {
+          does = refl;
+          keeps = (
+            lists_of left unspent held older,
+            (
+              next,
+              record {
+                spends = judged.spends;
+                waits = judged.waits;
+                slots_are = judged.slots_are;
+                apart = judged.apart;
+                waiting = judged.waiting;
+                are = record {
+                  pooled = pooled_eased setting.cells from.heap heap from.tokens eased judged.are.pooled;
+                  chain = judged.are.chain;
+                  beyond = judged.are.beyond;
+                };
+              },
+            ),
+          );
         }
 
     opened_followed : (P : Lists → Type 0) (result : Option Heap) (named : Named) (fields : List ℕ) (y : ℕ)
@@ -596,12 +626,17 @@ module _ (setting : TokenSetting) (program_spends : AreTokensSpent setting.progr
       (ap (λ h. lists_of lists.left lists.unspent h lists.older) (sym judged.spends.0))
       (eased_dup (value_of environment x) from.heap) judged.spends.1 now
   follows lists (Tokened.drop x rest) environment joins from judged fills quiet =
-      let now = now_of setting.cells lists.left lists.unspent lists.held lists.older (Tokened.drop x rest) joins from.frames
-      from.heap from.tokens judged.spends.0 judged in
-      heap_followed lists.left lists.unspent lists.older rest environment joins from judged.waits
-      (ListsAfter (Tokened.drop x rest) joins lists) (drop_value (value_of environment x) from.heap)
-      (ap (λ h. lists_of lists.left lists.unspent h lists.older) (sym judged.spends.0))
-      (eased_drop (value_of environment x) from.heap) judged.spends.1 now
+      drop_followed lists.left lists.unspent lists.older rest environment joins from judged.waits
+      (ListsAfter (Tokened.drop x rest) joins lists) lists.held (drop_value (value_of environment x) from.heap) refl
+      (eased_drop (value_of environment x) from.heap)
+      (record {
+        spends = judged.spends;
+        waits = judged.waits;
+        slots_are = judged.slots_are;
+        apart = judged.apart;
+        waiting = judged.waiting;
+        are = judged.are;
+      })
   follows lists (Tokened.fill x y c first arguments left_fields others rest) environment joins from judged fills quiet =
       let now = now_of setting.cells lists.left lists.unspent lists.held lists.older
       (Tokened.fill x y c first arguments left_fields others rest) joins from.frames from.heap from.tokens judged.spends.0

@@ -1,5 +1,5 @@
 -- What code with tokens owes to be lowered to assembler code, beside what its bare form owes (Lowerable): its slots are few, tokens
--- are held around calls alone, and a construction leaves only fields that its cell has already.
+-- are held around rows of calls alone, and a construction leaves only fields that its cell has already.
 use Rattle.std.specs.Prelude.{◌≡◌, ℕ, suc, ◌≤◌, false, List, [], ◌∷◌, max, Some, slice_get}
 use Rattle.kk_syntax.specs.Shapes.{is_among}
 use Rattle.kk_syntax.specs.declared.program.Form.TheVariants.{Call}
@@ -46,7 +46,7 @@ most_slots = most_nodes
 -- ---- held tokens
 
 -- Code before which the tokens of these slots are held, the newest first: each is held up to its Unhold, and between the two there are
--- calls alone.
+-- calls and drops alone.
 abbrev mutual
   pub HoldsAtCalls : List ℕ → Tokened → Type 0
   HoldsAtCalls held (Tokened.give x) = held ≡ []
@@ -59,7 +59,7 @@ abbrev mutual
   HoldsAtCalls held (Tokened.open_cell x c fields used y rest) = (held ≡ []) × HoldsAtCalls [] rest
   HoldsAtCalls held (Tokened.if_unique x c fields used y rest) = (held ≡ []) × HoldsAtCalls [] rest
   HoldsAtCalls held (Tokened.dup x rest) = (held ≡ []) × HoldsAtCalls [] rest
-  HoldsAtCalls held (Tokened.drop x rest) = (held ≡ []) × HoldsAtCalls [] rest
+  HoldsAtCalls held (Tokened.drop x rest) = HoldsAtCalls held rest
   HoldsAtCalls held (Tokened.fill x y c first arguments kept others rest) = (held ≡ []) × HoldsAtCalls [] rest
   HoldsAtCalls held (Tokened.free y rest) = (held ≡ []) × HoldsAtCalls [] rest
   HoldsAtCalls held (Tokened.null y rest) = (held ≡ []) × HoldsAtCalls [] rest

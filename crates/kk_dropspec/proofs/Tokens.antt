@@ -53,7 +53,7 @@ mutual
   spends_tokens (Tokened.if_unique x c fields used y rest) left unspent held s =
       (s.0, (s.1.0, spends_tokens rest left (y ∷ unspent) [] s.1.1))
   spends_tokens (Tokened.dup x rest) left unspent held s = (s.0, spends_tokens rest left unspent [] s.1)
-  spends_tokens (Tokened.drop x rest) left unspent held s = (s.0, spends_tokens rest left unspent [] s.1)
+  spends_tokens (Tokened.drop x rest) left unspent held s = spends_tokens rest left unspent held s
   spends_tokens (Tokened.fill x y c first arguments kept others rest) left unspent held s =
       (s.0, (s.1.0, (s.1.1.0, (s.1.1.1.0, spends_tokens rest left (without (y ∷ []) unspent) [] s.1.1.1.1))))
   spends_tokens (Tokened.free y rest) left unspent held s =

@@ -85,7 +85,7 @@ mutual
   respec_spends known (Tokened.if_unique x c fields used y rest) left unspent held s =
       (s.0, (s.1.0, respec_spends (known_opened fields y known) rest left (y ∷ unspent) [] s.1.1))
   respec_spends known (Tokened.dup x rest) left unspent held s = (s.0, respec_spends known rest left unspent [] s.1)
-  respec_spends known (Tokened.drop x rest) left unspent held s = (s.0, respec_spends known rest left unspent [] s.1)
+  respec_spends known (Tokened.drop x rest) left unspent held s = respec_spends known rest left unspent held s
   respec_spends known (Tokened.fill x y c first arguments kept others rest) left unspent held s = (
     s.0,
     (

@@ -129,7 +129,7 @@ mutual
   straight_same known (Tokened.if_unique x c fields used y rest) held straight =
       (straight.0, straight_same (known_opened fields y known) rest [] straight.1)
   straight_same known (Tokened.dup x rest) held straight = (straight.0, straight_same known rest [] straight.1)
-  straight_same known (Tokened.drop x rest) held straight = (straight.0, straight_same known rest [] straight.1)
+  straight_same known (Tokened.drop x rest) held straight = straight_same known rest held straight
   straight_same known (Tokened.fill x y c first arguments kept others rest) held straight =
       (straight.0, straight_same (forget_variable x (forget_slot y known)) rest [] straight.1)
   straight_same known (Tokened.free y rest) held straight = (straight.0, straight_same (forget_slot y known) rest [] straight.1)

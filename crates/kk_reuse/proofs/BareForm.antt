@@ -6,7 +6,8 @@ use Rattle.kk_counted.specs.CountedCodes.{Counted, give, tail_call, case, comput
 use Rattle.kk_counted.specs.TokenedCodes.{Tokened}
 use Rattle.kk_counted.specs.BareForms.{bare, bare_arms}
 use Rattle.kk_reuse.specs.Following.{may_make, kept, taken}
-use Rattle.kk_reuse.specs.Pairing.{frees, holds, unholds, nulls, moves_up, filled_up, settled, left_by, paired_form, paired, paired_arms}
+use Rattle.kk_reuse.specs.Pairing.{frees, holds, all_taken_back, nulls, moves_up, filled_up, settled, left_by, paired_form, paired, paired_arms}
+use Rattle.kk_reuse.proofs.TakenBack.{HeldAgain, back_so}
 
 pub bare_frees : (n : ℕ) (code : Tokened) → bare (frees n code) ≡ bare code
 bare_frees zero code = refl
@@ -16,9 +17,15 @@ bare_holds : (n : ℕ) (code : Tokened) → bare (holds n code) ≡ bare code
 bare_holds zero code = refl
 bare_holds (suc n) code = bare_holds n (Tokened.hold n code)
 
-pub bare_unholds : (n : ℕ) (code : Tokened) → bare (unholds n code) ≡ bare code
-bare_unholds zero code = refl
-bare_unholds (suc n) code = bare_unholds n code
+pub bare_again : (y : ℕ) (code less : Tokened) → HeldAgain y code less → bare less ≡ bare code
+bare_again y _ _ (HeldAgain.here rest) = refl
+bare_again y _ _ (HeldAgain.behind x code less again) = ap (drop x) (bare_again y code less again)
+
+pub bare_back : (n : ℕ) (code : Tokened) → bare (all_taken_back n code) ≡ bare code
+bare_back zero code = refl
+bare_back (suc n) code =
+    back_so (λ back. bare back ≡ bare code) n (all_taken_back n code) (bare_back n code)
+    (λ less again. bare_again n (all_taken_back n code) less again ∙ bare_back n code)
 
 bare_nulls : (n : ℕ) (code : Tokened) → bare (nulls n code) ≡ bare code
 bare_nulls zero code = refl
@@ -47,8 +54,8 @@ bare_form n x (Call f) arguments rest =
     called : (n : ℕ) → bare (paired_form n x (Call f) arguments rest) ≡ compute x (Call f) arguments (bare rest)
     called zero = refl
     called (suc n) =
-        bare_holds (suc n) (Tokened.compute x (Call f) arguments [] (unholds (suc n) rest)) ∙ ap (compute x (Call f) arguments)
-        (bare_unholds (suc n) rest)
+        bare_holds (suc n) (Tokened.compute x (Call f) arguments [] (all_taken_back (suc n) rest))
+        ∙ ap (compute x (Call f) arguments) (bare_back (suc n) rest)
 bare_form zero x (Construct c) [] rest = refl
 bare_form zero x (Construct c) (first ∷ arguments) rest = refl
 bare_form (suc n) x (Construct c) [] rest = refl

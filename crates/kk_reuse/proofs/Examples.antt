@@ -22,6 +22,15 @@ held : paired false 0 0
     (Tokened.fill 4 0 7 1 (3 ∷ []) [] [] (Tokened.give 4)))))
 held = refl
 
+-- Where another call comes directly behind it the token stays held, and is taken back behind the last of them.
+held_on : paired false 0 0
+    (if_unique 0 7 (1 ∷ 2 ∷ []) (1 ∷ 2 ∷ []) (compute 3 (Call 0) (1 ∷ []) (compute 4 (Call 1) (2 ∷ [])
+    (compute 5 (Construct 7) (3 ∷ 4 ∷ []) (give 5)))))
+    ≡ Tokened.if_unique 0 7 (1 ∷ 2 ∷ []) (1 ∷ 2 ∷ []) 0
+    (Tokened.hold 0 (Tokened.compute 3 (Call 0) (1 ∷ []) [] (Tokened.compute 4 (Call 1) (2 ∷ []) [] (Tokened.unhold 0
+    (Tokened.fill 5 0 7 3 (4 ∷ []) [] [] (Tokened.give 5))))))
+held_on = refl
+
 -- Of two tokens a construction takes the newer one, and the other is freed before the tail call.
 newest : paired false 0 0
     (if_unique 0 7 (2 ∷ []) (2 ∷ []) (if_unique 2 7 (3 ∷ []) (3 ∷ [])

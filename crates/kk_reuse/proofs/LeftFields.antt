@@ -6,7 +6,8 @@ use Rattle.kk_counted.specs.CountedCodes.{Counted, give, tail_call, case, comput
 use Rattle.kk_counted.specs.KeptFields.{KnownFields, fields_in, known_opened, forget_slot, forget_variable, forget_variables, KeepsKnown, LeavesKnown, LeaveKnown}
 use Rattle.kk_counted.specs.TokenedCodes.{Tokened}
 use Rattle.kk_reuse.specs.Following.{may_make, kept, taken}
-use Rattle.kk_reuse.specs.Pairing.{frees, holds, unholds, nulls, moves_up, filled_up, settled, left_by, paired_form, paired, paired_arms}
+use Rattle.kk_reuse.specs.Pairing.{frees, holds, all_taken_back, nulls, moves_up, filled_up, settled, left_by, paired_form, paired, paired_arms}
+use Rattle.kk_reuse.proofs.TakenBack.{HeldAgain, back_so}
 
 -- whatever is known
 abbrev LeavesNone : Tokened → Type 0
@@ -35,9 +36,16 @@ filled_none : (more n : ℕ) (code : Tokened) → LeavesNone code → LeavesNone
 filled_none zero n code none known = none known
 filled_none (suc more) n code none known = moves_none (suc more) n (nulls (suc more) code) (nulls_none (suc more) code none) known
 
-unholds_none : (n : ℕ) (code : Tokened) → LeavesNone code → LeavesNone (unholds n code)
-unholds_none zero code none known = none known
-unholds_none (suc n) code none known = unholds_none n code none known
+none_still : (y : ℕ) (known : List KnownFields) (code less : Tokened) → HeldAgain y code less → LeavesKnown known code
+    → LeavesKnown known less
+none_still y known _ _ (HeldAgain.here rest) none = none
+none_still y known _ _ (HeldAgain.behind x code less again) none = none_still y known code less again none
+
+back_none : (n : ℕ) (code : Tokened) → LeavesNone code → LeavesNone (all_taken_back n code)
+back_none zero code none known = none known
+back_none (suc n) code none known =
+    back_so (LeavesKnown known) n (all_taken_back n code) (back_none n code none known)
+    (λ less again. none_still n known (all_taken_back n code) less again (back_none n code none known))
 
 holds_none : (n : ℕ) (code : Tokened) → LeavesNone code → LeavesNone (holds n code)
 holds_none zero code none known = none known
@@ -48,8 +56,8 @@ form_none : (n x : ℕ) (form : Form) (arguments : List ℕ) (rest : Tokened) �
 form_none (suc n) x (Construct c) (first ∷ arguments) rest none known =
     (keeps_none 0 (fields_in known n) (first ∷ arguments), none (forget_variable x (forget_slot n known)))
 form_none n x (Call f) arguments rest none known =
-    holds_none n (Tokened.compute x (Call f) arguments [] (unholds n rest))
-    (λ others. unholds_none n rest none (forget_variable x others)) known
+    holds_none n (Tokened.compute x (Call f) arguments [] (all_taken_back n rest))
+    (λ others. back_none n rest none (forget_variable x others)) known
 form_none n x form arguments rest none known = none (forget_variable x known)
 
 -- ---- code

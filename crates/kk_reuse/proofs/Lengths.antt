@@ -1,7 +1,7 @@
 -- Paired code is short: what it is longer by than the code that it is made of is paid by that code's forms. Each pays, for each
 -- slot that a function can have, what it takes to hold a token and to take it back. That is enough for the tokens that are held,
 -- named or moved there, and for those that are freed behind it.
-use Rattle.std.proofs.Common.{◌≡◌, ◌≤◌, ℕ, zero, suc, ◌+◌, ◌-◌, ◌*◌, Bool, true, false, if◌then◌else◌, List, [], ◌∷◌, map, Some, refl, arith}
+use Rattle.std.proofs.Common.{◌≡◌, ◌≤◌, ℕ, zero, suc, ◌+◌, ◌-◌, ◌*◌, Bool, true, false, if◌then◌else◌, List, [], ◌∷◌, map, Some, refl, ◌∙◌, arith}
 use Rattle.std.specs.Prelude.{slice_get}
 use Rattle.kk_syntax.specs.declared.program.Form.{Form}
 use Rattle.kk_syntax.specs.declared.program.Form.TheVariants.{Construct, Call}
@@ -14,8 +14,9 @@ use Rattle.kk_counted.specs.TokenLengths.{tokened_computes, tokened_arms_compute
 use Rattle.kk_counted.specs.TokenLowerable.{most_slots}
 use Rattle.kk_counted.specs.TokenedCodes.{Tokened}
 use Rattle.kk_reuse.specs.Following.{may_make, kept, taken}
-use Rattle.kk_reuse.specs.Pairing.{frees, holds, unholds, nulls, moves_up, filled_up, settled, left_by, paired_form, paired, paired_arms, paired_function, paired_program}
-use Rattle.kk_reuse.proofs.TokenRoom.{kept_few, taken_few, leaves_few, slots_many}
+use Rattle.kk_reuse.specs.Pairing.{frees, holds, all_taken_back, nulls, moves_up, filled_up, settled, left_by, paired_form, paired, paired_arms, paired_function, paired_program}
+use Rattle.kk_reuse.proofs.TakenBack.{HeldAgain, back_so}
+use Rattle.kk_reuse.proofs.TokenRoom.{taken_few, left_few, slots_many}
 
 -- ---- forms that only tokens have, in front of a code
 
@@ -27,9 +28,16 @@ holds_length : (n : ℕ) (code : Tokened) → tokened_length (holds n code) ≡ 
 holds_length zero code = omega arith
 holds_length (suc n) code = omega (arith, holds_length n (Tokened.hold n code))
 
-unholds_length : (n : ℕ) (code : Tokened) → tokened_length (unholds n code) ≡ unhold_length * n + tokened_length code
-unholds_length zero code = omega arith
-unholds_length (suc n) code = omega (arith, unholds_length n code)
+length_still : (y : ℕ) (code less : Tokened) → HeldAgain y code less → tokened_length less ≤ tokened_length code
+length_still y _ _ (HeldAgain.here rest) = omega arith
+length_still y _ _ (HeldAgain.behind x code less again) = omega (arith, length_still y code less again)
+
+back_length : (n : ℕ) (code : Tokened) → tokened_length (all_taken_back n code) ≤ unhold_length * n + tokened_length code
+back_length zero code = omega arith
+back_length (suc n) code =
+    back_so (λ back. tokened_length back ≤ unhold_length * suc n + tokened_length code) n (all_taken_back n code)
+    (omega (arith, back_length n code))
+    (λ less again. omega (arith, length_still n (all_taken_back n code) less again, back_length n code))
 
 nulls_length : (n : ℕ) (code : Tokened) → tokened_length (nulls n code) ≡ null_length * n + tokened_length code
 nulls_length zero code = omega arith
@@ -51,8 +59,8 @@ form_long (suc n) x (Construct c) (first ∷ arguments) rest = omega (arith, slo
 form_long n x (Call f) arguments rest =
     omega (
       arith,
-      holds_length n (Tokened.compute x (Call f) arguments [] (unholds n rest)),
-      unholds_length n rest,
+      holds_length n (Tokened.compute x (Call f) arguments [] (all_taken_back n rest)),
+      back_length n rest,
     )
 form_long n x form arguments rest = omega arith
 
@@ -97,12 +105,7 @@ mutual
       )
   paired_short (inside x block rest) behind l fits n few =
       let outer : ℕ = left_by behind n block rest in
-      let left : outer ≤ n + openings block
-      = omega (
-        arith,
-        leaves_few block (may_make behind rest) (kept (may_make behind rest) block n),
-        kept_few (may_make (may_make behind rest) block) n,
-      ) in
+      let left = left_few behind n block rest in
       let inner : outer ≤ most_slots = omega (arith, few, left) in
       omega (
         arith,
@@ -143,9 +146,15 @@ holds_compute : (n : ℕ) (code : Tokened) → tokened_computes (holds n code) �
 holds_compute zero code = refl
 holds_compute (suc n) code = holds_compute n (Tokened.hold n code)
 
-unholds_compute : (n : ℕ) (code : Tokened) → tokened_computes (unholds n code) ≡ tokened_computes code
-unholds_compute zero code = refl
-unholds_compute (suc n) code = unholds_compute n code
+computes_still : (y : ℕ) (code less : Tokened) → HeldAgain y code less → tokened_computes less ≡ tokened_computes code
+computes_still y _ _ (HeldAgain.here rest) = refl
+computes_still y _ _ (HeldAgain.behind x code less again) = computes_still y code less again
+
+back_computes : (n : ℕ) (code : Tokened) → tokened_computes (all_taken_back n code) ≡ tokened_computes code
+back_computes zero code = refl
+back_computes (suc n) code =
+    back_so (λ back. tokened_computes back ≡ tokened_computes code) n (all_taken_back n code) (back_computes n code)
+    (λ less again. computes_still n (all_taken_back n code) less again ∙ back_computes n code)
 
 nulls_compute : (n : ℕ) (code : Tokened) → tokened_computes (nulls n code) ≡ tokened_computes code
 nulls_compute zero code = refl
@@ -166,8 +175,8 @@ form_computes (suc n) x (Construct c) (first ∷ arguments) rest = omega arith
 form_computes n x (Call f) arguments rest =
     omega (
       arith,
-      holds_compute n (Tokened.compute x (Call f) arguments [] (unholds n rest)),
-      unholds_compute n rest,
+      holds_compute n (Tokened.compute x (Call f) arguments [] (all_taken_back n rest)),
+      back_computes n rest,
     )
 form_computes n x form arguments rest = omega arith
 

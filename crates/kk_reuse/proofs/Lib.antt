@@ -1,4 +1,5 @@
 pub mod MappedLists
+pub mod TakenBack
 pub mod BareForm
 mod Examples
 pub mod TokenSpending

@@ -1,5 +1,5 @@
--- Paired code can be lowered where the code can that it is made of: its slots are few, and it holds tokens around calls alone.
-use Rattle.std.proofs.Common.{◌≡◌, ◌≤◌, ℕ, zero, suc, ◌+◌, ◌-◌, Bool, true, false, if◌then◌else◌, List, [], ◌∷◌, map, Some, refl, subst, arith}
+-- Paired code can be lowered where the code can that it is made of: its slots are few, and it holds tokens around rows of calls alone.
+use Rattle.std.proofs.Common.{◌≡◌, ◌≤◌, ℕ, zero, suc, ◌+◌, ◌-◌, Bool, true, false, if◌then◌else◌, List, [], ◌∷◌, map, Some, refl, sym, subst, arith}
 use Rattle.std.specs.Prelude.{slice_get}
 use Rattle.kk_syntax.specs.declared.program.Form.{Form}
 use Rattle.kk_syntax.specs.declared.program.Form.TheVariants.{Construct, Call}
@@ -10,10 +10,11 @@ use Rattle.kk_counted.specs.TokenLowerable.{slots_of, slots_in, slots_in_arms, m
 use Rattle.kk_counted.specs.TokenLowerable.{IsTokenLowerable, AreTokensLowerable}
 use Rattle.kk_counted.specs.TokenedCodes.{Tokened, TokenedArms, TokenedFunction}
 use Rattle.kk_reuse.specs.Following.{may_make, kept, taken}
-use Rattle.kk_reuse.specs.Pairing.{slots_below, frees, holds, unholds, nulls, moves_up, filled_up, settled, left_by, paired_form, paired, paired_arms, paired_function, paired_program}
+use Rattle.kk_reuse.specs.Pairing.{slots_below, frees, holds, all_taken_back, nulls, moves_up, filled_up, settled, left_by, paired_form, paired, paired_arms, paired_function, paired_program}
+use Rattle.kk_reuse.proofs.TakenBack.{HeldAgain, back_so}
 use Rattle.kk_reuse.proofs.MappedLists.{each_made}
 use Rattle.kk_reuse.proofs.LeftFields.{paired_none}
-use Rattle.kk_reuse.proofs.TokenRoom.{kept_few, taken_few, leaves_few}
+use Rattle.kk_reuse.proofs.TokenRoom.{taken_few, left_few}
 use Rattle.kk_reuse.proofs.TokenSpending.{slots_are, next_free}
 
 -- by the most slots that a function may have
@@ -52,14 +53,29 @@ module _ (most : ℕ) where
   filled_low (suc more) n code few low =
       moves_low (suc more) n (nulls (suc more) code) few (nulls_low (suc more) code (omega (arith, few)) low)
 
-  unholds_low : (n : ℕ) (code : Tokened) → n ≤ most → IsLow [] code → IsLow (slots_below n) (unholds n code)
-  unholds_low zero code few low = low
-  unholds_low (suc n) code few low =
-      let rest = unholds_low n code (omega (arith, few)) low in
+  -- a token that is taken back and held again can stay held
+  still_low : (y : ℕ) (held : List ℕ) (code less : Tokened) → HeldAgain y code less → IsLow held (Tokened.unhold y code)
+      → IsLow held less
+  still_low y held _ _ (HeldAgain.here rest) low =
       record {
+        slots = omega (arith, low.slots);
+        straight = subst (λ (slots : List ℕ). HoldsAtCalls slots rest) (sym low.straight.1.0) low.straight.1.1.1;
+      }
+  still_low y held _ _ (HeldAgain.behind x code less again) low =
+      let later = still_low y held code less again (record { slots = low.slots; straight = low.straight }) in
+      record { slots = later.slots; straight = later.straight }
+
+  back_low : (n : ℕ) (code : Tokened) → n ≤ most → IsLow [] code → IsLow (slots_below n) (all_taken_back n code)
+  back_low zero code few low = low
+  back_low (suc n) code few low =
+      let rest = back_low n code (omega (arith, few)) low in
+      let back : IsLow (slots_below (suc n)) (Tokened.unhold n (all_taken_back n code))
+      = record {
         slots = omega (arith, few, rest.slots);
         straight = (slots_below n, (refl, rest.straight));
-      }
+      } in
+      back_so (IsLow (slots_below (suc n))) n (all_taken_back n code) back
+      (λ less again. still_low n (slots_below (suc n)) (all_taken_back n code) less again back)
 
   holds_low : (n : ℕ) (code : Tokened) → n ≤ most → IsLow (slots_below n) code → IsLow [] (holds n code)
   holds_low zero code few low = low
@@ -81,8 +97,8 @@ module _ (most : ℕ) where
         straight = (refl, low.straight);
       }
   form_low n x (Call f) arguments rest few low =
-      let behind = unholds_low n rest few low in
-      holds_low n (Tokened.compute x (Call f) arguments [] (unholds n rest)) few (record {
+      let behind = back_low n rest few low in
+      holds_low n (Tokened.compute x (Call f) arguments [] (all_taken_back n rest)) few (record {
         slots = omega (arith, behind.slots);
         straight = behind.straight;
       })
@@ -126,12 +142,7 @@ module _ (most : ℕ) where
         (rest_low rest behind l (taken form arguments n) (paired_low rest behind l fits) (omega (arith, few, left)))
     paired_low (inside x block rest) behind l fits n few =
         let outer : ℕ = left_by behind n block rest in
-        let left : outer ≤ n + openings block
-        = omega (
-          arith,
-          leaves_few block (may_make behind rest) (kept (may_make behind rest) block n),
-          kept_few (may_make (may_make behind rest) block) n,
-        ) in
+        let left = left_few behind n block rest in
         let inner : outer ≤ most = omega (arith, few, left) in
         let one = rest_low block (may_make behind rest) outer n (paired_low block (may_make behind rest) outer inner)
         (omega (arith, few)) in
@@ -154,7 +165,7 @@ module _ (most : ℕ) where
         record { slots = low.slots; straight = (refl, low.straight) }
     paired_low (drop x rest) behind l fits n few =
         let low = rest_low rest behind l n (paired_low rest behind l fits) few in
-        record { slots = low.slots; straight = (refl, low.straight) }
+        record { slots = low.slots; straight = low.straight }
 
     arms_low : (arms : CountedArms) → (behind : Bool) (l n : ℕ) → l ≤ most
         → n + openings_of arms ≤ most → AreLow (paired_arms behind l n arms)

@@ -14,8 +14,9 @@ use Rattle.kk_counted.specs.TokenWords.{code_words, arms_words, branch_ends, arm
 use Rattle.kk_counted.specs.TokenWords.{token_words, arms_token_words}
 use Rattle.kk_counted.specs.TokenedWords.{tokened_words, tokened_arms_words}
 use Rattle.kk_reuse.specs.Following.{makes_cell, may_make, arms_may_make, kept, taken, leaves, arms_leave}
-use Rattle.kk_reuse.specs.Pairing.{frees, holds, unholds, nulls, moves_up, filled_up, settled, left_by, paired_form, paired}
+use Rattle.kk_reuse.specs.Pairing.{frees, holds, all_taken_back, nulls, moves_up, filled_up, settled, left_by, paired_form, paired}
 use Rattle.kk_reuse.specs.Pairing.{paired_arms}
+use Rattle.kk_reuse.proofs.TakenBack.{HeldAgain, back_so}
 use Rattle.kk_reuse.proofs.TokenRoom.{kept_few, taken_few, leaves_few, slots_many}
 
 -- ---- forms that only tokens have, in front of a code
@@ -28,9 +29,16 @@ holds_words : (n : ℕ) (code : Tokened) → tokened_words (holds n code) ≡ 7 
 holds_words zero code = omega arith
 holds_words (suc n) code = omega (arith, holds_words n (Tokened.hold n code))
 
-unholds_words : (n : ℕ) (code : Tokened) → tokened_words (unholds n code) ≡ 4 * n + tokened_words code
-unholds_words zero code = omega arith
-unholds_words (suc n) code = omega (arith, unholds_words n code)
+words_still : (y : ℕ) (code less : Tokened) → HeldAgain y code less → tokened_words less ≤ tokened_words code
+words_still y _ _ (HeldAgain.here rest) = omega arith
+words_still y _ _ (HeldAgain.behind x code less again) = omega (arith, words_still y code less again)
+
+back_words : (n : ℕ) (code : Tokened) → tokened_words (all_taken_back n code) ≤ 4 * n + tokened_words code
+back_words zero code = omega arith
+back_words (suc n) code =
+    back_so (λ back. tokened_words back ≤ 4 * suc n + tokened_words code) n (all_taken_back n code)
+    (omega (arith, back_words n code))
+    (λ less again. omega (arith, words_still n (all_taken_back n code) less again, back_words n code))
 
 nulls_words : (n : ℕ) (code : Tokened) → tokened_words (nulls n code) ≡ 3 * n + tokened_words code
 nulls_words zero code = omega arith
@@ -64,8 +72,8 @@ form_takes (suc n) x (Construct c) (first ∷ arguments) rest = omega (arith, sl
 form_takes n x (Call f) arguments rest =
     omega (
       arith,
-      holds_words n (Tokened.compute x (Call f) arguments [] (unholds n rest)),
-      unholds_words n rest,
+      holds_words n (Tokened.compute x (Call f) arguments [] (all_taken_back n rest)),
+      back_words n rest,
     )
 form_takes n x form arguments rest = omega arith
 
@@ -207,6 +215,25 @@ inner_true block ends n =
     settled_all block ends (leaves true (kept true block n) block) n
     ∙ ap (λ k. tokened_words (paired true (leaves true k block) n block)) (kept_all block ends n)
 
+-- A block inside and what comes behind it, where a cell may be made behind both: as many tokens as the block leaves come behind it, and
+-- none is freed in front of either.
+record InsideTakes (block rest : Counted) (n l : ℕ) : Type 0 where
+  same : left_by true n block rest ≡ leaves true n block
+  own : tokened_words (settled (may_make true rest) block n (paired (may_make true rest) (left_by true n block rest)
+      (kept (may_make true rest) block n) block)) ≡ tokened_words (paired true (leaves true n block) n block)
+  later : tokened_words (settled true rest (left_by true n block rest)
+      (paired true l (kept true rest (left_by true n block rest)) rest)) ≡ tokened_words (paired true l (leaves true n block) rest)
+
+takes_inside : (block rest : Counted) → EndsWell true block → EndsWell true rest → (n l : ℕ) → InsideTakes block rest n l
+takes_inside block rest first ends n l =
+    let same : left_by true n block rest ≡ leaves true n block
+    = ap (λ b. leaves b (kept b block n) block) (makes rest ends) ∙ ap (λ k. leaves true k block) (kept_all block first n) in
+    record {
+      same = same;
+      own = ap (λ b. tokened_words (inner b n block)) (makes rest ends) ∙ inner_true block first n;
+      later = settled_all rest ends l (left_by true n block rest) ∙ ap (λ k. tokened_words (paired true l k rest)) same;
+    }
+
 -- an arm pays for the tokens that are there
 end_paid : (e : Bool) (l t k : ℕ) → 4 * (if e then l else k) ≤ 5 * t + 4 * (if e then l - t else k)
 end_paid true l t k = omega arith
@@ -231,28 +258,18 @@ mutual
         fits_block rest ends l n2 t (omega (arith, few, left)),
       )
   fits_block (inside x block rest) ends l n t few =
-      let n2 : ℕ = leaves true n block in
-      let outer : ℕ = left_by true n block rest in
       let o : ℕ = openings block in
-      let own : tokened_words (settled (may_make true rest) block n (paired (may_make true rest) outer
-      (kept (may_make true rest) block n) block)) ≡ tokened_words (paired true n2 n block)
-      = ap (λ b. tokened_words (inner b n block)) (makes rest ends.1) ∙ inner_true block ends.0 n in
-      let same : outer ≡ n2
-      = ap (λ b. leaves b (kept b block n) block) (makes rest ends.1) ∙ ap (λ k. leaves true k block) (kept_all block ends.0 n) in
-      let most = leaves_few block true n in
-      let further : n2 ≤ t + o = omega (arith, most, few) in
-      let later : tokened_words (settled true rest outer (paired true l (kept true rest outer) rest))
-      ≡ tokened_words (paired true l n2 rest)
-      = settled_all rest ends.1 l outer ∙ ap (λ k. tokened_words (paired true l k rest)) same in
+      let inside_takes = takes_inside block rest ends.0 ends.1 n l in
+      let further : leaves true n block ≤ t + o = omega (arith, leaves_few block true n, few) in
       let lacks : short l (t + o) rest ≡ short l t (inside x block rest)
       = ap (λ k. if branch_ends rest == 0 then l else lacking k rest) (omega arith) in
       omega (
         arith,
-        own,
+        inside_takes.own,
         exactly block (fits_block block ends.0) (fits_straight block ends.0) n t few,
-        later,
+        inside_takes.later,
         lacks,
-        fits_block rest ends.1 l n2 (t + o) further,
+        fits_block rest ends.1 l (leaves true n block) (t + o) further,
       )
   fits_block (read x c fields rest) ends l n t few =
       omega (arith, settled_all rest ends l n, fits_block rest ends l n t few)
@@ -299,27 +316,18 @@ mutual
         fits_straight rest ends none l n2 t leave (omega (arith, few, left)),
       )
   fits_straight (inside x block rest) ends none l n t is few =
-      let n2 : ℕ = leaves true n block in
-      let outer : ℕ = left_by true n block rest in
       let o : ℕ = openings block in
-      let own : tokened_words (settled (may_make true rest) block n (paired (may_make true rest) outer
-      (kept (may_make true rest) block n) block)) ≡ tokened_words (paired true n2 n block)
-      = ap (λ b. tokened_words (inner b n block)) (makes rest ends.1) ∙ inner_true block ends.0 n in
-      let same : outer ≡ n2
-      = ap (λ b. leaves b (kept b block n) block) (makes rest ends.1) ∙ ap (λ k. leaves true k block) (kept_all block ends.0 n) in
-      let most = leaves_few block true n in
-      let further : n2 ≤ t + o = omega (arith, most, few) in
-      let later : tokened_words (settled true rest outer (paired true l (kept true rest outer) rest))
-      ≡ tokened_words (paired true l n2 rest)
-      = settled_all rest ends.1 l outer ∙ ap (λ k. tokened_words (paired true l k rest)) same in
-      let leave : l ≡ leaves true n2 rest
-      = is ∙ (ap (λ k. leaves true k rest) (kept_all rest ends.1 outer) ∙ ap (λ k. leaves true k rest) same) in
+      let inside_takes = takes_inside block rest ends.0 ends.1 n l in
+      let further : leaves true n block ≤ t + o = omega (arith, leaves_few block true n, few) in
+      let leave : l ≡ leaves true (leaves true n block) rest
+      = is ∙ (ap (λ k. leaves true k rest) (kept_all rest ends.1 (left_by true n block rest))
+      ∙ ap (λ k. leaves true k rest) inside_takes.same) in
       omega (
         arith,
-        own,
+        inside_takes.own,
         exactly block (fits_block block ends.0) (fits_straight block ends.0) n t few,
-        later,
-        fits_straight rest ends.1 none l n2 (t + o) leave further,
+        inside_takes.later,
+        fits_straight rest ends.1 none l (leaves true n block) (t + o) leave further,
       )
   fits_straight (read x c fields rest) ends none l n t is few =
       let leave : l ≡ leaves true n rest = is ∙ ap (λ k. leaves true k rest) (kept_all rest ends n) in

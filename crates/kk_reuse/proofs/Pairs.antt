@@ -7,9 +7,10 @@ use Rattle.kk_counted.specs.CountedCodes.{Counted, give, tail_call, case, comput
 use Rattle.kk_counted.specs.TokenedCodes.{Tokened, TokenedFunction}
 use Rattle.kk_counted.specs.BareForms.{bare}
 use Rattle.kk_reuse.specs.Following.{makes_cell, may_make, kept, taken, leaves, arms_leave}
-use Rattle.kk_reuse.specs.Pairing.{slots_below, frees, holds, unholds, nulls, moves_up, filled_up, settled, left_by, paired_form, paired, paired_arms, paired_function, paired_program}
+use Rattle.kk_reuse.specs.Pairing.{slots_below, frees, holds, all_taken_back, nulls, moves_up, filled_up, settled, left_by, paired_form, paired, paired_arms, paired_function, paired_program}
 use Rattle.kk_reuse.specs.Paired.{IsTimely, Without, Renamed, IsPaired, ArePaired, AllPaired}
-use Rattle.kk_reuse.proofs.BareForm.{bare_frees, bare_unholds, bare_settled, bare_paired}
+use Rattle.kk_reuse.proofs.TakenBack.{HeldAgain, back_so}
+use Rattle.kk_reuse.proofs.BareForm.{bare_frees, bare_again, bare_back, bare_settled, bare_paired}
 use Rattle.kk_reuse.proofs.MappedLists.{each_made}
 use Rattle.kk_reuse.proofs.TokenSpending.{function_leaves_none}
 
@@ -34,10 +35,21 @@ frees_pair (suc n) behind left code none pairs = (
   frees_pair n behind left code none pairs,
 )
 
-unholds_pair : (n : ℕ) (behind : Bool) (left tokens : List ℕ) (code : Tokened) → IsPaired behind left tokens code
-    → IsPaired behind left tokens (unholds n code)
-unholds_pair zero behind left tokens code pairs = pairs
-unholds_pair (suc n) behind left tokens code pairs = unholds_pair n behind left tokens code pairs
+pairs_still : (y : ℕ) (behind : Bool) (left tokens : List ℕ) (code less : Tokened) → HeldAgain y code less
+    → IsPaired behind left tokens code → IsPaired behind left tokens less
+pairs_still y behind left tokens _ _ (HeldAgain.here rest) pairs = pairs.1
+pairs_still y behind left tokens _ _ (HeldAgain.behind x code less again) pairs = (
+  subst (λ c. (tokens ≡ []) ⊎ (may_make behind (drop x c) ≡ true)) (sym (bare_again y code less again)) pairs.0,
+  pairs_still y behind left tokens code less again pairs.1,
+)
+
+back_pairs : (n : ℕ) (behind : Bool) (left tokens : List ℕ) (code : Tokened) → IsPaired behind left tokens code
+    → IsPaired behind left tokens (all_taken_back n code)
+back_pairs zero behind left tokens code pairs = pairs
+back_pairs (suc n) behind left tokens code pairs =
+    let back = back_pairs n behind left tokens code pairs in
+    back_so (IsPaired behind left tokens) n (all_taken_back n code) back
+    (λ less again. pairs_still n behind left tokens (all_taken_back n code) less again back)
 
 holds_pair : (n : ℕ) (behind : Bool) (left tokens : List ℕ) (code : Tokened) → IsTimely behind tokens code
     → IsPaired behind left tokens code → IsPaired behind left tokens (holds n code)
@@ -120,13 +132,13 @@ no_cell e = cc e
 
 called : (n x f : ℕ) (arguments : List ℕ) (behind : Bool) (left : List ℕ) (rest : Tokened) (code : Counted)
     → compute x (Call f) arguments (bare rest) ≡ code → IsKept behind code n → IsPaired behind left (slots_below n) rest
-    → IsPaired behind left (slots_below n) (holds n (Tokened.compute x (Call f) arguments [] (unholds n rest)))
+    → IsPaired behind left (slots_below n) (holds n (Tokened.compute x (Call f) arguments [] (all_taken_back n rest)))
 called n x f arguments behind left rest code is kept pairs =
-    let call = Tokened.compute x (Call f) arguments [] (unholds n rest) in
-    let same : bare call ≡ code = ap (compute x (Call f) arguments) (bare_unholds n rest) ∙ is in
+    let call = Tokened.compute x (Call f) arguments [] (all_taken_back n rest) in
+    let same : bare call ≡ code = ap (compute x (Call f) arguments) (bare_back n rest) ∙ is in
     let time = timely behind code n call same kept in
     holds_pair n behind left (slots_below n) call time
-    (time, (λ makes. no_cell makes), unholds_pair n behind left (slots_below n) rest pairs)
+    (time, (λ makes. no_cell makes), back_pairs n behind left (slots_below n) rest pairs)
 
 form_pairs : (n x : ℕ) (form : Form) (arguments : List ℕ) (behind : Bool) (left : List ℕ) (rest : Tokened) (code : Counted)
     → compute x form arguments (bare rest) ≡ code → IsKept behind code n

@@ -8,7 +8,8 @@ use Rattle.kk_counted.specs.CountedCodes.{Counted, give, tail_call, case, comput
 use Rattle.kk_counted.specs.TokenCosts.{tokens_ahead, room_needed, arms_need_room, HasRoom, openings, openings_of, OpenAtMost}
 use Rattle.kk_counted.specs.TokenedCodes.{Tokened, TokenedFunction}
 use Rattle.kk_reuse.specs.Following.{makes_cell, may_make, kept, taken, leaves, arms_leave}
-use Rattle.kk_reuse.specs.Pairing.{slots_below, frees, holds, unholds, nulls, moves_up, filled_up, settled, left_by, paired_form, paired, paired_arms, paired_function, paired_program}
+use Rattle.kk_reuse.specs.Pairing.{slots_below, frees, holds, all_taken_back, nulls, moves_up, filled_up, settled, left_by, paired_form, paired, paired_arms, paired_function, paired_program}
+use Rattle.kk_reuse.proofs.TakenBack.{HeldAgain, back_so}
 use Rattle.kk_reuse.proofs.MappedLists.{each_made}
 
 -- ---- forms that only tokens have, in front of a code
@@ -44,10 +45,31 @@ frees_before : (n : ℕ) (code : Tokened) → StandsBefore n (frees n code) code
 frees_before zero code = none_before code
 frees_before (suc n) code = one_before n (Tokened.free n (frees n code)) (frees n code) code refl refl (frees_before n code)
 
-unholds_before : (n : ℕ) (code : Tokened) → StandsBefore n (unholds n code) code
-unholds_before zero code = none_before code
-unholds_before (suc n) code =
-    one_before n (Tokened.unhold n (unholds n code)) (unholds n code) code refl refl (unholds_before n code)
+-- where a token stays held no more is ahead
+record IsNoMore (code less : Tokened) : Type 0 where
+  ahead : tokens_ahead less ≤ tokens_ahead code
+  needed : room_needed less ≤ room_needed code
+
+no_more : (y : ℕ) (code less : Tokened) → HeldAgain y code less → IsNoMore code less
+no_more y _ _ (HeldAgain.here rest) = record { ahead = omega arith; needed = omega arith }
+no_more y _ _ (HeldAgain.behind x code less again) =
+    let later = no_more y code less again in record { ahead = later.ahead; needed = later.needed }
+
+-- code in front of which so many tokens are taken back, in front of a code
+record IsBackBefore (most forms : ℕ) (code back : Tokened) : Type 0 where
+  ahead : tokens_ahead back ≤ 12 * forms + tokens_ahead code
+  needed : room_needed back ≤ most
+
+back_before : (most n : ℕ) (code : Tokened) → 12 * n + tokens_ahead code ≤ most → room_needed code ≤ most
+    → IsBackBefore most n code (all_taken_back n code)
+back_before most zero code enough fits = record { ahead = omega arith; needed = fits }
+back_before most (suc n) code enough fits =
+    let before = back_before most n code (omega (arith, enough)) fits in
+    back_so (IsBackBefore most (suc n) code) n (all_taken_back n code)
+    (record { ahead = omega (arith, before.ahead); needed = omega (arith, enough, before.ahead, before.needed) })
+    (λ less again.
+    let still = no_more n (all_taken_back n code) less again in
+    record { ahead = omega (arith, before.ahead, still.ahead); needed = omega (arith, before.needed, still.needed) })
 
 nulls_before : (n : ℕ) (code : Tokened) → StandsBefore n (nulls n code) code
 nulls_before zero code = none_before code
@@ -132,6 +154,15 @@ mutual
         arms_leave_few rest behind n,
       )
 
+-- a block inside leaves no more than it begins with and opens
+pub left_few : (behind : Bool) (n : ℕ) (block rest : Counted) → left_by behind n block rest ≤ n + openings block
+left_few behind n block rest =
+    omega (
+      arith,
+      leaves_few block (may_make behind rest) (kept (may_make behind rest) block n),
+      kept_few (may_make (may_make behind rest) block) n,
+    )
+
 pub slots_many : (n : ℕ) → length (slots_below n) ≡ n
 slots_many zero = refl
 slots_many (suc n) = omega (arith, slots_many n)
@@ -150,7 +181,7 @@ module _ (most : ℕ) where
       → tokens_ahead (paired_form n x form arguments rest) ≤ 12 * n + 12 * most
   form_ahead (suc n) x (Construct c) (first ∷ arguments) rest few = omega (arith, few, slots_many n)
   form_ahead n x (Call f) arguments rest few =
-      omega (arith, (holds_before n (Tokened.compute x (Call f) arguments [] (unholds n rest))).ahead)
+      omega (arith, (holds_before n (Tokened.compute x (Call f) arguments [] (all_taken_back n rest))).ahead)
   form_ahead n x form arguments rest few = omega arith
 
   paired_ahead : (code : Counted) (behind : Bool) (l n : ℕ) → n ≤ most → l ≤ most
@@ -186,11 +217,11 @@ module _ (most : ℕ) where
 
   call_needed : (n x f : ℕ) (arguments : List ℕ) (rest : Tokened) → n ≤ most → tokens_ahead rest ≤ 24 * most
       → room_needed rest ≤ 36 * most
-      → room_needed (holds n (Tokened.compute x (Call f) arguments [] (unholds n rest))) ≤ 36 * most
+      → room_needed (holds n (Tokened.compute x (Call f) arguments [] (all_taken_back n rest))) ≤ 36 * most
   call_needed n x f arguments rest few ahead needed =
-      let behind : room_needed (unholds n rest) ≤ 36 * most
-      = (unholds_before n rest).needed (36 * most) (omega (arith, few, ahead)) needed in
-      (holds_before n (Tokened.compute x (Call f) arguments [] (unholds n rest))).needed (36 * most) (omega (arith, few))
+      let behind : room_needed (all_taken_back n rest) ≤ 36 * most
+      = (back_before (36 * most) n rest (omega (arith, few, ahead)) needed).needed in
+      (holds_before n (Tokened.compute x (Call f) arguments [] (all_taken_back n rest))).needed (36 * most) (omega (arith, few))
       (omega (arith, behind))
 
   form_needed : (n x : ℕ) (form : Form) (arguments : List ℕ) (rest : Tokened) → n ≤ most → tokens_ahead rest ≤ 24 * most
@@ -234,12 +265,7 @@ module _ (most : ℕ) where
         (rest_needed rest behind l (taken form arguments n) fits (paired_needed rest behind l fits) (omega (arith, few, left)))
     paired_needed (inside x block rest) behind l fits n few =
         let outer : ℕ = left_by behind n block rest in
-        let left : outer ≤ n + openings block
-        = omega (
-          arith,
-          leaves_few block (may_make behind rest) (kept (may_make behind rest) block n),
-          kept_few (may_make (may_make behind rest) block) n,
-        ) in
+        let left = left_few behind n block rest in
         let inner : outer ≤ most = omega (arith, few, left) in
         omega (
           arith,

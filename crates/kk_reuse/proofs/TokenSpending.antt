@@ -12,7 +12,8 @@ use Rattle.kk_counted.specs.TokenSpending.{AreSame, SpendsTokens, SpendAllTokens
 use Rattle.kk_counted.proofs.Evenness.{among_front}
 use Rattle.kk_counted.proofs.TokenForms.{among_without}
 use Rattle.kk_reuse.specs.Following.{may_make, kept, taken, leaves, arms_leave}
-use Rattle.kk_reuse.specs.Pairing.{slots_below, frees, holds, unholds, nulls, moves_up, filled_up, settled, left_by, paired_form, paired, paired_arms, paired_function, paired_program}
+use Rattle.kk_reuse.specs.Pairing.{slots_below, frees, holds, all_taken_back, nulls, moves_up, filled_up, settled, left_by, paired_form, paired, paired_arms, paired_function, paired_program}
+use Rattle.kk_reuse.proofs.TakenBack.{HeldAgain, back_so}
 use Rattle.kk_reuse.proofs.MappedLists.{each_made}
 
 -- slots are those below a number
@@ -92,11 +93,23 @@ holds_spend (suc n) left slots held code each spends =
     last : (n : ℕ) → nat_lt n (suc n) ≡ true
     last n = grind (arith, nat_tests)
 
-unholds_spend : (n : ℕ) (left slots : List ℕ) (code : Tokened) → ((z : ℕ) → nat_lt z n ≡ true → is_among slots z ≡ true)
-    → SpendsTokens left slots [] code → SpendsTokens left slots (slots_below n ++ []) (unholds n code)
-unholds_spend zero left slots code each spends = spends
-unholds_spend (suc n) left slots code each spends =
-    (slots_below n ++ [], (refl, (each n (last n), unholds_spend n left slots code (λ z low. each z (lower n z low)) spends)))
+-- a token that is taken back and held again can stay held
+spends_still : (y : ℕ) (left unspent held : List ℕ) (code less : Tokened) → HeldAgain y code less
+    → SpendsTokens left unspent held (Tokened.unhold y code) → SpendsTokens left unspent held less
+spends_still y left unspent held _ _ (HeldAgain.here rest) spends =
+    subst (λ (slots : List ℕ). SpendsTokens left unspent slots rest) (sym spends.1.0) spends.1.1.1.1.1
+spends_still y left unspent held _ _ (HeldAgain.behind x code less again) spends =
+    spends_still y left unspent held code less again spends
+
+back_spends : (n : ℕ) (left slots : List ℕ) (code : Tokened) → ((z : ℕ) → nat_lt z n ≡ true → is_among slots z ≡ true)
+    → SpendsTokens left slots [] code → SpendsTokens left slots (slots_below n ++ []) (all_taken_back n code)
+back_spends zero left slots code each spends = spends
+back_spends (suc n) left slots code each spends =
+    let held = n ∷ (slots_below n ++ []) in
+    let back : SpendsTokens left slots held (Tokened.unhold n (all_taken_back n code))
+    = (slots_below n ++ [], (refl, (each n (last n), back_spends n left slots code (λ z low. each z (lower n z low)) spends))) in
+    back_so (SpendsTokens left slots held) n (all_taken_back n code) back
+    (λ less again. spends_still n left slots held (all_taken_back n code) less again back)
   where
     lower : (n z : ℕ) → nat_lt z n ≡ true → nat_lt z (suc n) ≡ true
     lower n z low = grind (arith, nat_tests, low)
@@ -195,11 +208,11 @@ abbrev Spends_behind : List ℕ → ℕ → Tokened → Type 0
 Spends_behind left n rest = (later : List ℕ) → AreBelow later n → SpendsTokens left later [] rest
 
 called : (n x f : ℕ) (arguments left slots : List ℕ) (rest : Tokened) → AreBelow slots n → Spends_behind left n rest
-    → SpendsTokens left slots [] (holds n (Tokened.compute x (Call f) arguments [] (unholds n rest)))
+    → SpendsTokens left slots [] (holds n (Tokened.compute x (Call f) arguments [] (all_taken_back n rest)))
 called n x f arguments left slots rest below spends =
-    holds_spend n left slots [] (Tokened.compute x (Call f) arguments [] (unholds n rest)) (λ z low. (below z ∙ low, refl)) (
+    holds_spend n left slots [] (Tokened.compute x (Call f) arguments [] (all_taken_back n rest)) (λ z low. (below z ∙ low, refl)) (
       (λ y there. among_front (slots_below n) [] y (slots_are n y ∙ (sym (below y) ∙ there))),
-      unholds_spend n left slots rest (λ z low. below z ∙ low) (spends slots below),
+      back_spends n left slots rest (λ z low. below z ∙ low) (spends slots below),
     )
 
 form_spends : (n x : ℕ) (form : Form) (arguments left slots : List ℕ) (rest : Tokened) → AreBelow slots n
@@ -299,11 +312,9 @@ mutual
     settles (may_make behind rest) n left slots (λ k. paired behind l k rest) below
         (λ later lower. paired_spends rest behind l (kept behind rest n) left later lower all few),
   )
-  paired_spends (drop x rest) behind l n left slots below all few = (
-    refl,
-    settles (may_make behind rest) n left slots (λ k. paired behind l k rest) below
-        (λ later lower. paired_spends rest behind l (kept behind rest n) left later lower all few),
-  )
+  paired_spends (drop x rest) behind l n left slots below all few =
+      settles (may_make behind rest) n left slots (λ k. paired behind l k rest) below
+      (λ later lower. paired_spends rest behind l (kept behind rest n) left later lower all few)
 
   arms_spend : (arms : CountedArms) (behind : Bool) (l n : ℕ) (left slots : List ℕ) → AreBelow slots n → AreBelow left l
       → arms_leave behind n arms ≤ l → SpendAllTokens left slots (paired_arms behind l n arms)

@@ -1,6 +1,6 @@
 -- Pairing: each construction with fields takes the newest token of its function. The unspent tokens of a function stand in the slots
 -- below their number, the newest one in the last.
-use Rattle.std.specs.Prelude.{ℕ, zero, suc, ◌+◌, ◌-◌, Bool, false, List, [], ◌∷◌, map, if◌then◌else◌}
+use Rattle.std.specs.Prelude.{ℕ, zero, suc, ◌+◌, ◌-◌, ◌==◌, Bool, false, List, [], ◌∷◌, Option, Some, None, option_map, map, if◌then◌else◌}
 use Rattle.kk_syntax.specs.declared.program.Form.{Form}
 use Rattle.kk_syntax.specs.declared.program.Form.TheVariants.{Construct, Call}
 use Rattle.kk_counted.specs.CountedCodes.{Counted, give, tail_call, case, compute, inside, read, open_cell, if_unique, dup, drop, CountedArms, no_arm, arm, CountedFunction, CountedProgram}
@@ -27,6 +27,24 @@ abbrev pub unholds : ℕ → Tokened → Tokened
 unholds zero code = code
 unholds (suc n) code = Tokened.unhold n (unholds n code)
 
+-- a code without the form that holds a token, where that is the first of its forms but for drops
+abbrev pub still_held : ℕ → Tokened → Option Tokened
+still_held y (Tokened.hold z rest) = if y == z then Some rest else None
+still_held y (Tokened.drop x rest) = option_map (Tokened.drop x) (still_held y rest)
+still_held y code = None
+
+abbrev pub or_taken_back : ℕ → Tokened → Option Tokened → Tokened
+or_taken_back y code (Some held) = held
+or_taken_back y code None = Tokened.unhold y code
+
+-- A token is taken back in front of a code. Where the code would hold it again, behind drops alone, it stays held.
+abbrev pub taken_back : ℕ → Tokened → Tokened
+taken_back y code = or_taken_back y code (still_held y code)
+
+abbrev pub all_taken_back : ℕ → Tokened → Tokened
+all_taken_back zero code = code
+all_taken_back (suc n) code = taken_back n (all_taken_back n code)
+
 abbrev pub nulls : ℕ → Tokened → Tokened
 nulls zero code = code
 nulls (suc n) code = Tokened.null n (nulls n code)
@@ -41,10 +59,11 @@ abbrev pub filled_up : ℕ → ℕ → Tokened → Tokened
 filled_up zero n code = code
 filled_up (suc more) n code = moves_up (suc more) n (nulls (suc more) code)
 
--- A form on variables with so many tokens. A construction with fields takes the newest one. At a call all are held.
+-- A form on variables with so many tokens. A construction with fields takes the newest one. At a call all are held; where another
+-- call comes behind it, with drops alone between the two, they stay held up to that one.
 abbrev pub paired_form : ℕ → ℕ → Form → List ℕ → Tokened → Tokened
 paired_form (suc n) x (Construct c) (first ∷ arguments) rest = Tokened.fill x n c first arguments [] (slots_below n) rest
-paired_form n x (Call f) arguments rest = holds n (Tokened.compute x (Call f) arguments [] (unholds n rest))
+paired_form n x (Call f) arguments rest = holds n (Tokened.compute x (Call f) arguments [] (all_taken_back n rest))
 paired_form n x form arguments rest = Tokened.compute x form arguments [] rest
 
 -- What comes behind with its tokens: where it can make no cell, those that were there are freed in front of it.

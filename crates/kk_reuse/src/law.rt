@@ -62,8 +62,8 @@ pub fn paired_code_costs_what_it_has_room_for()
     tokens_cost_what_they_have_room_for();
 }
 
-/// Paired code can be lowered where the code has few openings on a path: a function has few slots, tokens are held around calls
-/// alone, and no construction leaves a field. It is a law, and does nothing.
+/// Paired code can be lowered where the code has few openings on a path: a function has few slots, tokens are held around rows
+/// of calls alone, and no construction leaves a field. It is a law, and does nothing.
 pub fn paired_code_can_be_lowered()
     ensures { (most : ℕ) (program : CountedProgram) → OpenAtMost most program → most ≤ most_slots
         → AreTokensLowerable (paired_program program).functions }

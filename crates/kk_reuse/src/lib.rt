@@ -2,6 +2,7 @@
 //! which `run` computes; laws say that its runs are the same.
 #![tactic(auto)]
 
+mod calls;
 mod following;
 mod law;
 mod pairing;

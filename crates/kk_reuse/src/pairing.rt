@@ -1,12 +1,13 @@
 // The pairing of a block.
 
-ghost use Rattle.std.specs.Prelude.{◌≡◌, [], map, if◌then◌else◌, OnOk, IfOk};
+ghost use Rattle.std.specs.Prelude.{◌≡◌, [], map, false, if◌then◌else◌, OnOk, IfOk};
 ghost use Rattle.kk_counted.specs.CountedForms.{arms_of, block_code, last_code, runs, step_move};
 ghost use Rattle.kk_counted.specs.TokenedCodes.{Tokened};
 ghost use Rattle.kk_counted.specs.TokenedForms.{TokenedMove, tokened_arms, tokened_code, tokened_last_code, tokened_move, put_steps};
-ghost use Rattle.kk_reuse.specs.Pairing.{frees, paired, paired_arms, paired_form};
-ghost use Rattle.kk_reuse.specs.PairedForms.{paired_block, paired_move, tokens_behind};
+ghost use Rattle.kk_reuse.specs.Pairing.{frees, paired, paired_arms};
+ghost use Rattle.kk_reuse.specs.PairedForms.{held_before, held_behind, paired_block, paired_move, tokens_behind, written_form};
 
+use crate::calls::stay_held;
 use crate::following::{last_may_make, leaves, may_make, one_more, steps_may_make, taken};
 use crate::slots::{fill_up, free_all, hold_all, slots_below, unhold_all};
 use kk_base::NoMemory;
@@ -23,6 +24,15 @@ pub struct Behind {
     pub left: u32,
 }
 
+/// Where the tokens are held: at calls one behind the other, with drops alone between them, they are held once.
+#[derive(Clone, Copy)]
+pub struct Held {
+    /// Whether they are held in front of a step already.
+    pub already: bool,
+    /// Whether they stay held behind it.
+    pub stays: bool,
+}
+
 /// A block with its tokens, which begins with so many. Where it can make no cell, nor what comes behind it, they are freed first.
 #[cycle(paired_block)]
 pub fn paired_block(
@@ -36,10 +46,15 @@ pub fn paired_block(
     let mut steps = Vec::new(alloc);
     let mut tokens = settle(&mut steps, may_make(behind.makes, block), tokens)?;
     let end_makes = last_may_make(behind.makes, &block.last);
+    let mut already = false;
     for (i, step) in block.steps.iter().enumerate() {
-        let makes = steps_may_make(end_makes, &block.steps[i + 1..]);
-        tokens = paired_step(alloc, makes, tokens, step, &mut steps)?;
+        let rest = &block.steps[i + 1..];
+        let makes = steps_may_make(end_makes, rest);
+        let stays = stay_held(makes, already, step, rest);
+        let held = Held { already, stays };
+        tokens = paired_step(alloc, makes, held, tokens, step, &mut steps)?;
         tokens = settle(&mut steps, makes, tokens)?;
+        already = stays;
     }
     let last = paired_last(alloc, behind, tokens, &block.last, &mut steps)?;
     Ok(TokenedBlock { steps, last })
@@ -63,16 +78,17 @@ fn settle(steps: &mut Vec<TokenedStep>, makes: bool, tokens: u32) -> Result<u32,
 fn paired_step(
     alloc: Global,
     makes: bool,
+    held: Held,
     tokens: u32,
     step: &Step,
     steps: &mut Vec<TokenedStep>,
 ) -> Result<u32, NoMemory>
-    ensures code { IfOk result (λ left. (rest : Tokened) → put_steps steps.new.items rest ≡ put_steps steps.old.items (paired_move makes tokens (step_move step.now) rest)) }
+    ensures code { IfOk result (λ left. (rest : Tokened) → put_steps steps.new.items rest ≡ put_steps steps.old.items (paired_move held.already held.stays makes tokens (step_move step.now) rest)) }
     ensures left { IfOk result (λ left. left ≡ tokens_behind makes tokens (step_move step.now)) }
 {
     match step {
         Step::Let(variable, form, arguments) => {
-            paired_form(alloc, tokens, *variable, *form, arguments, steps)?;
+            paired_form(alloc, held, tokens, *variable, *form, arguments, steps)?;
             Ok(taken(*form, arguments, tokens))
         }
         Step::Inside(variable, block) => paired_inside(
@@ -174,13 +190,14 @@ fn opening_by_count(
 /// Adds a form on variables with so many tokens. A construction with fields takes the newest one. At a call all are held.
 fn paired_form(
     alloc: Global,
+    held: Held,
     tokens: u32,
     variable: u32,
     form: Form,
     arguments: &[u32],
     steps: &mut Vec<TokenedStep>,
 ) -> Result<(), NoMemory>
-    ensures { OnOk result ((rest : Tokened) → put_steps steps.new.items rest ≡ put_steps steps.old.items (paired_form tokens variable form arguments.now rest)) }
+    ensures { OnOk result ((rest : Tokened) → put_steps steps.new.items rest ≡ put_steps steps.old.items (written_form held.already held.stays tokens variable form arguments.now rest)) }
 {
     match (form, arguments) {
         (Form::Construct(constructor), [first, others @ ..]) if tokens > 0 => {
@@ -200,12 +217,32 @@ fn paired_form(
             Ok(())
         }
         (Form::Call(_), _) => {
-            hold_all(steps, tokens)?;
+            hold_before(steps, held.already, tokens)?;
             put_form(alloc, variable, form, arguments, steps)?;
-            unhold_all(steps, tokens)
+            unhold_behind(steps, held.stays, tokens)
         }
         _ => put_form(alloc, variable, form, arguments, steps),
     }
+}
+
+/// Holds so many tokens, but where they are held already.
+fn hold_before(steps: &mut Vec<TokenedStep>, held: bool, tokens: u32) -> Result<(), NoMemory>
+    ensures { OnOk result ((rest : Tokened) → put_steps steps.new.items rest ≡ put_steps steps.old.items (held_before held tokens rest)) }
+{
+    if held {
+        return Ok(());
+    }
+    hold_all(steps, tokens)
+}
+
+/// Takes so many held tokens back, but where they stay held.
+fn unhold_behind(steps: &mut Vec<TokenedStep>, held: bool, tokens: u32) -> Result<(), NoMemory>
+    ensures { OnOk result ((rest : Tokened) → put_steps steps.new.items rest ≡ put_steps steps.old.items (held_behind held tokens rest)) }
+{
+    if held {
+        return Ok(());
+    }
+    unhold_all(steps, tokens)
 }
 
 /// Adds a form on variables that takes no token.
@@ -239,7 +276,7 @@ fn paired_inside(
     block: &Block,
     steps: &mut Vec<TokenedStep>,
 ) -> Result<u32, NoMemory>
-    ensures code { IfOk result (λ left. (rest : Tokened) → put_steps steps.new.items rest ≡ put_steps steps.old.items (paired_move makes tokens (runs variable (block_code block.now)) rest)) }
+    ensures code { IfOk result (λ left. (rest : Tokened) → put_steps steps.new.items rest ≡ put_steps steps.old.items (paired_move false false makes tokens (runs variable (block_code block.now)) rest)) }
     ensures left { IfOk result (λ left. left ≡ tokens_behind makes tokens (runs variable (block_code block.now))) }
 {
     let left = if makes { leaves(tokens, block)? } else { 0 };

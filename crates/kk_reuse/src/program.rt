@@ -9,7 +9,7 @@ use kk_counted::{Counted, Tokened, TokenedFun};
 use std::alloc::Global;
 
 /// The program with each construction in the cell of the newest token of its function, if there is one. At a call the tokens are
-/// held, and where no construction can follow they are freed.
+/// held, once for calls with drops alone between them, and where no construction can follow they are freed.
 ///
 /// The recursion is as deep as the blocks of the code. In front of each form the forms that follow it are looked at once or twice,
 /// to see whether a construction can follow: it takes time as the square of the length of a body.

@@ -69,7 +69,7 @@ mutual
   fit_arities (Tokened.if_unique x c fields used y rest) left unspent held s a =
       fit_arities rest left (y ∷ unspent) [] s.1.1 a
   fit_arities (Tokened.dup x rest) left unspent held s a = fit_arities rest left unspent [] s.1 a
-  fit_arities (Tokened.drop x rest) left unspent held s a = fit_arities rest left unspent [] s.1 a
+  fit_arities (Tokened.drop x rest) left unspent held s a = fit_arities rest left unspent held s a
   fit_arities (Tokened.fill x y c first arguments kept others rest) left unspent held s a =
       fit_arities rest left (without (y ∷ []) unspent) [] s.1.1.1.1 a.1
   fit_arities (Tokened.free y rest) left unspent held s a = fit_arities rest left (without (y ∷ []) unspent) [] s.1.1 a

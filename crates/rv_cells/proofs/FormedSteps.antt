@@ -44,17 +44,6 @@ module _ (base : ℕ) (bound outer : List ℕ) (has : HasRoom base bound) (goal 
   fits_drop holds x is fits =
       fits_step base bound bound outer goal low high 2 (drop_lines base holds x) more (drop_leads base bound holds x has is) fits
 
-  -- one less of a variable that is bound where its type has cells
-  pub fits_drop_if : (holds : ℕ → Bool) (x : ℕ) → (holds x ≡ true → is_bound bound x ≡ true) → Fits base bound outer goal low high more
-      → Fits base bound outer goal low high (drop_lines base holds x ++ more)
-  fits_drop_if holds x is fits = by (holds x) refl
-    where
-      by : (b : Bool) → holds x ≡ b → Fits base bound outer goal low high (drop_lines base holds x ++ more)
-      by true some = fits_drop holds x (is some) fits
-      by false none =
-          subst (λ (b : Bool). Fits base bound outer goal low high
-          ((if b then copies_to x base ∷ acts (Calls Drop) (base ∷ []) ∷ [] else []) ++ more)) (sym none) fits
-
   -- a construction
   pub fits_construct : (x header : ℕ) (arguments : List ℕ) (own : List Line) → x < base → AreBound bound arguments
       → ConstructLines base x header arguments own → Fits base (x ∷ bound) outer goal low high more

@@ -86,7 +86,7 @@ module _ (holds : ℕ → Bool) (table : CellMarks) (narrow : (c : ℕ) → leng
     code_short (Tokened.dup x rest) bound given left unspent held marked arities spends =
         let more = code_short rest bound given left unspent [] marked.1 arities spends.1 in omega (arith, more)
     code_short (Tokened.drop x rest) bound given left unspent held marked arities spends =
-        let more = code_short rest bound given left unspent [] marked.1 arities spends.1 in omega (arith, more)
+        let more = code_short rest bound given left unspent held marked.1 arities spends in omega (arith, more)
     code_short (Tokened.fill x y c first arguments kept others rest) bound given left unspent held marked arities spends =
         let few = few_fields c (first ∷ arguments) marked.1.0.0 in
         let more = code_short rest (x ∷ bound) given left (without (y ∷ []) unspent) [] marked.1.1 arities.1 spends.1.1.1.1 in

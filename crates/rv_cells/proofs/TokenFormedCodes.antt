@@ -1,5 +1,5 @@
 -- The lines of a code with tokens that can be lowered are well formed, and have only its own labels: where the code spends its
--- tokens, and holds them around calls alone.
+-- tokens, and holds them around rows of calls alone.
 use Rattle.std.proofs.Common.{◌≡◌, ℕ, suc, ◌+◌, ◌<◌, ◌≤◌, ◌==◌, ◌&&◌, ◌⊎◌, inl, inr, Bool, true, false, not, List, [], ◌∷◌, ◌++◌}
 use Rattle.std.proofs.Common.{length, Some, refl, sym, ap, subst, ◌∙◌, arith}
 use Rattle.std.proofs.Math.Path.{path_j}
@@ -50,11 +50,11 @@ use Rattle.rv_cells.proofs.FormPlaces.{fill_there}
 use Rattle.rv_cells.proofs.FormedCases.{some_arm, ArmsFit, arms_none, arms_more, fits_case, fits_branch}
 use Rattle.rv_cells.proofs.FormedForms.{fits_form}
 use Rattle.rv_cells.proofs.FormedOrders.{behind, listed_within, front_within, room_front}
-use Rattle.rv_cells.proofs.FormedSteps.{all_bound, fits_step, fits_dup, fits_drop_if, fits_read}
+use Rattle.rv_cells.proofs.FormedSteps.{all_bound, fits_step, fits_dup, fits_read}
 use Rattle.rv_cells.proofs.FormedUniques.{fits_token_unique}
 use Rattle.rv_cells.proofs.UnnamedVariables.{HasUses, HaveUses, first_spared, arms_use_behind, arms_numbered_fewer}
 use Rattle.rv_cells.proofs.TokenFormedFills.{fits_fill}
-use Rattle.rv_cells.proofs.TokenFormedHeld.{FitsHeld, held_fits, fits_held, held_weaker, fits_hold, fits_unhold, fits_held_call}
+use Rattle.rv_cells.proofs.TokenFormedHeld.{FitsHeld, held_fits, fits_held, held_weaker, fits_hold, fits_unhold, fits_held_drop, fits_held_call}
 use Rattle.rv_cells.proofs.TokenFormedSlots.{read_below, variable_there, slot_there, read_within, room_read, values_there}
 use Rattle.rv_cells.proofs.TokenFormedSlots.{values_between, value_other, values_apart}
 
@@ -449,13 +449,12 @@ module _ (layout : Layout) (holds : ℕ → Bool) (texts : Texts) (standing : St
         at.1 spends.1 tt tt is.1))))
     code_fits (Tokened.drop x rest) bound outer unspent left held given goal low high lines has within marked numbered arms some
         arities few at spends below apart is =
-        none_held held (reads unspent bound) (reads left outer) goal low high lines at.0
-        (subst (FitsCode (reads unspent bound) (reads left outer) goal low high) (sym is.2)
-        (fits_drop_if (variables + slots) (reads unspent bound) (reads left outer) (has_room unspent bound has) goal low high is.0
-        holds x (λ some. variable_there variables slots unspent bound x (marked.0 some))
-        (fits_held (variables + slots) (reads unspent bound) (reads left outer) goal low high is.0
-        (code_fits rest bound outer unspent left [] given goal low high is.0 has within marked.1 numbered arms some arities few
-        at.1 spends.1 tt tt is.1))))
+        subst (HeldFits held (reads unspent bound) (reads left outer) goal low high) (sym is.2)
+        (fits_held_drop (variables + slots) (values_of_slots variables held) (reads unspent bound) (reads left outer)
+        (has_room unspent bound has) goal low high is.0 variables x holds (values_between variables slots held below)
+        (λ some. (variable_there variables slots unspent bound x (marked.0 some), has.low x (marked.0 some)))
+        (code_fits rest bound outer unspent left held given goal low high is.0 has within marked.1 numbered arms some arities few
+        at spends below apart is.1))
     code_fits (Tokened.fill x y c first arguments kept others rest) bound outer unspent left held given goal low high lines has
         within marked numbered arms some arities few at spends below apart is =
         none_held held (reads unspent bound) (reads left outer) goal low high lines at.0
@@ -601,12 +600,10 @@ module _ (layout : Layout) (holds : ℕ → Bool) (texts : Texts) (standing : St
         let none : drop_lines (variables + slots) holds y ≡ []
         = ap (λ (b : Bool). if b then copies_to y (variables + slots) ∷ acts (Calls Drop) ((variables + slots) ∷ []) ∷ [] else [])
         tested.0 in
-        none_held held (reads unspent bound) (reads left outer) goal low high lines at.0
-        (subst (FitsCode (reads unspent bound) (reads left outer) goal low high)
+        subst (HeldFits held (reads unspent bound) (reads left outer) goal low high)
         (sym (is.2 ∙ ap (λ (own : List Line). own ++ is.0) none))
-        (fits_held (variables + slots) (reads unspent bound) (reads left outer) goal low high is.0
-        (joined_fits rest branch x bound outer unspent left [] given goal low high is.0 has within marked.1 numbered orderly some
-        arities few at.1 spends.1 first second tested.1 plain is.1)))
+        (joined_fits rest branch x bound outer unspent left held given goal low high is.0 has within marked.1 numbered orderly some
+        arities few at spends first second tested.1 plain is.1)
     joined_fits (Tokened.fill y z c first_argument arguments kept others rest) branch x bound outer unspent left held given goal low high lines has within marked
         numbered orderly some arities few at spends first second tested plain is = absurd tested
     joined_fits (Tokened.free y rest) branch x bound outer unspent left held given goal low high lines has within marked

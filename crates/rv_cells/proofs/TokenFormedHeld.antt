@@ -1,6 +1,6 @@
 -- Well-formed lines before which the tokens of values are held.
 use Rattle.std.proofs.Common.{◌≡◌, ℕ, ◌+◌, ◌<◌, ◌≤◌, ◌==◌, ◌||◌, ◌⊎◌, inl, Bool, true, false, List, [], ◌∷◌, ◌++◌, length}
-use Rattle.std.proofs.Common.{Some, refl, sym, ap, subst, ◌∙◌, arith, append_assoc}
+use Rattle.std.proofs.Common.{Some, None, if◌then◌else◌, refl, sym, ap, subst, ◌∙◌, arith, append_assoc}
 use Rattle.std.specs.List.{AllByRecursion}
 use Rattle.std.proofs.lemmas.Bool.{false≢true, ne_eqb}
 use Rattle.std.proofs.lemmas.List.Elements.{All-nil, All-cons}
@@ -11,7 +11,7 @@ use Rattle.kk_counted.specs.Spending.{AreApart}
 use Rattle.rv_isa.specs.declared.asm.Action.{Action}
 use Rattle.rv_isa.specs.declared.asm.Action.TheVariants.{Call, Routine, Hold, Unhold}
 use Rattle.rv_isa.specs.declared.asm.Operation.TheVariants as Op
-use Rattle.rv_isa.specs.declared.routine.Routine.TheVariants.{Take}
+use Rattle.rv_isa.specs.declared.routine.Routine.TheVariants.{Take, Drop}
 use Rattle.rv_isa.specs.AsmCode.{Line}
 use Rattle.rv_isa.specs.Frames.{is_among}
 use Rattle.rv_isa.specs.WellFormed.{is_written, is_alive, is_alive_behind, most_values, AreLabelsAhead, most_args, hands_over}
@@ -26,7 +26,7 @@ use Rattle.rv_lower.proofs.WellFormedness.{temporaries_above}
 use Rattle.rv_lower.proofs.AbsentLabels.{HasNo, has_no_append}
 use Rattle.rv_lower.proofs.Operations.{only_bound, copied}
 use Rattle.rv_lower.proofs.Codes.{Ahead, Fits}
-use Rattle.rv_cells.specs.CellLines.{hold_lines, unhold_lines}
+use Rattle.rv_cells.specs.CellLines.{drop_lines, hold_lines, unhold_lines}
 use Rattle.rv_cells.proofs.CellForms.{take_formed}
 
 -- well-formed code, before which the tokens of these values are held, the newest first, and only certain values are alive
@@ -185,6 +185,27 @@ module _ (variables base : ℕ) (bound : List ℕ) (has : HasRoom base bound) (h
       behind : (v : ℕ) → is_written (Some x) v ≡ false → is_alive_behind v (Call f) rest ≡ true → is_bound bound v ≡ true
       behind v other is = only_bound base bound has v (variable_left base base bound x v (more.alive v is) other)
 
+  drop_left : (held : List ℕ) → AllByRecursion (λ (v : ℕ). (variables ≤ v) × (v < base)) held
+      → AllByRecursion (λ (v : ℕ). (is_among v (base ∷ []) ≡ false) × (is_written None v ≡ false)) held
+  drop_left [] all = tt
+  drop_left (v ∷ held) all = ((temporaries_above base v (0 ∷ []) all.0.1, refl), drop_left held all.1)
+
+  -- a reference is given up
+  holding_drop : (x : ℕ) (rest : List Line) → Holding held (Readable base base bound) rest
+      → Holding held (Readable base (base + 1) bound) (acts (Routine Drop) (base ∷ []) ∷ rest)
+  holding_drop x rest more = record {
+    lines = (
+      hands_formed base bound (x ∷ []) (Routine Drop) None rest has tt (omega arith) (omega arith)
+          (λ is. absurd (false≢true is)) (λ v is. absurd (none_some is)) behind,
+      more.lines,
+    );
+    tokens = held_over (acts (Routine Drop) (base ∷ [])) held rest tt refl (drop_left held between) more.tokens;
+    alive = hands_alive base bound (x ∷ []) (Routine Drop) None rest behind;
+  }
+    where
+      behind : (v : ℕ) → is_written None v ≡ false → is_alive_behind v (Routine Drop) rest ≡ true → is_bound bound v ≡ true
+      behind v other is = only_bound base bound has v (more.alive v is)
+
 -- ---- code
 
 -- the lines of a code before which the tokens of values are held
@@ -237,6 +258,31 @@ module _ (base : ℕ) (held bound outer : List ℕ) (has : HasRoom base bound) (
     good = λ tail ahead. holding_less held (Readable base base bound) y (more ++ tail) (inl is)
         (readable_small base base bound has (omega arith) y (inl is)) other (fits.good tail ahead);
   }
+
+  -- a variable's reference is given up, where its type has cells
+  pub fits_held_drop : (variables x : ℕ) (holds : ℕ → Bool) → AllByRecursion (λ (v : ℕ). (variables ≤ v) × (v < base)) held
+      → (holds x ≡ true → (is_bound bound x ≡ true) × (x < variables))
+      → FitsHeld base held bound outer goal low high more
+      → FitsHeld base held bound outer goal low high (drop_lines base holds x ++ more)
+  fits_held_drop variables x holds between may fits = by (holds x) refl
+    where
+      own : Bool → List Line
+      own some = if some then copies_to x base ∷ acts (Routine Drop) (base ∷ []) ∷ [] else []
+
+      dropped : is_bound bound x ≡ true → x < variables → FitsHeld base held bound outer goal low high (own true ++ more)
+      dropped is less = record {
+        up = fits.up;
+        none = λ l apart. (refl, (refl, fits.none l apart));
+        good = λ tail ahead.
+            holding_copies variables base bound has held between base (base + 1) (x ∷ [])
+            (acts (Routine Drop) (base ∷ []) ∷ (more ++ tail)) (omega arith) refl (omega arith) (is, tt) (less, tt)
+            (holding_drop variables base bound has held between x (more ++ tail) (fits.good tail ahead));
+      }
+
+      by : (some : Bool) → holds x ≡ some → FitsHeld base held bound outer goal low high (own (holds x) ++ more)
+      by true is =
+          subst (λ (b : Bool). FitsHeld base held bound outer goal low high (own b ++ more)) (sym is) (dropped (may is).0 (may is).1)
+      by false is = subst (λ (b : Bool). FitsHeld base held bound outer goal low high (own b ++ more)) (sym is) fits
 
   -- a call of variables, which are below the values that are held
   pub fits_held_call : (variables x f : ℕ) (xs : List ℕ) → AllByRecursion (λ (v : ℕ). (variables ≤ v) × (v < base)) held

@@ -144,7 +144,7 @@ pub fn cells_in_hand_are_released()
         → (at : ℕ) (words : ℕ → Option ℕ) → owners at ≡ in_hand words → Released pool layout address owners heap cells at }
 {}
 
-/// A program with tokens whose bare form can be lowered, which spends its tokens and holds them around calls alone, and is lowered, is
+/// A program with tokens whose bare form can be lowered, which spends its tokens and holds them around rows of calls alone, and is lowered, is
 /// one whose assembler code is well formed: where its shape has tags of a byte, six fields a constructor at most, and `False` and
 /// `True` first, and `main`, which has no parameters, is there. It is a law, and does nothing.
 pub fn lowered_tokened_programs_are_well_formed()
