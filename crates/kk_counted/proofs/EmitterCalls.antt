@@ -1,5 +1,5 @@
 -- What calls of an emitter leave of its draft works, by what they ask.
-use Rattle.std.proofs.Common.{◌≡◌, ◌⊎◌, inl, inr, ℕ, zero, suc, ◌+◌, ◌≤◌, ◌<◌, ◌==◌, ◌||◌, Bool, true, false, not, List, [], ◌∷◌, ◌++◌, length, map, get_or, Option, Some, None, arith, refl, sym, ap, ◌∙◌, subst}
+use Rattle.std.proofs.Common.{◌≡◌, ◌⊎◌, inl, inr, ℕ, zero, suc, ◌+◌, ◌≤◌, ◌<◌, ◌==◌, ◌||◌, Bool, true, false, not, List, [], ◌∷◌, ◌++◌, length, map, Option, Some, None, arith, refl, sym, ap, ◌∙◌, subst}
 use Rattle.std.specs.Prelude.{if◌then◌else◌, option_map, slice_index_or}
 use Rattle.kk_syntax.specs.declared.program.Form.{Form}
 use Rattle.kk_syntax.specs.declared.program.Form.TheVariants as OfForm
@@ -11,13 +11,12 @@ use Rattle.kk_core.specs.Decisions.{NodeTree, AreOrderly}
 use Rattle.kk_counted.specs.Arms.{HasArms}
 use Rattle.kk_counted.specs.declared.shape.Parameter.{Parameter}
 use Rattle.kk_counted.specs.declared.form.Last.{Last}
-use Rattle.kk_counted.specs.declared.work.Work.{Work}
-use Rattle.kk_counted.specs.declared.shape.InstanceShape.{InstanceShape}
-use Rattle.kk_core.specs.declared.shape.ConstructorShape.{ConstructorShape}
+use Rattle.kk_counted.specs.declared.form.Step.{Step}
+use Rattle.kk_counted.specs.declared.work.Fork.{Fork}
 use Rattle.std.proofs.lemmas.List.{length-map, append_assoc}
-use Rattle.kk_counted.specs.InstancePositions.{passed_to, positions_in, fields_in}
-use Rattle.kk_counted.specs.CountedCodes.{Counted, CountedFunction, tail_call}
-use Rattle.kk_counted.specs.CountedForms.{reads, dups, drops, plug, last_code}
+use Rattle.kk_counted.specs.CountedCodes.{Counted, tail_call}
+use Rattle.kk_counted.specs.Computing.{CanCompute}
+use Rattle.kk_counted.specs.CountedForms.{reads, dups, drops, plug, last_code, step_move}
 use Rattle.kk_counted.specs.Marks.{CellMarks}
 use Rattle.kk_counted.specs.Spending.{total, AreEven, AllAmong, AreFresh, at_positions, numbers_from, used_by, lent_by, FitsForm}
 use Rattle.kk_counted.specs.Drafts.{minus_all, chosen_of, Split, Draft, outside, all_owed, parameters_where, begun, fallen, given, duplicated, dropped, opened, read_of, computed, forked, entered, entered_in, entered_by, end_code, is_tail, ended_in, ended_by_value, ended_by_call, resumed_as, joined, joined_in, finished, Writes, Awaits, Reaches, IsLentTo, IsAtHand, Owns, OwnsAll, HoldsAll, IsPlain, Takes, used_in, lent_in, LendsAll, IsOnly, IsBetween, AreNewest, IsInArm, EndsByCall}
@@ -32,15 +31,6 @@ use Rattle.kk_counted.proofs.DraftJoins.{sound_by_value, sound_by_call, joins_va
 
 works_by : (d e f : Draft) → d.failed ≡ false → (IsSoundDraft d → IsSoundDraft f) → e ≡ f → Works d → Works e
 works_by d e f going step is works = λ other. subst IsSoundDraft (sym is) (step (works going))
-
-pub works_same : (d e : Draft) → e ≡ d → Works d → Works e
-works_same d e is works = subst Works (sym is) works
-
-pub works_fallen : (d e : Draft) → e ≡ fallen d → Works e
-works_fallen d e is = subst Works (sym is) (λ going. absurd (never going))
-  where
-    never : true ≡ false → ⊥
-    never same = cc
 
 -- ---- what the function is lent
 
@@ -146,18 +136,16 @@ given_works d e x going writes waits is works =
     (λ sound. leaves_sound d (given d x) refl refl (omega arith) (λ whole. whole) sound
     (λ lent free one. sound_given lent d x one (writes going).0 (writes going).1 (waits going).0 (waits going).1)) is works
 
-pub dup_works : (d e : Draft) (emitter x : ℕ) → d.failed ≡ false → Writes d → Reaches d emitter x → e ≡ duplicated d x → Works d → Works e
-dup_works d e emitter x going writes reaches is works =
+pub duplicated_works : (d e : Draft) (x : ℕ) → d.failed ≡ false → Writes d → IsAtHand d x → e ≡ duplicated d x → Works d → Works e
+duplicated_works d e x going writes there is works =
     works_by d e (duplicated d x) going
     (λ sound. leaves_sound d (duplicated d x) refl refl (omega arith) (whole_more d.inside d.splits d.steps (dups x ∷ []) d.ending (tt, tt)) sound
-    (λ lent free one. sound_dup lent d x one (writes going).0 (writes going).1 (among_behind lent (all_owed d) x (reaches going).1) (one.low x (reaches going).1))) is works
-
-pub dup_lent_works : (d e : Draft) (x : ℕ) → d.failed ≡ false → Writes d → IsLentTo d x → e ≡ duplicated d x → Works d → Works e
-dup_lent_works d e x going writes lent is works =
-    works_by d e (duplicated d x) going
-    (λ sound. leaves_sound d (duplicated d x) refl refl (omega arith) (whole_more d.inside d.splits d.steps (dups x ∷ []) d.ending (tt, tt)) sound
-    (λ all free one. sound_dup all d x one (writes going).0 (writes going).1 (among_front all (all_owed d) x (one.lends x (lent going)))
-    (sound.low x ((sound_now d sound).lends x (lent going))))) is works
+    (λ lent free one. sound_dup lent d x one (writes going).0 (writes going).1 (among_wider d.lent lent (all_owed d) x one.lends (there going))
+    (low sound one.low (among_cases d.lent (all_owed d) x (there going))))) is works
+  where
+    low : IsSoundDraft d → AreLow d.next (all_owed d) → (is_among d.lent x ≡ true) ⊎ (is_among (all_owed d) x ≡ true) → x < d.next
+    low sound owed (inl lent) = sound.low x ((sound_now d sound).lends x lent)
+    low sound owed (inr own) = owed x own
 
 pub dropped_works : (d e : Draft) (emitter x : ℕ) → d.failed ≡ false → Writes d → Owns d emitter x → e ≡ dropped d x → Works d → Works e
 dropped_works d e emitter x going writes owns is works =
@@ -236,65 +224,34 @@ pub all_used : (arguments : List ℕ) → used_at [] arguments ≡ arguments
 all_used arguments = all_at_no 0 arguments
 
 -- a form that is no call uses up all of its arguments
-pub constructed_works : (d e : Draft) (emitter c : ℕ) (arguments : List ℕ) → d.failed ≡ false → Writes d → OwnsAll d emitter arguments → e ≡ computed d (OfForm.Construct c) arguments arguments → Works d → Works e
-constructed_works d e emitter c arguments going writes owns is works =
-    works_by d e (computed d (OfForm.Construct c) arguments arguments) going
-    (λ sound. leaves_sound d (computed d (OfForm.Construct c) arguments arguments) refl refl (omega arith) (whole_more d.inside d.splits d.steps _ d.ending (tt, tt)) sound
-    (λ lent free one. sound_computed lent d (OfForm.Construct c) arguments arguments one (writes going).0 (writes going).1 (owns going).1 (λ functions. refl) (λ functions. tt) (λ functions have. tt) (free d.next (omega arith) (omega arith)))) is works
+pub constructed_fits : (d : Draft) (c : ℕ) (arguments : List ℕ) → CanCompute d (OfForm.Construct c) arguments arguments
+constructed_fits d c arguments = λ going functions. (refl, (tt, λ have. tt))
 
-plain_used : (d : Draft) (functions : List CountedFunction) (form : Form) (arguments : List ℕ) → IsPlain d form arguments → used_by d.positions functions form arguments ≡ arguments
-plain_used d functions (OfForm.Number n) arguments plain = refl
-plain_used d functions OfForm.Unit arguments plain = refl
-plain_used d functions OfForm.ReadByte arguments plain = refl
-plain_used d functions (OfForm.PrintText form text) arguments plain = refl
-plain_used d functions (OfForm.Unary operator) arguments plain = refl
-plain_used d functions (OfForm.Binary operator) arguments plain = refl
-plain_used d functions (OfForm.Print form) arguments plain = refl
-plain_used d functions (OfForm.Construct c) arguments plain = refl
-plain_used d functions (OfForm.Call f) arguments plain = absurd plain
+pub plain_fits : (d : Draft) (form : Form) (arguments : List ℕ) → IsPlain d form arguments → CanCompute d form arguments arguments
+plain_fits d (OfForm.Number n) arguments plain = λ going functions. (refl, (tt, λ have. tt))
+plain_fits d OfForm.Unit arguments plain = λ going functions. (refl, (tt, λ have. tt))
+plain_fits d OfForm.ReadByte arguments plain = λ going functions. (refl, (tt, λ have. tt))
+plain_fits d (OfForm.PrintText form text) arguments plain = λ going functions. (refl, (tt, λ have. tt))
+plain_fits d (OfForm.Unary operator) arguments plain = λ going functions. (refl, (tt, λ have. tt))
+plain_fits d (OfForm.Binary operator) arguments plain = λ going functions. (refl, (tt, λ have. tt))
+plain_fits d (OfForm.Print form) arguments plain = λ going functions. (refl, (tt, λ have. tt))
+plain_fits d (OfForm.Construct c) arguments plain = constructed_fits d c arguments
+plain_fits d (OfForm.Call f) arguments plain = absurd plain
 
-plain_lent : (d : Draft) (functions : List CountedFunction) (form : Form) (arguments others : List ℕ) → IsPlain d form arguments → AllAmong (lent_by d.positions functions form arguments) others
-plain_lent d functions (OfForm.Number n) arguments others plain = tt
-plain_lent d functions OfForm.Unit arguments others plain = tt
-plain_lent d functions OfForm.ReadByte arguments others plain = tt
-plain_lent d functions (OfForm.PrintText form text) arguments others plain = tt
-plain_lent d functions (OfForm.Unary operator) arguments others plain = tt
-plain_lent d functions (OfForm.Binary operator) arguments others plain = tt
-plain_lent d functions (OfForm.Print form) arguments others plain = tt
-plain_lent d functions (OfForm.Construct c) arguments others plain = tt
-plain_lent d functions (OfForm.Call f) arguments others plain = absurd plain
+pub called_fits : (d : Draft) (f : ℕ) (arguments : List ℕ) → Takes d f arguments → LendsAll d f arguments → CanCompute d (OfForm.Call f) arguments (used_in d f arguments)
+called_fits d f arguments takes lent = λ going functions. (refl, (lent going, λ have function there. have f function there ∙ takes.1))
 
-plain_fits : (d : Draft) (functions : List CountedFunction) (form : Form) (arguments : List ℕ) → IsPlain d form arguments → FitsForm d.positions functions form arguments
-plain_fits d functions (OfForm.Number n) arguments plain = tt
-plain_fits d functions OfForm.Unit arguments plain = tt
-plain_fits d functions OfForm.ReadByte arguments plain = tt
-plain_fits d functions (OfForm.PrintText form text) arguments plain = tt
-plain_fits d functions (OfForm.Unary operator) arguments plain = tt
-plain_fits d functions (OfForm.Binary operator) arguments plain = tt
-plain_fits d functions (OfForm.Print form) arguments plain = tt
-plain_fits d functions (OfForm.Construct c) arguments plain = tt
-plain_fits d functions (OfForm.Call f) arguments plain = absurd plain
-
-pub plain_works : (d e : Draft) (form : Form) (arguments : List ℕ) → d.failed ≡ false → Writes d → IsPlain d form arguments → HoldsAll d arguments → e ≡ computed d form arguments arguments → Works d → Works e
-plain_works d e form arguments going writes plain holds is works =
-    works_by d e (computed d form arguments arguments) going
-    (λ sound. leaves_sound d (computed d form arguments arguments) refl refl (omega arith) (whole_more d.inside d.splits d.steps _ d.ending (tt, tt)) sound
-    (λ lent free one. sound_computed lent d form arguments arguments one (writes going).0 (writes going).1 (holds going)
-    (λ functions. plain_used d functions form arguments plain) (λ functions. plain_lent d functions form arguments (lent ++ (minus_all arguments d.owed ++ outside d.uncalled d.splits)) plain) (λ functions have. plain_fits d functions form arguments plain)
-    (free d.next (omega arith) (omega arith)))) is works
-
-pub called_works : (d e : Draft) (f : ℕ) (arguments : List ℕ) → d.failed ≡ false → Writes d → Takes d f arguments → HoldsAll d (used_in d f arguments) → LendsAll d f arguments → e ≡ computed d (OfForm.Call f) arguments (used_in d f arguments) → Works d → Works e
-called_works d e f arguments going writes takes holds lent is works =
-    works_by d e (computed d (OfForm.Call f) arguments (used_in d f arguments)) going
-    (λ sound. leaves_sound d (computed d (OfForm.Call f) arguments (used_in d f arguments)) refl refl (omega arith) (whole_more d.inside d.splits d.steps _ d.ending (tt, tt)) sound
-    (λ all free one. sound_computed all d (OfForm.Call f) arguments (used_in d f arguments) one (writes going).0 (writes going).1 (holds going)
-    (λ functions. refl) (λ functions. lent_all all one) (λ functions have function there. have f function there ∙ takes.1) (free d.next (omega arith) (omega arith)))) is works
+pub computed_works : (d e : Draft) (form : Form) (arguments used : List ℕ) → d.failed ≡ false → Writes d → HoldsAll d used → CanCompute d form arguments used → e ≡ computed d form arguments used → Works d → Works e
+computed_works d e form arguments used going writes holds fits is works =
+    works_by d e (computed d form arguments used) going
+    (λ sound. leaves_sound d (computed d form arguments used) refl refl (omega arith) (whole_more d.inside d.splits d.steps _ d.ending (tt, tt)) sound
+    (λ lent free one. sound_computed lent d form arguments used one (writes going).0 (writes going).1 (holds going)
+    (λ functions. (fits going functions).0)
+    (λ functions. all_wider (lent_by d.positions functions form arguments) (d.lent ++ kept) (lent ++ kept) (λ x. among_wider d.lent lent kept x one.lends) (fits going functions).1.0)
+    (λ functions. (fits going functions).1.1) (free d.next (omega arith) (omega arith)))) is works
   where
     kept : List ℕ
-    kept = minus_all (used_in d f arguments) d.owed ++ outside d.uncalled d.splits
-
-    lent_all : (all : List ℕ) → IsSoundBy all d → AllAmong (lent_in d f arguments) (all ++ kept)
-    lent_all all one = all_wider (lent_in d f arguments) (d.lent ++ kept) (all ++ kept) (λ x. among_wider d.lent all kept x one.lends) (lent going)
+    kept = minus_all used d.owed ++ outside d.uncalled d.splits
 
 -- ---- the start
 
@@ -379,27 +336,21 @@ begun_sound positions counts marks instance =
     nothing code same = cc
 
 -- what an emitter begins with, by the parameters of its instance
-pub begun_is : (positions : PositionTable) (counts : List ℕ) (marks : CellMarks) (instance count : ℕ) (parameters : List Parameter) (uncalled lent : List ℕ) → slice_index_or positions instance [] ≡ map (λ parameter. parameter.ownership) parameters → count ≡ length parameters
-    → uncalled ≡ at_positions (passes parameters false) 0 (numbers_from 0 (length parameters)) → lent ≡ at_positions (passes parameters true) 0 (numbers_from 0 (length parameters))
-    → record (begun positions counts marks instance) { parameters = count; next = count; uncalled = uncalled; lent = lent } ≡ begun positions counts marks instance
-begun_is positions counts marks instance count parameters uncalled lent found many owned others =
+pub begun_is : (positions : PositionTable) (counts : List ℕ) (marks : CellMarks) (instance count : ℕ) (parameters : List Parameter) (uncalled lent : List ℕ) (steps : List Step) (owed : List ℕ) (forks : List Fork)
+    → map (λ parameter. parameter.ownership) parameters ≡ slice_index_or positions instance [] → count ≡ length parameters
+    → uncalled ≡ at_positions (passes parameters false) 0 (numbers_from 0 (length parameters)) → lent ≡ at_positions (passes parameters true) 0 (numbers_from 0 (length parameters)) → steps ≡ [] → owed ≡ [] → forks ≡ []
+    → record (begun positions counts marks instance) { parameters = count; next = count; steps = map step_move steps; owed = owed; uncalled = uncalled; lent = lent; splits = back_to_front split_of forks [] } ≡ begun positions counts marks instance
+begun_is positions counts marks instance count parameters uncalled lent steps owed forks found many called others no_step no_owed no_fork =
+    let d : Draft = begun positions counts marks instance in
     let passed : List Ownership = map (λ parameter. parameter.ownership) parameters in
     let long : length parameters ≡ length passed = sym (length-map parameters (λ parameter. parameter.ownership)) in
-    ap (λ n. record (begun positions counts marks instance) { parameters = n; next = n; uncalled = uncalled; lent = lent }) (many ∙ long)
-    ∙ (ap (λ xs. record (begun positions counts marks instance) { parameters = length passed; next = length passed; uncalled = xs; lent = lent }) (owned ∙ ap (λ n. at_positions (passes parameters false) 0 (numbers_from 0 n)) long)
-    ∙ (ap (λ xs. record (begun positions counts marks instance) { parameters = length passed; next = length passed; uncalled = at_positions (passes parameters false) 0 (numbers_from 0 (length passed)); lent = xs }) (others ∙ ap (λ n. at_positions (passes parameters true) 0 (numbers_from 0 n)) long)
-    ∙ ap (λ (all : List Ownership). record (begun positions counts marks instance) { parameters = length all; next = length all; uncalled = at_positions (λ i. not (lends (slice_index_or all i Owned))) 0 (numbers_from 0 (length all)); lent = at_positions (λ i. lends (slice_index_or all i Owned)) 0 (numbers_from 0 (length all)) }) (sym found)))
-
--- what an instance is passed
-pub passed_at : (instances : List InstanceShape) (i : ℕ) (one : InstanceShape) → i < length instances → one ≡ get_or instances i one → slice_index_or (positions_in instances) i [] ≡ passed_to one
-passed_at [] i one less is = absurd (omega (arith, less))
-passed_at (first ∷ instances) zero one less is = ap passed_to (sym is)
-passed_at (first ∷ instances) (suc i) one less is = passed_at instances i one (omega (arith, less)) is
-
-pub fields_at : (constructors : List ConstructorShape) (i : ℕ) (one : ConstructorShape) → i < length constructors → one ≡ get_or constructors i one → slice_index_or (fields_in constructors) i 0 ≡ length one.fields.items
-fields_at [] i one less is = absurd (omega (arith, less))
-fields_at (first ∷ constructors) zero one less is = ap (λ c. length c.fields.items) (sym is)
-fields_at (first ∷ constructors) (suc i) one less is = fields_at constructors i one (omega (arith, less)) is
+    ap (λ (xs : List Step). record d { parameters = count; next = count; steps = map step_move xs; owed = owed; uncalled = uncalled; lent = lent; splits = back_to_front split_of forks [] }) no_step
+    ∙ (ap (λ xs. record d { parameters = count; next = count; owed = xs; uncalled = uncalled; lent = lent; splits = back_to_front split_of forks [] }) no_owed
+    ∙ (ap (λ (xs : List Fork). record d { parameters = count; next = count; uncalled = uncalled; lent = lent; splits = back_to_front split_of xs [] }) no_fork
+    ∙ (ap (λ n. record d { parameters = n; next = n; uncalled = uncalled; lent = lent }) (many ∙ long)
+    ∙ (ap (λ xs. record d { parameters = length passed; next = length passed; uncalled = xs; lent = lent }) (called ∙ ap (λ n. at_positions (passes parameters false) 0 (numbers_from 0 n)) long)
+    ∙ (ap (λ xs. record d { parameters = length passed; next = length passed; uncalled = at_positions (passes parameters false) 0 (numbers_from 0 (length passed)); lent = xs }) (others ∙ ap (λ n. at_positions (passes parameters true) 0 (numbers_from 0 n)) long)
+    ∙ ap (λ (all : List Ownership). record d { parameters = length all; next = length all; uncalled = at_positions (λ i. not (lends (slice_index_or all i Owned))) 0 (numbers_from 0 (length all)); lent = at_positions (λ i. lends (slice_index_or all i Owned)) 0 (numbers_from 0 (length all)) }) found)))))
 
 pub begun_works : (positions : PositionTable) (counts : List ℕ) (marks : CellMarks) (instance : ℕ) (e : Draft) → e ≡ begun positions counts marks instance → Works e
 begun_works positions counts marks instance e is = λ going. subst IsSoundDraft (sym is) (begun_sound positions counts marks instance)
@@ -499,9 +450,8 @@ joined_same : (d : Draft) (splits : List Split) → (joined_in d splits).instanc
 joined_same d [] = refl
 joined_same d (split ∷ splits) = resumed_instance (record d { next = d.next + 1; splits = splits }) split d.next split.tails
 
-pub joined_instance : (instance : ℕ) (new : Work) (positions : PositionTable) (counts : List ℕ) (marks : CellMarks) (work : Work) → draft positions counts marks new ≡ joined (draft positions counts marks work) → work.instance ≡ instance → new.instance ≡ instance
-joined_instance instance new positions counts marks work becomes is =
-    ap (λ (d : Draft). d.instance) becomes ∙ (joined_same (draft positions counts marks work) (back_to_front split_of work.forks.items []) ∙ is)
+pub joined_instance : (d : Draft) → (joined d).instance ≡ d.instance
+joined_instance d = joined_same d d.splits
 
 -- ---- the end of a function
 

@@ -29,6 +29,8 @@ use Rattle.kk_counted.specs.KeptFields.{KnownFields, fields_in, forget_variable,
 use Rattle.kk_counted.specs.Drafts.{Split, Draft, given, duplicated, dropped, unpacked, looked, fields_given, computed, opens_by, end_code, finished, IsPlain, Writes}
 use Rattle.kk_counted.specs.Emitting.{IsJudged, IsBody, AreLow}
 use Rattle.kk_counted.specs.TokenDrafts.{TokenSplit, TokenDraft, token_draft, tokened_end, tokens_finished, tokens_closed, next_slot, adds, gains, spends, under_holds, opens_with, reads_with, fills_with, bare_move, bare_moves}
+use Rattle.kk_counted.specs.Emissions.{Emission, state}
+use Rattle.kk_counted.specs.TokenEmissions.{TokenEmission, counted_of}
 use Rattle.kk_counted.specs.TokenEmitting.{LeadsTokens, AreFalling, known_by, known_behind, AllLeave, first_spare, first_known, known_now, AreTokenSplits, IsTokened, KeepsTokens, IsTokenedFunctionOf, fields_at}
 use Rattle.kk_counted.proofs.ClosedBlocks.{body_ends, marked_ends}
 use Rattle.kk_counted.proofs.ClosedTokens.{TokensEnd, bare_ends, tokens_end, leaves_end, tokens_closed_end}
@@ -166,7 +168,7 @@ put_spent old steps spare step slot grown left =
 
 -- ---- what is written, by what was held before room was made
 
-module _ (before now after : TokenDraft) (same : now ≡ before) where
+module _ {before now after : TokenDraft} (same : now ≡ before) where
   pub adds_on : (moves others : List TokenedMove) → after ≡ adds now moves → moves ≡ others → after ≡ adds before others
   adds_on moves others is equal = is ∙ (ap (λ t. adds t moves) same ∙ ap (adds before) equal)
 
@@ -398,7 +400,11 @@ keeps_failed e u failed going = absurd (clash failed going)
 
 -- ---- each call
 
-module _ (d e : Draft) (t u : TokenDraft) (keeps : KeepsTokens d t) (writes : Writes d) where
+-- a block is written, as its emitter sees it
+pub writes_then : {held : Emission} {work : TokenWork} {now : TokenEmission} → record { emission = held; work = work } ≡ now → Writes (counted_of now) → Writes (state held)
+writes_then is writes = subst (λ e. Writes (counted_of e)) (sym is) writes
+
+module _ {d e : Draft} {t u : TokenDraft} (keeps : KeepsTokens d t) (writes : Writes d) where
   -- a change that writes steps of counted code, and these with tokens
   wrote_keeps : (changed : Draft) (moves : List TokenedMove) (spare : List ℕ) → e ≡ changed → changed.failed ≡ d.failed
       → changed.steps ≡ d.steps ++ bare_moves moves → changed.inside ≡ d.inside → changed.splits ≡ d.splits → changed.ending ≡ d.ending

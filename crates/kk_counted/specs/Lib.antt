@@ -2,6 +2,7 @@ pub mod Arms
 pub mod BareForms
 pub mod BlockEnds
 pub mod CodePlaces
+pub mod Computing
 pub mod Cost
 pub mod CountedCosts
 pub mod CountBounds

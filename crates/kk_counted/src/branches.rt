@@ -40,7 +40,6 @@ impl<'a> Emitter<'a> {
     // Begins a branch by these decisions.
     fn begin(&mut self, on: u32, tests: Decisions, debts: Debts) -> Result<Arms, Kept>
         requires writes { Writes (state self.old) }
-        requires called { (state self.old).failed ≡ false → (state self.old).uncalled ≡ [] }
         requires owns { OwnsAll (state self.old) debts.emitter debts.variables.items }
         requires on { (state self.old).failed ≡ false → is_among ((state self.old).lent ++ all_owed (state self.old)) on ≡ true }
         requires spare { debts.spare.items ≡ [] }
@@ -152,10 +151,7 @@ impl<'a> Emitter<'a> {
                 return Err(Kept::of_one(owed));
             }
             Ok(()) => {
-                let Owed {
-                    emitter: _,
-                    variable: _,
-                } = owed;
+                owed.spend();
                 return Ok(());
             }
         }
@@ -204,12 +200,7 @@ impl<'a> Emitter<'a> {
                 return Err(Kept::of_branch(arms));
             }
             Ok(variable) => {
-                let Arms {
-                    emitter: _,
-                    depth: _,
-                    left: _,
-                    spare: _,
-                } = arms;
+                arms.spend();
                 return Ok(Owed {
                     emitter: self.work.instance,
                     variable,

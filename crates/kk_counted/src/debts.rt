@@ -18,6 +18,22 @@ impl Owed {
     {
         self.variable
     }
+
+    // The reference of a variable.
+    pub(crate) fn of(emitter: u32, variable: u32) -> Self
+        ensures emitter { result.emitter ≡ emitter }
+        ensures variable { result.variable ≡ variable }
+    {
+        Owed { emitter, variable }
+    }
+
+    // It is spent by what has been written of it.
+    pub(crate) fn spend(self) {
+        let Owed {
+            emitter: _,
+            variable: _,
+        } = self;
+    }
 }
 
 /// References and tokens of one emitter, which its path must pass on, store, drop, fill or free. They cannot be let go.
@@ -193,6 +209,16 @@ impl Arms {
             left,
             spare,
         }
+    }
+
+    // It is spent by what has been written of it.
+    pub(crate) fn spend(self) {
+        let Arms {
+            emitter: _,
+            depth: _,
+            left: _,
+            spare: _,
+        } = self;
     }
 }
 
@@ -380,31 +406,16 @@ impl Kept {
         let Kept { held, ended: _ } = self;
         match held {
             Held::Nothing => {}
-            Held::One(owed) => {
-                let Owed {
-                    emitter: _,
-                    variable: _,
-                } = owed;
-            }
+            Held::One(owed) => owed.spend(),
             Held::Many(debts) => debts.spend(),
-            Held::Branch(arms) => {
-                let Arms {
-                    emitter: _,
-                    depth: _,
-                    left: _,
-                    spare: _,
-                } = arms;
-            }
+            Held::Branch(arms) => arms.spend(),
             Held::Token(spare) => spare.spend(),
             Held::Filling(spare, debts) => {
                 spare.spend();
                 debts.spend();
             }
             Held::Ending(owed, debts) => {
-                let Owed {
-                    emitter: _,
-                    variable: _,
-                } = owed;
+                owed.spend();
                 debts.spend();
             }
         }

@@ -1,12 +1,14 @@
-ghost use Rattle.std.specs.Prelude.{◌≡◌, ◌+◌, ◌<◌, ◌∷◌, ◌++◌, [], false, true, length, slice_index_or, IfOk, IfErr, OnOk, OnErr};
+ghost use Rattle.std.specs.Prelude.{◌≡◌, ◌+◌, ◌<◌, ◌∷◌, ◌++◌, [], false, true, map, length, slice_index_or, IfOk, IfErr, OnOk, OnErr};
 ghost use Rattle.kk_counted.specs.Drafts.{begun, fallen, given, duplicated, dropped, unpacked, looked, fields_given, computed, Writes, Awaits, Reaches, IsLentTo, IsAtHand, Owns, OwnsAll, HoldsAll, HasConstructor, HasField, HasFields, IsPlain, Takes, used_in, LendsAll};
 ghost use Rattle.kk_counted.specs.InstancePositions.{positions_in, fields_in};
 ghost use Rattle.kk_counted.specs.Emissions.{state};
+ghost use Rattle.kk_counted.specs.Computing.{CanCompute};
 ghost use Rattle.kk_counted.specs.Marks.{marks_of};
+ghost use Rattle.kk_counted.specs.Works.{used_at};
 
 use crate::debts::{Debts, Held, Kept, Owed};
 use crate::lists::parameters_passed;
-use crate::shape::Shape;
+use crate::shape::{Parameter, Shape};
 use crate::work::Work;
 use kk_base::NoMemory;
 use kk_syntax::Form;
@@ -47,7 +49,7 @@ impl<'a> Emitter<'a> {
         requires { instance < length shape.now.instances.items }
         ensures { IfOk result (λ e. state e ≡ begun (positions_in shape.now.instances.items) (fields_in shape.now.constructors.items) (marks_of shape.now.instances.items shape.now.constructors.items) instance) }
     {
-        let parameters = &shape.instances()[instance as usize].parameters;
+        let parameters = shape.parameters(instance);
         let Ok(count) = u32::try_from(parameters.len()) else {
             return Err(NoMemory);
         };
@@ -88,10 +90,7 @@ impl<'a> Emitter<'a> {
                 return Err(NoMemory);
             }
             Ok(()) => {
-                return Ok(Owed {
-                    emitter: self.work.instance,
-                    variable,
-                });
+                return Ok(Owed::of(self.work.instance, variable));
             }
         }
     }
@@ -105,28 +104,27 @@ impl<'a> Emitter<'a> {
         ensures owed { IfOk result (λ one. (one.emitter ≡ (state self.old).instance) × (one.variable ≡ owed.now.variable)) }
         ensures err { OnErr result (state self.new ≡ fallen (state self.old)) }
     {
-        let variable = owed.variable;
-        if self.work.failed {
-            return Err(NoMemory);
-        }
-        match self.work.dup(variable) {
-            Err(_) => {
-                self.work.failed = true;
-                return Err(NoMemory);
-            }
-            Ok(()) => {
-                return Ok(Owed {
-                    emitter: self.work.instance,
-                    variable,
-                });
-            }
-        }
+        let one = self.duplicate(owed.variable)?;
+        Ok(one)
     }
 
     /// A reference of its own of a lent parameter.
     pub fn dup_lent(&mut self, variable: u32) -> Result<Owed, NoMemory>
         requires writes { Writes (state self.old) }
         requires lent { IsLentTo (state self.old) variable }
+        ensures going { OnOk result ((state self.old).failed ≡ false) }
+        ensures ok { OnOk result (state self.new ≡ duplicated (state self.old) variable) }
+        ensures owed { IfOk result (λ one. (one.emitter ≡ (state self.old).instance) × (one.variable ≡ variable)) }
+        ensures err { OnErr result (state self.new ≡ fallen (state self.old)) }
+    {
+        let one = self.duplicate(variable)?;
+        Ok(one)
+    }
+
+    // One reference more of a variable that is lent or owned.
+    fn duplicate(&mut self, variable: u32) -> Result<Owed, NoMemory>
+        requires writes { Writes (state self.old) }
+        requires there { IsAtHand (state self.old) variable }
         ensures going { OnOk result ((state self.old).failed ≡ false) }
         ensures ok { OnOk result (state self.new ≡ duplicated (state self.old) variable) }
         ensures owed { IfOk result (λ one. (one.emitter ≡ (state self.old).instance) × (one.variable ≡ variable)) }
@@ -141,10 +139,7 @@ impl<'a> Emitter<'a> {
                 return Err(NoMemory);
             }
             Ok(()) => {
-                return Ok(Owed {
-                    emitter: self.work.instance,
-                    variable,
-                });
+                return Ok(Owed::of(self.work.instance, variable));
             }
         }
     }
@@ -185,10 +180,7 @@ impl<'a> Emitter<'a> {
                 return Err(Kept::of_one(owed));
             }
             Ok(()) => {
-                let Owed {
-                    emitter: _,
-                    variable: _,
-                } = owed;
+                owed.spend();
                 return Ok(());
             }
         }
@@ -253,10 +245,10 @@ impl<'a> Emitter<'a> {
         ensures given { IfOk result (λ given. given.items ≡ fields_given (state self.old) constructor used) }
         ensures err { OnErr result (state self.new ≡ fallen (state self.old)) }
     {
+        let count = self.field_count(constructor);
         if self.work.failed {
             return Err(NoMemory);
         }
-        let count = self.shape.constructors()[constructor as usize].fields.len();
         match self.work.read(variable, constructor, count, used) {
             Err(_) => {
                 self.work.failed = true;
@@ -322,10 +314,10 @@ impl<'a> Emitter<'a> {
         ensures err { OnErr result (state self.new ≡ state self.old) }
         ensures kept { IfErr result (λ kept. kept.held ≡ Held.One owed) }
     {
+        let count = self.field_count(constructor);
         if self.work.failed {
             return Err(Kept::of_one(owed));
         }
-        let count = self.shape.constructors()[constructor as usize].fields.len();
         match self
             .work
             .open(owed.variable, constructor, count, used, by_count)
@@ -334,10 +326,7 @@ impl<'a> Emitter<'a> {
                 return Err(Kept::of_one(owed));
             }
             Ok(variables) => {
-                let Owed {
-                    emitter: _,
-                    variable: _,
-                } = owed;
+                owed.spend();
                 return Ok(Debts {
                     emitter: self.work.instance,
                     variables,
@@ -359,23 +348,14 @@ impl<'a> Emitter<'a> {
         ensures err { OnErr result (state self.new ≡ state self.old) }
         ensures kept { IfErr result (λ kept. kept.held ≡ Held.Many debts) }
     {
-        if self.work.failed {
-            return Err(Kept::of_many(debts));
-        }
         let Debts {
             emitter,
             variables,
             spare,
         } = debts;
-        match self
-            .work
-            .compute(Form::Construct(constructor), variables, &[])
-        {
-            Ok(variable) => {
-                return Ok(Owed {
-                    emitter: self.work.instance,
-                    variable,
-                });
+        match self.compute(Form::Construct(constructor), variables, &[]) {
+            Ok(owed) => {
+                return Ok(owed);
             }
             Err(variables) => {
                 return Err(Kept::of_many(Debts {
@@ -399,15 +379,9 @@ impl<'a> Emitter<'a> {
         ensures err { OnErr result (state self.new ≡ state self.old) }
         ensures kept { IfErr result (λ kept. kept.held ≡ Held.Nothing) }
     {
-        if self.work.failed {
-            return Err(Kept::of_nothing());
-        }
-        match self.work.compute(form, arguments, &[]) {
-            Ok(variable) => {
-                return Ok(Owed {
-                    emitter: self.work.instance,
-                    variable,
-                });
+        match self.compute(form, arguments, &[]) {
+            Ok(owed) => {
+                return Ok(owed);
             }
             Err(_) => {
                 return Err(Kept::of_nothing());
@@ -428,22 +402,42 @@ impl<'a> Emitter<'a> {
         ensures err { OnErr result (state self.new ≡ state self.old) }
         ensures kept { IfErr result (λ kept. kept.held ≡ Held.Nothing) }
     {
-        if self.work.failed {
-            return Err(Kept::of_nothing());
-        }
-        let parameters = &self.shape.instances()[instance as usize].parameters;
-        match self
-            .work
-            .compute(Form::Call(instance), arguments, parameters)
-        {
-            Ok(variable) => {
-                return Ok(Owed {
-                    emitter: self.work.instance,
-                    variable,
-                });
+        let parameters = self.parameters(instance);
+        match self.compute(Form::Call(instance), arguments, parameters) {
+            Ok(owed) => {
+                return Ok(owed);
             }
             Err(_) => {
                 return Err(Kept::of_nothing());
+            }
+        }
+    }
+
+    // Computes a form that uses up its arguments at positions which the parameters do not lend.
+    fn compute(
+        &mut self,
+        form: Form,
+        arguments: Vec<u32>,
+        parameters: &[Parameter],
+    ) -> Result<Owed, Vec<u32>>
+        requires writes { Writes (state self.old) }
+        requires owns { HoldsAll (state self.old) (used_at parameters.now arguments.items) }
+        requires fits { CanCompute (state self.old) form arguments.items (used_at parameters.now arguments.items) }
+        ensures going { OnOk result ((state self.old).failed ≡ false) }
+        ensures ok { OnOk result (state self.new ≡ computed (state self.old) form arguments.items (used_at parameters.now arguments.items)) }
+        ensures owed { IfOk result (λ owed. (owed.emitter ≡ (state self.old).instance) × (owed.variable ≡ (state self.old).next)) }
+        ensures err { OnErr result (state self.new ≡ state self.old) }
+        ensures kept { IfErr result (λ kept. kept ≡ arguments) }
+    {
+        if self.work.failed {
+            return Err(arguments);
+        }
+        match self.work.compute(form, arguments, parameters) {
+            Ok(variable) => {
+                return Ok(Owed::of(self.work.instance, variable));
+            }
+            Err(arguments) => {
+                return Err(arguments);
             }
         }
     }
@@ -467,6 +461,14 @@ impl<'a> Emitter<'a> {
         ensures { result ≡ (state self.now).next }
     {
         self.work.next
+    }
+
+    // The parameters of an instance.
+    fn parameters(&self, instance: u32) -> &'a [Parameter]
+        requires { instance < length (state self.now).positions }
+        ensures { map (λ parameter. parameter.ownership) result.now ≡ slice_index_or (state self.now).positions instance [] }
+    {
+        self.shape.parameters(instance)
     }
 
     // How many fields a constructor has.

@@ -1,5 +1,5 @@
-ghost use Rattle.std.specs.Prelude.{◌≡◌};
-ghost use Rattle.kk_counted.specs.InstancePositions.{AreConsistent};
+ghost use Rattle.std.specs.Prelude.{◌≡◌, ◌<◌, [], length, map, slice_index_or};
+ghost use Rattle.kk_counted.specs.InstancePositions.{AreConsistent, positions_in};
 
 use kk_core::ConstructorShape;
 use kk_syntax::Ownership;
@@ -47,6 +47,14 @@ impl Shape {
         ensures { result.now ≡ self.now.instances.items }
     {
         &self.instances
+    }
+
+    // The parameters of an instance.
+    pub(crate) fn parameters(&self, instance: u32) -> &[Parameter]
+        requires { instance < length self.now.instances.items }
+        ensures { map (λ parameter. parameter.ownership) result.now ≡ slice_index_or (positions_in self.now.instances.items) instance [] }
+    {
+        &self.instances()[instance as usize].parameters
     }
 
     /// The constructors, each at its number.

@@ -1,6 +1,7 @@
 ghost use Rattle.std.specs.Prelude.{◌≡◌, ◌+◌, ◌<◌, ◌∷◌, [], false, true, map, length, IfOk, IfErr, OnOk, OnErr};
 ghost use Rattle.kk_syntax.specs.Shapes.{without};
 ghost use Rattle.kk_counted.specs.BareForms.{bare_function};
+ghost use Rattle.kk_counted.specs.Computing.{GivesFields, TakesDebts};
 ghost use Rattle.kk_counted.specs.CountedCodes.{tail_call};
 ghost use Rattle.kk_counted.specs.CountedForms.{plug};
 ghost use Rattle.kk_counted.specs.Emitting.{BecomesMarked};
@@ -185,10 +186,7 @@ impl<'a> TokenEmitter<'a> {
         ensures going { OnOk result ((counted_of self.old).failed ≡ false) }
         ensures ok { OnOk result (counted_of self.new ≡ unpacked (counted_of self.old) by_count owed.variable constructor used) }
         ensures tokens { OnOk result (tokens_of self.new ≡ gains (tokens_of self.old) (opens_with by_count owed.variable constructor (fields_at (counted_of self.old) constructor) (fields_given (counted_of self.old) constructor used) (next_slot (tokens_of self.old).spare))) }
-        ensures debts { IfOk result (λ both. both.0.variables.items ≡ fields_given (counted_of self.old) constructor used) }
-        ensures emitter { IfOk result (λ both. both.0.emitter ≡ (counted_of self.old).instance) }
-        ensures alone { IfOk result (λ both. both.0.spare.items ≡ []) }
-        ensures spare { IfOk result (λ both. (both.1.emitter ≡ (counted_of self.old).instance) × (both.1.slot ≡ next_slot (tokens_of self.old).spare)) }
+        ensures given { IfOk result (λ both. GivesFields (counted_of self.old) (tokens_of self.old) constructor used both.0 both.1) }
         ensures err { OnErr result (counted_of self.new ≡ counted_of self.old) }
         ensures unwritten { OnErr result (tokens_of self.new ≡ tokens_of self.old) }
         ensures kept { IfErr result (λ kept. kept.held ≡ Held.One owed) }
@@ -523,10 +521,7 @@ impl<'a> TokenEmitter<'a> {
     ) -> Result<Owed, Kept>
         requires writes { Writes (counted_of self.old) }
         requires has { HasSpare (counted_of self.old) (tokens_of self.old) spare.emitter spare.slot }
-        requires owns { OwnsAll (counted_of self.old) debts.emitter debts.variables.items }
-        requires fields { HasFields (counted_of self.old) constructor (length debts.variables.items) }
-        requires alone { debts.spare.items ≡ [] }
-        requires some { 0 < length debts.variables.items }
+        requires takes { TakesDebts (counted_of self.old) constructor debts }
         requires known { HasKnown (counted_of self.old) (tokens_of self.old) spare.slot kept.items debts.variables.items }
         ensures going { OnOk result ((counted_of self.old).failed ≡ false) }
         ensures ok { OnOk result (counted_of self.new ≡ computed (counted_of self.old) (Form.Construct constructor) debts.variables.items debts.variables.items) }

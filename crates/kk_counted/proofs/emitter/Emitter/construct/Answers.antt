@@ -1,56 +1,18 @@
-use Rattle.kk_syntax.specs.declared.program.Form.TheVariants as OfForm
-use Rattle.std.proofs.Common.{refl, ap, ◌∙◌}
-use Rattle.kk_counted.specs.Drafts.{computed}
+use Rattle.kk_syntax.specs.declared.program.Form.TheVariants.{Construct}
+use Rattle.std.proofs.Common.{List, ℕ, sym, ap, ◌∙◌, subst}
+use Rattle.kk_counted.specs.Drafts.{HasAll, computed}
 use Rattle.kk_counted.specs.Emissions.{state}
-use Rattle.kk_counted.specs.InstancePositions.{positions_in, fields_in}
-use Rattle.kk_counted.specs.Marks.{marks_of}
-use Rattle.kk_counted.specs.Works.{draft}
-use Rattle.kk_counted.proofs.EmitterViews.{seen, going_now, works_now, instance_now, next_now}
-use Rattle.kk_counted.proofs.EmitterCalls.{constructed_works, works_same, all_used}
+use Rattle.kk_counted.specs.Computing.{CanCompute}
+use Rattle.kk_counted.proofs.EmitterCalls.{constructed_fits, all_used}
 use Rattle.kk_counted.proofs.emitter.Emitter.construct.Goals as goal
 
-pub invariant_of-self : goal.invariant_of-self
-invariant_of-self c =
-    let p = positions_in c.self.inside.shape.now.instances.items in
-    let q = fields_in c.self.inside.shape.now.constructors.items in
-    let m = marks_of c.self.inside.shape.now.instances.items c.self.inside.shape.now.constructors.items in
-    let work = c.self.inside.work in
-    let now = c.args.self.now in
-    constructed_works (state now) (draft p q m c.compute.new.self) c.args.debts.emitter c.args.constructor c.args.debts.variables.items (going_now p q m work now c.self.view_is c.if-self.false) c.requires.writes c.requires.owns
-    (seen p q m work now c.self.view_is (λ d. computed d (OfForm.Construct c.args.constructor) c.args.debts.variables.items c.args.debts.variables.items) c.compute.new.self (c.in-Ok.ensures.ok p q m ∙ ap (λ used. computed (draft p q m work) (OfForm.Construct c.args.constructor) c.args.debts.variables.items used) (all_used c.args.debts.variables.items))) (works_now p q m work now c.self.view_is c.self.invariant)
+pub compute-requires-clause-owns : goal.compute-requires-clause-owns
+compute-requires-clause-owns c =
+    λ going. subst (λ (xs : List ℕ). HasAll xs (state c.args.self.now).owed) (sym (all_used c.args.debts.variables.items)) ((c.requires.owns going).1)
 
-pub invariant_of-self-in-Err : goal.invariant_of-self-in-Err
-invariant_of-self-in-Err c =
-    let p = positions_in c.self.inside.shape.now.instances.items in
-    let q = fields_in c.self.inside.shape.now.constructors.items in
-    let m = marks_of c.self.inside.shape.now.instances.items c.self.inside.shape.now.constructors.items in
-    let work = c.self.inside.work in
-    let now = c.args.self.now in
-    works_same (draft p q m work) (draft p q m c.compute.new.self) (c.in-Err.ensures.err p q m) c.self.invariant
+pub compute-requires-clause-fits : goal.compute-requires-clause-fits
+compute-requires-clause-fits c =
+    subst (CanCompute (state c.args.self.now) (Construct c.args.constructor) c.args.debts.variables.items) (sym (all_used c.args.debts.variables.items)) (constructed_fits (state c.args.self.now) c.args.constructor c.args.debts.variables.items)
 
 pub returns-in-Ok-clause-ok : goal.returns-in-Ok-clause-ok
-returns-in-Ok-clause-ok c =
-    let p = positions_in c.self.inside.shape.now.instances.items in
-    let q = fields_in c.self.inside.shape.now.constructors.items in
-    let m = marks_of c.self.inside.shape.now.instances.items c.self.inside.shape.now.constructors.items in
-    let work = c.self.inside.work in
-    let now = c.args.self.now in
-    seen p q m work now c.self.view_is (λ d. computed d (OfForm.Construct c.args.constructor) c.args.debts.variables.items c.args.debts.variables.items) c.compute.new.self (c.in-Ok.ensures.ok p q m ∙ ap (λ used. computed (draft p q m work) (OfForm.Construct c.args.constructor) c.args.debts.variables.items used) (all_used c.args.debts.variables.items))
-
-pub returns-in-Err-clause-err : goal.returns-in-Err-clause-err
-returns-in-Err-clause-err c =
-    let p = positions_in c.self.inside.shape.now.instances.items in
-    let q = fields_in c.self.inside.shape.now.constructors.items in
-    let m = marks_of c.self.inside.shape.now.instances.items c.self.inside.shape.now.constructors.items in
-    let work = c.self.inside.work in
-    let now = c.args.self.now in
-    seen p q m work now c.self.view_is (λ d. d) c.compute.new.self (c.in-Err.ensures.err p q m)
-
-pub returns-in-Ok-clause-owed : goal.returns-in-Ok-clause-owed
-returns-in-Ok-clause-owed c =
-    let p = positions_in c.self.inside.shape.now.instances.items in
-    let q = fields_in c.self.inside.shape.now.constructors.items in
-    let m = marks_of c.self.inside.shape.now.instances.items c.self.inside.shape.now.constructors.items in
-    let work = c.self.inside.work in
-    let now = c.args.self.now in
-    (instance_now p q m work now c.self.view_is c.compute.new.self (computed (draft p q m work) (OfForm.Construct c.args.constructor) c.args.debts.variables.items c.args.debts.variables.items) (c.in-Ok.ensures.ok p q m ∙ ap (λ used. computed (draft p q m work) (OfForm.Construct c.args.constructor) c.args.debts.variables.items used) (all_used c.args.debts.variables.items)) refl, next_now p q m work now c.self.view_is c.in-Ok.variable c.in-Ok.ensures.variable)
+returns-in-Ok-clause-ok c = c.in-Ok.ensures.ok ∙ ap (computed (state c.args.self.now) (Construct c.args.constructor) c.args.debts.variables.items) (all_used c.args.debts.variables.items)

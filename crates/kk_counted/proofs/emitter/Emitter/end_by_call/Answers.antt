@@ -1,45 +1,19 @@
 use Rattle.kk_counted.specs.Drafts.{ended_by_call}
 use Rattle.kk_counted.specs.Emissions.{state}
-use Rattle.kk_counted.specs.InstancePositions.{positions_in, fields_in}
-use Rattle.kk_counted.specs.Marks.{marks_of}
-use Rattle.kk_counted.specs.Works.{draft}
-use Rattle.kk_counted.proofs.EmitterViews.{seen, going_now, works_now}
-use Rattle.kk_counted.proofs.EmitterCalls.{call_works, works_same}
+use Rattle.kk_counted.proofs.EmitterViews.{seen, going_now, works_now, works_same}
+use Rattle.kk_counted.proofs.EmitterCalls.{call_works}
 use Rattle.kk_counted.proofs.emitter.Emitter.end_by_call.Goals as goal
 
 pub invariant_of-self : goal.invariant_of-self
 invariant_of-self c =
-    let p = positions_in c.self.inside.shape.now.instances.items in
-    let q = fields_in c.self.inside.shape.now.constructors.items in
-    let m = marks_of c.self.inside.shape.now.instances.items c.self.inside.shape.now.constructors.items in
-    let work = c.self.inside.work in
-    let now = c.args.self.now in
-    call_works (state now) (draft p q m c.end_arm_by_call.new.self) c.args.instance c.args.arguments.items (going_now p q m work now c.self.view_is c.if-self.false) c.requires.writes c.requires.takes c.requires.ends c.requires.arm
-    (seen p q m work now c.self.view_is (λ d. ended_by_call d c.args.instance c.args.arguments.items) c.end_arm_by_call.new.self (c.in-Ok.ensures.ok p q m)) (works_now p q m work now c.self.view_is c.self.invariant)
+    call_works (state c.args.self.now) _ c.args.instance c.args.arguments.items (going_now c.self.view_is c.if-self.false) c.requires.writes c.requires.takes c.requires.ends c.requires.arm
+    (seen c.self.view_is (λ d. ended_by_call d c.args.instance c.args.arguments.items) c.end_arm_by_call.new.self c.in-Ok.ensures.ok) (works_now c.self.view_is c.self.invariant)
 
 pub invariant_of-self-in-Err : goal.invariant_of-self-in-Err
-invariant_of-self-in-Err c =
-    let p = positions_in c.self.inside.shape.now.instances.items in
-    let q = fields_in c.self.inside.shape.now.constructors.items in
-    let m = marks_of c.self.inside.shape.now.instances.items c.self.inside.shape.now.constructors.items in
-    let work = c.self.inside.work in
-    let now = c.args.self.now in
-    works_same (draft p q m work) (draft p q m c.end_arm_by_call.new.self) (c.in-Err.ensures.err p q m) c.self.invariant
+invariant_of-self-in-Err c = works_same c.self.view_is c.end_arm_by_call.new.self c.in-Err.ensures.err c.self.invariant
 
 pub returns-in-Ok-clause-ok : goal.returns-in-Ok-clause-ok
-returns-in-Ok-clause-ok c =
-    let p = positions_in c.self.inside.shape.now.instances.items in
-    let q = fields_in c.self.inside.shape.now.constructors.items in
-    let m = marks_of c.self.inside.shape.now.instances.items c.self.inside.shape.now.constructors.items in
-    let work = c.self.inside.work in
-    let now = c.args.self.now in
-    seen p q m work now c.self.view_is (λ d. ended_by_call d c.args.instance c.args.arguments.items) c.end_arm_by_call.new.self (c.in-Ok.ensures.ok p q m)
+returns-in-Ok-clause-ok c = seen c.self.view_is (λ d. ended_by_call d c.args.instance c.args.arguments.items) c.end_arm_by_call.new.self c.in-Ok.ensures.ok
 
 pub returns-in-Err-clause-err : goal.returns-in-Err-clause-err
-returns-in-Err-clause-err c =
-    let p = positions_in c.self.inside.shape.now.instances.items in
-    let q = fields_in c.self.inside.shape.now.constructors.items in
-    let m = marks_of c.self.inside.shape.now.instances.items c.self.inside.shape.now.constructors.items in
-    let work = c.self.inside.work in
-    let now = c.args.self.now in
-    seen p q m work now c.self.view_is (λ d. d) c.end_arm_by_call.new.self (c.in-Err.ensures.err p q m)
+returns-in-Err-clause-err c = seen c.self.view_is (λ d. d) c.end_arm_by_call.new.self c.in-Err.ensures.err

@@ -1,50 +1,20 @@
-use Rattle.std.proofs.Common.{◌≡◌, ℕ, sym, ap, ◌∙◌, subst}
-use Rattle.kk_counted.specs.Arms.{HasArms}
-use Rattle.kk_counted.specs.CountedCodes.{Counted, tail_call}
-use Rattle.kk_counted.specs.CountedForms.{plug, block_code}
+use Rattle.kk_counted.specs.CountedCodes.{tail_call}
+use Rattle.kk_counted.specs.CountedForms.{plug}
 use Rattle.kk_counted.specs.Emissions.{state}
-use Rattle.kk_counted.specs.Emitting.{IsJudged, IsSoundDraft}
-use Rattle.kk_counted.specs.InstancePositions.{positions_in, fields_in}
-use Rattle.kk_counted.specs.Marks.{marks_of, CanBeMarked}
-use Rattle.kk_counted.proofs.EmitterViews.{going_now, works_now}
-use Rattle.kk_counted.proofs.EmitterCalls.{tail_arms, sound_now, tail_judged}
+use Rattle.kk_counted.proofs.EmitterViews.{going_now, works_now, function_now, marked_now}
+use Rattle.kk_counted.proofs.EmitterCalls.{tail_arms, tail_judged}
 use Rattle.kk_counted.proofs.emitter.Emitter.finish_tail.Goals as goal
 
 pub returns-clause-function : goal.returns-clause-function
 returns-clause-function c =
-    let p = positions_in c.self.inside.shape.now.instances.items in
-    let q = fields_in c.self.inside.shape.now.constructors.items in
-    let m = marks_of c.self.inside.shape.now.instances.items c.self.inside.shape.now.constructors.items in
-    let work = c.self.inside.work in
-    let now = c.args.self in
-    let f = c.args.instance in
-    let arguments = c.args.arguments.items in
-    let parameters : c.finish_by_call.result.parameters ≡ now.work.parameters = c.finish_by_call.ensures.parameters ∙ ap (λ e. e.work.parameters) c.self.view_is in
-    let body : block_code c.finish_by_call.result.body ≡ plug (state now).steps (tail_call f arguments) = c.finish_by_call.ensures.body ∙ ap (λ e. plug (state e).steps (tail_call f arguments)) c.self.view_is in
-    let sound : IsSoundDraft (state now) =
-    works_now p q m work now c.self.view_is c.self.invariant (going_now p q m work now c.self.view_is c.if-work.false) in
-    record {
-      instance = c.finish_by_call.ensures.instance ∙ ap (λ e. e.work.instance) c.self.view_is;
-      parameters = parameters ∙ (sound_now (state now) sound).parameters;
-      judged =
-          subst (λ (n : ℕ). IsJudged now.positions now.work.instance (record { parameters = n; body = block_code c.finish_by_call.result.body })) (sym parameters)
-          (subst (λ (code : Counted). IsJudged now.positions now.work.instance (record { parameters = now.work.parameters; body = code })) (sym body)
-          (tail_judged (state now) f arguments (going_now p q m work now c.self.view_is c.if-work.false) c.requires.writes c.requires.joined c.requires.takes c.requires.ends (works_now p q m work now c.self.view_is c.self.invariant)));
-      arms =
-          subst HasArms (sym body) (tail_arms (state now) f arguments (going_now p q m work now c.self.view_is c.if-work.false) (works_now p q m work now c.self.view_is c.self.invariant));
-    }
+    let going = going_now c.self.view_is c.if-work.false in
+    let works = works_now c.self.view_is c.self.invariant in
+    function_now c.self.view_is c.finish_by_call.result (λ d. plug d.steps (tail_call c.args.instance c.args.arguments.items)) c.finish_by_call.ensures.parameters c.finish_by_call.ensures.body
+    c.finish_by_call.ensures.instance (works going)
+    (tail_judged (state c.args.self) c.args.instance c.args.arguments.items going c.requires.writes c.requires.joined c.requires.takes c.requires.ends works)
+    (tail_arms (state c.args.self) c.args.instance c.args.arguments.items going works)
 
 pub returns-clause-marked : goal.returns-clause-marked
 returns-clause-marked c =
-    let p = positions_in c.self.inside.shape.now.instances.items in
-    let q = fields_in c.self.inside.shape.now.constructors.items in
-    let m = marks_of c.self.inside.shape.now.instances.items c.self.inside.shape.now.constructors.items in
-    let work = c.self.inside.work in
-    let now = c.args.self in
-    let f = c.args.instance in
-    let arguments = c.args.arguments.items in
-    let parameters : c.finish_by_call.result.parameters ≡ now.work.parameters = c.finish_by_call.ensures.parameters ∙ ap (λ e. e.work.parameters) c.self.view_is in
-    let body : block_code c.finish_by_call.result.body ≡ plug (state now).steps (tail_call f arguments) = c.finish_by_call.ensures.body ∙ ap (λ e. plug (state e).steps (tail_call f arguments)) c.self.view_is in
-    subst (λ (n : ℕ). CanBeMarked now.marks now.work.instance (record { parameters = n; body = block_code c.finish_by_call.result.body })) (sym parameters)
-    (subst (λ (code : Counted). CanBeMarked now.marks now.work.instance (record { parameters = now.work.parameters; body = code })) (sym body)
-    (c.requires.marked (going_now p q m work now c.self.view_is c.if-work.false)))
+    marked_now c.self.view_is c.finish_by_call.result (λ d. plug d.steps (tail_call c.args.instance c.args.arguments.items)) c.finish_by_call.ensures.parameters c.finish_by_call.ensures.body
+    (c.requires.marked (going_now c.self.view_is c.if-work.false))

@@ -1,9 +1,7 @@
 use Rattle.std.proofs.Common.{[], ap, ◌∙◌}
 use Rattle.kk_counted.specs.Drafts.{entered}
 use Rattle.kk_counted.specs.Emissions.{state}
-use Rattle.kk_counted.specs.InstancePositions.{positions_in, fields_in}
-use Rattle.kk_counted.specs.Marks.{marks_of}
-use Rattle.kk_counted.specs.Works.{items_of, left_in, draft}
+use Rattle.kk_counted.specs.Works.{items_of, left_in}
 use Rattle.kk_counted.proofs.DraftChanges.{back_more}
 use Rattle.kk_counted.proofs.EmitterViews.{seen, going_now, works_now}
 use Rattle.kk_counted.proofs.EmitterCalls.{entered_works}
@@ -17,10 +15,4 @@ returns-clause-left c = ap left_in c.in_ok-variables.ensures.items ∙ back_more
 
 pub invariant_of-self : goal.invariant_of-self
 invariant_of-self c =
-    let p = positions_in c.self.inside.shape.now.instances.items in
-    let q = fields_in c.self.inside.shape.now.constructors.items in
-    let m = marks_of c.self.inside.shape.now.instances.items c.self.inside.shape.now.constructors.items in
-    let work = c.self.inside.work in
-    let now = c.args.self.now in
-    entered_works (state now) (draft p q m c.enter.new.self) (going_now p q m work now c.self.view_is c.if-self.false) c.requires.between
-    (seen p q m work now c.self.view_is entered c.enter.new.self (c.enter.ensures p q m)) (works_now p q m work now c.self.view_is c.self.invariant)
+    entered_works (state c.args.self.now) _ (going_now c.self.view_is c.if-self.false) c.requires.between (seen c.self.view_is entered c.enter.new.self c.enter.ensures) (works_now c.self.view_is c.self.invariant)

@@ -1,55 +1,23 @@
-use Rattle.std.proofs.Common.{refl}
-use Rattle.kk_counted.specs.Drafts.{given}
+use Rattle.std.proofs.Common.{ap, ◌∙◌}
+use Rattle.kk_counted.specs.Drafts.{Draft, given}
 use Rattle.kk_counted.specs.Emissions.{state}
-use Rattle.kk_counted.specs.InstancePositions.{positions_in, fields_in}
-use Rattle.kk_counted.specs.Marks.{marks_of}
-use Rattle.kk_counted.specs.Works.{draft}
-use Rattle.kk_counted.proofs.EmitterViews.{seen, going_now, works_now, fallen_already, fell_now, instance_now}
+use Rattle.kk_counted.proofs.EmitterViews.{seen, going_now, works_now, fallen_already, fell_now}
 use Rattle.kk_counted.proofs.EmitterCalls.{given_works}
 use Rattle.kk_counted.proofs.emitter.Emitter.param.Goals as goal
 
 pub returns-then-self-clause-err : goal.returns-then-self-clause-err
-returns-then-self-clause-err c =
-    let p = positions_in c.self.inside.shape.now.instances.items in
-    let q = fields_in c.self.inside.shape.now.constructors.items in
-    let m = marks_of c.self.inside.shape.now.instances.items c.self.inside.shape.now.constructors.items in
-    let work = c.self.inside.work in
-    let now = c.args.self.now in
-    fallen_already p q m work now c.self.view_is c.if-self.true
+returns-then-self-clause-err c = fallen_already c.self.view_is c.if-self.true
 
 pub returns-in-Err-clause-err : goal.returns-in-Err-clause-err
-returns-in-Err-clause-err c =
-    let p = positions_in c.self.inside.shape.now.instances.items in
-    let q = fields_in c.self.inside.shape.now.constructors.items in
-    let m = marks_of c.self.inside.shape.now.instances.items c.self.inside.shape.now.constructors.items in
-    let work = c.self.inside.work in
-    let now = c.args.self.now in
-    fell_now p q m work now c.self.view_is c.give.new.self (c.in-Err.ensures.err p q m)
+returns-in-Err-clause-err c = fell_now c.self.view_is c.give.new.self c.in-Err.ensures.err
 
 pub invariant_of-self-in-Ok : goal.invariant_of-self-in-Ok
 invariant_of-self-in-Ok c =
-    let p = positions_in c.self.inside.shape.now.instances.items in
-    let q = fields_in c.self.inside.shape.now.constructors.items in
-    let m = marks_of c.self.inside.shape.now.instances.items c.self.inside.shape.now.constructors.items in
-    let work = c.self.inside.work in
-    let now = c.args.self.now in
-    given_works (state now) (draft p q m c.give.new.self) c.args.variable (going_now p q m work now c.self.view_is c.if-self.false) c.requires.writes c.requires.waits
-    (seen p q m work now c.self.view_is (λ d. given d c.args.variable) c.give.new.self (c.in-Ok.ensures.ok p q m)) (works_now p q m work now c.self.view_is c.self.invariant)
+    given_works (state c.args.self.now) _ c.args.variable (going_now c.self.view_is c.if-self.false) c.requires.writes c.requires.waits
+    (seen c.self.view_is (λ d. given d c.args.variable) c.give.new.self c.in-Ok.ensures.ok) (works_now c.self.view_is c.self.invariant)
 
 pub returns-in-Ok-clause-ok : goal.returns-in-Ok-clause-ok
-returns-in-Ok-clause-ok c =
-    let p = positions_in c.self.inside.shape.now.instances.items in
-    let q = fields_in c.self.inside.shape.now.constructors.items in
-    let m = marks_of c.self.inside.shape.now.instances.items c.self.inside.shape.now.constructors.items in
-    let work = c.self.inside.work in
-    let now = c.args.self.now in
-    seen p q m work now c.self.view_is (λ d. given d c.args.variable) c.give.new.self (c.in-Ok.ensures.ok p q m)
+returns-in-Ok-clause-ok c = seen c.self.view_is (λ d. given d c.args.variable) c.give.new.self c.in-Ok.ensures.ok
 
 pub returns-in-Ok-clause-owed : goal.returns-in-Ok-clause-owed
-returns-in-Ok-clause-owed c =
-    let p = positions_in c.self.inside.shape.now.instances.items in
-    let q = fields_in c.self.inside.shape.now.constructors.items in
-    let m = marks_of c.self.inside.shape.now.instances.items c.self.inside.shape.now.constructors.items in
-    let work = c.self.inside.work in
-    let now = c.args.self.now in
-    (instance_now p q m work now c.self.view_is c.give.new.self (given (draft p q m work) c.args.variable) (c.in-Ok.ensures.ok p q m) refl, refl)
+returns-in-Ok-clause-owed c = (c.of.ensures.emitter ∙ ap (λ (d : Draft). d.instance) (seen c.self.view_is (λ d. given d c.args.variable) c.give.new.self c.in-Ok.ensures.ok), c.of.ensures.variable)

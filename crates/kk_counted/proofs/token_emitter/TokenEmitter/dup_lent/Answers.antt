@@ -1,18 +1,9 @@
-use Rattle.kk_counted.specs.TokenEmissions.{counted_of}
-use Rattle.kk_counted.specs.Drafts.{Writes}
-use Rattle.std.proofs.Common.{sym, subst}
-use Rattle.kk_counted.specs.Emissions.{state}
-use Rattle.kk_counted.specs.TokenDrafts.{token_draft}
 use Rattle.kk_counted.specs.TokenedForms.{TokenedMove}
 use Rattle.kk_counted.proofs.TokenedViews.{dup_step}
-use Rattle.kk_counted.proofs.TokenDraftChanges.{dup_keeps, put_on}
+use Rattle.kk_counted.proofs.TokenDraftChanges.{dup_keeps, put_on, writes_then}
 use Rattle.kk_counted.proofs.token_emitter.TokenEmitter.dup_lent.Goals as goal
 
 pub invariant_of-self-2 : goal.invariant_of-self-2
 invariant_of-self-2 c =
-    let e = c.self.inside.plain in
-    let before = token_draft c.self.inside.work in
-    let now = token_draft c.reserve.new.self in
-    let after = token_draft c.put.new.self in
-    dup_keeps (state e) (state c.dup_lent.new.self) before after c.self.invariant (subst (λ x. Writes (counted_of x)) (sym c.self.view_is) c.requires.writes) c.args.variable c.in_ok-one.ensures.ok
-    (put_on before now after c.reserve.ensures.same _ (TokenedMove.dups c.args.variable) c.put.ensures (dup_step c.args.variable))
+    dup_keeps c.self.invariant (writes_then c.self.view_is c.requires.writes) c.args.variable c.in_ok-one.ensures.ok
+    (put_on c.reserve.ensures.same _ (TokenedMove.dups c.args.variable) c.put.ensures (dup_step c.args.variable))

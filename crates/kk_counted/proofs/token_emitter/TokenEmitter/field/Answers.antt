@@ -1,10 +1,10 @@
-use Rattle.std.proofs.Common.{◌≡◌, ℕ, List, [], ◌∷◌, refl, ap, sym, ◌∙◌, subst}
-use Rattle.kk_counted.specs.Drafts.{chosen_of, fields_given, Writes}
+use Rattle.std.proofs.Common.{◌≡◌, ℕ, List, [], ◌∷◌, refl, ap, sym, ◌∙◌}
+use Rattle.kk_counted.specs.Drafts.{chosen_of, fields_given}
 use Rattle.kk_counted.specs.Emissions.{state}
-use Rattle.kk_counted.specs.TokenDrafts.{token_draft, reads_with}
+use Rattle.kk_counted.specs.TokenDrafts.{reads_with}
 use Rattle.kk_counted.specs.TokenEmissions.{counted_of, tokens_of}
 use Rattle.kk_counted.specs.TokenEmitting.{fields_at}
-use Rattle.kk_counted.proofs.TokenDraftChanges.{reads_keeps, adds_on}
+use Rattle.kk_counted.proofs.TokenDraftChanges.{reads_keeps, adds_on, writes_then}
 use Rattle.kk_counted.proofs.token_emitter.TokenEmitter.field.Goals as goal
 
 -- the mask of no bits names no variable
@@ -15,19 +15,14 @@ chosen_none (x ∷ xs) = chosen_none xs
 pub invariant_of-self-2 : goal.invariant_of-self-2
 invariant_of-self-2 c =
     let e = c.self.inside.plain in
-    let before = token_draft c.self.inside.work in
-    let now = token_draft c.reserve.new.self in
-    let after = token_draft c.put_all.new.self in
     let k = c.args.constructor in
-    reads_keeps (state e) (state c.field.new.self) before after c.self.invariant (subst (λ x. Writes (counted_of x)) (sym c.self.view_is) c.requires.writes) c.args.variable k 0 c.in_ok-field.ensures.ok
-    (adds_on before now after c.reserve.ensures.same _ (reads_with c.args.variable k (fields_at (state e) k) (fields_given (state e) k 0)) c.put_all.ensures
+    reads_keeps c.self.invariant (writes_then c.self.view_is c.requires.writes) c.args.variable k 0 c.in_ok-field.ensures.ok
+    (adds_on c.reserve.ensures.same _ (reads_with c.args.variable k (fields_at (state e) k) (fields_given (state e) k 0)) c.put_all.ensures
     (c.in-Ok.ensures ∙ ap (λ x. reads_with c.args.variable k (fields_at (counted_of x) k) (fields_given (counted_of x) k 0)) (sym c.self.view_is)))
 
 pub returns-clause-tokens : goal.returns-clause-tokens
 returns-clause-tokens c =
-    let now = token_draft c.reserve.new.self in
-    let after = token_draft c.put_all.new.self in
     let was = c.args.self.now in
     let k = c.args.constructor in
-    adds_on (tokens_of was) now after (c.reserve.ensures.same ∙ ap tokens_of c.self.view_is) _ (reads_with c.args.variable k (fields_at (counted_of was) k) []) c.put_all.ensures
+    adds_on (c.reserve.ensures.same ∙ ap tokens_of c.self.view_is) _ (reads_with c.args.variable k (fields_at (counted_of was) k) []) c.put_all.ensures
     (c.in-Ok.ensures ∙ ap (reads_with c.args.variable k (fields_at (counted_of was) k)) (chosen_none (fields_at (counted_of was) k)))

@@ -1,22 +1,20 @@
-use Rattle.std.proofs.Common.{ap, sym, ◌∙◌, subst}
-use Rattle.kk_counted.specs.Drafts.{fields_given, Writes}
+use Rattle.std.proofs.Common.{ap, sym, ◌∙◌}
+use Rattle.kk_counted.specs.Drafts.{fields_given}
 use Rattle.kk_counted.specs.Emissions.{state}
 use Rattle.kk_counted.specs.TokenDrafts.{token_draft, next_slot, opens_with}
 use Rattle.kk_counted.specs.TokenEmissions.{counted_of, tokens_of}
 use Rattle.kk_counted.specs.TokenEmitting.{fields_at}
-use Rattle.kk_counted.proofs.TokenDraftChanges.{open_keeps, gains_on}
+use Rattle.kk_counted.proofs.TokenDraftChanges.{open_keeps, gains_on, writes_then}
 use Rattle.kk_counted.proofs.token_emitter.TokenEmitter.opened.Goals as goal
 
 pub invariant_of-self-2 : goal.invariant_of-self-2
 invariant_of-self-2 c =
     let e = c.self.inside.plain in
     let before = token_draft c.self.inside.work in
-    let now = token_draft c.reserve.new.self in
-    let after = token_draft c.put_gain.new.self in
     let was = c.args.self.now in
     let k = c.args.constructor in
-    open_keeps (state e) (state c.opened.new.self) before after c.self.invariant (subst (λ x. Writes (counted_of x)) (sym c.self.view_is) c.requires.writes) c.args.by_count c.args.owed.variable k c.args.used c.in_ok-debts.ensures.ok
-    (gains_on before now after c.reserve.ensures.same _ (opens_with c.args.by_count c.args.owed.variable k (fields_at (state e) k) (fields_given (state e) k c.args.used) (next_slot before.spare)) c.put_gain.ensures
+    open_keeps c.self.invariant (writes_then c.self.view_is c.requires.writes) c.args.by_count c.args.owed.variable k c.args.used c.in_ok-debts.ensures.ok
+    (gains_on c.reserve.ensures.same _ (opens_with c.args.by_count c.args.owed.variable k (fields_at (state e) k) (fields_given (state e) k c.args.used) (next_slot before.spare)) c.put_gain.ensures
     (c.in-Ok.ensures.step
     ∙ (ap (λ s. opens_with c.args.by_count c.var.result k (fields_at (counted_of was) k) (fields_given (counted_of was) k c.args.used) s) c.in-Ok.ensures.slot
     ∙ (ap (λ x. opens_with c.args.by_count x k (fields_at (counted_of was) k) (fields_given (counted_of was) k c.args.used) (next_slot (tokens_of was).spare)) c.var.ensures
