@@ -1,10 +1,13 @@
--- A copy is the one action that copies, and a constant that which gives a word that a register holds always.
+-- A copy is the one action that copies, a constant that which gives a word that a register holds always, and a load that which may
+-- lose its word.
 use Rattle.std.proofs.Common.{◌≡◌, ℕ, Some, true, refl, ap, slice_get}
 use Rattle.rv_isa.specs.declared.asm.Action.{Action}
 use Rattle.rv_isa.specs.declared.asm.Action.TheVariants.{Compute, Label, Jump, Branch, Call, TailCall, Return, Routine, Hold, Unhold}
 use Rattle.rv_isa.specs.declared.asm.Operation.{Operation}
 use Rattle.rv_isa.specs.declared.asm.Operation.TheVariants as OfOperation
-use Rattle.rv_isa.specs.Conventions.{constant_registers, home}
+use Rattle.rv_isa.specs.declared.immediate.Immediate.{Immediate}
+use Rattle.rv_isa.specs.declared.placed.Place.{Place}
+use Rattle.rv_isa.specs.Conventions.{constant_registers, home, is_lost}
 use Rattle.rv_isa.specs.LinePlaces.{is_copy}
 
 mv_is : (operation : Operation) → is_copy (Compute operation) ≡ true → operation ≡ OfOperation.Mv
@@ -58,3 +61,9 @@ home_is Return x is = cc is
 home_is (Routine routine) x is = cc is
 home_is Hold x is = cc is
 home_is Unhold x is = cc is
+
+-- what loses its word is a load
+pub lost_is : (action : Action) (place : Place) → is_lost action place ≡ true
+    → (offset : Immediate) × (action ≡ Compute (OfOperation.Lw offset))
+lost_is (Compute (OfOperation.Lw offset)) place is = (offset, refl)
+lost_is action place is = cc is

@@ -5,7 +5,7 @@ use Rattle.rv_isa.specs.Routines.{taken_by, given_by, is_spoilt_by}
 use Rattle.rv_isa.specs.declared.asm.Action.{Action}
 use Rattle.rv_isa.specs.declared.asm.Action.TheVariants.{Compute, Label, Jump, Branch, Call, TailCall, Return, Routine, Hold, Unhold}
 use Rattle.rv_isa.specs.declared.asm.Operation.{Operation}
-use Rattle.rv_isa.specs.declared.asm.Operation.TheVariants.{Li, Sw, Dup, Free}
+use Rattle.rv_isa.specs.declared.asm.Operation.TheVariants.{Li, Lw, Sw, Dup, Free}
 use Rattle.rv_isa.specs.declared.placed.Place.{Place}
 use Rattle.rv_isa.specs.declared.placed.Place.TheVariants.{Register as register, Slot as slot}
 use Rattle.rv_isa.specs.declared.placed.Operand.{Operand}
@@ -43,9 +43,18 @@ abbrev pub is_of_constant : Place → Bool
 is_of_constant (register r) = is_constant_register r.number
 is_of_constant (slot k) = false
 
--- whether an action may write at a place: at such a register where it gives its word, which is no instruction then
+-- whether an action loads a word into the zero register: it is lost there
+abbrev pub is_lost : Action → Place → Bool
+is_lost (Compute (Lw offset)) place = is_in 0 place
+is_lost _ place = false
+
+-- whether an action that writes at a place is no instruction: it gives its word to the register that holds that, or loses it
+abbrev pub is_idle : Action → Place → Bool
+is_idle action place = is_in_any (home action) place || is_lost action place
+
+-- whether an action may write at a place: at such a register where it is no instruction
 abbrev pub may_write : Action → Place → Bool
-may_write action place = is_in_any (home action) place || not (is_of_constant place)
+may_write action place = is_idle action place || not (is_of_constant place)
 
 abbrev pub is_register : Place → Bool
 is_register (register r) = true

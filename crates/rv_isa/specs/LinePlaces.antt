@@ -2,7 +2,7 @@
 use Rattle.std.specs.Prelude.{◌≡◌, ◌==◌, ℕ, Bool, true, false, ◌&&◌, not, List, ◌∷◌, Some, is_none, drop, length, slice_get}
 use Rattle.rv_isa.specs.declared.asm.Action.{Action}
 use Rattle.rv_isa.specs.declared.asm.Action.TheVariants.{Compute, Label, Branch}
-use Rattle.rv_isa.specs.declared.asm.Operation.TheVariants.{Mv}
+use Rattle.rv_isa.specs.declared.asm.Operation.TheVariants.{Mv, Lw}
 use Rattle.rv_isa.specs.AsmCode.{Line, Lines}
 use Rattle.rv_isa.specs.Conventions.{home}
 use Rattle.rv_isa.specs.AsmMachine.{AsmTurn}
@@ -44,9 +44,18 @@ abbrev pub is_copy : Action → Bool
 is_copy (Compute Mv) = true
 is_copy _ = false
 
--- Neither is a constant for the register that holds it always. Each other action is an instruction at least, wherever its operands stand.
+-- Neither is a constant for the register that holds it always. The word of any other action has to be made.
+abbrev pub is_made : Action → Bool
+is_made action = not (is_copy action) && is_none (home action)
+
+-- a load is none where its word is lost
+abbrev pub is_load : Action → Bool
+is_load (Compute (Lw offset)) = true
+is_load _ = false
+
+-- Each other action is an instruction at least, wherever its operands stand.
 abbrev pub is_always_some : Action → Bool
-is_always_some action = is_no_label action && (not (is_copy action) && is_none (home action))
+is_always_some action = is_no_label action && (is_made action && not (is_load action))
 
 -- a branch, but one that compares a single word with zero
 abbrev pub is_test : Action → ℕ → Bool

@@ -7,7 +7,7 @@ use Rattle.rv_isa.specs.declared.placed.Place.{Place}
 use Rattle.rv_isa.specs.declared.placed.Place.TheVariants.{Register as register, Slot as slot}
 use Rattle.rv_isa.specs.declared.placed.Operand.{Operand}
 use Rattle.rv_isa.specs.PlacedCode.{PlacedLine, does, moves, PlacedLines, from_of, to_of}
-use Rattle.rv_isa.specs.Conventions.{argument, conforms, spoils}
+use Rattle.rv_isa.specs.Conventions.{argument, conforms, spoils, is_lost}
 use Rattle.rv_isa.specs.Primitives.{Reply, answers, ends, fails, Primitives, Turn, go, ended, stuck, or_stuck, by_token, end_of}
 use Rattle.rv_isa.specs.Frames.{Frame, empty, put, all_of, only_of, result_of, received, found, top, taken_if, is_among, holding, unholding}
 use Rattle.rv_isa.specs.AsmMachine.{is_label, unless_held}
@@ -79,6 +79,11 @@ abbrev pub placed_writes : {H W : Type 0} → Place → Option ℕ → Frame Pla
 placed_writes place word f fs registers shared =
     placed_goes (record f { cells = slots_with place word f.cells }) fs (registers_with place word registers) shared
 
+-- where a word goes that an action gives, if it is not lost
+abbrev pub unless_lost : Action → Option Operand → Option Operand
+unless_lost action None = None
+unless_lost action (Some into) = cond (is_lost action into.place) None (Some into)
+
 abbrev pub placed_gives : {H W : Type 0} → Option Operand → ℕ → Frame PlacedLine → List (Frame PlacedLine) → (ℕ → Option ℕ) → H → PlacedTurn H W
 placed_gives None word f fs registers shared = placed_goes f fs registers shared
 placed_gives (Some into) word f fs registers shared = placed_writes into.place (Some word) f fs registers shared
@@ -103,7 +108,7 @@ placed_served into frames registers fails = stuck
 -- What an action does with the words of its arguments. A call finds the stack full where `depth` frames stand.
 abbrev pub placed_acts : {H E W : Type 0} → Primitives H E W → ℕ → List PlacedLines → Frame PlacedLine → List (Frame PlacedLine) → (ℕ → Option ℕ) → H → Action → List Operand → Option Operand → List ℕ → PlacedTurn H W
 placed_acts m depth q f fs registers shared (Compute operation) args into words =
-    or_stuck (m.compute operation words shared) (λ r. placed_gives into r.0 f fs registers r.1)
+    or_stuck (m.compute operation words shared) (λ r. placed_gives (unless_lost (Compute operation) into) r.0 f fs registers r.1)
 placed_acts m depth q f fs registers shared (Label l) args into words = placed_goes f fs registers shared
 placed_acts m depth q f fs registers shared (Jump l) args into words = placed_jumps l f fs registers shared
 placed_acts m depth q f fs registers shared (Branch condition l) args into words =

@@ -2,7 +2,7 @@
 
 ghost use Rattle.std.specs.Prelude.{◌≡◌, option_map};
 ghost use Rattle.rv_isa.specs.declared.register.Register.{Register};
-ghost use Rattle.rv_isa.specs.Conventions.{home, is_constant_register, is_of_constant, is_in, is_in_any, may_write};
+ghost use Rattle.rv_isa.specs.Conventions.{home, is_constant_register, is_of_constant, is_in, is_in_any, is_lost, is_idle, may_write};
 
 use crate::{Action, Operation, Place, Register};
 
@@ -60,7 +60,7 @@ impl Action {
     }
 
     /// Whether that is the place.
-    pub fn is_home(self, place: Place) -> bool
+    fn is_home(self, place: Place) -> bool
         ensures { result ≡ is_in_any (home self) place }
     {
         match self.home() {
@@ -69,10 +69,28 @@ impl Action {
         }
     }
 
-    /// Whether the action may write at the place: at a register that always holds the same word, only where it gives that.
+    /// Whether the action loads a word into the zero register, where it is lost.
+    pub fn is_lost(self, place: Place) -> bool
+        ensures { result ≡ is_lost self place }
+    {
+        match self {
+            Action::Compute(Operation::Lw(_)) => place.is_in(0),
+            _ => false,
+        }
+    }
+
+    /// Whether the action, which writes at the place, is no instruction: it gives its word to the register that always holds that,
+    /// or loses it.
+    pub fn is_idle(self, place: Place) -> bool
+        ensures { result ≡ is_idle self place }
+    {
+        self.is_home(place) || self.is_lost(place)
+    }
+
+    /// Whether the action may write at the place: at a register that always holds the same word, only where it is no instruction.
     pub fn may_write(self, place: Place) -> bool
         ensures { result ≡ may_write self place }
     {
-        self.is_home(place) || !place.is_of_constant()
+        self.is_idle(place) || !place.is_of_constant()
     }
 }

@@ -11,7 +11,7 @@ use Rattle.rv_isa.specs.Frames.{Frame, empty, put, all_of, only_of, result_of, r
 use Rattle.rv_isa.specs.Frames.{taken_if, is_among, holding, off_top, unholding}
 use Rattle.rv_isa.specs.PlacedCode.{PlacedLine, PlacedLines}
 use Rattle.rv_isa.specs.PlacedMachine.{PlacedTurn, is_label_line, read_at, slots_with, kept_by, passed, awaited}
-use Rattle.rv_isa.specs.PlacedMachine.{only_slot, placed_entered, placed_goes, placed_writes, placed_gives, placed_jumps}
+use Rattle.rv_isa.specs.PlacedMachine.{only_slot, placed_entered, placed_goes, placed_writes, unless_lost, placed_gives, placed_jumps}
 use Rattle.rv_isa.specs.PlacedMachine.{placed_returns}
 use Rattle.rv_isa.specs.PlacedMachine.{placed_answered, placed_served, placed_acts}
 use Rattle.rv_isa.specs.AsmMachine.{unless_held}
@@ -197,9 +197,10 @@ module _ {H E W : Type 0} (m : Primitives H E W) (depth : ℕ) (q q' : List Plac
         → StandsFor q q' IsAt (placed_acts m depth q f' fs known shared (Compute operation) args into words)
         (placed_acts m depth q' g' gs known' shared (Compute operation) args into words)
     computes operation args into words =
-        same_go q q' IsAt (m.compute operation words shared) (λ r. placed_gives into r.0 f' fs known r.1)
-        (λ r. placed_gives into r.0 g' gs known' r.1)
-        (λ r is. gives into r.0 r.1)
+        let kept = unless_lost (Compute operation) into in
+        same_go q q' IsAt (m.compute operation words shared) (λ r. placed_gives kept r.0 f' fs known r.1)
+        (λ r. placed_gives kept r.0 g' gs known' r.1)
+        (λ r is. gives kept r.0 r.1)
 
   -- what a routine answers goes to the frames that are left
   answered : (into : Option Operand) (word : ℕ) (shared : H) (known known' : ℕ → Option ℕ) (left left' : List (Frame PlacedLine))

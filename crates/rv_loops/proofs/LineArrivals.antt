@@ -12,7 +12,7 @@ use Rattle.rv_isa.specs.declared.asm.Action.{Action}
 use Rattle.rv_isa.specs.declared.asm.Action.TheVariants.{Compute, Label, Jump, Branch, Call, TailCall, Return, Routine, Hold}
 use Rattle.rv_isa.specs.declared.asm.Action.TheVariants.{Unhold}
 use Rattle.rv_isa.specs.Frames.{Frame}
-use Rattle.rv_isa.specs.LinePlaces.{is_always_some, is_test, is_own, is_own_line, is_instruction, IsBehindLines, IsAtFrame}
+use Rattle.rv_isa.specs.LinePlaces.{is_made, is_load, is_always_some, is_test, is_own, is_own_line, is_instruction, IsBehindLines, IsAtFrame}
 use Rattle.rv_isa.specs.LinePlaces.{PlacedIsAt, PlacedHasLine, PlacedHasOwnLine}
 use Rattle.rv_isa.specs.PlacedCode.{PlacedLine, does, moves, PlacedLines}
 use Rattle.rv_isa.specs.PlacedMachine.{PlacedState, PlacedTurn, placed_machine, placed_start}
@@ -34,7 +34,8 @@ use Rattle.rv_loops.proofs.StartStates.{starts, never_stuck}
 
 -- what is always an instruction does not go straight on
 some_not_straight : (action : Action) → is_always_some action ≡ true → is_straight_action action ≡ false
-some_not_straight (Compute operation) some = ap not some
+some_not_straight (Compute operation) some =
+    ap not (and_parts (is_made (Compute operation)) (not (is_load (Compute operation))) some).0
 some_not_straight (Label l) some = cc some
 some_not_straight (Jump l) some = refl
 some_not_straight (Branch condition l) some = refl

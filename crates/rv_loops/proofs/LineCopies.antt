@@ -11,7 +11,7 @@ use Rattle.rv_isa.specs.Conventions.{conforms}
 use Rattle.rv_isa.specs.Frames.{Frame, all_of}
 use Rattle.rv_isa.specs.PlacedCode.{PlacedLine, does, moves, PlacedLines, from_of, to_of}
 use Rattle.rv_isa.specs.PlacedMachine.{PlacedState, PlacedTurn, read_at, registers_with, slots_with, is_held}
-use Rattle.rv_isa.specs.PlacedMachine.{placed_writes, placed_gives, placed_acts, placed_line, placed_next, placed_told}
+use Rattle.rv_isa.specs.PlacedMachine.{placed_writes, unless_lost, placed_gives, placed_acts, placed_line, placed_next, placed_told}
 use Rattle.rv_isa.specs.PlacedMachine.{placed_machine}
 use Rattle.rv_isa.specs.Primitives.{Primitives, go, stuck, or_stuck}
 use Rattle.rv_loops.specs.Rotation.{ComputesAlone, is_straight_action, is_straight, AreStraight}
@@ -51,12 +51,13 @@ module _ {H E W : Type 0} (m : Primitives H E W) (alone : ComputesAlone m) (dept
     acts_next (Compute operation) args into words straight good = by (m.compute operation words shared) refl good
       where
         by : (o : Option (ℕ × H)) → m.compute operation words shared ≡ o
-            → or_stuck {W = W} o (λ r. placed_gives into r.0 on gs known r.1) ≢ stuck
-            → IsOn {W = W} g gs shared rest (or_stuck o (λ r. placed_gives into r.0 on gs known r.1))
+            → or_stuck {W = W} o (λ r. placed_gives (unless_lost (Compute operation) into) r.0 on gs known r.1) ≢ stuck
+            → IsOn {W = W} g gs shared rest
+            (or_stuck o (λ r. placed_gives (unless_lost (Compute operation) into) r.0 on gs known r.1))
         by None is good = absurd (good refl)
         by (Some r) is good =
-            subst (λ (h : H). IsOn {W = W} g gs shared rest (placed_gives into r.0 on gs known h))
-            (sym (alone operation words shared r straight is)) (gives_next into r.0)
+            subst (λ (h : H). IsOn {W = W} g gs shared rest (placed_gives (unless_lost (Compute operation) into) r.0 on gs known h))
+            (sym (alone operation words shared r straight is)) (gives_next (unless_lost (Compute operation) into) r.0)
     acts_next (Label l) args into words straight good = gives_next None 0
     acts_next (Jump l) args into words straight good = cc straight
     acts_next (Branch condition l) args into words straight good = cc straight

@@ -11,7 +11,7 @@ use Rattle.rv_isa.specs.declared.asm.Condition.{Condition}
 use Rattle.rv_isa.specs.declared.asm.Operation.{Operation}
 use Rattle.rv_isa.specs.declared.placed.Operand.{Operand}
 use Rattle.rv_isa.specs.declared.placed.Listed.{Listed}
-use Rattle.rv_isa.specs.LinePlaces.{is_always_some}
+use Rattle.rv_isa.specs.LinePlaces.{is_made}
 use Rattle.rv_isa.specs.Opposites.{opposite}
 use Rattle.rv_isa.specs.PlacedCode.{PlacedLine, does, moves, PlacedLines}
 use Rattle.rv_isa.specs.PlacedMachine.{is_label_line}
@@ -36,17 +36,17 @@ pub record Loop : Type 0 where
   pub again : ℕ
 
 abbrev pub is_straight_action : Action → Bool
-is_straight_action (Compute operation) = not (is_always_some (Compute operation))
+is_straight_action (Compute operation) = not (is_made (Compute operation))
 is_straight_action (Label l) = true
 is_straight_action _ = false
 
--- computations that may be no instruction leave alone what a machine shares
+-- copies, and constants that a register may hold always, leave alone what a machine shares
 abbrev pub ComputesAlone : {H E W : Type 0} → Primitives H E W → Type 0
 ComputesAlone {H = H} m =
     (operation : Operation) (words : List ℕ) (shared : H) (r : ℕ × H) → is_straight_action (Compute operation) ≡ true
     → m.compute operation words shared ≡ Some r → r.1 ≡ shared
 
--- a move, a label, or a computation that may be no instruction
+-- a move, a label, a copy, or a constant that a register may hold always
 abbrev pub is_straight : PlacedLine → Bool
 is_straight (does alive action args into) = is_straight_action action
 is_straight (moves alive value way) = true

@@ -43,7 +43,7 @@ fn is_straight_action(action: Action) -> bool
     )
 }
 
-/// Whether a line goes straight on, and is a move or may be no instruction.
+/// Whether a line goes straight on: a move or a label, a copy, or the constant 0 or 1.
 fn is_straight(item: &Item) -> bool
     ensures { result ≡ is_straight (placed_line_of item.now) }
 {

@@ -23,7 +23,7 @@ use Rattle.rv_isa.specs.Conventions.{is_handed_out, one_register, computes_at, c
 use Rattle.rv_isa.specs.Costs.{operation_instructions}
 use Rattle.rv_isa.specs.Primitives.{stuck, or_stuck, by_token}
 use Rattle.rv_isa.specs.Frames.{Frame, all_of}
-use Rattle.rv_isa.specs.PlacedMachine.{PlacedTurn, read_at, placed_goes, placed_gives, placed_acts}
+use Rattle.rv_isa.specs.PlacedMachine.{PlacedTurn, read_at, placed_goes, unless_lost, placed_gives, placed_acts}
 use Rattle.rv_isa.specs.Bytes.{number_at, with_number}
 use Rattle.rv_isa.specs.Processor.{Processor, Ending, value, can_load, can_store}
 use Rattle.rv_isa.specs.Standing.{Code}
@@ -463,12 +463,15 @@ module _ {map_of : Map} {pool : Pool} {functions : List PlacedLines} {depth buff
       → IsIn map_of code (most_lines functions) next behind)
       → (forms : Forms) (start : ℕ) (args : List Operand) (into : Option Operand) (words : List ℕ) (turn : PlacedTurn World Ending)
       → ActsAt map_of forms code start f.whole s.pc (Compute operation) args into
-      → conforms (Compute operation) args into ≡ true → GivesTarget into
+      → conforms (Compute operation) args into ≡ true → GivesTarget into → unless_lost (Compute operation) into ≡ into
       → all_of (map (λ (arg : Operand). read_at known f.cells arg.place) args) ≡ Some words
       → placed_acts (primitives map_of.constants pool) depth functions behind fs known world
       (Compute operation) args into words ≡ turn → turn ≢ stuck
       → Comes map_of pool functions depth stop code parts (operation_instructions operation) old turn s
-  follow_compute operation takes is_in forms start args into words turn here conform handed words_are is good =
+  follow_compute operation takes is_in forms start args into words turn here conform handed somewhere words_are acts good =
+      let is : or_stuck (computed_in map_of.constants operation words world) (λ r. placed_gives into r.0 behind fs known r.1) ≡ turn
+      = subst (λ o. or_stuck (computed_in map_of.constants operation words world)
+      (λ r. placed_gives o r.0 behind fs known r.1) ≡ turn) somewhere acts in
       elim (word_or_cells map_of.constants world operation) [
         | inl alone ↦ follow_words ground f fs known world s running rest old operation is_in forms start args into words turn here
             alone conform handed words_are is good

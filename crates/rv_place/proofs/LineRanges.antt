@@ -3,17 +3,18 @@
 use Rattle.std.proofs.Common.{◌≡◌, ◌≤◌, ◌<◌, inl, inr, ℕ, zero, suc, ◌+◌, ◌*◌, ◌%◌, List, [], ◌∷◌, Option, Some, None, is_none, Bool, true, false, ◌&&◌, ◌||◌, not, cond}
 use Rattle.std.proofs.Common.{take, drop, slice_get}
 use Rattle.std.proofs.Common.{refl, sym, ap, ◌∙◌, subst, arith}
-use Rattle.std.proofs.lemmas.Bool.{cases_lt, and_parts}
+use Rattle.std.proofs.lemmas.Bool.{cases_lt, and_parts, or_from, false≢true}
 use Rattle.rv_isa.specs.declared.asm.Action.{Action}
 use Rattle.rv_isa.specs.declared.asm.Action.TheVariants.{Compute, Label, Jump, Branch, Call, TailCall}
 use Rattle.rv_isa.specs.declared.asm.Action.TheVariants.{Return, Routine, Hold, Unhold}
 use Rattle.rv_isa.specs.declared.placed.Place.{Place}
 use Rattle.rv_isa.specs.declared.placed.Operand.{Operand}
 use Rattle.rv_isa.specs.PlacedCode.{PlacedLine, does, moves, PlacedLines}
-use Rattle.rv_isa.specs.Conventions.{is_in_any, home}
-use Rattle.rv_isa.specs.LinePlaces.{is_no_label, is_copy, is_instruction, PlacedHasLine}
+use Rattle.rv_isa.specs.Conventions.{is_in_any, home, is_lost}
+use Rattle.rv_isa.specs.LinePlaces.{is_no_label, is_copy, is_made, is_load, is_instruction, PlacedHasLine}
 use Rattle.rv_isa.specs.Standing.{Code}
-use Rattle.rv_place.specs.Addresses.{stands_there, goes_home, is_silent, words_of_action, words_of_line, words_of_lines, forms_of, entry_words, words_of_function, words_of_shift}
+use Rattle.rv_isa.proofs.Copies.{lost_is}
+use Rattle.rv_place.specs.Addresses.{stands_there, gives_idly, is_silent, words_of_action, words_of_line, words_of_lines, forms_of, entry_words, words_of_function, words_of_shift}
 use Rattle.rv_place.specs.Addresses.{entries_from, words_of_functions}
 use Rattle.rv_place.specs.LineAddresses.{address_in, line_address}
 use Rattle.rv_place.specs.Lines.{Map, FunctionsAt}
@@ -52,21 +53,33 @@ not_at_home : (home : Option ℕ) (place : Place) → is_none home ≡ true → 
 not_at_home None place none = refl
 not_at_home (Some x) place none = cc none
 
-goes_nowhere : (action : Action) (into : Option Operand) → is_none (home action) ≡ true → goes_home action into ≡ false
-goes_nowhere action None none = refl
-goes_nowhere action (Some into) none = not_at_home (home action) into.place none
+never_lost : (action : Action) (place : Place) → not (is_load action) ≡ true → is_lost action place ≡ false
+never_lost action place other = by (is_lost action place) refl
+  where
+    by : (lost : Bool) → is_lost action place ≡ lost → lost ≡ false
+    by false is = refl
+    by true is = absurd (false≢true (subst (λ (load : Bool). not load ≡ true) (ap is_load (lost_is action place is).1) other))
+
+never_idle : (action : Action) (into : Option Operand) → is_none (home action) ≡ true → not (is_load action) ≡ true
+    → gives_idly action into ≡ false
+never_idle action None none other = refl
+never_idle action (Some into) none other =
+    or_from (is_in_any (home action) into.place) (is_lost action into.place) (not_at_home (home action) into.place none)
+    (never_lost action into.place other)
 
 neither : (copy there goes : Bool) → not copy ≡ true → goes ≡ false → ((copy && there) || goes) ≡ false
 neither true there goes is none = cc is
 neither false there goes is none = none
 
--- and so is such a line, which is no copy, and no constant that a register holds always
+-- and so is such a line, which is no copy, no constant that a register holds always, and no load
 line_some : (forms : Forms) (line : PlacedLine) → is_instruction line ≡ true → 1 ≤ words_of_line forms line
 line_some forms (does alive action args into) some =
-    let both = and_parts (is_no_label action) (not (is_copy action) && is_none (home action)) some in
-    let apart = and_parts (not (is_copy action)) (is_none (home action)) both.1 in
+    let both = and_parts (is_no_label action) (is_made action && not (is_load action)) some in
+    let made = and_parts (is_made action) (not (is_load action)) both.1 in
+    let apart = and_parts (not (is_copy action)) (is_none (home action)) made.0 in
     let loud : is_silent action args into ≡ false
-    = neither (is_copy action) (stands_there args into) (goes_home action into) apart.0 (goes_nowhere action into apart.1) in
+    = neither (is_copy action) (stands_there args into) (gives_idly action into) apart.0
+    (never_idle action into apart.1 made.1) in
     subst (λ silent. 1 ≤ cond silent 0 (words_of_action forms action)) (sym loud) (action_some forms action both.0)
 line_some forms (moves alive value way) some = omega arith
 

@@ -1,11 +1,12 @@
 -- Labels, moves and operations of the machine of the placed form, followed by the processor.
-use Rattle.std.proofs.Common.{◌≡◌, ◌≢◌, ◌≤◌, ◌<◌, ◌&&◌, inl, inr, ℕ, zero, suc, ◌+◌, ◌*◌, ◌%◌, ◌^◌, List, [], ◌∷◌, length, Option, Some, None, true, false, map, option_map, slice_get, eqb-true, refl, sym, ap, ◌∙◌, subst, arith, lit<}
+use Rattle.std.proofs.Common.{◌≡◌, ◌≢◌, ◌≤◌, ◌<◌, ◌&&◌, inl, inr, ℕ, zero, suc, ◌+◌, ◌*◌, ◌%◌, ◌^◌, List, [], ◌∷◌, length, Option, Some, None, Bool, true, false, cond, map, option_map, slice_get, eqb-true, refl, sym, ap, ◌∙◌, subst, arith, lit<}
 use Rattle.std.proofs.lemmas.Bool.{and_parts, or_from, or_cases}
 use Rattle.kk_base.specs.Memory.{Part}
 use Rattle.rv_isa.specs.declared.register.Register.{Register}
 use Rattle.rv_isa.specs.declared.instr.Instr.TheVariants as Instr
 use Rattle.rv_isa.specs.declared.asm.Action.{Action}
 use Rattle.rv_isa.specs.declared.asm.Action.TheVariants.{Compute}
+use Rattle.rv_isa.specs.declared.immediate.Immediate.{Immediate}
 use Rattle.rv_isa.specs.declared.asm.Operation.{Operation}
 use Rattle.rv_isa.specs.declared.asm.Operation.TheVariants as OfOperation
 use Rattle.rv_isa.specs.declared.placed.Place.{Place}
@@ -15,26 +16,27 @@ use Rattle.rv_isa.specs.declared.placed.Way.{Way}
 use Rattle.rv_isa.specs.declared.placed.Way.TheVariants.{Copy, Load, Store}
 use Rattle.rv_isa.specs.PlacedCode.{PlacedLine, PlacedLines, from_of, to_of}
 use Rattle.rv_isa.specs.Arithmetic.{sum_word}
-use Rattle.rv_isa.specs.Conventions.{is_handed_out, is_in, is_in_any, one_register, constant_registers, home, is_register, conforms, computes_at, gives_into, take_from}
+use Rattle.rv_isa.specs.Conventions.{is_handed_out, is_in, is_in_any, one_register, constant_registers, home, is_lost, is_register, conforms, computes_at, gives_into, take_from}
 use Rattle.rv_isa.specs.Costs.{operation_instructions}
-use Rattle.rv_isa.specs.Primitives.{stuck}
+use Rattle.rv_isa.specs.Primitives.{stuck, or_stuck}
 use Rattle.rv_isa.specs.Frames.{Frame, put, all_of, is_among}
 use Rattle.rv_isa.specs.LinePlaces.{is_copy}
-use Rattle.rv_isa.specs.PlacedMachine.{PlacedState, PlacedTurn, is_held, read_at, placed_goes, placed_writes, placed_gives, placed_acts}
+use Rattle.rv_isa.specs.PlacedMachine.{PlacedState, PlacedTurn, is_held, read_at, placed_goes, placed_writes, unless_lost, placed_gives, placed_acts}
 use Rattle.rv_isa.specs.Bytes.{number_at, with_number}
 use Rattle.rv_isa.specs.Processor.{Processor, Ending, value, can_load, can_store}
 use Rattle.rv_isa.specs.Standing.{Code}
-use Rattle.rv_isa.proofs.Copies.{copy_is, home_is}
+use Rattle.rv_isa.proofs.Copies.{copy_is, home_is, lost_is}
 use Rattle.rv_isa.proofs.Memory.{word-apart}
 use Rattle.cell_heap.specs.ProgramMemory.{HoldsCells, SameRoots}
 use Rattle.cell_heap.proofs.Frames.{SameInside, SameInside-store}
 use Rattle.cell_heap.proofs.Blocks.{outside-holds}
-use Rattle.rv_world.specs.Operations.{computed}
+use Rattle.rv_world.specs.Operations.{Constants, computed}
+use Rattle.cell_heap.specs.Blocks.{load}
 use Rattle.cell_heap.specs.Pool.{Pool}
 use Rattle.cell_heap.proofs.Blocks.{mapped}
 use Rattle.rv_world.specs.World.{World, computed_in, primitives}
 use Rattle.rv_place.specs.Registers.{zero_register, sp}
-use Rattle.rv_place.specs.Addresses.{is_same_register, stands_there, goes_home, is_silent, has_slot, takes_frame, frame_bias, slot_offset}
+use Rattle.rv_place.specs.Addresses.{is_same_register, stands_there, gives_idly, is_silent, has_slot, takes_frame, frame_bias, slot_offset}
 use Rattle.rv_place.specs.Instructions.{form_of, words_of_form, words_of_operation}
 use Rattle.rv_place.specs.declared.reach.WordForm.{WordForm}
 use Rattle.rv_place.specs.declared.reach.WordForm.TheVariants.{Short, Upper, Both}
@@ -56,6 +58,15 @@ use Rattle.rv_place.proofs.LineOutcomes.{or_stuck_some, Comes, comes_go, comes_i
 home_place : (home : Option ℕ) (place : Place) → is_in_any home place ≡ true → (x : ℕ) × (home ≡ Some x) × (is_in x place ≡ true)
 home_place None place there = cc there
 home_place (Some x) place there = (x, refl, there)
+
+-- a load leaves what is shared
+loads_alone : (constants : Constants) (offset : Immediate) (words : List ℕ) (world : World) (r : ℕ × World)
+    → computed_in constants (OfOperation.Lw offset) words world ≡ Some r → r.1 ≡ world
+loads_alone constants offset [] world r is = cc is
+loads_alone constants offset (a ∷ []) world r is =
+    let word = mapped (λ (word : ℕ). (word, world)) (load a offset.word world.cells) r is in
+    sym (ap (λ (p : ℕ × World). p.1) word.2)
+loads_alone constants offset (a ∷ b ∷ words) world r is = cc is
 
 -- a slot is a word of the stack
 pub slot_word : (base k : ℕ) → base % 4 ≡ 0 → (base + slot_offset k) % 4 ≡ 0
@@ -190,17 +201,37 @@ module _ {map_of : Map} {pool : Pool} {functions : List PlacedLines} {depth buff
   constant_is_there old word x args into [] turn held there is_in less is good =
       subst (λ t. Comes map_of pool functions depth stop code parts 0 old t s) is (constant_already old word x into.place held there is_in less)
 
-  is_at_home : (old : ℕ) (action : Action) (args : List Operand) (into : Option Operand) (words : List ℕ) (turn : PlacedTurn World Ending)
-      → goes_home action into ≡ true → IsIn map_of code (most_lines functions) s.pc behind → 1 + length rest ≤ old
-      → placed_acts (primitives map_of.constants pool) depth functions behind fs known world action args into words ≡ turn → turn ≢ stuck
-      → Comes map_of pool functions depth stop code parts 0 old turn s
-  is_at_home old action args None words turn goes is_in less is good = cc goes
-  is_at_home old action args (Some into) words turn goes is_in less is good =
+  is_at_home : (old : ℕ) (action : Action) (args : List Operand) (into : Operand) (words : List ℕ) (turn : PlacedTurn World Ending)
+      → is_in_any (home action) into.place ≡ true → IsIn map_of code (most_lines functions) s.pc behind → 1 + length rest ≤ old
+      → placed_acts (primitives map_of.constants pool) depth functions behind fs known world action args (Some into) words ≡ turn
+      → turn ≢ stuck → Comes map_of pool functions depth stop code parts 0 old turn s
+  is_at_home old action args into words turn goes is_in less is good =
       let there = home_place (home action) into.place goes in
       let gives = home_is action there.0 there.1 in
       constant_is_there old gives.0 there.0 args into words turn gives.2 there.2 is_in less
       (subst (λ a. placed_acts (primitives map_of.constants pool) depth functions behind fs known world a args (Some into) words ≡ turn) gives.1 is)
       good
+
+  -- a load whose word is lost leaves all that is known, and what is shared
+  load_is_lost : (old : ℕ) (action : Action) (args : List Operand) (into : Operand) (words : List ℕ)
+      (turn : PlacedTurn World Ending) → is_lost action into.place ≡ true → IsIn map_of code (most_lines functions) s.pc behind → 1 + length rest ≤ old
+      → placed_acts (primitives map_of.constants pool) depth functions behind fs known world action args (Some into) words ≡ turn
+      → turn ≢ stuck → Comes map_of pool functions depth stop code parts 0 old turn s
+  load_is_lost old action args into words turn lost is_in less is good =
+      let of = lost_is action into.place lost in
+      let loads = Compute (OfOperation.Lw of.0) in
+      let gives : Option Operand → ℕ × World → PlacedTurn World Ending = λ o r. placed_gives o r.0 behind fs known r.1 in
+      let nowhere : unless_lost loads (Some into) ≡ None
+      = ap (λ (b : Bool). cond b None (Some into)) (subst (λ a. is_lost a into.place ≡ true) of.1 lost) in
+      let result = or_stuck_some (computed_in map_of.constants (OfOperation.Lw of.0) words world)
+      (gives (unless_lost loads (Some into))) turn
+      (subst (λ a. placed_acts (primitives map_of.constants pool) depth functions behind fs known world a args (Some into) words
+      ≡ turn) of.1 is)
+      good in
+      let left : placed_goes behind fs known result.0.1 ≡ turn = subst (λ o. gives o result.0 ≡ turn) nowhere result.2 in
+      subst (λ t. Comes map_of pool functions depth stop code parts 0 old t s)
+      (subst (λ w. placed_goes behind fs known w ≡ turn) (loads_alone map_of.constants of.0 words world result.0 result.1) left)
+      (passes old known running.registers is_in less)
 
   pub follow_silent : (old : ℕ) (action : Action) (args : List Operand) (into : Option Operand) (words : List ℕ) (turn : PlacedTurn World Ending)
       → is_silent action args into ≡ true → IsIn map_of code (most_lines functions) s.pc behind → 1 + length rest ≤ old
@@ -208,14 +239,24 @@ module _ {map_of : Map} {pool : Pool} {functions : List PlacedLines} {depth buff
       → placed_acts (primitives map_of.constants pool) depth functions behind fs known world action args into words ≡ turn → turn ≢ stuck
       → Comes map_of pool functions depth stop code parts 0 old turn s
   follow_silent old action args into words turn silent is_in less words_are is good =
-      elim (or_cases (is_copy action && stands_there args into) (goes_home action into) silent) [
+      elim (or_cases (is_copy action && stands_there args into) (gives_idly action into) silent) [
         | inl copies ↦
             let both = and_parts (is_copy action) (stands_there args into) copies in
             stays_there old args into words turn both.1 is_in less words_are
             (subst (λ a. placed_acts (primitives map_of.constants pool) depth functions behind fs known world a args into words ≡ turn)
             (copy_is action both.0) is)
-        | inr goes ↦ is_at_home old action args into words turn goes is_in less is good
+        | inr idle ↦ gives_nothing into idle is
       ]
+    where
+      gives_nothing : (into : Option Operand) → gives_idly action into ≡ true
+          → placed_acts (primitives map_of.constants pool) depth functions behind fs known world action args into words ≡ turn
+          → Comes map_of pool functions depth stop code parts 0 old turn s
+      gives_nothing None idle is = cc idle
+      gives_nothing (Some into) idle is =
+          elim (or_cases (is_in_any (home action) into.place) (is_lost action into.place) idle) [
+            | inl goes ↦ is_at_home old action args into words turn goes is_in less is good
+            | inr lost ↦ load_is_lost old action args into words turn lost is_in less is good
+          ]
 
   -- ---- slots
 
@@ -335,7 +376,8 @@ module _ {map_of : Map} {pool : Pool} {functions : List PlacedLines} {depth buff
     pub follow_words : (forms : Forms) (start : ℕ) (args : List Operand) (into : Option Operand) (words : List ℕ) (turn : PlacedTurn World Ending) → ActsAt map_of forms code start f.whole s.pc (Compute operation) args into
         → ((ws : List ℕ) → computed_in map_of.constants operation ws world ≡ option_map (λ word. (word, world)) (computed map_of.constants operation ws))
         → conforms (Compute operation) args into ≡ true → GivesTarget into → all_of (map (λ (arg : Operand). read_at known f.cells arg.place) args) ≡ Some words
-        → placed_acts (primitives map_of.constants pool) depth functions behind fs known world (Compute operation) args into words ≡ turn → turn ≢ stuck
+        → or_stuck (computed_in map_of.constants operation words world) (λ r. placed_gives into r.0 behind fs known r.1) ≡ turn
+        → turn ≢ stuck
         → Comes map_of pool functions depth stop code parts (operation_instructions operation) old turn s
     follow_words forms start args into words turn here alone conform handed words_are is good =
         let fit = and_parts (take_from (Compute operation) 0 args) (gives_into (Compute operation) into) conform in

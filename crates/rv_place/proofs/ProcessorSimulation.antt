@@ -28,7 +28,7 @@ use Rattle.rv_place.specs.ProcessorStates.{AllPlain, most_lines, Running, lines_
 use Rattle.rv_place.proofs.ProcessorSteps.{reaches}
 use Rattle.rv_place.proofs.CodeLines.{line_at, line_plain, line_takes, goes_behind}
 use Rattle.rv_place.proofs.LineOutcomes.{or_stuck_some, Comes}
-use Rattle.rv_place.proofs.TargetRegisters.{move_target, gives_target}
+use Rattle.rv_place.proofs.TargetRegisters.{move_target, gives_target, gives_somewhere}
 use Rattle.rv_place.proofs.MoveSimulation.{follow_label, follow_silent, follow_move}
 use Rattle.rv_place.proofs.CellSimulation.{follow_compute}
 use Rattle.rv_place.proofs.JumpSimulation.{follow_jump, follow_branch, follow_tail_call, follow_call, follow_return}
@@ -75,7 +75,8 @@ module _ {map_of : Map} {pool : Pool} {functions : List PlacedLines} {depth buff
           comes_within (operation_instructions operation + 0) (omega arith)
           (follow_compute ground f fs known world s running rest (suc (length rest)) operation (line_takes running.frames.0 line rest code_is) (λ next next_is below. goes_behind running.frames.0 line rest code_is next (record f { code = rest }) refl refl refl
           (loud_words (Compute operation) loud ∙ next_is) below)
-          running.frames.0.forms running.frames.0.start args into words turn (line_at running.frames.0 line rest code_is loud) conform (gives_target (Compute operation) args into writes.0 loud) words_are is good)
+          running.frames.0.forms running.frames.0.start args into words turn (line_at running.frames.0 line rest code_is loud) conform (gives_target (Compute operation) args into writes.0 loud)
+          (gives_somewhere (Compute operation) args into loud) words_are is good)
       follow_action (Label l) code_is conform loud is =
           let line = does alive (Label l) args into in
           let here : s.pc + 4 * words_of_line running.frames.0.forms line ≡ s.pc

@@ -1,12 +1,13 @@
 -- The registers that instructions of placed code write for values: all that are handed out, but those that hold a word always.
-use Rattle.std.proofs.Common.{◌≡◌, ◌≢◌, ◌==◌, ◌&&◌, ◌||◌, ℕ, List, Option, Some, None, Bool, true, false, not, refl, ap, subst}
+use Rattle.std.proofs.Common.{◌≡◌, ◌≢◌, ◌==◌, ◌&&◌, ◌||◌, ℕ, List, Option, Some, None, Bool, true, false, not, cond, refl, ap, subst}
 use Rattle.std.proofs.lemmas.Bool.{and_parts, and_from, or_from, ne_eqb}
 use Rattle.rv_isa.specs.declared.asm.Action.{Action}
 use Rattle.rv_isa.specs.declared.placed.Place.{Place}
 use Rattle.rv_isa.specs.declared.placed.Place.TheVariants.{Register as register, Slot as slot}
 use Rattle.rv_isa.specs.declared.placed.Operand.{Operand}
-use Rattle.rv_isa.specs.Conventions.{is_handed_out, is_in_any, one_register, is_constant_register, is_of_constant, home}
+use Rattle.rv_isa.specs.Conventions.{is_handed_out, one_register, is_constant_register, is_of_constant, is_in_any, home, is_lost, is_idle}
 use Rattle.rv_isa.specs.LinePlaces.{is_copy}
+use Rattle.rv_isa.specs.PlacedMachine.{unless_lost}
 use Rattle.rv_place.specs.Addresses.{stands_there, is_silent}
 use Rattle.rv_place.specs.ProcessorStates.{IsHandedOut, GivesHandedOut}
 use Rattle.rv_place.proofs.HeldTokenLinks.{is_fixed, handed_own}
@@ -52,4 +53,19 @@ pub gives_target : (action : Action) (args : List Operand) (into : Option Operan
 gives_target action args None handed loud = tt
 gives_target action args (Some into) handed loud =
     place_target into.place handed.0
-    (not_there (is_copy action && stands_there args (Some into)) (is_in_any (home action) into.place) (is_of_constant into.place) loud handed.1)
+    (not_there (is_copy action && stands_there args (Some into)) (is_idle action into.place) (is_of_constant into.place) loud
+    handed.1)
+
+last_false : (copy home lost : Bool) → (copy || (home || lost)) ≡ false → lost ≡ false
+last_false true home lost loud = cc loud
+last_false false true lost loud = cc loud
+last_false false false lost loud = loud
+
+-- and its word is not lost
+pub gives_somewhere : (action : Action) (args : List Operand) (into : Option Operand) → is_silent action args into ≡ false
+    → unless_lost action into ≡ into
+gives_somewhere action args None loud = refl
+gives_somewhere action args (Some into) loud =
+    ap (λ (lost : Bool). cond lost None (Some into))
+    (last_false (is_copy action && stands_there args (Some into)) (is_in_any (home action) into.place)
+    (is_lost action into.place) loud)

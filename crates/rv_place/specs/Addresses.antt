@@ -16,7 +16,7 @@ use Rattle.rv_isa.specs.declared.placed.Operand.{Operand}
 use Rattle.rv_isa.specs.declared.placed.Symbol.{Symbol}
 use Rattle.rv_isa.specs.PlacedCode.{PlacedLine, does, moves, PlacedLines}
 use Rattle.rv_isa.specs.PlacedMachine.{is_label_line}
-use Rattle.rv_isa.specs.Conventions.{is_in_any, home}
+use Rattle.rv_isa.specs.Conventions.{is_idle}
 use Rattle.rv_isa.specs.LinePlaces.{is_copy}
 use Rattle.rv_isa.specs.Sizes.{reach_down, narrow_frame, wide_frame}
 use Rattle.rv_place.specs.Instructions.{words_of_operation, words_of_jump, words_of_branch}
@@ -98,14 +98,14 @@ stands_there (arg ∷ []) None = false
 stands_there (arg ∷ []) (Some into) = is_same_register arg.place into.place
 stands_there (arg ∷ other ∷ args) into = false
 
--- whether the action gives a word to the register that holds it always
-abbrev pub goes_home : Action → Option Operand → Bool
-goes_home action None = false
-goes_home action (Some into) = is_in_any (home action) into.place
+-- whether the action gives a word to the register that holds it always, or one that is lost
+abbrev pub gives_idly : Action → Option Operand → Bool
+gives_idly action None = false
+gives_idly action (Some into) = is_idle action into.place
 
 -- that is no instruction, nor is a copy of such an argument
 abbrev pub is_silent : Action → List Operand → Option Operand → Bool
-is_silent action args into = (is_copy action && stands_there args into) || goes_home action into
+is_silent action args into = (is_copy action && stands_there args into) || gives_idly action into
 
 abbrev pub words_of_line : Forms → PlacedLine → ℕ
 words_of_line forms (does alive action args into) = cond (is_silent action args into) 0 (words_of_action forms action)

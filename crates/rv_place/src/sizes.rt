@@ -9,7 +9,7 @@ ghost use Rattle.rv_world.specs.Operations.{all_bytes};
 ghost use Rattle.cell_runtime.specs.Lines.{words_of};
 ghost use Rattle.rv_place.specs.Instructions.{words_of_operation};
 ghost use Rattle.rv_isa.specs.LinePlaces.{is_copy};
-ghost use Rattle.rv_place.specs.Addresses.{operation_links, action_links, has_slot, needs_frame, takes_frame, is_same_register, stands_there, goes_home, is_silent, words_of_action, words_of_line, words_of_lines, words_of_function, words_of_functions, forms_of};
+ghost use Rattle.rv_place.specs.Addresses.{operation_links, action_links, has_slot, needs_frame, takes_frame, is_same_register, stands_there, gives_idly, is_silent, words_of_action, words_of_line, words_of_lines, words_of_function, words_of_functions, forms_of};
 ghost use Rattle.rv_place.specs.Texts.{most_text_length, most_functions, most_runtime_words, most_constant_bytes};
 
 use crate::chart::words_of_native;
@@ -75,21 +75,21 @@ fn stands_there(args: &[Operand], into: Option<Operand>) -> bool
     }
 }
 
-fn goes_home(action: Action, into: Option<Operand>) -> bool
-    ensures { result ≡ goes_home action into }
+fn gives_idly(action: Action, into: Option<Operand>) -> bool
+    ensures { result ≡ gives_idly action into }
 {
     match into {
-        Some(into) => action.is_home(into.place),
+        Some(into) => action.is_idle(into.place),
         None => false,
     }
 }
 
-/// Whether the action is no instruction: a copy whose argument stands already where the value goes, or a constant for the register
-/// that holds it always.
+/// Whether the action is no instruction: a copy whose argument stands already where the value goes, a constant for the register
+/// that holds it always, or a load whose word is lost.
 pub fn is_silent(action: Action, args: &[Operand], into: Option<Operand>) -> bool
     ensures { result ≡ is_silent action args.now into }
 {
-    is_copy(action) && stands_there(args, into) || goes_home(action, into)
+    is_copy(action) && stands_there(args, into) || gives_idly(action, into)
 }
 
 /// How many instructions an item is.

@@ -1,5 +1,5 @@
 -- The placed form's machine follows the assembler form's, one lemma an action.
-use Rattle.std.proofs.Common.{◌≡◌, ◌≢◌, ◌&&◌, ◌⊎◌, ℕ, suc, List, [], ◌∷◌, Option, Some, None, true, false, cond, All, slice_get, length, nat_le, refl, sym, ◌∙◌, ap, subst, inl, inr, map, option_map}
+use Rattle.std.proofs.Common.{◌≡◌, ◌≢◌, ◌&&◌, ◌⊎◌, ℕ, suc, List, [], ◌∷◌, Option, Some, None, Bool, true, false, cond, All, slice_get, length, nat_le, refl, sym, ◌∙◌, ap, subst, inl, inr, map, option_map}
 use Rattle.std.proofs.lemmas.Bool.{and_parts}
 use Rattle.std.proofs.lemmas.List.Elements.{All-head}
 use Rattle.rv_isa.specs.declared.asm.Action.{Action}
@@ -15,15 +15,15 @@ use Rattle.rv_isa.specs.declared.placed.Listed.{Listed}
 use Rattle.rv_isa.specs.AsmCode.{Line, Lines}
 use Rattle.rv_isa.specs.PlacedCode.{PlacedLine, PlacedLines}
 use Rattle.rv_isa.specs.Primitives.{Reply, answers, ends, fails, Primitives, ended, or_stuck, by_token}
-use Rattle.rv_isa.specs.Conventions.{is_in, is_slot, conforms, take_from, gives_into, gives_at}
+use Rattle.rv_isa.specs.Conventions.{is_in, is_lost, is_slot, conforms, take_from, gives_into, gives_at}
 use Rattle.rv_isa.specs.Frames.{Frame, empty, put, put_into, found, top, taken_if, only_of, result_of, received, holding, unholding}
 use Rattle.rv_isa.specs.AsmMachine.{AsmTurn, is_label, bound, asm_entered, asm_goes, asm_jumps, asm_returns, asm_gives, asm_served, asm_acts}
-use Rattle.rv_isa.specs.PlacedMachine.{PlacedTurn, is_label_line, read_at, registers_with, slots_with, kept_by, passed, number_of, awaited, slot_of, placed_entered, placed_goes, placed_gives, placed_jumps, placed_returns, placed_answered, placed_served, placed_acts}
+use Rattle.rv_isa.specs.PlacedMachine.{PlacedTurn, is_label_line, read_at, registers_with, slots_with, kept_by, passed, number_of, awaited, slot_of, placed_entered, placed_goes, unless_lost, placed_gives, placed_jumps, placed_returns, placed_answered, placed_served, placed_acts}
 use Rattle.rv_regs.specs.Listings.{first_alive, alive_behind, alive_at_label, both_of, listed_as, spoils_by, marks}
 use Rattle.rv_regs.specs.Conditions.{value_of, without_moves, OnCopy, AtBoth, IsAtPlace, IsKept, StaysListed, IsSafe, Fits, AllFit, IsPlacing, ArePlacings}
 use Rattle.rv_regs.specs.Relation.{Holds, HeldAs, SameCode, Stands, WaitsFor, IsSlotOf, Waits, AllWait, StandsFor}
 use Rattle.rv_regs.proofs.ValueListings.{listed_has, put_same, put_other, at_one, stands_slot}
-use Rattle.rv_regs.proofs.PlaceChanges.{Changes, holds_next, change_nothing, change_one, stayed, both_stay}
+use Rattle.rv_regs.proofs.PlaceChanges.{Changes, holds_next, change_nothing, change_one, change_lost, stayed, both_stay}
 use Rattle.rv_regs.proofs.Chains.{token, IsNext, all_next, held_next, held_both, unheld_both}
 use Rattle.rv_regs.proofs.Tokens.{apart_first, as_many_wait, top_same, Left, left_over}
 use Rattle.rv_regs.proofs.Steps.{both_go, same_go, cond_go, held_go, read_listed, found_both, callee_both, enters}
@@ -155,6 +155,37 @@ gives W alive action args (Some o) nexts registers shared w f fs g gs fits stand
       refl,
     )
 
+-- or it is lost
+gives_kept : {H : Type 0} (W : Type 0) (alive : List Listed) (action : Action) (args : List Operand) (into : Option Operand)
+    (nexts : List (List Listed)) (registers : ℕ → Option ℕ) (shared : H) (w : ℕ)
+    (f : Frame Line) (fs : List (Frame Line)) (g : Frame PlacedLine) (gs : List (Frame PlacedLine))
+    → Fits alive args into (Some action) nexts → Stands alive registers f g → AllWait fs gs
+    → IsNext (first_alive g.code) nexts → ((v k : ℕ) → marks (Some action) args (token v k) ≡ token v k)
+    → StandsFor {W = W} (asm_goes (record f { cells = put_into (option_map value_of into) w f.cells }) fs shared)
+    (placed_gives (unless_lost action into) w g gs (λ x. cond (spoils_by (Some action) x) None (registers x)) shared)
+gives_kept W alive action args None nexts registers shared w f fs g gs fits stands waits is marked =
+    gives W alive action args None nexts registers shared w f fs g gs fits stands waits is marked
+gives_kept W alive action args (Some o) nexts registers shared w f fs g gs fits stands waits is marked =
+    by (is_lost action o.place) refl
+  where
+    by : (lost : Bool) → is_lost action o.place ≡ lost
+        → StandsFor {W = W} (asm_goes (record f { cells = put o.value (Some w) f.cells }) fs shared)
+        (placed_gives (cond lost None (Some o)) w g gs (λ x. cond (spoils_by (Some action) x) None (registers x)) shared)
+    by false there = gives W alive action args (Some o) nexts registers shared w f fs g gs fits stands waits is marked
+    by true lost =
+        let left : ℕ → Option ℕ = λ x. cond (spoils_by (Some action) x) None (registers x) in
+        let f' : Frame Line = record f { cells = put o.value (Some w) f.cells } in (
+          (
+            lands alive action args (Some o) nexts f.cells registers g.cells left f' g fits stands.holds
+                (same_code f f' g g stands.same refl refl refl refl refl refl) is
+                (change_lost o (Some w) action f.cells registers g.cells lost)
+                (held_next alive (first_alive g.code) nexts (Some action) args is fits.held f.held g.held (λ v k among. marked v k)
+                stands.held),
+            waits,
+          ),
+          refl,
+        )
+
 only_go : {A H W : Type 0} (o : Option A) (next : A → AsmTurn H W) (t : PlacedTurn H W) → ((a : A) → o ≡ Some a → StandsFor (next a) t) → StandsFor (or_stuck o next) t
 only_go None next t meets = tt
 only_go (Some a) next t meets = meets a refl
@@ -199,8 +230,8 @@ module _ {H E W : Type 0} (m : Primitives H E W) (depth : ℕ) (asm : List Lines
 
   computes : (operation : Operation) (into : Option Operand) → Follows (Compute operation) into
   computes operation into ok fits =
-      same_go (m.compute operation words shared) (λ r. asm_goes (record f { cells = put_into (option_map value_of into) r.0 f.cells }) fs r.1) (λ r. placed_gives into r.0 g gs registers r.1)
-      (λ r e. gives W alive (Compute operation) args into (first_alive g.code ∷ []) registers r.1 r.0 f fs g gs fits stands waits (inl refl) (λ v k. refl))
+      same_go (m.compute operation words shared) (λ r. asm_goes (record f { cells = put_into (option_map value_of into) r.0 f.cells }) fs r.1) (λ r. placed_gives (unless_lost (Compute operation) into) r.0 g gs registers r.1)
+      (λ r e. gives_kept W alive (Compute operation) args into (first_alive g.code ∷ []) registers r.1 r.0 f fs g gs fits stands waits (inl refl) (λ v k. refl))
 
   is_label_ : (l : ℕ) (into : Option Operand) → Follows (Label l) into
   is_label_ l None ok fits = gives W alive (Label l) args None (first_alive g.code ∷ []) registers shared 0 f fs g gs fits stands waits (inl refl) (λ v k. refl)

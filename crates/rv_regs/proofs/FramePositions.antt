@@ -11,7 +11,7 @@ use Rattle.rv_isa.specs.Primitives.{Reply, answers, ends, fails, Primitives, go,
 use Rattle.rv_isa.specs.Conventions.{conforms}
 use Rattle.rv_isa.specs.Frames.{Frame, empty, put, all_of, only_of, result_of, received, found, top, top_taken, taken_in, taken_if, holding, unholding}
 use Rattle.rv_isa.specs.AsmMachine.{unless_held}
-use Rattle.rv_isa.specs.PlacedMachine.{PlacedTurn, is_label_line, read_at, kept_by, passed, awaited, only_slot, is_held, placed_entered, placed_goes, placed_writes, placed_gives, placed_jumps, placed_returns, placed_answered, placed_served, placed_acts, placed_line, placed_running, placed_machine}
+use Rattle.rv_isa.specs.PlacedMachine.{PlacedTurn, is_label_line, read_at, kept_by, passed, awaited, only_slot, is_held, placed_entered, placed_goes, placed_writes, unless_lost, placed_gives, placed_jumps, placed_returns, placed_answered, placed_served, placed_acts, placed_line, placed_running, placed_machine}
 
 -- a frame's function is there, and its code is what is left of it behind some lines
 abbrev pub IsInCode : List PlacedLines → Frame PlacedLine → Type 0
@@ -185,8 +185,9 @@ module _ {H E W : Type 0} (m : Primitives H E W) (depth : ℕ) (placed : List Pl
       (args : List Operand) (into : Option Operand) (words : List ℕ)
       → AreInCode placed (f ∷ fs) → TurnInCode placed (placed_acts m depth placed f fs registers shared action args into words)
   acts_in_code f fs registers shared (Compute operation) args into words all =
-      or_in_code placed (m.compute operation words shared) (λ r. placed_gives into r.0 f fs registers r.1)
-      (λ r e. gives_in_code into r.0 f fs registers r.1 all)
+      or_in_code placed (m.compute operation words shared)
+      (λ r. placed_gives (unless_lost (Compute operation) into) r.0 f fs registers r.1)
+      (λ r e. gives_in_code (unless_lost (Compute operation) into) r.0 f fs registers r.1 all)
   acts_in_code f fs registers shared (Label l) args into words all = all
   acts_in_code f fs registers shared (Jump l) args into words all = jumps_in_code l f fs registers shared all
   acts_in_code f fs registers shared (Branch condition l) args into words all =

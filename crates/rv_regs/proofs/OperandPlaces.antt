@@ -1,5 +1,5 @@
 -- A line between its loads and its stores: its operands stand where its action takes and gives them, and it fits.
-use Rattle.std.proofs.Common.{◌≡◌, ◌==◌, ◌&&◌, ◌⊎◌, ◌<◌, ◌≤◌, ◌+◌, ℕ, zero, suc, List, [], ◌∷◌, Option, Some, None, Bool, true, false, not, All, refl, sym, ◌∙◌, ap, subst, inl, inr, arith, eq-eqb, map, option_map, length, is_some}
+use Rattle.std.proofs.Common.{◌≡◌, ◌==◌, ◌&&◌, ◌⊎◌, ◌<◌, ◌≤◌, ◌+◌, ℕ, zero, suc, List, [], ◌∷◌, Option, Some, None, Bool, true, false, not, cond, All, refl, sym, ◌∙◌, ap, subst, inl, inr, arith, eq-eqb, map, option_map, length, is_some}
 use Rattle.std.specs.List.{AllByRecursion}
 use Rattle.std.proofs.lemmas.Bool.{eqb-true, eqb-false, cond-true, or_cases, or_left, or_right, and_from, and_parts, not-true, not_from_false, false≢true, cases_Bool, cond_both, le-leb}
 use Rattle.rv_isa.specs.declared.asm.Action.{Action}
@@ -14,13 +14,13 @@ use Rattle.rv_isa.specs.AsmCode.{Line}
 use Rattle.rv_isa.specs.AsmMachine.{is_label}
 use Rattle.rv_isa.specs.PlacedCode.{PlacedLine, does}
 use Rattle.rv_isa.specs.PlacedMachine.{is_label_line}
-use Rattle.rv_isa.specs.Conventions.{is_handed_out, is_in_any, home, is_register, is_slot, takes_at, gives_at, take_from, gives_into, conforms}
+use Rattle.rv_isa.specs.Conventions.{is_handed_out, is_lost, is_idle, is_register, is_slot, takes_at, gives_at, take_from, gives_into, conforms}
 use Rattle.rv_isa.specs.Frames.{is_among, found}
 use Rattle.rv_isa.specs.WellFormed.{is_written, is_alive, is_alive_at, is_alive_behind, most_args, has_value, may_give, hands_over, goes_straight_on, AreDistinct, IsLineFormed}
 use Rattle.rv_regs.specs.declared.slots.Loaded.{Loaded}
 use Rattle.rv_regs.specs.Alive.{values_before, values_behind, alive_values, alive_values_at, held_values, PointLists, lists_before}
 use Rattle.rv_regs.specs.Listings.{first_alive, listed_as, both_of, marks}
-use Rattle.rv_regs.specs.Conditions.{IsAtPlace, IsNeeded, IsListed, IsListedIn, IsWritten, IsNew, IsClearOf, IsKept, StaysHeld, WriteIsHandedOut, Fits, LineFits}
+use Rattle.rv_regs.specs.Conditions.{IsAtPlace, IsNeeded, IsListed, IsListedIn, IsWritten, written_by, IsNew, IsClearOf, IsKept, StaysHeld, WriteIsHandedOut, Fits, LineFits}
 use Rattle.rv_regs.specs.Plain.{numbered, place_in, copy_in, listing_at, stored_later, copied_in, operand_at, first_register, result_register, load_from, loaded_for, pending}
 use Rattle.rv_regs.proofs.Lists.{all_made, among_with_values}
 use Rattle.rv_regs.proofs.Aliveness.{alive_exact, alive_behind_exact, among_before, alive_distinct}
@@ -189,9 +189,14 @@ result_loadable : (action : Action) → IsLoadable (numbered (result_register ac
 result_loadable (Compute operation) = (refl, refl)
 result_loadable action = (refl, refl)
 
+-- no result is lost
+result_stays : (action : Action) → is_lost action (register (numbered (result_register action))) ≡ false
+result_stays (Compute (Lw offset)) = refl
+result_stays action = refl
+
 result_handed : (action : Action) (into : Option ℕ) → WriteIsHandedOut (Some action) (result_of action into)
 result_handed action None = tt
-result_handed action (Some v) = let is = result_loadable action in (is.0, or_right (is_in_any (home action) (register (numbered (result_register action)))) _ is.1)
+result_handed action (Some v) = let is = result_loadable action in (is.0, or_right (is_idle action (register (numbered (result_register action)))) _ is.1)
 
 pub none_given : (action : Action) (into : Option ℕ) → may_give action ≡ false → (has_value into ≡ true → may_give action ≡ true) → into ≡ None
 none_given action None none gives = refl
@@ -300,12 +305,16 @@ module _ (action : Action) (args : List ℕ) (into : Option ℕ) (rest : List Li
   at_next u there alive = by_case (cases_Bool (is_written into u))
     where
       new : (o : Option ℕ) → is_written o u ≡ true → is_among u (held_values rest) ≡ false
-          → IsNew (result_of action o) (listing_at (place_in (pending action o (alive_values rest))) (copy_in []) (held_values rest) u)
+          → IsNew (written_by (Some action) (result_of action o))
+          (listing_at (place_in (pending action o (alive_values rest))) (copy_in []) (held_values rest) u)
       new None w free = absurd (false≢true w)
       new (Some v) w free =
           let same : v ≡ u = eqb-true v u w in
           let l : Loaded = record { value = v; register = numbered (result_register action) } in
           let is_given : pending action (Some v) (alive_values rest) ≡ l ∷ [] = cond-true (is_among v (alive_values rest)) (l ∷ []) [] (ap (λ x. is_among x (alive_values rest)) same ∙ there) in
+          subst (λ (lost : Bool). IsNew (cond lost None (result_of action (Some v)))
+          (listing_at (place_in (pending action (Some v) (alive_values rest))) (copy_in []) (held_values rest) u))
+          (sym (result_stays action))
           (same, (sym (ap (λ (ls : List Loaded). place_in ls u) is_given ∙ place_same l [] u same), (free, refl)))
 
       by_case : (is_written into u ≡ true) ⊎ (is_written into u ≡ false) → KeptIs (listing_at (place_in pending_here) (copy_in []) (held_values rest) u)

@@ -8,10 +8,11 @@ use Rattle.rv_isa.specs.declared.placed.Place.{Place}
 use Rattle.rv_isa.specs.declared.placed.Place.TheVariants.{Register as register, Slot as slot}
 use Rattle.rv_isa.specs.declared.placed.Operand.{Operand}
 use Rattle.rv_isa.specs.declared.placed.Listed.{Listed}
+use Rattle.rv_isa.specs.Conventions.{is_lost}
 use Rattle.rv_isa.specs.Frames.{put}
-use Rattle.rv_isa.specs.PlacedMachine.{read_at, registers_with, slots_with}
+use Rattle.rv_isa.specs.PlacedMachine.{read_at, registers_with, slots_with, unless_lost}
 use Rattle.rv_regs.specs.Listings.{listed_as, with_copy, marks, spoils_by, is_read_in}
-use Rattle.rv_regs.specs.Conditions.{OnCopy, AtBoth, IsWritten, IsKept, IsNew, IsCopyAt, HasCopyIn, IsCopied, StaysListed, IsClearOf, IsSafe}
+use Rattle.rv_regs.specs.Conditions.{OnCopy, AtBoth, IsWritten, written_by, IsKept, IsNew, IsCopyAt, HasCopyIn, IsCopied, StaysListed, IsClearOf, IsSafe}
 use Rattle.rv_regs.specs.Relation.{Holds}
 use Rattle.rv_regs.proofs.ValueListings.{listed_has, read_put, read_other, put_same, put_other, on_copy, on_copy_both, is_or_not}
 
@@ -38,7 +39,7 @@ NotAt (Some into) place = into.place ≢ place
 -- A line writes a value, if it does, at a place; other values stay, and so do other places, but for registers that it spoils. A
 -- move changes no value.
 pub record Changes (action : Option Action) (write : Option Operand) (values registers slots values' registers' slots' : ℕ → Option ℕ) : Type 0 where
-  pub written : (into : Operand) → write ≡ Some into → values' into.value ≡ read_at registers' slots' into.place
+  pub written : (into : Operand) → written_by action write ≡ Some into → values' into.value ≡ read_at registers' slots' into.place
   pub others : (v : ℕ) → (IsWritten write v → ⊥) → values' v ≡ values v
   pub places : (place : Place) → NotAt write place → IsSafe (spoils_by action) place → read_at registers' slots' place ≡ read_at registers slots place
   pub moved : action ≡ None → (v : ℕ) → values' v ≡ values v
@@ -108,6 +109,10 @@ pub new_place : (write : Option Operand) (l : Listed) → IsNew write l → (int
 new_place None l new = absurd new
 new_place (Some into) l new = (into, refl, (new.0, (new.1.0, new.1.1.1)))
 
+pub new_unheld : (write : Option Operand) (l : Listed) → IsNew write l → l.held ≡ false
+new_unheld None l new = absurd new
+new_unheld (Some into) l new = new.1.1.0
+
 -- a move spoils nothing
 pub safe_place : (place : Place) → IsSafe (spoils_by None) place
 safe_place (register r) = refl
@@ -163,7 +168,7 @@ module _ (alive : List Listed) (action : Option Action) (reads : List Operand) (
   kept_listing : (l : Listed) → Holds alive values registers slots → Changes action write values registers slots values' registers' slots'
       → IsKept alive action reads write l → AtBoth (λ place. values' l.value ≡ read_at registers' slots' place) l
   kept_listing l holds change (inl new) =
-      let n = new_place write l new in
+      let n = new_place (written_by action write) l new in
       let e : values' n.0.value ≡ read_at registers' slots' n.0.place = change.written n.0 n.1 in (
         subst (λ p. values' l.value ≡ read_at registers' slots' p) n.2.1.0 (subst (λ v. values' v ≡ read_at registers' slots' n.0.place) n.2.0 e),
         subst (OnCopy (λ place. values' l.value ≡ read_at registers' slots' place)) (sym n.2.1.1) tt,
@@ -198,11 +203,23 @@ kept_place : (action : Option Action) (registers slots : ℕ → Option ℕ) (pl
 kept_place action registers slots (register r) safe = cond-false (spoils_by action r.number) None (registers r.number) safe
 kept_place action registers slots (slot k) safe = refl
 
+written_nowhere : (action : Option Action) → written_by action None ≡ None
+written_nowhere None = refl
+written_nowhere (Some action) = refl
+
+-- what is not lost is written where it goes
+written_there : (action : Action) (into o : Operand) → unless_lost action (Some into) ≡ Some o → into ≡ o
+written_there action into o is = by (is_lost action into.place) is
+  where
+    by : (lost : Bool) → cond lost None (Some into) ≡ Some o → into ≡ o
+    by true none = cc none
+    by false same = cc same
+
 -- nothing is written, and what is spoilt is not known
 pub change_nothing : (action : Option Action) (values registers slots : ℕ → Option ℕ) → Changes action None values registers slots values (λ x. cond (spoils_by action x) None (registers x)) slots
 change_nothing action values registers slots =
     record {
-      written = λ into e. cc;
+      written = λ into e. let none = written_nowhere action in cc (none, e);
       others = λ v n. refl;
       places = λ place n safe. kept_place action registers slots place safe;
       moved = λ e v. refl;
@@ -214,9 +231,23 @@ pub change_one : (into : Operand) (w : Option ℕ) (action : Action) (values reg
 change_one into w action values registers slots =
     let left : ℕ → Option ℕ = λ x. cond (spoils_by (Some action) x) None (registers x) in
     record {
-      written = λ o e. let same : into ≡ o = cc in subst (λ (p : Operand). put into.value w values p.value ≡ read_at (registers_with into.place w left) (slots_with into.place w slots) p.place) same (put_same into.value w values ∙ sym (read_put into.place w left slots));
+      written = λ o e. let same = written_there action into o e in subst (λ (p : Operand). put into.value w values p.value ≡ read_at (registers_with into.place w left) (slots_with into.place w slots) p.place) same (put_same into.value w values ∙ sym (read_put into.place w left slots));
       others = λ v n. put_other into.value w values v (λ e. n (sym e));
       places = λ place n safe. read_other into.place place w left slots n ∙ kept_place (Some action) registers slots place safe;
+      moved = λ e v. absurd (no_action action e);
+    }
+
+-- a word is lost: it is the value of no place
+pub change_lost : (into : Operand) (w : Option ℕ) (action : Action) (values registers slots : ℕ → Option ℕ)
+    → is_lost action into.place ≡ true
+    → Changes (Some action) (Some into) values registers slots (put into.value w values)
+    (λ x. cond (spoils_by (Some action) x) None (registers x)) slots
+change_lost into w action values registers slots lost =
+    record {
+      written = λ o e.
+          let none : unless_lost action (Some into) ≡ None = ap (λ (b : Bool). cond b None (Some into)) lost in cc (none, e);
+      others = λ v n. put_other into.value w values v (λ e. n (sym e));
+      places = λ place n safe. kept_place (Some action) registers slots place safe;
       moved = λ e v. absurd (no_action action e);
     }
 

@@ -10,7 +10,7 @@ use Rattle.rv_isa.specs.Conventions.{conforms}
 use Rattle.rv_isa.specs.Costs.{argument_moves, result_moves, move_instructions}
 use Rattle.rv_isa.specs.Frames.{Frame, empty, put, all_of, found, top, top_taken, taken_in, taken_if, only_of, result_of, received, holding, unholding}
 use Rattle.rv_isa.specs.AsmMachine.{is_label, unless_held}
-use Rattle.rv_isa.specs.PlacedMachine.{PlacedTurn, is_label_line, read_at, kept_by, passed, awaited, only_slot, placed_entered, placed_goes, placed_gives, placed_jumps, placed_returns, placed_answered, placed_served, placed_acts, placed_line}
+use Rattle.rv_isa.specs.PlacedMachine.{PlacedTurn, is_label_line, read_at, kept_by, passed, awaited, only_slot, placed_entered, placed_goes, unless_lost, placed_gives, placed_jumps, placed_returns, placed_answered, placed_served, placed_acts, placed_line}
 use Rattle.rv_regs.specs.Relation.{leading, first_args, stores_behind, MovesWithin, FunctionMovesWithin, AllMovesWithin, FramesMovesWithin, stores_before, HasMovesWithin}
 
 -- the stores for the arguments of an action, behind it or in its callee
@@ -186,7 +186,8 @@ module _ (extra : ℕ) where
 
     acts_few : (action : Action) → Acts action
     acts_few (Compute operation) g gs registers shared args into words few here fits paid =
-        some_few credit (m.compute operation words shared) (λ r. placed_gives into r.0 g gs registers r.1) (λ r e. gives_few W credit into r.0 g gs registers r.1 (few, omega (arith, here, paid)))
+        some_few credit (m.compute operation words shared) (λ r. placed_gives (unless_lost (Compute operation) into) r.0 g gs registers r.1)
+        (λ r e. gives_few W credit (unless_lost (Compute operation) into) r.0 g gs registers r.1 (few, omega (arith, here, paid)))
     acts_few (Label l) g gs registers shared args into words few here fits paid = (few, omega (arith, here, paid))
     acts_few (Jump l) g gs registers shared args into words few here fits paid = jumps_few l g gs registers shared few (omega (arith, paid))
     acts_few (Branch condition l) g gs registers shared args into words few here fits paid =

@@ -22,9 +22,9 @@ use Rattle.rv_isa.specs.Frames.{Frame, empty, all_of, top, is_among}
 use Rattle.rv_isa.specs.AsmMachine.{AsmTurn, asm_acts, asm_line, asm_told, asm_line_weight, asm_start, bound}
 use Rattle.rv_isa.specs.PlacedMachine.{PlacedState, PlacedTurn, read_at, registers_with, slots_with, is_held, placed_acts, placed_line, placed_next, placed_machine, placed_told, placed_weight, placed_line_weight, placed_start}
 use Rattle.rv_regs.specs.Listings.{first_alive}
-use Rattle.rv_regs.specs.Conditions.{value_of, without_moves, IsAtPlace, HasCopyIn, IsCopied, IsKept, AllFit, ArePlacings}
+use Rattle.rv_regs.specs.Conditions.{value_of, without_moves, IsAtPlace, HasCopyIn, IsCopied, written_by, IsKept, AllFit, ArePlacings}
 use Rattle.rv_regs.specs.Relation.{HeldAs, Stands, AllWait, FramesStand, StandsFor, NeverStuck, leading, first_args, MovesWithin, FunctionMovesWithin, AllMovesWithin, FramesMovesWithin, stores_before, HasMovesWithin, asm_machine_with, Related, IsNotStuck}
-use Rattle.rv_regs.proofs.PlaceChanges.{holds_next, change_place}
+use Rattle.rv_regs.proofs.PlaceChanges.{holds_next, new_unheld, change_place}
 use Rattle.rv_regs.proofs.Chains.{token, IsNext, held_next}
 use Rattle.rv_regs.proofs.ValueListings.{listed_has}
 use Rattle.rv_regs.proofs.Tokens.{apart_first, top_same}
@@ -81,7 +81,7 @@ clear_of_held alive next action reads write kept vs ks held = by write.place ref
         or_from (k == j) (is_among j ks) (ne_eqb k j (λ same. aside (listed_has (IsKept alive action reads (Some write)) next v (token v k) kept held.0).0 (at ∙ sym (ap (λ x. slot x) same)))) (none j at vs ks held.1.1)
       where
         aside : IsKept alive action reads (Some write) (token v k) → write.place ≢ slot k
-        aside (inl new) same = false≢true (sym new.1.1.0)
+        aside (inl new) same = false≢true (sym (new_unheld (written_by action (Some write)) (token v k) new))
         aside (inr (inl copied)) same = copied_aside alive action write (token v k) k refl copied same
         aside (inr (inr stays)) same = stays.1.0.1.0 same
 

@@ -10,6 +10,7 @@ use Rattle.rv_isa.specs.declared.placed.Place.TheVariants.{Register as register,
 use Rattle.rv_isa.specs.declared.placed.Operand.{Operand}
 use Rattle.rv_isa.specs.declared.placed.Listed.{Listed}
 use Rattle.rv_isa.specs.PlacedCode.{PlacedLine, does, moves, PlacedLines, from_of, to_of}
+use Rattle.rv_isa.specs.PlacedMachine.{unless_lost}
 use Rattle.rv_isa.specs.Conventions.{is_handed_out, is_of_constant, may_write, is_in, argument, conforms}
 use Rattle.rv_regs.specs.Listings.{first_alive, alive_behind, alive_at_label, both_of, listed_as, with_copy, is_read_in, spoils_by, marks}
 
@@ -110,10 +111,14 @@ abbrev pub IsSafe : (ℕ → Bool) → Place → Type 0
 IsSafe spoilt (register r) = spoilt r.number ≡ false
 IsSafe spoilt (slot k) = ⊤
 
--- 6, 6b, or 7, 8 and 10 for a value that is listed next
+-- 6, 6b, or 7, 8 and 10 for a value that is listed next. (A word that is lost is written nowhere.)
+abbrev pub written_by : Option Action → Option Operand → Option Operand
+written_by None write = write
+written_by (Some action) write = unless_lost action write
+
 abbrev pub IsKept : List Listed → Option Action → List Operand → Option Operand → Listed → Type 0
 IsKept alive action reads write l =
-    IsNew write l ⊎ (IsCopied alive action write l
+    IsNew (written_by action write) l ⊎ (IsCopied alive action write l
     ⊎ (StaysListed alive (marks action reads) l × (IsClearOf write l × AtBoth (IsSafe (spoils_by action)) l)))
 
 -- 9. Registers of values, and of their copies, are handed out. One that holds a word always is written by that word alone, and by no move.

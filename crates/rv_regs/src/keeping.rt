@@ -4,7 +4,7 @@ ghost use Rattle.std.specs.Prelude.{◌≡◌, ◌≢◌, ◌⊎◌, ◌↔◌, 
 ghost use Rattle.std.specs.List.{AllByRecursion};
 ghost use Rattle.rv_isa.specs.declared.placed.Place.{Place};
 ghost use Rattle.rv_regs.specs.Listings.{one_if, both_of, listed_as, with_copy, spoils_by, marks};
-ghost use Rattle.rv_regs.specs.Conditions.{OnCopy, AtBoth, IsNew, HasCopyIn, IsCopied, IsAtCopy, StaysListed, IsClearOf, IsSafe};
+ghost use Rattle.rv_regs.specs.Conditions.{OnCopy, AtBoth, written_by, IsNew, HasCopyIn, IsCopied, IsAtCopy, StaysListed, IsClearOf, IsSafe};
 ghost use Rattle.rv_regs.specs.Conditions.{IsKept, IsNeeded, IsListedIn, IsHandedOut, WriteIsHandedOut, IsInSlot, StaysHeld};
 ghost use Rattle.rv_regs.specs.Views.{point_of};
 ghost use Rattle.rv_isa.specs.declared.placed.Listed.{Listed};
@@ -40,6 +40,22 @@ pub fn marking(action: Option<Action>, reads: &[Operand], listed: Listed) -> Lis
             ..listed
         },
         _ => listed,
+    }
+}
+
+/// Where a line's value is written; or nowhere, where it is lost.
+fn written_by(action: Option<Action>, write: Option<Operand>) -> Option<Operand>
+    ensures { result ≡ written_by action write }
+{
+    match (action, write) {
+        (Some(action), Some(into)) => {
+            if action.is_lost(into.place) {
+                None
+            } else {
+                write
+            }
+        }
+        _ => write,
     }
 }
 
@@ -185,7 +201,7 @@ fn is_kept(
 ) -> bool
     ensures { IsTrue result ↔ IsKept alive.now action reads.now write listed }
 {
-    is_new(write, listed)
+    is_new(written_by(action, write), listed)
         || is_copied(alive, action, write, listed)
         || stays_listed(alive, action, reads, listed)
             && is_clear_of(write, listed)

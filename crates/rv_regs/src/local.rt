@@ -314,6 +314,13 @@ fn leave_spoilt(
     Ok(())
 }
 
+// Whether a word is loaded that nothing reads: it can be lost.
+fn is_unread(state: &[Listed], operation: Operation, value: u32, behind: &Plan) -> bool {
+    matches!(operation, Operation::Lw(_))
+        && !is_one_of(value, &behind.point.alive)
+        && is_free(state, Register::ZERO)
+}
+
 // The register that the result of an action comes in.
 fn result_for(
     walk: &mut Walk,
@@ -323,6 +330,9 @@ fn result_for(
     plan: &Plan,
 ) -> Result<Register, NoMemory> {
     match action {
+        Action::Compute(operation) if is_unread(&walk.state, operation, value, plan) => {
+            Ok(Register::ZERO)
+        }
         Action::Compute(operation) => {
             let idle = idle_register(&walk.state, operation, args, value, plan);
             register_for(walk, &[], plan, value, idle)
