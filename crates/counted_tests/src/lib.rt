@@ -4,6 +4,8 @@
 #[cfg(test)]
 mod branching;
 #[cfg(test)]
+mod ending;
+#[cfg(test)]
 mod expecting;
 #[cfg(test)]
 mod lists;
@@ -13,3 +15,5 @@ mod losing;
 mod rebuilding;
 #[cfg(test)]
 mod rows;
+#[cfg(test)]
+mod shapes;
