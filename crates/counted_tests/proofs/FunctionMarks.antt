@@ -1,5 +1,5 @@
 -- The functions of the tests have marked variables.
-use Rattle.std.proofs.Common.{◌≡◌, ℕ, ◌==◌, ◌||◌, pos, Bool, true, false, List, [], ◌∷◌, ◌++◌, refl, sym, ap, ◌∙◌, subst}
+use Rattle.std.proofs.Common.{◌≡◌, ℕ, ◌==◌, ◌||◌, pos, Bool, true, false, not, List, [], ◌∷◌, ◌++◌, refl, sym, ap, ◌∙◌, subst}
 use Rattle.kk_syntax.specs.PositionsOf.{PositionTable}
 use Rattle.kk_syntax.specs.declared.positions.Ownership.TheVariants.{Owned, Lent}
 use Rattle.kk_syntax.specs.declared.operator.BinaryOperator.TheVariants.{Add}
@@ -14,7 +14,7 @@ use Rattle.kk_counted.specs.Drafts.{Draft, begun, given, duplicated, dropped, un
 use Rattle.kk_counted.specs.Emitting.{BecomesMarked}
 use Rattle.kk_counted.specs.Marks.{CellMarks, HasMark, CanBeMarked}
 use Rattle.counted_tests.specs.CellTables.{table_of}
-use Rattle.counted_tests.specs.TwoRows.{behind_first, box_row}
+use Rattle.counted_tests.specs.TwoRows.{behind_first, behind_nil, box_row, inner_rows}
 
 -- a function of one parameter
 abbrev pub with_body : Counted → CountedFunction
@@ -190,6 +190,17 @@ two_marked decisions = (
   },
 )
 
+-- the other row has a branch, and calls the function on its value
+pub nested_marked : (decisions inner : List NodeTree) → CanBeMarked (table_of ((true ∷ []) ∷ [])) 0
+    (box_rows decisions 5
+    (if_unique 1 0 (2 ∷ []) (2 ∷ [])
+    (inside 3 (case 2 inner (arm (give 2) (arm (give 2) no_arm))) (compute 4 (Call 0) (3 ∷ []) (give 4)))))
+nested_marked decisions inner =
+    box_rows_marked decisions 5 _ refl (
+      (refl, (refl, (refl, tt))),
+      ((refl, ((refl, refl), ((refl, refl), tt))), ((refl, tt), (((refl, tt), refl), (refl, refl)))),
+    )
+
 -- ---- on trees and lists
 
 -- a branch on the parameter, of two rows, whose value a variable takes
@@ -234,6 +245,22 @@ increase_marked decisions =
             ),
           ),
         ),
+      ),
+    )
+
+-- it builds a list of lists: of a list and of what it gives for its rest, or of the empty list alone
+pub tails_marked : (decisions : List NodeTree)
+    → CanBeMarked (table_of ((false ∷ true ∷ []) ∷ [] ∷ (true ∷ true ∷ []) ∷ [] ∷ [])) 0
+    (two_rows decisions 7 (compute 1 (Construct 3) [] (compute 2 (Construct 2) (0 ∷ 1 ∷ []) (give 2)))
+    (dup 0
+    (open_cell 0 0 (3 ∷ 4 ∷ []) (4 ∷ []) (compute 5 (Call 0) (4 ∷ []) (compute 6 (Construct 2) (0 ∷ 5 ∷ []) (give 6))))))
+tails_marked decisions =
+    rows_marked _ decisions 7 _ _ (λ x. not (x == 3)) refl refl refl
+    (tt, ((tt, refl), ((refl, (refl, tt)), (((refl, (refl, tt)), refl), (refl, refl))))) (
+      refl,
+      (
+        (refl, (refl, (refl, (refl, tt)))),
+        ((refl, tt), (((refl, tt), refl), ((refl, (refl, tt)), (((refl, (refl, tt)), refl), (refl, refl))))),
       ),
     )
 
@@ -312,3 +339,24 @@ increase_ends row built d first is steps last =
   where
     whole : built ≡ increase_row row
     whole = is ∙ ap (λ z. record row { steps = z; owed = 6 ∷ []; next = 7 }) steps
+
+pub tails_ends : (d : Draft)
+    → d
+    ≡ ended_by_value
+    (computed
+    (computed
+    (unpacked
+    (duplicated
+    (behind_nil
+    (given (begun ((Owned ∷ []) ∷ []) (2 ∷ 0 ∷ 2 ∷ 0 ∷ []) (table_of ((false ∷ true ∷ []) ∷ [] ∷ (true ∷ true ∷ []) ∷ [] ∷ [])) 0) 0))
+    0)
+    false 0 0 2)
+    (Call 0) (4 ∷ []) (4 ∷ []))
+    (Construct 2) (0 ∷ 5 ∷ []) (0 ∷ 5 ∷ []))
+    6
+    → EndsMarked d
+tails_ends d is = subst EndsMarked (sym is) (λ going. tails_marked truth_decisions)
+
+pub nested_ends : (d : Draft)
+    → d ≡ ended_by_value (computed (joined (inner_rows (unpacked box_row true 1 0 1))) (Call 0) (3 ∷ []) (3 ∷ [])) 4 → EndsMarked d
+nested_ends d is = subst EndsMarked (sym is) (λ going. nested_marked truth_decisions truth_decisions)
