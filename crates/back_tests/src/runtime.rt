@@ -138,158 +138,142 @@ const GIVES_UP_FIELDS: [u32; 32] = [
     0x000a_0067,
 ];
 
-const TAKES_BACK: [u32; 25] = [
-    0x0000_8a13,
-    0xea9f_f0ef,
-    0xfea1_2e23,
-    0x0005_0a93,
-    0xffc1_0513,
+/// x10 becomes the address of the first slot of the frame, and of the second one.
+const FIRST_SLOT: u32 = 0xffc1_0513;
+
+const SECOND_SLOT: u32 = 0xff81_0513;
+
+/// The token in the slot at x10 is held, unless it is null.
+const HOLD: [u32; 5] = [
     0x0005_2283,
     0x0002_8863,
     0x0092_a023,
     0x00a2_a223,
     0x0002_8493,
-    0xe85f_f0ef,
-    0x4155_0533,
-    0x0010_0593,
-    0xf2df_f0ef,
-    0xffc1_0513,
-    0x0005_2283,
-    0x0002_8463,
-    0x0002_a483,
-    0xffc1_2503,
-    0x0010_0593,
-    0xf11f_f0ef,
-    0x0004_8513,
-    0x0010_0593,
-    0xf05f_f0ef,
-    0x000a_0067,
 ];
 
-const HOLDS_TWO: [u32; 37] = [
-    0x0000_8a13,
-    0xea9f_f0ef,
-    0xfea1_2e23,
-    0xea1f_f0ef,
-    0xfea1_2c23,
-    0xffc1_0513,
-    0x0005_2283,
-    0x0002_8863,
-    0x0092_a023,
-    0x00a2_a223,
-    0x0002_8493,
-    0xff81_0513,
-    0x0005_2283,
-    0x0002_8863,
-    0x0092_a023,
-    0x00a2_a223,
-    0x0002_8493,
-    0xe69f_f0ef,
-    0xff81_0513,
-    0x0005_2283,
-    0x0002_8463,
-    0x0002_a483,
-    0xffc1_0513,
-    0x0005_2283,
-    0x0002_8463,
-    0x0002_a483,
-    0xff81_2503,
-    0x0010_0593,
-    0xef1f_f0ef,
-    0xffc1_2503,
-    0x4125_0533,
-    0x0010_0593,
-    0xee1f_f0ef,
-    0x0004_8513,
-    0x0010_0593,
-    0xed5f_f0ef,
-    0x000a_0067,
+/// The token in the slot at x10, the newest that is held, is taken back, unless it is null.
+const UNHOLD: [u32; 3] = [0x0005_2283, 0x0002_8463, 0x0002_a483];
+
+const TAKES_BACK: [&[u32]; 5] = [
+    &[
+        0x0000_8a13,
+        0xea9f_f0ef,
+        0xfea1_2e23,
+        0x0005_0a93,
+        FIRST_SLOT,
+    ],
+    &HOLD,
+    &[
+        0xe85f_f0ef,
+        0x4155_0533,
+        0x0010_0593,
+        0xf2df_f0ef,
+        FIRST_SLOT,
+    ],
+    &UNHOLD,
+    &[
+        0xffc1_2503,
+        0x0010_0593,
+        0xf11f_f0ef,
+        0x0004_8513,
+        0x0010_0593,
+        0xf05f_f0ef,
+        0x000a_0067,
+    ],
 ];
 
-const UNHOLDS_NEWEST: [u32; 32] = [
-    0x0000_8a13,
-    0xea9f_f0ef,
-    0xfea1_2c23,
-    0xea1f_f0ef,
-    0xfea1_2e23,
-    0xff81_0513,
-    0x0005_2283,
-    0x0002_8863,
-    0x0092_a023,
-    0x00a2_a223,
-    0x0002_8493,
-    0xffc1_0513,
-    0x0005_2283,
-    0x0002_8863,
-    0x0092_a023,
-    0x00a2_a223,
-    0x0002_8493,
-    0x0005_2283,
-    0x0002_8463,
-    0x0002_a483,
-    0xe5df_f0ef,
-    0x4125_0533,
-    0x0010_0593,
-    0xf05f_f0ef,
-    0xffc1_2503,
-    0x4125_0533,
-    0x0010_0593,
-    0xef5f_f0ef,
-    0xff81_2503,
-    0x0010_0593,
-    0xee9f_f0ef,
-    0x000a_0067,
+const HOLDS_TWO: [&[u32]; 9] = [
+    &[
+        0x0000_8a13,
+        0xea9f_f0ef,
+        0xfea1_2e23,
+        0xea1f_f0ef,
+        0xfea1_2c23,
+        FIRST_SLOT,
+    ],
+    &HOLD,
+    &[SECOND_SLOT],
+    &HOLD,
+    &[0xe69f_f0ef, SECOND_SLOT],
+    &UNHOLD,
+    &[FIRST_SLOT],
+    &UNHOLD,
+    &[
+        0xff81_2503,
+        0x0010_0593,
+        0xef1f_f0ef,
+        0xffc1_2503,
+        0x4125_0533,
+        0x0010_0593,
+        0xee1f_f0ef,
+        0x0004_8513,
+        0x0010_0593,
+        0xed5f_f0ef,
+        0x000a_0067,
+    ],
 ];
 
-const HOLDS_AFTER_UNHOLD: [u32; 42] = [
-    0x0000_8a13,
-    0xea9f_f0ef,
-    0xfea1_2c23,
-    0xff81_0513,
-    0x0005_2283,
-    0x0002_8863,
-    0x0092_a023,
-    0x00a2_a223,
-    0x0002_8493,
-    0xffc1_0513,
-    0x0005_2283,
-    0x0002_8863,
-    0x0092_a023,
-    0x00a2_a223,
-    0x0002_8493,
-    0x0005_2283,
-    0x0002_8463,
-    0x0002_a483,
-    0xff81_0513,
-    0x0005_2283,
-    0x0002_8463,
-    0x0002_a483,
-    0xe55f_f0ef,
-    0xfea1_2e23,
-    0xffc1_0513,
-    0x0005_2283,
-    0x0002_8863,
-    0x0092_a023,
-    0x00a2_a223,
-    0x0002_8493,
-    0xe35f_f0ef,
-    0x4125_0533,
-    0x0010_0593,
-    0xeddf_f0ef,
-    0xffc1_2503,
-    0x0010_0593,
-    0xed1f_f0ef,
-    0xff81_2503,
-    0x4125_0533,
-    0x0010_0593,
-    0xec1f_f0ef,
-    0x000a_0067,
+const UNHOLDS_NEWEST: [&[u32]; 6] = [
+    &[
+        0x0000_8a13,
+        0xea9f_f0ef,
+        0xfea1_2c23,
+        0xea1f_f0ef,
+        0xfea1_2e23,
+        SECOND_SLOT,
+    ],
+    &HOLD,
+    &[FIRST_SLOT],
+    &HOLD,
+    &UNHOLD,
+    &[
+        0xe5df_f0ef,
+        0x4125_0533,
+        0x0010_0593,
+        0xf05f_f0ef,
+        0xffc1_2503,
+        0x4125_0533,
+        0x0010_0593,
+        0xef5f_f0ef,
+        0xff81_2503,
+        0x0010_0593,
+        0xee9f_f0ef,
+        0x000a_0067,
+    ],
+];
+
+const HOLDS_AFTER_UNHOLD: [&[u32]; 10] = [
+    &[0x0000_8a13, 0xea9f_f0ef, 0xfea1_2c23, SECOND_SLOT],
+    &HOLD,
+    &[FIRST_SLOT],
+    &HOLD,
+    &UNHOLD,
+    &[SECOND_SLOT],
+    &UNHOLD,
+    &[0xe55f_f0ef, 0xfea1_2e23, FIRST_SLOT],
+    &HOLD,
+    &[
+        0xe35f_f0ef,
+        0x4125_0533,
+        0x0010_0593,
+        0xeddf_f0ef,
+        0xffc1_2503,
+        0x0010_0593,
+        0xed1f_f0ef,
+        0xff81_2503,
+        0x4125_0533,
+        0x0010_0593,
+        0xec1f_f0ef,
+        0x000a_0067,
+    ],
 ];
 
 /// A `main` behind the runtime, and what its run comes to.
 struct Row {
     cells: u32,
-    main: &'static [u32],
+    /// Its pieces, one behind the other.
+    main: &'static [&'static [u32]],
     input: &'static [u8],
     output: &'static [u8],
     exit: u8,
@@ -298,7 +282,7 @@ struct Row {
 
 const FULL: Row = Row {
     cells: 0,
-    main: &TAKES_ALL,
+    main: &[&TAKES_ALL],
     input: b"",
     output: b"",
     exit: 101,
@@ -309,7 +293,7 @@ static ROWS: [Row; 14] = [
     // The least number, 0 without a line end, and the greatest number are printed.
     Row {
         cells: 1,
-        main: &PRINTS,
+        main: &[&PRINTS],
         input: b"",
         output: b"-2147483648\n02147483647\n",
         exit: 0,
@@ -318,7 +302,7 @@ static ROWS: [Row; 14] = [
     // No bytes are printed, and then two.
     Row {
         cells: 1,
-        main: &TEXTS,
+        main: &[&TEXTS],
         input: b"",
         output: b"Hi",
         exit: 0,
@@ -327,7 +311,7 @@ static ROWS: [Row; 14] = [
     // A byte is read, and then the end of the input.
     Row {
         cells: 1,
-        main: &READS,
+        main: &[&READS],
         input: b"A",
         output: b"65\n-1\n",
         exit: 0,
@@ -343,7 +327,7 @@ static ROWS: [Row; 14] = [
     // A cell is taken, given up and taken again.
     Row {
         cells: 1,
-        main: &TAKES_AGAIN,
+        main: &[&TAKES_AGAIN],
         input: b"",
         output: b"0\n",
         exit: 0,
@@ -352,7 +336,7 @@ static ROWS: [Row; 14] = [
     // A list of 60,000 cells is made and given up.
     Row {
         cells: 60000,
-        main: &GIVES_UP,
+        main: &[&GIVES_UP],
         input: b"",
         output: b"",
         exit: 0,
@@ -361,7 +345,7 @@ static ROWS: [Row; 14] = [
     // A cell with two references is given up twice: its count falls to 1, and then it is free.
     Row {
         cells: 1,
-        main: &GIVES_UP_SHARED,
+        main: &[&GIVES_UP_SHARED],
         input: b"",
         output: b"1\n",
         exit: 0,
@@ -371,7 +355,7 @@ static ROWS: [Row; 14] = [
     // number that is the address of a fourth cell, which stays as it is.
     Row {
         cells: 4,
-        main: &GIVES_UP_FIELDS,
+        main: &[&GIVES_UP_FIELDS],
         input: b"",
         output: b"1\n",
         exit: 0,
@@ -436,7 +420,7 @@ fn push_address(bytes: &mut Vec<u8>, rd: Register, offset: u32) -> Result<(), Fa
 }
 
 /// The bytes of the text, and of its memory how many there are.
-fn program(alloc: Global, cells: u32, main: &[u32]) -> Result<(Vec<u8>, u32), Fail>
+fn program(alloc: Global, cells: u32, main: &[&[u32]]) -> Result<(Vec<u8>, u32), Fail>
     requires { cells ≤ greatest_cells }
 {
     let placed = text(alloc, cells, 1, 64)?;
@@ -448,8 +432,10 @@ fn program(alloc: Global, cells: u32, main: &[u32]) -> Result<(Vec<u8>, u32), Fa
             _ => {}
         }
     }
-    for word in main {
-        push_word(&mut bytes, *word)?;
+    for piece in main {
+        for word in *piece {
+            push_word(&mut bytes, *word)?;
+        }
     }
     Ok((bytes, placed.memory.size))
 }

@@ -1,17 +1,20 @@
 -- The functions of the tests have marked variables.
-use Rattle.std.proofs.Common.{◌≡◌, ℕ, ◌==◌, ◌||◌, pos, Bool, true, false, List, [], ◌∷◌, ◌++◌, refl, sym, ap, ◌∙◌, subst}
+use Rattle.std.proofs.Common.{◌≡◌, ℕ, ◌==◌, ◌||◌, pos, Bool, true, false, not, List, [], ◌∷◌, ◌++◌, refl, sym, ap, ◌∙◌, subst}
 use Rattle.kk_syntax.specs.PositionsOf.{PositionTable}
 use Rattle.kk_syntax.specs.declared.positions.Ownership.TheVariants.{Owned, Lent}
 use Rattle.kk_syntax.specs.declared.operator.BinaryOperator.TheVariants.{Add}
 use Rattle.kk_syntax.specs.declared.program.Form.{Form}
 use Rattle.kk_syntax.specs.declared.program.Form.TheVariants.{Number, Binary, Construct, Call}
+use Rattle.kk_syntax.specs.Shapes.{is_among}
 use Rattle.kk_core.specs.Decisions.{NodeTree}
+use Rattle.kk_core.specs.Truths.{truth_decisions}
 use Rattle.kk_counted.specs.CountedCodes.{Counted, give, tail_call, case, compute, inside, read, open_cell, if_unique, dup, drop, no_arm, arm, CountedFunction}
 use Rattle.kk_counted.specs.CountedForms.{plug}
 use Rattle.kk_counted.specs.Drafts.{Draft, begun, given, duplicated, dropped, unpacked, looked, computed, forked, entered, ended_by_value, ended_by_call, joined, finished}
 use Rattle.kk_counted.specs.Emitting.{BecomesMarked}
-use Rattle.kk_counted.specs.Marks.{CellMarks, CanBeMarked}
+use Rattle.kk_counted.specs.Marks.{CellMarks, HasMark, CanBeMarked}
 use Rattle.counted_tests.specs.CellTables.{table_of}
+use Rattle.counted_tests.specs.TwoRows.{behind_first, behind_nil, box_row, inner_rows}
 
 -- a function of one parameter
 abbrev pub with_body : Counted → CountedFunction
@@ -65,12 +68,6 @@ pub called_marked : (d e : Draft) (xs ys : List ℕ) → d ≡ e → xs ≡ ys �
 called_marked d e xs ys same all marked =
     subst (λ zs. BecomesMarked d (plug d.steps (tail_call 0 zs))) (sym all)
     (subst (λ (c : Draft). BecomesMarked c (plug c.steps (tail_call 0 ys))) (sym same) marked)
-
-abbrev pub BuildsMarked : Draft → ℕ → Type 0
-BuildsMarked d x = BecomesMarked (computed d (Construct 0) (x ∷ []) (x ∷ [])) (finished (computed d (Construct 0) (x ∷ []) (x ∷ [])) d.next)
-
-pub built_marked : (d e : Draft) (x y : ℕ) → d ≡ e → x ≡ y → BuildsMarked e y → BuildsMarked d x
-built_marked d e x y same one marked = subst (BuildsMarked d) (sym one) (subst (λ c. BuildsMarked c y) (sym same) marked)
 
 -- ---- on pairs
 
@@ -144,32 +141,27 @@ same_marked = (
   },
 )
 
--- by what was inside it gives that, or a box of what it gives for that itself
-pub shift_marked : (decisions : List NodeTree) → CanBeMarked (table_of ((true ∷ []) ∷ [])) 0
-    (with_body
-    (if_unique 0 0 (1 ∷ []) (1 ∷ [])
-    (inside 4
-    (case 1 decisions (arm (give 1) (arm (compute 2 (Call 0) (1 ∷ []) (compute 3 (Construct 0) (2 ∷ []) (give 3))) no_arm)))
-    (give 4))))
-shift_marked decisions = (
-  λ x. true,
+-- A box is opened by its count, and by what was inside there is a branch, whose value a variable takes. The first row gives that.
+abbrev pub box_rows : List NodeTree → ℕ → Counted → CountedFunction
+box_rows decisions x row =
+    with_body (if_unique 0 0 (1 ∷ []) (1 ∷ []) (inside x (case 1 decisions (arm (give 1) (arm row no_arm))) (give x)))
+
+pub box_rows_marked : (decisions : List NodeTree) (x : ℕ) (row : Counted) → is_among (x ∷ 1 ∷ 0 ∷ []) x ≡ true
+    → HasMark (table_of ((true ∷ []) ∷ [])) (λ y. true) true (1 ∷ 0 ∷ []) true row
+    → CanBeMarked (table_of ((true ∷ []) ∷ [])) 0 (box_rows decisions x row)
+box_rows_marked decisions x row bound marked = (
+  λ y. true,
   record {
     parameters_marked = (refl, tt);
-    body_marked = (
-      (refl, (refl, (refl, tt))),
-      (
-        (
-          refl,
-          (
-            (refl, refl),
-            (((refl, tt), (((refl, tt), refl), ((refl, tt), (((refl, tt), refl), (refl, refl))))), tt),
-          ),
-        ),
-        (refl, refl),
-      ),
-    );
+    body_marked = ((refl, (refl, (refl, tt))), ((refl, ((refl, refl), (marked, tt))), (bound, refl)));
   },
 )
+
+-- the other row gives a box of what the function gives for that
+pub shift_marked : (decisions : List NodeTree) → CanBeMarked (table_of ((true ∷ []) ∷ [])) 0
+    (box_rows decisions 4 (compute 2 (Call 0) (1 ∷ []) (compute 3 (Construct 0) (2 ∷ []) (give 3))))
+shift_marked decisions =
+    box_rows_marked decisions 4 _ refl ((refl, tt), (((refl, tt), refl), ((refl, tt), (((refl, tt), refl), (refl, refl)))))
 
 -- by what was inside it gives that, or calls itself on it last
 pub innermost_marked : (decisions : List NodeTree) → CanBeMarked (table_of ((true ∷ []) ∷ [])) 0
@@ -198,116 +190,91 @@ two_marked decisions = (
   },
 )
 
+-- the other row has a branch, and calls the function on its value
+pub nested_marked : (decisions inner : List NodeTree) → CanBeMarked (table_of ((true ∷ []) ∷ [])) 0
+    (box_rows decisions 5
+    (if_unique 1 0 (2 ∷ []) (2 ∷ [])
+    (inside 3 (case 2 inner (arm (give 2) (arm (give 2) no_arm))) (compute 4 (Call 0) (3 ∷ []) (give 4)))))
+nested_marked decisions inner =
+    box_rows_marked decisions 5 _ refl (
+      (refl, (refl, (refl, tt))),
+      ((refl, ((refl, refl), ((refl, refl), tt))), ((refl, tt), (((refl, tt), refl), (refl, refl)))),
+    )
+
 -- ---- on trees and lists
+
+-- a branch on the parameter, of two rows, whose value a variable takes
+abbrev pub two_rows : List NodeTree → ℕ → Counted → Counted → CountedFunction
+two_rows decisions x one other = with_body (inside x (case 0 decisions (arm one (arm other no_arm))) (give x))
+
+pub rows_marked : (fields : List (List Bool)) (decisions : List NodeTree) (x : ℕ) (one other : Counted) (holds : ℕ → Bool)
+    → holds 0 ≡ true → holds x ≡ true → is_among (x ∷ 0 ∷ []) x ≡ true → HasMark (table_of fields) holds true (0 ∷ []) (holds x) one
+    → HasMark (table_of fields) holds true (0 ∷ []) (holds x) other → CanBeMarked (table_of fields) 0 (two_rows decisions x one other)
+rows_marked fields decisions x one other holds parameter value bound first second = (
+  holds,
+  record { parameters_marked = (parameter, tt); body_marked = ((refl, (first, (second, tt))), (bound, value)) },
+)
 
 -- it builds a tree of the whole tree and of what it gives for its right part
 pub spine_marked : (decisions : List NodeTree) → CanBeMarked (table_of ((true ∷ true ∷ []) ∷ [] ∷ [])) 0
-    (with_body
-    (inside 5
-    (case 0 decisions
-    (arm (give 0)
-    (arm
-    (read 0 0 (1 ∷ 2 ∷ []) (dup 2 (compute 3 (Call 0) (2 ∷ []) (compute 4 (Construct 0) (0 ∷ 3 ∷ []) (give 4)))))
-    no_arm)))
-    (give 5)))
-spine_marked decisions = (
-  λ x. true,
-  record {
-    parameters_marked = (refl, tt);
-    body_marked = (
-      (
-        refl,
-        (
-          (refl, refl),
-          (
-            (
-              (refl, (refl, (refl, (refl, tt)))),
-              (
-                refl,
-                (
-                  (refl, tt),
-                  (((refl, tt), refl), ((refl, (refl, tt)), (((refl, (refl, tt)), refl), (refl, refl)))),
-                ),
-              ),
-            ),
-            tt,
-          ),
-        ),
-      ),
-      (refl, refl),
-    );
-  },
-)
+    (two_rows decisions 5 (give 0) (read 0 0 (1 ∷ 2 ∷ []) (dup 2 (compute 3 (Call 0) (2 ∷ []) (compute 4 (Construct 0) (0 ∷ 3 ∷ []) (give 4))))))
+spine_marked decisions =
+    rows_marked _ decisions 5 _ _ (λ x. true) refl refl refl (refl, refl) (
+      (refl, (refl, (refl, (refl, tt)))),
+      (refl, ((refl, tt), (((refl, tt), refl), ((refl, (refl, tt)), (((refl, (refl, tt)), refl), (refl, refl)))))),
+    )
 
 -- it adds 1 to each number of a list
 pub increase_marked : (decisions : List NodeTree) → CanBeMarked (table_of ((false ∷ true ∷ []) ∷ [] ∷ [])) 0
-    (with_body
-    (inside 7
-    (case 0 decisions
-    (arm (give 0)
-    (arm
+    (two_rows decisions 7 (give 0)
     (if_unique 0 0 (1 ∷ 2 ∷ []) (1 ∷ 2 ∷ [])
     (compute 3 (Number (pos 1)) []
-    (compute 4 (Binary Add) (1 ∷ 3 ∷ []) (compute 5 (Call 0) (2 ∷ []) (compute 6 (Construct 0) (4 ∷ 5 ∷ []) (give 6))))))
-    no_arm)))
-    (give 7)))
-increase_marked decisions = (
-  λ x. (x == 0) || ((x == 2) || ((x == 5) || ((x == 6) || (x == 7)))),
-  record {
-    parameters_marked = (refl, tt);
-    body_marked = (
+    (compute 4 (Binary Add) (1 ∷ 3 ∷ []) (compute 5 (Call 0) (2 ∷ []) (compute 6 (Construct 0) (4 ∷ 5 ∷ []) (give 6)))))))
+increase_marked decisions =
+    rows_marked _ decisions 7 _ _ (λ x. (x == 0) || ((x == 2) || ((x == 5) || ((x == 6) || (x == 7))))) refl refl refl (refl, refl) (
+      (refl, (refl, (refl, (refl, tt)))),
       (
-        refl,
+        tt,
         (
-          (refl, refl),
+          (tt, refl),
           (
+            (refl, (refl, tt)),
             (
-              (refl, (refl, (refl, (refl, tt)))),
-              (
-                tt,
-                (
-                  (tt, refl),
-                  (
-                    (refl, (refl, tt)),
-                    (
-                      ((refl, (refl, tt)), refl),
-                      (
-                        (refl, tt),
-                        (((refl, tt), refl), ((refl, (refl, tt)), (((refl, (refl, tt)), refl), (refl, refl)))),
-                      ),
-                    ),
-                  ),
-                ),
-              ),
+              ((refl, (refl, tt)), refl),
+              ((refl, tt), (((refl, tt), refl), ((refl, (refl, tt)), (((refl, (refl, tt)), refl), (refl, refl))))),
             ),
-            tt,
           ),
         ),
       ),
-      (refl, refl),
-    );
-  },
-)
+    )
+
+-- it builds a list of lists: of a list and of what it gives for its rest, or of the empty list alone
+pub tails_marked : (decisions : List NodeTree)
+    → CanBeMarked (table_of ((false ∷ true ∷ []) ∷ [] ∷ (true ∷ true ∷ []) ∷ [] ∷ [])) 0
+    (two_rows decisions 7 (compute 1 (Construct 3) [] (compute 2 (Construct 2) (0 ∷ 1 ∷ []) (give 2)))
+    (dup 0
+    (open_cell 0 0 (3 ∷ 4 ∷ []) (4 ∷ []) (compute 5 (Call 0) (4 ∷ []) (compute 6 (Construct 2) (0 ∷ 5 ∷ []) (give 6))))))
+tails_marked decisions =
+    rows_marked _ decisions 7 _ _ (λ x. not (x == 3)) refl refl refl
+    (tt, ((tt, refl), ((refl, (refl, tt)), (((refl, (refl, tt)), refl), (refl, refl))))) (
+      refl,
+      (
+        (refl, (refl, (refl, (refl, tt)))),
+        ((refl, tt), (((refl, tt), refl), ((refl, (refl, tt)), (((refl, (refl, tt)), refl), (refl, refl))))),
+      ),
+    )
 
 -- ---- where a branch is joined, and the function ends by its value
 
 abbrev pub EndsMarked : Draft → Type 0
 EndsMarked d = BecomesMarked (joined d) (finished (joined d) d.next)
 
-abbrev pub shift_forked : List NodeTree → Draft
-shift_forked decisions = forked (unpacked (given box_begun 0) true 0 0 1) 1 decisions (1 ∷ []) 2
+pub shift_ends : (d : Draft)
+    → d ≡ ended_by_value (computed (computed box_row (Call 0) (1 ∷ []) (1 ∷ [])) (Construct 0) (2 ∷ []) (2 ∷ [])) 3 → EndsMarked d
+shift_ends d is = subst EndsMarked (sym is) (λ going. shift_marked truth_decisions)
 
-pub shift_ends : (decisions : List NodeTree) (d : Draft)
-    → d ≡ ended_by_value
-    (computed (computed (entered (ended_by_value (entered (shift_forked decisions)) 1)) (Call 0) (1 ∷ []) (1 ∷ [])) (Construct 0) (2 ∷ [])
-    (2 ∷ []))
-    3
-    → EndsMarked d
-shift_ends decisions d is = subst EndsMarked (sym is) (λ going. shift_marked decisions)
-
-pub innermost_ends : (decisions : List NodeTree) (d : Draft)
-    → d ≡ ended_by_call (entered (ended_by_value (entered (shift_forked decisions)) 1)) 0 (1 ∷ []) → EndsMarked d
-innermost_ends decisions d is = subst EndsMarked (sym is) (λ going. innermost_marked decisions)
+pub innermost_ends : (d : Draft) → d ≡ ended_by_call box_row 0 (1 ∷ []) → EndsMarked d
+innermost_ends d is = subst EndsMarked (sym is) (λ going. innermost_marked truth_decisions)
 
 pub two_ends : (decisions : List NodeTree) (d : Draft)
     → d ≡ ended_by_value
@@ -323,10 +290,8 @@ pub two_ends : (decisions : List NodeTree) (d : Draft)
 two_ends decisions d is = subst EndsMarked (sym is) (λ going. two_marked decisions)
 
 -- the row of a cell, behind the row of none
-abbrev pub row_begun : CellMarks → List NodeTree → Draft
-row_begun marks decisions =
-    entered
-    (ended_by_value (entered (forked (given (begun ((Owned ∷ []) ∷ []) (2 ∷ 0 ∷ []) marks 0) 0) 0 decisions (0 ∷ []) 2)) 0)
+abbrev pub row_begun : CellMarks → Draft
+row_begun marks = behind_first (given (begun ((Owned ∷ []) ∷ []) (2 ∷ 0 ∷ []) marks 0) 0) 0 0
 
 -- what the row of a cell makes of that
 abbrev pub spine_row : Draft → Draft
@@ -350,18 +315,18 @@ increase_row from =
       next = 7;
     }
 
-pub spine_ends : (decisions : List NodeTree) (row built d : Draft) → row ≡ row_begun (table_of ((true ∷ true ∷ []) ∷ [] ∷ [])) decisions
+pub spine_ends : (row built d : Draft) → row ≡ row_begun (table_of ((true ∷ true ∷ []) ∷ [] ∷ []))
     → built ≡ record row { steps = built.steps; owed = 4 ∷ []; next = 5; lent = [] }
     → built.steps ≡ (computed (computed (looked row 0 0 2) (Call 0) (2 ∷ []) (2 ∷ [])) (Construct 0) (0 ∷ 3 ∷ []) (0 ∷ 3 ∷ [])).steps
     → d ≡ ended_by_value built 4 → EndsMarked d
-spine_ends decisions row built d first is steps last =
-    subst EndsMarked (sym (last ∙ ap (λ z. ended_by_value z 4) (whole ∙ ap (λ z. spine_row z) first))) (λ going. spine_marked decisions)
+spine_ends row built d first is steps last =
+    subst EndsMarked (sym (last ∙ ap (λ z. ended_by_value z 4) (whole ∙ ap (λ z. spine_row z) first))) (λ going. spine_marked truth_decisions)
   where
     whole : built ≡ spine_row row
     whole = is ∙ ap (λ z. record row { steps = z; owed = 4 ∷ []; next = 5; lent = [] }) steps
 
-pub increase_ends : (decisions : List NodeTree) (row built d : Draft)
-    → row ≡ row_begun (table_of ((false ∷ true ∷ []) ∷ [] ∷ [])) decisions
+pub increase_ends : (row built d : Draft)
+    → row ≡ row_begun (table_of ((false ∷ true ∷ []) ∷ [] ∷ []))
     → built ≡ record row { steps = built.steps; owed = 6 ∷ []; next = 7 }
     → built.steps
     ≡ (computed
@@ -369,8 +334,29 @@ pub increase_ends : (decisions : List NodeTree) (row built d : Draft)
     (2 ∷ []))
     (Construct 0) (4 ∷ 5 ∷ []) (4 ∷ 5 ∷ [])).steps
     → d ≡ ended_by_value built 6 → EndsMarked d
-increase_ends decisions row built d first is steps last =
-    subst EndsMarked (sym (last ∙ ap (λ z. ended_by_value z 6) (whole ∙ ap (λ z. increase_row z) first))) (λ going. increase_marked decisions)
+increase_ends row built d first is steps last =
+    subst EndsMarked (sym (last ∙ ap (λ z. ended_by_value z 6) (whole ∙ ap (λ z. increase_row z) first))) (λ going. increase_marked truth_decisions)
   where
     whole : built ≡ increase_row row
     whole = is ∙ ap (λ z. record row { steps = z; owed = 6 ∷ []; next = 7 }) steps
+
+pub tails_ends : (d : Draft)
+    → d
+    ≡ ended_by_value
+    (computed
+    (computed
+    (unpacked
+    (duplicated
+    (behind_nil
+    (given (begun ((Owned ∷ []) ∷ []) (2 ∷ 0 ∷ 2 ∷ 0 ∷ []) (table_of ((false ∷ true ∷ []) ∷ [] ∷ (true ∷ true ∷ []) ∷ [] ∷ [])) 0) 0))
+    0)
+    false 0 0 2)
+    (Call 0) (4 ∷ []) (4 ∷ []))
+    (Construct 2) (0 ∷ 5 ∷ []) (0 ∷ 5 ∷ []))
+    6
+    → EndsMarked d
+tails_ends d is = subst EndsMarked (sym is) (λ going. tails_marked truth_decisions)
+
+pub nested_ends : (d : Draft)
+    → d ≡ ended_by_value (computed (joined (inner_rows (unpacked box_row true 1 0 1))) (Call 0) (3 ∷ []) (3 ∷ [])) 4 → EndsMarked d
+nested_ends d is = subst EndsMarked (sym is) (λ going. nested_marked truth_decisions truth_decisions)

@@ -1,1 +1,3 @@
+pub mod ArmDebts
 pub mod CellTables
+pub mod TwoRows

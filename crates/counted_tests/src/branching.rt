@@ -1,36 +1,37 @@
 //! Functions with branches: in an arm a token is held, filled, freed or passed on, and behind it all stand in the same slots.
 
-ghost use Rattle.std.specs.Prelude.{◌≡◌, ◌∷◌, [], true, false, None, IfOk, OnOk, OnErr};
+ghost use Rattle.std.specs.Prelude.{◌≡◌, ◌∷◌, [], true, false, IfOk, OnOk, OnErr};
 ghost use Rattle.kk_syntax.specs.declared.positions.Ownership.TheVariants.{Owned};
 ghost use Rattle.kk_counted.specs.CountedForms.{decisions_of};
-ghost use Rattle.kk_counted.specs.Emitting.{BecomesMarked};
-ghost use Rattle.kk_counted.specs.Marks.{marks_of};
-ghost use Rattle.kk_counted.specs.InstancePositions.{positions_in, fields_in};
 ghost use Rattle.kk_counted.specs.TokenedCodes.{Tokened};
 ghost use Rattle.kk_counted.specs.TokenedForms.{TokenedMove};
-ghost use Rattle.kk_counted.specs.Drafts.{begun, given, unpacked, forked, computed, joined, finished as finished_code, outside, ended_by_value, ended_by_call, Writes, Owns, IsOnly, AreNewest, IsBetween, IsInArm};
-ghost use Rattle.kk_counted.specs.TokenDrafts.{no_tokens, adds, gains, spends, under_holds, opens_with, fills_with, ended_with, tokens_forked, tokens_joined, tokens_ended_by, tokens_ended_in};
+ghost use Rattle.kk_counted.specs.Drafts.{begun, given, unpacked, forked, computed, outside, ended_by_value, ended_by_call, Writes, Owns};
+ghost use Rattle.kk_counted.specs.TokenDrafts.{no_tokens, adds, gains, spends, under_holds, opens_with, fills_with, tokens_forked, tokens_ended_in};
 ghost use Rattle.kk_counted.specs.TokenEmissions.{counted_of, tokens_of};
-ghost use Rattle.kk_counted.specs.TokenEmitting.{HasSpare, HasAllSpare, CanEnd, EndsTokenArm, IsTokenedFunctionOf};
+ghost use Rattle.kk_counted.specs.TokenEmitting.{HasSpare, CanEnd, IsTokenedFunctionOf};
 ghost use Rattle.kk_counted.specs.Works.{left_in};
-ghost use Rattle.counted_tests.specs.CellTables.{table_of};
+ghost use Rattle.counted_tests.specs.CellTables.{table_of, IsShapeOf};
+ghost use Rattle.counted_tests.specs.ArmDebts.{IsArmOf};
+ghost use Rattle.counted_tests.specs.TwoRows.{box_row, tokens_box_row};
 
+use crate::ending::{ended, finished, freed_and_finished, given_with, given_without};
 use crate::expecting::{
     calls, computes, fills, opens, opens_by_count, opens_into, rows_inside, rows_of,
 };
 use crate::losing::{abandoned, lose, lose_all, lose_arms, lose_token};
-use crate::rebuilding::shape_of_one_function;
+use crate::rebuilding::{boxed_again, opened_box};
+use crate::shapes::shape_of_boxes;
 use kk_base::NoMemory;
 use kk_core::{Answer, Decisions, Edge, Node, truth_decisions};
 use kk_counted::{
     Arms, Debts, Owed, Shape, Spare, TokenArmEnd, TokenEmitter, TokenedFun, TokenedLast,
-    TokenedStep, give_up,
+    TokenedStep,
 };
 use kk_syntax::Form;
 use std::alloc::Global;
 
 /// Opens the parameter, a box, by its count, and begins a branch on what was inside. Each arm is to spend that and the token.
-pub fn opened(emitter: &mut TokenEmitter<'_>, tests: &Decisions) -> Result<Arms, NoMemory>
+fn opened(emitter: &mut TokenEmitter<'_>, tests: &Decisions) -> Result<Arms, NoMemory>
     requires counted { counted_of emitter.old ≡ begun ((Owned ∷ []) ∷ []) (1 ∷ []) (table_of ((true ∷ []) ∷ [])) 0 }
     requires tokens { tokens_of emitter.old ≡ no_tokens }
     requires rows { tests.now.rows ≡ 2 }
@@ -40,84 +41,16 @@ pub fn opened(emitter: &mut TokenEmitter<'_>, tests: &Decisions) -> Result<Arms,
     ensures left { IfOk result (λ arms. left_in arms.left.items ≡ (1 ∷ []) ∷ (1 ∷ []) ∷ []) }
     ensures slots { IfOk result (λ arms. left_in arms.spare.items ≡ (0 ∷ []) ∷ (0 ∷ []) ∷ []) }
 {
-    let cell = emitter.param(0)?;
-    let (mut debts, spare) = match emitter.unpack_unique(cell, 0, 1) {
-        Ok(both) => both,
-        Err(kept) => return Err(abandoned(emitter, kept)),
-    };
-    if let Err(kept) = debts.put_spare(spare) {
-        let error = abandoned(emitter, kept);
-        lose_all(emitter, debts);
-        return Err(error);
-    }
+    let debts = opened_box(emitter)?;
     match emitter.split(1, tests, debts) {
         Ok(arms) => Ok(arms),
         Err(kept) => Err(abandoned(emitter, kept)),
     }
 }
 
-/// Ends the arm that is written, or spends what is left of its branch.
-pub fn ended(emitter: &mut TokenEmitter<'_>, end: TokenArmEnd, arms: Arms) -> Result<Arms, NoMemory>
-    requires inside { (counted_of emitter.old).failed ≡ false → (counted_of emitter.old).inside ≡ true }
-    requires arm { (counted_of emitter.old).failed ≡ false → IsInArm (counted_of emitter.old).splits }
-    requires ends { EndsTokenArm (counted_of emitter.old) (tokens_of emitter.old) end }
-    ensures going { OnOk result ((counted_of emitter.old).failed ≡ false) }
-    ensures ok { OnOk result (counted_of emitter.new ≡ ended_with (counted_of emitter.old) end) }
-    ensures tokens { OnOk result (tokens_of emitter.new ≡ tokens_ended_by (tokens_of emitter.old) end) }
-    ensures same { IfOk result (λ left. left ≡ arms) }
-    ensures failed { OnErr result ((counted_of emitter.new).failed ≡ true) }
-{
-    match emitter.end_arm(end) {
-        Ok(()) => Ok(arms),
-        Err(kept) => {
-            let error = abandoned(emitter, kept);
-            lose_arms(emitter, arms);
-            Err(error)
-        }
-    }
-}
-
-/// Frees a token, and ends the arm by a value and the other tokens.
-fn given_without(
-    emitter: &mut TokenEmitter<'_>,
-    value: Owed,
-    spare: Spare,
-    others: Debts,
-    arms: Arms,
-) -> Result<Arms, NoMemory>
-    requires writes { Writes (counted_of emitter.old) }
-    requires arm { (counted_of emitter.old).failed ≡ false → IsInArm (counted_of emitter.old).splits }
-    requires only { IsOnly (counted_of emitter.old) value.emitter value.variable }
-    requires has { HasSpare (counted_of emitter.old) (tokens_of emitter.old) spare.emitter spare.slot }
-    requires alone { others.variables.items ≡ [] }
-    requires rest { HasAllSpare (counted_of emitter.old) (spends (tokens_of emitter.old) (TokenedMove.frees spare.slot) spare.slot) others.emitter others.spare.items }
-    requires can { (counted_of emitter.old).failed ≡ false → CanEnd (spends (tokens_of emitter.old) (TokenedMove.frees spare.slot) spare.slot) false (tokens_of emitter.old).splits }
-    requires value { (counted_of emitter.old).failed ≡ false → (tokens_of emitter.old).ending ≡ None }
-    ensures going { OnOk result ((counted_of emitter.old).failed ≡ false) }
-    ensures ok { OnOk result (counted_of emitter.new ≡ ended_by_value (counted_of emitter.old) value.variable) }
-    ensures tokens { OnOk result (tokens_of emitter.new ≡ tokens_ended_in (spends (tokens_of emitter.old) (TokenedMove.frees spare.slot) spare.slot) (Tokened.give value.variable) false (tokens_of emitter.old).splits) }
-    ensures same { IfOk result (λ left. left ≡ arms) }
-    ensures failed { OnErr result ((counted_of emitter.new).failed ≡ true) }
-{
-    if let Err(kept) = emitter.release(spare) {
-        let error = abandoned(emitter, kept);
-        lose(emitter, value);
-        lose_all(emitter, others);
-        lose_arms(emitter, arms);
-        return Err(error);
-    }
-    ended(emitter, TokenArmEnd::Value(value, others), arms)
-}
-
 /// An arm that frees its token and gives its reference.
-pub fn freed(emitter: &mut TokenEmitter<'_>, mut debts: Debts, arms: Arms) -> Result<Arms, NoMemory>
-    requires writes { Writes (counted_of emitter.old) }
-    requires arm { (counted_of emitter.old).failed ≡ false → IsInArm (counted_of emitter.old).splits }
-    requires debts { (debts.variables.items ≡ 1 ∷ []) × (debts.spare.items ≡ 0 ∷ []) }
-    requires of { debts.emitter ≡ (counted_of emitter.old).instance }
-    requires owed { (counted_of emitter.old).failed ≡ false → (counted_of emitter.old).owed ≡ 1 ∷ [] }
-    requires spare { (counted_of emitter.old).failed ≡ false → (tokens_of emitter.old).spare ≡ 0 ∷ [] }
-    requires value { (counted_of emitter.old).failed ≡ false → (tokens_of emitter.old).ending ≡ None }
+fn freed(emitter: &mut TokenEmitter<'_>, mut debts: Debts, arms: Arms) -> Result<Arms, NoMemory>
+    requires arm { IsArmOf 1 (0 ∷ []) (counted_of emitter.old) (tokens_of emitter.old) debts }
     requires can { (counted_of emitter.old).failed ≡ false → CanEnd (spends (tokens_of emitter.old) (TokenedMove.frees 0) 0) false (tokens_of emitter.old).splits }
     ensures going { OnOk result ((counted_of emitter.old).failed ≡ false) }
     ensures ok { OnOk result (counted_of emitter.new ≡ ended_by_value (counted_of emitter.old) 1) }
@@ -134,149 +67,60 @@ pub fn freed(emitter: &mut TokenEmitter<'_>, mut debts: Debts, arms: Arms) -> Re
     given_without(emitter, value, spare, debts, arms)
 }
 
-/// Calls the function on a reference, while all tokens are held.
-pub fn called_again(
-    alloc: Global,
-    emitter: &mut TokenEmitter<'_>,
-    inner: Owed,
-) -> Result<Owed, NoMemory>
-    requires writes { Writes (counted_of emitter.old) }
-    requires owns { Owns (counted_of emitter.old) inner.emitter inner.variable }
-    requires positions { (counted_of emitter.old).positions ≡ (Owned ∷ []) ∷ [] }
-    ensures going { OnOk result ((counted_of emitter.old).failed ≡ false) }
-    ensures ok { OnOk result (counted_of emitter.new ≡ computed (counted_of emitter.old) (Form.Call 0) (inner.variable ∷ []) (inner.variable ∷ [])) }
-    ensures tokens { OnOk result (tokens_of emitter.new ≡ adds (tokens_of emitter.old) (under_holds (tokens_of emitter.old).spare (TokenedMove.computes (counted_of emitter.old).next (Form.Call 0) (inner.variable ∷ []) (tokens_of emitter.old).spare))) }
-    ensures owed { IfOk result (λ owed. (owed.emitter ≡ (counted_of emitter.old).instance) × (owed.variable ≡ (counted_of emitter.old).next)) }
-    ensures failed { OnErr result ((counted_of emitter.new).failed ≡ true) }
+/// Begins a branch on what is inside of the parameter, a box, which is opened by its count. The first of two rows frees the cell
+/// and gives that. The other row is entered, which is to spend both.
+pub fn freed_first(alloc: Global, emitter: &mut TokenEmitter<'_>) -> Result<(Debts, Arms), NoMemory>
+    requires counted { counted_of emitter.old ≡ begun ((Owned ∷ []) ∷ []) (1 ∷ []) (table_of ((true ∷ []) ∷ [])) 0 }
+    requires tokens { tokens_of emitter.old ≡ no_tokens }
+    ensures ok { OnOk result (counted_of emitter.new ≡ box_row) }
+    ensures tokens { OnOk result (tokens_of emitter.new ≡ tokens_box_row) }
+    ensures variables { IfOk result (λ both. both.0.variables.items ≡ 1 ∷ []) }
+    ensures spare { IfOk result (λ both. both.0.spare.items ≡ 0 ∷ []) }
+    ensures emitter { IfOk result (λ both. both.0.emitter ≡ 0) }
+    ensures arms { IfOk result (λ both. (both.1.depth ≡ 1) × (left_in both.1.left.items ≡ [])) }
 {
-    let argument = match emitter.hand_over(inner) {
-        Ok(argument) => argument,
-        Err(kept) => return Err(abandoned(emitter, kept)),
-    };
-    let Ok(arguments) = Vec::from_slice(alloc, &[argument]) else {
-        return Err(emitter.fail());
-    };
-    match emitter.called(0, arguments) {
-        Ok(value) => Ok(value),
-        Err(kept) => Err(abandoned(emitter, kept)),
-    }
-}
-
-/// Builds a box of a reference in the cell of the only token.
-fn boxed(emitter: &mut TokenEmitter<'_>, mut debts: Debts, field: Owed) -> Result<Owed, NoMemory>
-    requires writes { Writes (counted_of emitter.old) }
-    requires fields { (counted_of emitter.old).field_counts ≡ 1 ∷ [] }
-    requires owns { Owns (counted_of emitter.old) field.emitter field.variable }
-    requires debts { (debts.variables.items ≡ []) × (debts.spare.items ≡ 0 ∷ []) }
-    requires of { debts.emitter ≡ (counted_of emitter.old).instance }
-    requires spare { (counted_of emitter.old).failed ≡ false → (tokens_of emitter.old).spare ≡ 0 ∷ [] }
-    ensures going { OnOk result ((counted_of emitter.old).failed ≡ false) }
-    ensures ok { OnOk result (counted_of emitter.new ≡ computed (counted_of emitter.old) (Form.Construct 0) (field.variable ∷ []) (field.variable ∷ [])) }
-    ensures tokens { OnOk result (tokens_of emitter.new ≡ spends (tokens_of emitter.old) (fills_with (counted_of emitter.old).next 0 0 (field.variable ∷ []) [] []) 0) }
-    ensures owed { IfOk result (λ owed. (owed.emitter ≡ (counted_of emitter.old).instance) × (owed.variable ≡ (counted_of emitter.old).next)) }
-    ensures failed { OnErr result ((counted_of emitter.new).failed ≡ true) }
-{
-    let Some(spare) = debts.take_spare() else {
+    let tests = truth_decisions(alloc)?;
+    let mut arms = opened(emitter, &tests)?;
+    let Some(debts) = emitter.next_arm(&mut arms) else {
         unreachable!();
     };
-    if let Err(kept) = debts.put(field) {
-        let error = abandoned(emitter, kept);
-        lose_token(emitter, spare);
-        debts.close();
-        return Err(error);
-    }
-    match emitter.construct_in(spare, 0, debts) {
-        Ok(built) => Ok(built),
-        Err(kept) => Err(abandoned(emitter, kept)),
-    }
+    let mut arms = freed(emitter, debts, arms)?;
+    let Some(debts) = emitter.next_arm(&mut arms) else {
+        unreachable!();
+    };
+    Ok((debts, arms))
 }
 
 /// An arm that holds its token while the function calls itself on its reference, and gives a box of the value in the cell.
 fn held_and_filled(
     alloc: Global,
     emitter: &mut TokenEmitter<'_>,
-    mut debts: Debts,
+    debts: Debts,
     arms: Arms,
 ) -> Result<Arms, NoMemory>
-    requires writes { Writes (counted_of emitter.old) }
-    requires arm { (counted_of emitter.old).failed ≡ false → IsInArm (counted_of emitter.old).splits }
+    requires arm { IsArmOf 1 (0 ∷ []) (counted_of emitter.old) (tokens_of emitter.old) debts }
     requires positions { (counted_of emitter.old).positions ≡ (Owned ∷ []) ∷ [] }
     requires fields { (counted_of emitter.old).field_counts ≡ 1 ∷ [] }
-    requires debts { (debts.variables.items ≡ 1 ∷ []) × (debts.spare.items ≡ 0 ∷ []) }
-    requires of { debts.emitter ≡ (counted_of emitter.old).instance }
-    requires owed { (counted_of emitter.old).failed ≡ false → (counted_of emitter.old).owed ≡ 1 ∷ [] }
     requires next { (counted_of emitter.old).failed ≡ false → (counted_of emitter.old).next ≡ 2 }
-    requires spare { (counted_of emitter.old).failed ≡ false → (tokens_of emitter.old).spare ≡ 0 ∷ [] }
-    requires value { (counted_of emitter.old).failed ≡ false → (tokens_of emitter.old).ending ≡ None }
     requires can { (counted_of emitter.old).failed ≡ false → CanEnd (spends (tokens_of emitter.old) (TokenedMove.frees 0) 0) false (tokens_of emitter.old).splits }
     ensures going { OnOk result ((counted_of emitter.old).failed ≡ false) }
     ensures ok { OnOk result (counted_of emitter.new ≡ ended_by_value (computed (computed (counted_of emitter.old) (Form.Call 0) (1 ∷ []) (1 ∷ [])) (Form.Construct 0) (2 ∷ []) (2 ∷ [])) 3) }
     ensures tokens { OnOk result (tokens_of emitter.new ≡ tokens_ended_in (spends (adds (tokens_of emitter.old) (under_holds (0 ∷ []) (TokenedMove.computes 2 (Form.Call 0) (1 ∷ []) (0 ∷ [])))) (fills_with 3 0 0 (2 ∷ []) [] []) 0) (Tokened.give 3) false (tokens_of emitter.old).splits) }
     ensures same { IfOk result (λ left. left ≡ arms) }
 {
-    let Some(inner) = debts.take() else {
-        unreachable!();
-    };
-    let field = match called_again(alloc, emitter, inner) {
-        Ok(field) => field,
-        Err(error) => {
-            lose_all(emitter, debts);
-            lose_arms(emitter, arms);
-            return Err(error);
-        }
-    };
-    match boxed(emitter, debts, field) {
+    match boxed_again(alloc, emitter, debts) {
         Ok(built) => ended(emitter, TokenArmEnd::Value(built, Debts::new(alloc)), arms),
-        Err(error) => {
-            lose_arms(emitter, arms);
-            Err(error)
-        }
-    }
-}
-
-/// Joins the branch, which leaves no token, and ends the function by its value.
-pub fn finished(mut emitter: TokenEmitter<'_>, arms: Arms) -> Result<TokenedFun, NoMemory>
-    requires between { IsBetween (counted_of emitter) }
-    requires newest { (counted_of emitter).failed ≡ false → AreNewest (counted_of emitter).splits arms.depth [] }
-    requires left { left_in arms.left.items ≡ [] }
-    requires instance { (counted_of emitter).instance ≡ 0 }
-    requires of { ((joined (counted_of emitter)).instance ≡ 0) × ((joined (counted_of emitter)).positions ≡ (Owned ∷ []) ∷ []) }
-    requires inside { (joined (counted_of emitter)).inside ≡ true }
-    requires joined { (joined (counted_of emitter)).splits ≡ [] }
-    requires called { (joined (counted_of emitter)).uncalled ≡ [] }
-    requires only { (joined (counted_of emitter)).owed ≡ (counted_of emitter).next ∷ [] }
-    requires marked { BecomesMarked (joined (counted_of emitter)) (finished_code (joined (counted_of emitter)) (counted_of emitter).next) }
-    requires none { (tokens_joined (tokens_of emitter) (counted_of emitter).next).spare ≡ [] }
-    ensures { IfOk result (λ function. IsTokenedFunctionOf ((Owned ∷ []) ∷ []) 0 function) }
-{
-    let (value, debts) = match emitter.join(arms) {
-        Ok(both) => both,
-        Err(kept) => return Err(abandoned(&mut emitter, kept)),
-    };
-    debts.close();
-    match emitter.finish(value) {
-        Ok(function) => Ok(function),
-        Err(kept) => Err(give_up(kept)),
+        Err(_) => Err(lose_arms(emitter, arms)),
     }
 }
 
 /// The function that opens its box, and by what is inside gives that, or what it gives for that itself in a box.
 fn shift(alloc: Global, shape: &Shape) -> Result<TokenedFun, NoMemory>
-    requires positions { positions_in shape.now.instances.items ≡ (Owned ∷ []) ∷ [] }
-    requires fields { fields_in shape.now.constructors.items ≡ 1 ∷ [] }
-    requires marks { marks_of shape.now.instances.items shape.now.constructors.items ≡ table_of ((true ∷ []) ∷ []) }
+    requires { IsShapeOf Owned ((true ∷ []) ∷ []) shape.now }
     ensures { IfOk result (λ function. IsTokenedFunctionOf ((Owned ∷ []) ∷ []) 0 function) }
 {
-    let tests = truth_decisions(alloc)?;
     let mut emitter = TokenEmitter::start(alloc, shape, 0)?;
-    let mut arms = opened(&mut emitter, &tests)?;
-    let Some(debts) = emitter.next_arm(&mut arms) else {
-        unreachable!();
-    };
-    let mut arms = freed(&mut emitter, debts, arms)?;
-    let Some(debts) = emitter.next_arm(&mut arms) else {
-        unreachable!();
-    };
+    let (debts, arms) = freed_first(alloc, &mut emitter)?;
     let arms = held_and_filled(alloc, &mut emitter, debts, arms)?;
     finished(emitter, arms)
 }
@@ -285,7 +129,7 @@ fn shift(alloc: Global, shape: &Shape) -> Result<TokenedFun, NoMemory>
 /// ends the function.
 #[test]
 fn a_token_is_freed_or_held_by_rows(rt: HostRuntime) -> Result<(), NoMemory> {
-    let shape = shape_of_one_function(rt.alloc())?;
+    let shape = shape_of_boxes(rt.alloc())?;
     let function = shift(rt.alloc(), &shape)?;
     let steps = &function.body.steps;
     assert_eq!(rt; steps.len(), 1);
@@ -311,14 +155,9 @@ fn freed_and_called(
     mut debts: Debts,
     arms: Arms,
 ) -> Result<Arms, NoMemory>
-    requires writes { Writes (counted_of emitter.old) }
-    requires arm { (counted_of emitter.old).failed ≡ false → IsInArm (counted_of emitter.old).splits }
+    requires arm { IsArmOf 1 (0 ∷ []) (counted_of emitter.old) (tokens_of emitter.old) debts }
     requires positions { (counted_of emitter.old).positions ≡ (Owned ∷ []) ∷ [] }
     requires outside { (counted_of emitter.old).failed ≡ false → outside (counted_of emitter.old).uncalled (counted_of emitter.old).splits ≡ [] }
-    requires debts { (debts.variables.items ≡ 1 ∷ []) × (debts.spare.items ≡ 0 ∷ []) }
-    requires of { debts.emitter ≡ (counted_of emitter.old).instance }
-    requires owed { (counted_of emitter.old).failed ≡ false → (counted_of emitter.old).owed ≡ 1 ∷ [] }
-    requires spare { (counted_of emitter.old).failed ≡ false → (tokens_of emitter.old).spare ≡ 0 ∷ [] }
     requires can { (counted_of emitter.old).failed ≡ false → CanEnd (spends (tokens_of emitter.old) (TokenedMove.frees 0) 0) true (tokens_of emitter.old).splits }
     ensures going { OnOk result ((counted_of emitter.old).failed ≡ false) }
     ensures ok { OnOk result (counted_of emitter.new ≡ ended_by_call (counted_of emitter.old) 0 (1 ∷ [])) }
@@ -334,15 +173,12 @@ fn freed_and_called(
     debts.close();
     match freed_for_call(alloc, emitter, value, spare) {
         Ok(arguments) => ended(emitter, TokenArmEnd::Tail(0, arguments), arms),
-        Err(error) => {
-            lose_arms(emitter, arms);
-            Err(error)
-        }
+        Err(_) => Err(lose_arms(emitter, arms)),
     }
 }
 
 /// Frees a token, and hands a reference over.
-fn freed_for_call(
+pub fn freed_for_call(
     alloc: Global,
     emitter: &mut TokenEmitter<'_>,
     value: Owed,
@@ -374,21 +210,11 @@ fn freed_for_call(
 
 /// The function that opens its box, and by what is inside gives that, or calls itself on it last.
 fn innermost(alloc: Global, shape: &Shape) -> Result<TokenedFun, NoMemory>
-    requires positions { positions_in shape.now.instances.items ≡ (Owned ∷ []) ∷ [] }
-    requires fields { fields_in shape.now.constructors.items ≡ 1 ∷ [] }
-    requires marks { marks_of shape.now.instances.items shape.now.constructors.items ≡ table_of ((true ∷ []) ∷ []) }
+    requires { IsShapeOf Owned ((true ∷ []) ∷ []) shape.now }
     ensures { IfOk result (λ function. IsTokenedFunctionOf ((Owned ∷ []) ∷ []) 0 function) }
 {
-    let tests = truth_decisions(alloc)?;
     let mut emitter = TokenEmitter::start(alloc, shape, 0)?;
-    let mut arms = opened(&mut emitter, &tests)?;
-    let Some(debts) = emitter.next_arm(&mut arms) else {
-        unreachable!();
-    };
-    let mut arms = freed(&mut emitter, debts, arms)?;
-    let Some(debts) = emitter.next_arm(&mut arms) else {
-        unreachable!();
-    };
+    let (debts, arms) = freed_first(alloc, &mut emitter)?;
     let arms = freed_and_called(alloc, &mut emitter, debts, arms)?;
     finished(emitter, arms)
 }
@@ -396,7 +222,7 @@ fn innermost(alloc: Global, shape: &Shape) -> Result<TokenedFun, NoMemory>
 /// Each row frees the cell. The branch ends the function: by what is inside, or by a tail call on it.
 #[test]
 fn a_row_ends_by_a_tail_call(rt: HostRuntime) -> Result<(), NoMemory> {
-    let shape = shape_of_one_function(rt.alloc())?;
+    let shape = shape_of_boxes(rt.alloc())?;
     let function = innermost(rt.alloc(), &shape)?;
     let steps = &function.body.steps;
     assert_eq!(rt; steps.len(), 1);
@@ -412,17 +238,15 @@ fn a_row_ends_by_a_tail_call(rt: HostRuntime) -> Result<(), NoMemory> {
     Ok(())
 }
 
-/// Opens the parameter, a box, and the box that was inside, and begins a branch on what was inside that. Each arm is to spend
-/// that and both tokens.
-fn opened_twice(emitter: &mut TokenEmitter<'_>, tests: &Decisions) -> Result<Arms, NoMemory>
+/// Opens the parameter, a box, and the box that was inside. What was inside that and both tokens are to be spent then.
+fn both_opened(emitter: &mut TokenEmitter<'_>) -> Result<Debts, NoMemory>
     requires counted { counted_of emitter.old ≡ begun ((Owned ∷ []) ∷ []) (1 ∷ []) (table_of ((true ∷ []) ∷ [])) 0 }
     requires tokens { tokens_of emitter.old ≡ no_tokens }
-    requires rows { tests.now.rows ≡ 3 }
-    ensures ok { OnOk result (counted_of emitter.new ≡ forked (unpacked (unpacked (given (counted_of emitter.old) 0) false 0 0 1) false 1 0 1) 2 (decisions_of tests.now) (2 ∷ []) 3) }
-    ensures tokens { OnOk result (tokens_of emitter.new ≡ tokens_forked (gains (gains no_tokens (opens_with false 0 0 (1 ∷ []) (1 ∷ []) 0)) (opens_with false 1 0 (2 ∷ []) (2 ∷ []) 1)) 2 (decisions_of tests.now) 3) }
-    ensures arms { IfOk result (λ arms. (arms.emitter ≡ 0) × (arms.depth ≡ 1)) }
-    ensures left { IfOk result (λ arms. left_in arms.left.items ≡ (2 ∷ []) ∷ (2 ∷ []) ∷ (2 ∷ []) ∷ []) }
-    ensures slots { IfOk result (λ arms. left_in arms.spare.items ≡ (0 ∷ 1 ∷ []) ∷ (0 ∷ 1 ∷ []) ∷ (0 ∷ 1 ∷ []) ∷ []) }
+    ensures ok { OnOk result (counted_of emitter.new ≡ unpacked (unpacked (given (counted_of emitter.old) 0) false 0 0 1) false 1 0 1) }
+    ensures tokens { OnOk result (tokens_of emitter.new ≡ gains (gains no_tokens (opens_with false 0 0 (1 ∷ []) (1 ∷ []) 0)) (opens_with false 1 0 (2 ∷ []) (2 ∷ []) 1)) }
+    ensures variables { IfOk result (λ debts. debts.variables.items ≡ 2 ∷ []) }
+    ensures spare { IfOk result (λ debts. debts.spare.items ≡ 0 ∷ 1 ∷ []) }
+    ensures emitter { IfOk result (λ debts. debts.emitter ≡ 0) }
 {
     let cell = emitter.param(0)?;
     let (mut outer, first) = match emitter.unpack(cell, 0, 1) {
@@ -445,6 +269,22 @@ fn opened_twice(emitter: &mut TokenEmitter<'_>, tests: &Decisions) -> Result<Arm
         lose_all(emitter, debts);
         return Err(error);
     }
+    Ok(debts)
+}
+
+/// Opens the parameter, a box, and the box that was inside, and begins a branch on what was inside that. Each arm is to spend
+/// that and both tokens.
+fn opened_twice(emitter: &mut TokenEmitter<'_>, tests: &Decisions) -> Result<Arms, NoMemory>
+    requires counted { counted_of emitter.old ≡ begun ((Owned ∷ []) ∷ []) (1 ∷ []) (table_of ((true ∷ []) ∷ [])) 0 }
+    requires tokens { tokens_of emitter.old ≡ no_tokens }
+    requires rows { tests.now.rows ≡ 3 }
+    ensures ok { OnOk result (counted_of emitter.new ≡ forked (unpacked (unpacked (given (counted_of emitter.old) 0) false 0 0 1) false 1 0 1) 2 (decisions_of tests.now) (2 ∷ []) 3) }
+    ensures tokens { OnOk result (tokens_of emitter.new ≡ tokens_forked (gains (gains no_tokens (opens_with false 0 0 (1 ∷ []) (1 ∷ []) 0)) (opens_with false 1 0 (2 ∷ []) (2 ∷ []) 1)) 2 (decisions_of tests.now) 3) }
+    ensures arms { IfOk result (λ arms. (arms.emitter ≡ 0) × (arms.depth ≡ 1)) }
+    ensures left { IfOk result (λ arms. left_in arms.left.items ≡ (2 ∷ []) ∷ (2 ∷ []) ∷ (2 ∷ []) ∷ []) }
+    ensures slots { IfOk result (λ arms. left_in arms.spare.items ≡ (0 ∷ 1 ∷ []) ∷ (0 ∷ 1 ∷ []) ∷ (0 ∷ 1 ∷ []) ∷ []) }
+{
+    let debts = both_opened(emitter)?;
     match emitter.split(2, tests, debts) {
         Ok(arms) => Ok(arms),
         Err(kept) => Err(abandoned(emitter, kept)),
@@ -452,7 +292,7 @@ fn opened_twice(emitter: &mut TokenEmitter<'_>, tests: &Decisions) -> Result<Arm
 }
 
 /// Puts two tokens behind some references.
-fn put_both(
+pub fn put_both(
     emitter: &mut TokenEmitter<'_>,
     debts: &mut Debts,
     first: Spare,
@@ -477,82 +317,67 @@ fn put_both(
     Ok(())
 }
 
+/// The reference of an arm, its newer token, and its older one. No other is there.
+fn all_taken(debts: &mut Debts) -> (Owed, Spare, Spare)
+    requires { (debts.old.variables.items ≡ 2 ∷ []) × (debts.old.spare.items ≡ 0 ∷ 1 ∷ []) }
+    ensures value { (result.0.variable ≡ 2) × (result.0.emitter ≡ debts.old.emitter) }
+    ensures newer { (result.1.slot ≡ 1) × (result.1.emitter ≡ debts.old.emitter) }
+    ensures older { (result.2.slot ≡ 0) × (result.2.emitter ≡ debts.old.emitter) }
+    ensures none { (debts.new.variables.items ≡ []) × (debts.new.spare.items ≡ []) }
+{
+    let Some(value) = debts.take() else {
+        unreachable!();
+    };
+    let Some(newer) = debts.take_spare() else {
+        unreachable!();
+    };
+    let Some(older) = debts.take_spare() else {
+        unreachable!();
+    };
+    (value, newer, older)
+}
+
 /// An arm that frees both of its tokens, and gives its reference.
-fn both_freed(
+pub fn both_freed(
     emitter: &mut TokenEmitter<'_>,
     mut debts: Debts,
     arms: Arms,
 ) -> Result<Arms, NoMemory>
-    requires writes { Writes (counted_of emitter.old) }
-    requires arm { (counted_of emitter.old).failed ≡ false → IsInArm (counted_of emitter.old).splits }
-    requires debts { (debts.variables.items ≡ 2 ∷ []) × (debts.spare.items ≡ 0 ∷ 1 ∷ []) }
-    requires of { debts.emitter ≡ (counted_of emitter.old).instance }
-    requires owed { (counted_of emitter.old).failed ≡ false → (counted_of emitter.old).owed ≡ 2 ∷ [] }
-    requires spare { (counted_of emitter.old).failed ≡ false → (tokens_of emitter.old).spare ≡ 1 ∷ 0 ∷ [] }
-    requires value { (counted_of emitter.old).failed ≡ false → (tokens_of emitter.old).ending ≡ None }
+    requires arm { IsArmOf 2 (0 ∷ 1 ∷ []) (counted_of emitter.old) (tokens_of emitter.old) debts }
     requires can { (counted_of emitter.old).failed ≡ false → CanEnd (spends (spends (tokens_of emitter.old) (TokenedMove.frees 1) 1) (TokenedMove.frees 0) 0) false (tokens_of emitter.old).splits }
     ensures going { OnOk result ((counted_of emitter.old).failed ≡ false) }
     ensures ok { OnOk result (counted_of emitter.new ≡ ended_by_value (counted_of emitter.old) 2) }
     ensures tokens { OnOk result (tokens_of emitter.new ≡ tokens_ended_in (spends (spends (tokens_of emitter.old) (TokenedMove.frees 1) 1) (TokenedMove.frees 0) 0) (Tokened.give 2) false (tokens_of emitter.old).splits) }
     ensures same { IfOk result (λ left. left ≡ arms) }
+    ensures failed { OnErr result ((counted_of emitter.new).failed ≡ true) }
 {
-    let Some(value) = debts.take() else {
-        unreachable!();
-    };
-    let Some(newer) = debts.take_spare() else {
-        unreachable!();
-    };
-    let Some(older) = debts.take_spare() else {
-        unreachable!();
-    };
+    let (value, newer, older) = all_taken(&mut debts);
     if let Err(kept) = emitter.release(newer) {
-        let error = abandoned(emitter, kept);
+        emitter.abandon(kept);
         lose(emitter, value);
         lose_token(emitter, older);
         debts.close();
-        lose_arms(emitter, arms);
-        return Err(error);
+        return Err(lose_arms(emitter, arms));
     }
     given_without(emitter, value, older, debts, arms)
 }
 
 /// An arm that frees the older of its two tokens, and gives its reference.
-fn older_freed(
+pub fn older_freed(
     emitter: &mut TokenEmitter<'_>,
     mut debts: Debts,
     arms: Arms,
 ) -> Result<Arms, NoMemory>
-    requires writes { Writes (counted_of emitter.old) }
-    requires arm { (counted_of emitter.old).failed ≡ false → IsInArm (counted_of emitter.old).splits }
-    requires debts { (debts.variables.items ≡ 2 ∷ []) × (debts.spare.items ≡ 0 ∷ 1 ∷ []) }
-    requires of { debts.emitter ≡ (counted_of emitter.old).instance }
-    requires owed { (counted_of emitter.old).failed ≡ false → (counted_of emitter.old).owed ≡ 2 ∷ [] }
-    requires spare { (counted_of emitter.old).failed ≡ false → (tokens_of emitter.old).spare ≡ 1 ∷ 0 ∷ [] }
-    requires value { (counted_of emitter.old).failed ≡ false → (tokens_of emitter.old).ending ≡ None }
+    requires arm { IsArmOf 2 (0 ∷ 1 ∷ []) (counted_of emitter.old) (tokens_of emitter.old) debts }
     requires can { (counted_of emitter.old).failed ≡ false → CanEnd (spends (tokens_of emitter.old) (TokenedMove.frees 0) 0) false (tokens_of emitter.old).splits }
     ensures going { OnOk result ((counted_of emitter.old).failed ≡ false) }
     ensures ok { OnOk result (counted_of emitter.new ≡ ended_by_value (counted_of emitter.old) 2) }
     ensures tokens { OnOk result (tokens_of emitter.new ≡ tokens_ended_in (spends (tokens_of emitter.old) (TokenedMove.frees 0) 0) (Tokened.give 2) false (tokens_of emitter.old).splits) }
     ensures same { IfOk result (λ left. left ≡ arms) }
+    ensures failed { OnErr result ((counted_of emitter.new).failed ≡ true) }
 {
-    let Some(value) = debts.take() else {
-        unreachable!();
-    };
-    let Some(newer) = debts.take_spare() else {
-        unreachable!();
-    };
-    let Some(older) = debts.take_spare() else {
-        unreachable!();
-    };
-    if let Err(kept) = debts.put_spare(newer) {
-        let error = abandoned(emitter, kept);
-        lose(emitter, value);
-        lose_token(emitter, older);
-        debts.close();
-        lose_arms(emitter, arms);
-        return Err(error);
-    }
-    given_without(emitter, value, older, debts, arms)
+    let (value, newer, older) = all_taken(&mut debts);
+    given_with(emitter, value, older, newer, debts, arms)
 }
 
 /// An arm that frees the newer of its two tokens, and gives its reference.
@@ -561,71 +386,15 @@ fn newer_freed(
     mut debts: Debts,
     arms: Arms,
 ) -> Result<Arms, NoMemory>
-    requires writes { Writes (counted_of emitter.old) }
-    requires arm { (counted_of emitter.old).failed ≡ false → IsInArm (counted_of emitter.old).splits }
-    requires debts { (debts.variables.items ≡ 2 ∷ []) × (debts.spare.items ≡ 0 ∷ 1 ∷ []) }
-    requires of { debts.emitter ≡ (counted_of emitter.old).instance }
-    requires owed { (counted_of emitter.old).failed ≡ false → (counted_of emitter.old).owed ≡ 2 ∷ [] }
-    requires spare { (counted_of emitter.old).failed ≡ false → (tokens_of emitter.old).spare ≡ 1 ∷ 0 ∷ [] }
-    requires value { (counted_of emitter.old).failed ≡ false → (tokens_of emitter.old).ending ≡ None }
+    requires arm { IsArmOf 2 (0 ∷ 1 ∷ []) (counted_of emitter.old) (tokens_of emitter.old) debts }
     requires can { (counted_of emitter.old).failed ≡ false → CanEnd (spends (tokens_of emitter.old) (TokenedMove.frees 1) 1) false (tokens_of emitter.old).splits }
     ensures going { OnOk result ((counted_of emitter.old).failed ≡ false) }
     ensures ok { OnOk result (counted_of emitter.new ≡ ended_by_value (counted_of emitter.old) 2) }
     ensures tokens { OnOk result (tokens_of emitter.new ≡ tokens_ended_in (spends (tokens_of emitter.old) (TokenedMove.frees 1) 1) (Tokened.give 2) false (tokens_of emitter.old).splits) }
     ensures same { IfOk result (λ left. left ≡ arms) }
 {
-    let Some(value) = debts.take() else {
-        unreachable!();
-    };
-    let Some(newer) = debts.take_spare() else {
-        unreachable!();
-    };
-    let Some(older) = debts.take_spare() else {
-        unreachable!();
-    };
-    if let Err(kept) = debts.put_spare(older) {
-        let error = abandoned(emitter, kept);
-        lose(emitter, value);
-        lose_token(emitter, newer);
-        debts.close();
-        lose_arms(emitter, arms);
-        return Err(error);
-    }
-    given_without(emitter, value, newer, debts, arms)
-}
-
-/// Joins the branch, which leaves one token, frees that and ends the function by the branch's value.
-fn freed_and_finished(mut emitter: TokenEmitter<'_>, arms: Arms) -> Result<TokenedFun, NoMemory>
-    requires between { IsBetween (counted_of emitter) }
-    requires newest { (counted_of emitter).failed ≡ false → AreNewest (counted_of emitter).splits arms.depth [] }
-    requires left { left_in arms.left.items ≡ [] }
-    requires instance { (counted_of emitter).instance ≡ 0 }
-    requires of { ((joined (counted_of emitter)).instance ≡ 0) × ((joined (counted_of emitter)).positions ≡ (Owned ∷ []) ∷ []) }
-    requires inside { ((joined (counted_of emitter)).inside ≡ true) × ((joined (counted_of emitter)).ending ≡ None) }
-    requires joined { (joined (counted_of emitter)).splits ≡ [] }
-    requires called { (joined (counted_of emitter)).uncalled ≡ [] }
-    requires only { (joined (counted_of emitter)).owed ≡ (counted_of emitter).next ∷ [] }
-    requires marked { BecomesMarked (joined (counted_of emitter)) (finished_code (joined (counted_of emitter)) (counted_of emitter).next) }
-    requires one { (tokens_joined (tokens_of emitter) (counted_of emitter).next).spare ≡ 1 ∷ [] }
-    ensures { IfOk result (λ function. IsTokenedFunctionOf ((Owned ∷ []) ∷ []) 0 function) }
-{
-    let (value, mut debts) = match emitter.join(arms) {
-        Ok(both) => both,
-        Err(kept) => return Err(abandoned(&mut emitter, kept)),
-    };
-    let Some(spare) = debts.take_spare() else {
-        unreachable!();
-    };
-    debts.close();
-    if let Err(kept) = emitter.release(spare) {
-        let error = abandoned(&mut emitter, kept);
-        lose(&mut emitter, value);
-        return Err(error);
-    }
-    match emitter.finish(value) {
-        Ok(function) => Ok(function),
-        Err(kept) => Err(give_up(kept)),
-    }
+    let (value, newer, older) = all_taken(&mut debts);
+    given_with(emitter, value, newer, older, debts, arms)
 }
 
 /// Decisions with three rows.
@@ -647,9 +416,7 @@ fn three_decisions(alloc: Global) -> Result<Decisions, NoMemory>
 
 /// The function that opens two boxes, and by what is inside frees both, or the one or the other, before the branch is left.
 fn one_at_most(alloc: Global, shape: &Shape) -> Result<TokenedFun, NoMemory>
-    requires positions { positions_in shape.now.instances.items ≡ (Owned ∷ []) ∷ [] }
-    requires fields { fields_in shape.now.constructors.items ≡ 1 ∷ [] }
-    requires marks { marks_of shape.now.instances.items shape.now.constructors.items ≡ table_of ((true ∷ []) ∷ []) }
+    requires { IsShapeOf Owned ((true ∷ []) ∷ []) shape.now }
     ensures { IfOk result (λ function. IsTokenedFunctionOf ((Owned ∷ []) ∷ []) 0 function) }
 {
     let tests = three_decisions(alloc)?;
@@ -674,7 +441,7 @@ fn one_at_most(alloc: Global, shape: &Shape) -> Result<TokenedFun, NoMemory>
 /// slot moves it, and one that has freed both leaves a null token.
 #[test]
 fn tokens_come_to_one_slot_where_a_branch_is_joined(rt: HostRuntime) -> Result<(), NoMemory> {
-    let shape = shape_of_one_function(rt.alloc())?;
+    let shape = shape_of_boxes(rt.alloc())?;
     let function = one_at_most(rt.alloc(), &shape)?;
     let steps = &function.body.steps;
     assert_eq!(rt; steps.len(), 4);

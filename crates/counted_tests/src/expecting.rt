@@ -37,12 +37,64 @@ pub fn reads(step: &TokenedStep, variable: u32, fields: &[u32]) -> bool {
     }
 }
 
-/// Whether the cell of the first variable, by the first constructor, is opened, and its token stands in the first slot.
+/// How a step opens a cell: by its count or not, of which variable, into which fields, which of them are used, and in which slot
+/// the token stands.
+#[derive(Drop)]
+pub struct Opening<'a> {
+    pub by_count: bool,
+    pub variable: u32,
+    pub fields: &'a [u32],
+    pub used: &'a [u32],
+    pub slot: u32,
+}
+
+/// How a step opens a cell, by the first constructor.
+fn opening_of(step: &TokenedStep) -> Option<Opening<'_>> {
+    match step {
+        TokenedStep::Open {
+            variable,
+            constructor: 0,
+            fields,
+            used,
+            slot,
+        }
+        | TokenedStep::IfUnique {
+            variable,
+            constructor: 0,
+            fields,
+            used,
+            slot,
+        } => Some(Opening {
+            by_count: matches!(step, TokenedStep::IfUnique { .. }),
+            variable: *variable,
+            fields,
+            used,
+            slot: *slot,
+        }),
+        _ => None,
+    }
+}
+
+/// Whether a cell is opened so.
+pub fn opens_as(step: &TokenedStep, expected: &Opening<'_>) -> bool {
+    match opening_of(step) {
+        Some(found) => {
+            found.by_count == expected.by_count
+                && found.variable == expected.variable
+                && found.fields == expected.fields
+                && found.used == expected.used
+                && found.slot == expected.slot
+        }
+        None => false,
+    }
+}
+
+/// Whether the cell of the first variable is opened, and its token stands in the first slot.
 pub fn opens(step: &TokenedStep, fields: &[u32], used: &[u32]) -> bool {
     opens_into(step, 0, fields, used, 0)
 }
 
-/// Whether the cell of a variable, by the first constructor, is opened, and its token stands in a slot.
+/// Whether the cell of a variable is opened, and its token stands in a slot.
 pub fn opens_into(
     step: &TokenedStep,
     variable: u32,
@@ -50,32 +102,26 @@ pub fn opens_into(
     used: &[u32],
     slot: u32,
 ) -> bool {
-    match step {
-        TokenedStep::Open {
-            variable: of,
-            constructor: 0,
-            fields: found,
-            used: named,
-            slot: to,
-        } => {
-            *of == variable && found.as_slice() == fields && named.as_slice() == used && *to == slot
-        }
-        _ => false,
-    }
+    let expected = Opening {
+        by_count: false,
+        variable,
+        fields,
+        used,
+        slot,
+    };
+    opens_as(step, &expected)
 }
 
-/// Whether the cell of the first variable is opened so by its count, and its token stands in the first slot.
+/// Whether the cell of the first variable is opened by its count, and its token stands in the first slot.
 pub fn opens_by_count(step: &TokenedStep, fields: &[u32], used: &[u32]) -> bool {
-    match step {
-        TokenedStep::IfUnique {
-            variable: 0,
-            constructor: 0,
-            fields: found,
-            used: named,
-            slot: 0,
-        } => found.as_slice() == fields && named.as_slice() == used,
-        _ => false,
-    }
+    let expected = Opening {
+        by_count: true,
+        variable: 0,
+        fields,
+        used,
+        slot: 0,
+    };
+    opens_as(step, &expected)
 }
 
 /// Whether a variable takes a cell of the first constructor in that of the only token, which stands in the first slot.

@@ -4,12 +4,20 @@
 #[cfg(test)]
 mod branching;
 #[cfg(test)]
+mod ending;
+#[cfg(test)]
 mod expecting;
 #[cfg(test)]
 mod lists;
 #[cfg(test)]
 mod losing;
 #[cfg(test)]
+mod nested;
+#[cfg(test)]
 mod rebuilding;
 #[cfg(test)]
 mod rows;
+#[cfg(test)]
+mod shapes;
+#[cfg(test)]
+mod tails;

@@ -3,48 +3,27 @@
 ghost use Rattle.std.specs.Prelude.{◌≡◌, ◌∷◌, [], true, false, pos, IfOk, OnOk, OnErr};
 ghost use Rattle.kk_syntax.specs.Shapes.{without};
 ghost use Rattle.kk_syntax.specs.declared.positions.Ownership.TheVariants.{Owned, Lent};
-ghost use Rattle.kk_counted.specs.InstancePositions.{positions_in, fields_in};
+ghost use Rattle.kk_counted.specs.InstancePositions.{positions_in};
 ghost use Rattle.kk_counted.specs.Drafts.{computed, looked, unpacked, Writes, Owns, OwnsAll, HasFields};
-ghost use Rattle.kk_counted.specs.Marks.{marks_of};
-ghost use Rattle.kk_counted.specs.TokenDrafts.{kept_by};
+ghost use Rattle.kk_counted.specs.TokenDrafts.{adds, kept_by};
+ghost use Rattle.kk_counted.specs.TokenedForms.{TokenedMove};
 ghost use Rattle.kk_counted.specs.TokenEmissions.{counted_of, tokens_of};
 ghost use Rattle.kk_counted.specs.TokenEmitting.{HasKnown, HasSpare, IsTokenedFunctionOf};
-ghost use Rattle.counted_tests.specs.CellTables.{table_of};
+ghost use Rattle.counted_tests.specs.CellTables.{IsShapeOf};
+ghost use Rattle.counted_tests.specs.ArmDebts.{IsCellRow};
 
-use crate::branching::called_again;
+use crate::branching::freed_for_call;
+use crate::ending::completed;
 use crate::expecting::{calls, computes, fills, opens, opens_by_count, reads};
 use crate::losing::{abandoned, lose, lose_only, lose_token};
+use crate::rebuilding::called_again;
+use crate::shapes::shape_of_pairs;
 use kk_base::NoMemory;
-use kk_core::ConstructorShape;
 use kk_counted::{
-    Debts, InstanceShape, Owed, Parameter, Shape, Spare, TokenEmitter, TokenedFun, TokenedLast,
-    TokenedStep, give_up,
+    Debts, Owed, Shape, Spare, TokenEmitter, TokenedFun, TokenedLast, TokenedStep, give_up,
 };
 use kk_syntax::{BinaryOperator, Form, Ownership};
 use std::alloc::Global;
-
-/// The shape of a program with one function of one parameter. It is a cell, whose type has one constructor with two fields.
-fn shape_of_pairs(alloc: Global, ownership: Ownership) -> Result<Shape, NoMemory>
-    ensures positions { IfOk result (λ shape. positions_in shape.instances.items ≡ (ownership ∷ []) ∷ []) }
-    ensures fields { IfOk result (λ shape. fields_in shape.constructors.items ≡ 2 ∷ []) }
-    ensures marks { IfOk result (λ shape. marks_of shape.instances.items shape.constructors.items ≡ table_of ((false ∷ true ∷ []) ∷ [])) }
-{
-    let parameter = Parameter {
-        ownership,
-        has_cells: true,
-    };
-    let instance = InstanceShape {
-        parameters: vec![in alloc; parameter]?,
-        result_has_cells: true,
-    };
-    let constructor = ConstructorShape {
-        of_type: 0,
-        tag: 0,
-        has_cells: true,
-        fields: vec![in alloc; false, true]?,
-    };
-    Ok(Shape::new(vec![in alloc; instance]?, vec![in alloc; constructor]?))
-}
 
 /// The references of the two fields of a cell, in their order.
 fn two_fields(
@@ -113,9 +92,7 @@ fn filled(
 /// The function `fun keep(p: pair): pair { match p { Pair(x, y) -> { val z = 9; Pair(z, y) } } }`. It leaves the second field,
 /// which its cell has already.
 fn keep(alloc: Global, shape: &Shape) -> Result<TokenedFun, NoMemory>
-    requires positions { positions_in shape.now.instances.items ≡ (Owned ∷ []) ∷ [] }
-    requires fields { fields_in shape.now.constructors.items ≡ 2 ∷ [] }
-    requires marks { marks_of shape.now.instances.items shape.now.constructors.items ≡ table_of ((false ∷ true ∷ []) ∷ []) }
+    requires { IsShapeOf Owned ((false ∷ true ∷ []) ∷ []) shape.now }
     ensures { IfOk result (λ function. IsTokenedFunctionOf (positions_in shape.now.instances.items) 0 function) }
 {
     let mut emitter = TokenEmitter::start(alloc, shape, 0)?;
@@ -138,10 +115,7 @@ fn keep(alloc: Global, shape: &Shape) -> Result<TokenedFun, NoMemory>
         }
     };
     let built = filled(alloc, &mut emitter, spare, 2, number, second)?;
-    match emitter.finish(built) {
-        Ok(function) => Ok(function),
-        Err(kept) => Err(give_up(kept)),
-    }
+    completed(emitter, built)
 }
 
 /// It opens the cell and gives its first field up, and builds one in its place that has the second field already.
@@ -158,25 +132,26 @@ fn a_second_field_is_left(rt: HostRuntime) -> Result<(), NoMemory> {
     Ok(())
 }
 
-/// Builds a new cell of two fields.
-fn constructed(
+/// Builds a new cell of a constructor with two fields.
+pub fn constructed(
     alloc: Global,
     emitter: &mut TokenEmitter<'_>,
+    constructor: u32,
     first: Owed,
     second: Owed,
 ) -> Result<Owed, NoMemory>
     requires writes { Writes (counted_of emitter.old) }
     requires owns { OwnsAll (counted_of emitter.old) first.emitter (first.variable ∷ second.variable ∷ []) }
     requires of { first.emitter ≡ second.emitter }
-    requires fields { HasFields (counted_of emitter.old) 0 2 }
+    requires fields { HasFields (counted_of emitter.old) constructor 2 }
     ensures going { OnOk result ((counted_of emitter.old).failed ≡ false) }
-    ensures ok { OnOk result (counted_of emitter.new ≡ computed (counted_of emitter.old) (Form.Construct 0) (first.variable ∷ second.variable ∷ []) (first.variable ∷ second.variable ∷ [])) }
-    ensures tokens { OnOk result (tokens_of emitter.new ≡ record (tokens_of emitter.old) { moves = (tokens_of emitter.new).moves }) }
+    ensures ok { OnOk result (counted_of emitter.new ≡ computed (counted_of emitter.old) (Form.Construct constructor) (first.variable ∷ second.variable ∷ []) (first.variable ∷ second.variable ∷ [])) }
+    ensures tokens { OnOk result (tokens_of emitter.new ≡ adds (tokens_of emitter.old) (TokenedMove.computes (counted_of emitter.old).next (Form.Construct constructor) (first.variable ∷ second.variable ∷ []) (tokens_of emitter.old).spare ∷ [])) }
     ensures owed { IfOk result (λ owed. (owed.emitter ≡ (counted_of emitter.old).instance) × (owed.variable ≡ (counted_of emitter.old).next)) }
     ensures failed { OnErr result ((counted_of emitter.new).failed ≡ true) }
 {
     let fields = two_fields(alloc, emitter, first, second)?;
-    match emitter.construct(0, fields) {
+    match emitter.construct(constructor, fields) {
         Ok(built) => Ok(built),
         Err(kept) => Err(abandoned(emitter, kept)),
     }
@@ -188,13 +163,7 @@ pub fn with_spine(
     emitter: &mut TokenEmitter<'_>,
     cell: Owed,
 ) -> Result<Owed, NoMemory>
-    requires writes { Writes (counted_of emitter.old) }
-    requires positions { (counted_of emitter.old).positions ≡ (Owned ∷ []) ∷ [] }
-    requires fields { HasFields (counted_of emitter.old) 0 2 }
-    requires cell { (cell.variable ≡ 0) × (cell.emitter ≡ (counted_of emitter.old).instance) }
-    requires owed { (counted_of emitter.old).failed ≡ false → (counted_of emitter.old).owed ≡ 0 ∷ [] }
-    requires next { (counted_of emitter.old).failed ≡ false → (counted_of emitter.old).next ≡ 1 }
-    requires spare { (counted_of emitter.old).failed ≡ false → (tokens_of emitter.old).spare ≡ [] }
+    requires row { IsCellRow 1 (counted_of emitter.old) (tokens_of emitter.old) cell }
     requires lent { (counted_of emitter.old).failed ≡ false → (counted_of emitter.old).lent ≡ [] }
     ensures going { OnOk result ((counted_of emitter.old).failed ≡ false) }
     ensures ok { OnOk result (counted_of emitter.new ≡ record (counted_of emitter.old) { steps = (counted_of emitter.new).steps; owed = 4 ∷ []; next = 5; lent = [] }) }
@@ -215,7 +184,7 @@ pub fn with_spine(
     };
     read.close();
     match called_again(alloc, emitter, rest) {
-        Ok(value) => constructed(alloc, emitter, cell, value),
+        Ok(value) => constructed(alloc, emitter, 0, cell, value),
         Err(error) => {
             lose(emitter, cell);
             Err(error)
@@ -229,13 +198,7 @@ pub fn increased(
     emitter: &mut TokenEmitter<'_>,
     cell: Owed,
 ) -> Result<Owed, NoMemory>
-    requires writes { Writes (counted_of emitter.old) }
-    requires positions { (counted_of emitter.old).positions ≡ (Owned ∷ []) ∷ [] }
-    requires fields { HasFields (counted_of emitter.old) 0 2 }
-    requires cell { (cell.variable ≡ 0) × (cell.emitter ≡ (counted_of emitter.old).instance) }
-    requires owed { (counted_of emitter.old).failed ≡ false → (counted_of emitter.old).owed ≡ 0 ∷ [] }
-    requires next { (counted_of emitter.old).failed ≡ false → (counted_of emitter.old).next ≡ 1 }
-    requires spare { (counted_of emitter.old).failed ≡ false → (tokens_of emitter.old).spare ≡ [] }
+    requires row { IsCellRow 1 (counted_of emitter.old) (tokens_of emitter.old) cell }
     ensures going { OnOk result ((counted_of emitter.old).failed ≡ false) }
     ensures ok { OnOk result (counted_of emitter.new ≡ record (counted_of emitter.old) { steps = (counted_of emitter.new).steps; owed = 6 ∷ []; next = 7 }) }
     ensures steps { OnOk result ((counted_of emitter.new).steps ≡ (computed (computed (computed (computed (unpacked (counted_of emitter.old) true 0 0 3) (Form.Number (pos 1)) [] []) (Form.Binary BinaryOperator.Add) (1 ∷ 3 ∷ []) (1 ∷ 3 ∷ [])) (Form.Call 0) (2 ∷ []) (2 ∷ [])) (Form.Construct 0) (4 ∷ 5 ∷ []) (4 ∷ 5 ∷ [])).steps) }
@@ -380,8 +343,7 @@ fn called_and_filled(
 
 /// The function that duplicates its parameter, drops one of the two references, and gives the other.
 fn drops_one_of_two(alloc: Global, shape: &Shape) -> Result<TokenedFun, NoMemory>
-    requires positions { positions_in shape.now.instances.items ≡ (Owned ∷ []) ∷ [] }
-    requires marks { marks_of shape.now.instances.items shape.now.constructors.items ≡ table_of ((false ∷ true ∷ []) ∷ []) }
+    requires { IsShapeOf Owned ((false ∷ true ∷ []) ∷ []) shape.now }
     ensures { IfOk result (λ function. IsTokenedFunctionOf (positions_in shape.now.instances.items) 0 function) }
 {
     let mut emitter = TokenEmitter::start(alloc, shape, 0)?;
@@ -398,10 +360,7 @@ fn drops_one_of_two(alloc: Global, shape: &Shape) -> Result<TokenedFun, NoMemory
         lose(&mut emitter, first);
         return Err(error);
     }
-    match emitter.finish(first) {
-        Ok(function) => Ok(function),
-        Err(kept) => Err(give_up(kept)),
-    }
+    completed(emitter, first)
 }
 
 /// Both steps are written.
@@ -419,18 +378,13 @@ fn a_dup_and_a_drop_are_written(rt: HostRuntime) -> Result<(), NoMemory> {
 
 /// The function of a lent pair that gives its second field.
 fn second_of_lent(alloc: Global, shape: &Shape) -> Result<TokenedFun, NoMemory>
-    requires positions { positions_in shape.now.instances.items ≡ (Lent ∷ []) ∷ [] }
-    requires fields { fields_in shape.now.constructors.items ≡ 2 ∷ [] }
-    requires marks { marks_of shape.now.instances.items shape.now.constructors.items ≡ table_of ((false ∷ true ∷ []) ∷ []) }
+    requires { IsShapeOf Lent ((false ∷ true ∷ []) ∷ []) shape.now }
     ensures { IfOk result (λ function. IsTokenedFunctionOf (positions_in shape.now.instances.items) 0 function) }
 {
     let mut emitter = TokenEmitter::start(alloc, shape, 0)?;
     let field = emitter.field(0, 0, 1)?;
     let second = emitter.dup_lent(field)?;
-    match emitter.finish(second) {
-        Ok(function) => Ok(function),
-        Err(kept) => Err(give_up(kept)),
-    }
+    completed(emitter, second)
 }
 
 /// It reads both fields, which are lent, and makes a reference of its own of the second one.
@@ -448,9 +402,7 @@ fn a_lent_field_is_duplicated(rt: HostRuntime) -> Result<(), NoMemory> {
 
 /// The function `fun last(xs: list): list { match xs { Cons(_, xx) -> last(xx) } }`. It frees the cell that it opens.
 fn last(alloc: Global, shape: &Shape) -> Result<TokenedFun, NoMemory>
-    requires positions { positions_in shape.now.instances.items ≡ (Owned ∷ []) ∷ [] }
-    requires fields { fields_in shape.now.constructors.items ≡ 2 ∷ [] }
-    requires marks { marks_of shape.now.instances.items shape.now.constructors.items ≡ table_of ((false ∷ true ∷ []) ∷ []) }
+    requires { IsShapeOf Owned ((false ∷ true ∷ []) ∷ []) shape.now }
     ensures { IfOk result (λ function. IsTokenedFunctionOf (positions_in shape.now.instances.items) 0 function) }
 {
     let mut emitter = TokenEmitter::start(alloc, shape, 0)?;
@@ -459,28 +411,11 @@ fn last(alloc: Global, shape: &Shape) -> Result<TokenedFun, NoMemory>
         Ok(both) => both,
         Err(kept) => return Err(abandoned(&mut emitter, kept)),
     };
-    if let Err(kept) = opened.put_spare(spare) {
-        let error = abandoned(&mut emitter, kept);
-        lose_only(&mut emitter, opened);
-        return Err(error);
-    }
     let Some(rest) = opened.take() else {
         unreachable!();
     };
-    let Some(spare) = opened.take_spare() else {
-        unreachable!();
-    };
     opened.close();
-    if let Err(kept) = emitter.release(spare) {
-        let error = abandoned(&mut emitter, kept);
-        lose(&mut emitter, rest);
-        return Err(error);
-    }
-    let argument = match emitter.hand_over(rest) {
-        Ok(argument) => argument,
-        Err(kept) => return Err(abandoned(&mut emitter, kept)),
-    };
-    let arguments = Vec::from_slice(alloc, &[argument])?;
+    let arguments = freed_for_call(alloc, &mut emitter, rest, spare)?;
     match emitter.finish_tail(0, arguments) {
         Ok(function) => Ok(function),
         Err(kept) => Err(give_up(kept)),

@@ -62,8 +62,8 @@ pub fn lose_all(emitter: &mut TokenEmitter<'_>, mut debts: Debts)
     debts.close();
 }
 
-/// Spends what is left of a branch of an emitter that has failed.
-pub fn lose_arms(emitter: &mut TokenEmitter<'_>, mut arms: Arms)
+/// Spends what is left of a branch of an emitter that has failed, and gives the want of memory.
+pub fn lose_arms(emitter: &mut TokenEmitter<'_>, mut arms: Arms) -> NoMemory
     requires { (counted_of emitter.old).failed ≡ true }
     ensures { (counted_of emitter.new).failed ≡ true }
 {
@@ -77,4 +77,5 @@ pub fn lose_arms(emitter: &mut TokenEmitter<'_>, mut arms: Arms)
         }
         Err(kept) => emitter.abandon(kept),
     }
+    NoMemory
 }

@@ -1,68 +1,38 @@
 //! Functions on lists and trees with a row for each constructor: the rows of no cell, and those that read, open or fill one.
 
-ghost use Rattle.std.specs.Prelude.{◌≡◌, ◌∷◌, [], false, true, None, IfOk, OnOk};
+ghost use Rattle.std.specs.Prelude.{◌≡◌, ◌∷◌, [], false, true, IfOk, OnOk};
 ghost use Rattle.kk_syntax.specs.declared.positions.Ownership.TheVariants.{Owned};
 ghost use Rattle.kk_counted.specs.CountedForms.{decisions_of};
-ghost use Rattle.kk_counted.specs.InstancePositions.{positions_in, fields_in};
-ghost use Rattle.kk_counted.specs.Marks.{marks_of};
 ghost use Rattle.kk_counted.specs.TokenedCodes.{Tokened};
-ghost use Rattle.kk_counted.specs.Drafts.{begun, given, forked, ended_by_value, Writes, IsInArm};
-ghost use Rattle.kk_counted.specs.TokenDrafts.{no_tokens, tokens_forked, tokens_ended_in};
+ghost use Rattle.kk_counted.specs.Drafts.{begun, given, forked, ended_by_value};
+ghost use Rattle.kk_counted.specs.TokenDrafts.{no_tokens, tokens_forked, tokens_ended_in, tokens_entered};
 ghost use Rattle.kk_counted.specs.TokenEmissions.{counted_of, tokens_of};
 ghost use Rattle.kk_counted.specs.TokenEmitting.{CanEnd, IsTokenedFunctionOf};
 ghost use Rattle.kk_counted.specs.Works.{left_in};
-ghost use Rattle.counted_tests.specs.CellTables.{table_of};
+ghost use Rattle.counted_tests.specs.CellTables.{IsShapeOf};
+ghost use Rattle.counted_tests.specs.ArmDebts.{IsArmOf};
+ghost use Rattle.counted_tests.specs.TwoRows.{behind_first, tokens_first, tokens_given};
 
-use crate::branching::{ended, finished};
+use crate::ending::{ended, finished};
 use crate::expecting::{computes, fills, opens_by_count, reads, rows_of};
 use crate::lists::{increased, with_spine};
 use crate::losing::{abandoned, lose_arms};
+use crate::shapes::shape_of_rows;
 use kk_base::NoMemory;
-use kk_core::{ConstructorShape, Decisions, truth_decisions};
+use kk_core::{Decisions, truth_decisions};
 use kk_counted::{
-    Arms, Debts, InstanceShape, Parameter, Shape, TokenArmEnd, TokenEmitter, TokenedFun,
-    TokenedLast, TokenedStep,
+    Arms, Debts, Owed, Shape, TokenArmEnd, TokenEmitter, TokenedFun, TokenedLast, TokenedStep,
 };
-use kk_syntax::{BinaryOperator, Form, Ownership};
+use kk_syntax::{BinaryOperator, Form};
 use std::alloc::Global;
 
-/// The shape of a program with one function, which owns its parameter. Its type has a constructor with two fields, the second one
-/// of that type, and one without fields: it is a list of numbers, or a tree, whose first field has cells too.
-fn shape_of_rows(alloc: Global, first_has_cells: bool) -> Result<Shape, NoMemory>
-    ensures positions { IfOk result (λ shape. positions_in shape.instances.items ≡ (Owned ∷ []) ∷ []) }
-    ensures fields { IfOk result (λ shape. fields_in shape.constructors.items ≡ 2 ∷ 0 ∷ []) }
-    ensures marks { IfOk result (λ shape. marks_of shape.instances.items shape.constructors.items ≡ table_of ((first_has_cells ∷ true ∷ []) ∷ [] ∷ [])) }
-{
-    let parameter = Parameter {
-        ownership: Ownership::Owned,
-        has_cells: true,
-    };
-    let instance = InstanceShape {
-        parameters: vec![in alloc; parameter]?,
-        result_has_cells: true,
-    };
-    let cons = ConstructorShape {
-        of_type: 0,
-        tag: 0,
-        has_cells: true,
-        fields: vec![in alloc; first_has_cells, true]?,
-    };
-    let nil = ConstructorShape {
-        of_type: 0,
-        tag: 1,
-        has_cells: true,
-        fields: Vec::new(alloc),
-    };
-    Ok(Shape::new(vec![in alloc; instance]?, vec![in alloc; cons, nil]?))
-}
-
-/// Begins a branch on the parameter, a list. Each arm is to spend that, and no token.
-fn matched(
+/// Begins a branch on the parameter. Each arm is to spend that, and no token.
+pub fn matched(
     alloc: Global,
     emitter: &mut TokenEmitter<'_>,
     tests: &Decisions,
 ) -> Result<Arms, NoMemory>
-    requires counted { counted_of emitter.old ≡ begun ((Owned ∷ []) ∷ []) (2 ∷ 0 ∷ []) (counted_of emitter.old).marks 0 }
+    requires counted { counted_of emitter.old ≡ begun ((Owned ∷ []) ∷ []) (counted_of emitter.old).field_counts (counted_of emitter.old).marks 0 }
     requires tokens { tokens_of emitter.old ≡ no_tokens }
     requires rows { tests.now.rows ≡ 2 }
     ensures ok { OnOk result (counted_of emitter.new ≡ forked (given (counted_of emitter.old) 0) 0 (decisions_of tests.now) (0 ∷ []) 2) }
@@ -89,13 +59,7 @@ fn given_back(
     mut debts: Debts,
     arms: Arms,
 ) -> Result<Arms, NoMemory>
-    requires writes { Writes (counted_of emitter.old) }
-    requires arm { (counted_of emitter.old).failed ≡ false → IsInArm (counted_of emitter.old).splits }
-    requires debts { (debts.variables.items ≡ 0 ∷ []) × (debts.spare.items ≡ []) }
-    requires of { debts.emitter ≡ (counted_of emitter.old).instance }
-    requires owed { (counted_of emitter.old).failed ≡ false → (counted_of emitter.old).owed ≡ 0 ∷ [] }
-    requires spare { (counted_of emitter.old).failed ≡ false → (tokens_of emitter.old).spare ≡ [] }
-    requires value { (counted_of emitter.old).failed ≡ false → (tokens_of emitter.old).ending ≡ None }
+    requires arm { IsArmOf 0 [] (counted_of emitter.old) (tokens_of emitter.old) debts }
     requires can { (counted_of emitter.old).failed ≡ false → CanEnd (tokens_of emitter.old) false (tokens_of emitter.old).splits }
     ensures going { OnOk result ((counted_of emitter.old).failed ≡ false) }
     ensures ok { OnOk result (counted_of emitter.new ≡ ended_by_value (counted_of emitter.old) 0) }
@@ -108,35 +72,44 @@ fn given_back(
     ended(emitter, TokenArmEnd::Value(list, debts), arms)
 }
 
-/// The function `fun spine(t: tree): tree { match t { Node(_, right) -> Node(t, spine(right)); Leaf -> t } }`.
-fn spine(alloc: Global, shape: &Shape) -> Result<TokenedFun, NoMemory>
-    requires positions { positions_in shape.now.instances.items ≡ (Owned ∷ []) ∷ [] }
-    requires fields { fields_in shape.now.constructors.items ≡ 2 ∷ 0 ∷ [] }
-    requires marks { marks_of shape.now.instances.items shape.now.constructors.items ≡ table_of ((true ∷ true ∷ []) ∷ [] ∷ []) }
-    ensures { IfOk result (λ function. IsTokenedFunctionOf ((Owned ∷ []) ∷ []) 0 function) }
+/// Begins a branch on the parameter, and writes the row of the constructor without fields: it gives that as it is. The other row
+/// is entered, which is to spend it too.
+fn given_first(alloc: Global, emitter: &mut TokenEmitter<'_>) -> Result<(Owed, Arms), NoMemory>
+    requires counted { counted_of emitter.old ≡ begun ((Owned ∷ []) ∷ []) (counted_of emitter.old).field_counts (counted_of emitter.old).marks 0 }
+    requires tokens { tokens_of emitter.old ≡ no_tokens }
+    ensures ok { OnOk result (counted_of emitter.new ≡ behind_first (given (counted_of emitter.old) 0) 0 0) }
+    ensures tokens { OnOk result (tokens_of emitter.new ≡ tokens_entered (tokens_given (tokens_first no_tokens 0) 0)) }
+    ensures cell { IfOk result (λ both. (both.0.emitter ≡ 0) × (both.0.variable ≡ 0)) }
+    ensures arms { IfOk result (λ both. (both.1.depth ≡ 1) × (left_in both.1.left.items ≡ [])) }
 {
     let tests = truth_decisions(alloc)?;
-    let mut emitter = TokenEmitter::start(alloc, shape, 0)?;
-    let mut arms = matched(alloc, &mut emitter, &tests)?;
+    let mut arms = matched(alloc, emitter, &tests)?;
     let Some(debts) = emitter.next_arm(&mut arms) else {
         unreachable!();
     };
-    let mut arms = given_back(&mut emitter, debts, arms)?;
+    let mut arms = given_back(emitter, debts, arms)?;
     let Some(mut debts) = emitter.next_arm(&mut arms) else {
         unreachable!();
     };
     let Some(cell) = debts.take() else {
         unreachable!();
     };
-    let value = match with_spine(alloc, &mut emitter, cell) {
-        Ok(value) => value,
-        Err(error) => {
-            debts.close();
-            lose_arms(&mut emitter, arms);
-            return Err(error);
-        }
+    debts.close();
+    Ok((cell, arms))
+}
+
+/// The function `fun spine(t: tree): tree { match t { Node(_, right) -> Node(t, spine(right)); Leaf -> t } }`.
+fn spine(alloc: Global, shape: &Shape) -> Result<TokenedFun, NoMemory>
+    requires { IsShapeOf Owned ((true ∷ true ∷ []) ∷ [] ∷ []) shape.now }
+    ensures { IfOk result (λ function. IsTokenedFunctionOf ((Owned ∷ []) ∷ []) 0 function) }
+{
+    let mut emitter = TokenEmitter::start(alloc, shape, 0)?;
+    let (cell, arms) = given_first(alloc, &mut emitter)?;
+    let end = match with_spine(alloc, &mut emitter, cell) {
+        Ok(value) => TokenArmEnd::Value(value, Debts::new(alloc)),
+        Err(_) => return Err(lose_arms(&mut emitter, arms)),
     };
-    let arms = ended(&mut emitter, TokenArmEnd::Value(value, debts), arms)?;
+    let arms = ended(&mut emitter, end, arms)?;
     finished(emitter, arms)
 }
 
@@ -161,33 +134,16 @@ fn a_cell_that_is_read_stays(rt: HostRuntime) -> Result<(), NoMemory> {
 
 /// The function `fun inc(xs: list): list { match xs { Cons(x, xx) -> Cons(x + 1, inc(xx)); Nil -> xs } }`.
 fn inc(alloc: Global, shape: &Shape) -> Result<TokenedFun, NoMemory>
-    requires positions { positions_in shape.now.instances.items ≡ (Owned ∷ []) ∷ [] }
-    requires fields { fields_in shape.now.constructors.items ≡ 2 ∷ 0 ∷ [] }
-    requires marks { marks_of shape.now.instances.items shape.now.constructors.items ≡ table_of ((false ∷ true ∷ []) ∷ [] ∷ []) }
+    requires { IsShapeOf Owned ((false ∷ true ∷ []) ∷ [] ∷ []) shape.now }
     ensures { IfOk result (λ function. IsTokenedFunctionOf ((Owned ∷ []) ∷ []) 0 function) }
 {
-    let tests = truth_decisions(alloc)?;
     let mut emitter = TokenEmitter::start(alloc, shape, 0)?;
-    let mut arms = matched(alloc, &mut emitter, &tests)?;
-    let Some(debts) = emitter.next_arm(&mut arms) else {
-        unreachable!();
+    let (cell, arms) = given_first(alloc, &mut emitter)?;
+    let end = match increased(alloc, &mut emitter, cell) {
+        Ok(value) => TokenArmEnd::Value(value, Debts::new(alloc)),
+        Err(_) => return Err(lose_arms(&mut emitter, arms)),
     };
-    let mut arms = given_back(&mut emitter, debts, arms)?;
-    let Some(mut debts) = emitter.next_arm(&mut arms) else {
-        unreachable!();
-    };
-    let Some(cell) = debts.take() else {
-        unreachable!();
-    };
-    let value = match increased(alloc, &mut emitter, cell) {
-        Ok(value) => value,
-        Err(error) => {
-            debts.close();
-            lose_arms(&mut emitter, arms);
-            return Err(error);
-        }
-    };
-    let arms = ended(&mut emitter, TokenArmEnd::Value(value, debts), arms)?;
+    let arms = ended(&mut emitter, end, arms)?;
     finished(emitter, arms)
 }
 

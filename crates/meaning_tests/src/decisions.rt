@@ -8,10 +8,28 @@ use std::test::Fail;
 /// The numbers of the types of `False`, `True` and `Made`, which is the only one of its type.
 const TYPES: [u32; 3] = [0, 0, 1];
 
+/// The rows of the third match, and of the last one, which has a row more between them.
+const FIRST_ROWS: [&str; 6] = [
+    "10_011__11",
+    "00_0_1_001",
+    "____01__11",
+    "__10__01_0",
+    "_____10100",
+    "1_____0101",
+];
+
+const LAST_ROWS: [&str; 5] = [
+    "_____00101",
+    "____1_01_0",
+    "_1______01",
+    "___1__0_01",
+    "__0_____01",
+];
+
 /// A match on `Made`, and what decides it.
 struct Match {
-    /// The rows: for each field `T` or `F`, a digit, or `_`.
-    rows: &'static [&'static str],
+    /// The rows, in pieces: for each field `T` or `F`, a digit, or `_`.
+    rows: &'static [&'static [&'static str]],
     /// The number of tests, and whether the rows are tried one after the other.
     decided: (u32, bool),
     /// The same where the tests are to be brief.
@@ -22,47 +40,22 @@ struct Match {
 /// more than 56 * 121 + 2 * 121 * 121 = 36,058. In the last one 1156 states test, more than 8 times its 132 pattern nodes.
 const MATCHES: [Match; 4] = [
     Match {
-        rows: &["TT", "FT", "_F"],
+        rows: &[&["TT", "FT", "_F"]],
         decided: (3, false),
         briefly: (3, false),
     },
     Match {
-        rows: &["0", "_", "1"],
+        rows: &[&["0", "_", "1"]],
         decided: (1, false),
         briefly: (1, false),
     },
     Match {
-        rows: &[
-            "10_011__11",
-            "00_0_1_001",
-            "____01__11",
-            "__10__01_0",
-            "_____10100",
-            "1_____0101",
-            "_____00101",
-            "____1_01_0",
-            "_1______01",
-            "___1__0_01",
-            "__0_____01",
-        ],
+        rows: &[&FIRST_ROWS, &LAST_ROWS],
         decided: (966, false),
         briefly: (52, true),
     },
     Match {
-        rows: &[
-            "10_011__11",
-            "00_0_1_001",
-            "____01__11",
-            "__10__01_0",
-            "_____10100",
-            "1_____0101",
-            "___10__100",
-            "_____00101",
-            "____1_01_0",
-            "_1______01",
-            "___1__0_01",
-            "__0_____01",
-        ],
+        rows: &[&FIRST_ROWS, &["___10__100"], &LAST_ROWS],
         decided: (57, true),
         briefly: (57, true),
     },
@@ -95,11 +88,13 @@ fn pattern(alloc: Global, row: &str) -> Result<Pat, AllocError> {
     Ok(Pat::Constructor(2, parts))
 }
 
-fn decided(alloc: Global, rows: &[&str], briefly: bool) -> Result<(u32, bool), Fail> {
+fn decided(alloc: Global, pieces: &[&[&str]], briefly: bool) -> Result<(u32, bool), Fail> {
     let constructors = constructors(alloc)?;
     let mut owned = Vec::new(alloc);
-    for row in rows {
-        owned.push(pattern(alloc, row)?)?;
+    for rows in pieces {
+        for row in *rows {
+            owned.push(pattern(alloc, row)?)?;
+        }
     }
     let mut patterns = Vec::new(alloc);
     for pattern in &owned {

@@ -24,19 +24,49 @@ pub(crate) const CELLS: u32 = 65_536;
 
 pub(crate) const DEPTH: u32 = 4_096;
 
-/// The text of examples/arithmetic.kk. It has no match and no cell.
-pub(crate) const ARITHMETIC: &str = "fun main() { println(1 + 2 * 3) }
-";
-
-/// The text of examples/reverse.kk.
-pub(crate) const REVERSE: &str = "type list<a> { Nil; Cons(head: a, tail: list<a>) }
+/// A text that begins with lists, and with functions that build one and count its cells.
+macro_rules! with_lists {
+    ($rest:literal) => {
+        concat!(
+            "type list<a> { Nil; Cons(head: a, tail: list<a>) }
 fun build(n: int32): list<int32>
   if n == 0 then Nil else Cons(n, build(n - 1))
 fun len(xs: list<a>): int32
   match xs
     Nil -> 0
     Cons(_, xx) -> 1 + len(xx)
-fun rev(xs: list<a>, acc: list<a>): list<a>
+",
+            $rest
+        )
+    };
+}
+
+/// A text that begins with lists, and with functions that build one and increase its numbers.
+macro_rules! with_increment {
+    ($rest:literal) => {
+        concat!(
+            "type list<a> { Nil; Cons(head: a, tail: list<a>) }
+fun build(n: int32): list<int32>
+  if n == 0 then Nil else Cons(n, build(n - 1))
+fun inc(xs: list<int32>): list<int32>
+  match xs
+    Nil -> Nil
+    Cons(x, xx) -> Cons(x + 1, inc(xx))
+",
+            $rest
+        )
+    };
+}
+
+pub(crate) use with_increment;
+
+/// The text of examples/arithmetic.kk. It has no match and no cell.
+pub(crate) const ARITHMETIC: &str = "fun main() { println(1 + 2 * 3) }
+";
+
+/// The text of examples/reverse.kk.
+pub(crate) const REVERSE: &str = with_lists!(
+    "fun rev(xs: list<a>, acc: list<a>): list<a>
   match xs
     Cons(x, xx) -> rev(xx, Cons(x, acc))
     Nil -> acc
@@ -44,17 +74,12 @@ fun main()
   match rev(build(3), Nil)
     Cons(x, _) -> println(x)
     Nil -> println(0)
-";
+"
+);
 
 /// The text of examples/lent-parameter.kk.
-pub(crate) const LENT_PARAMETER: &str = "type list<a> { Nil; Cons(head: a, tail: list<a>) }
-fun build(n: int32): list<int32>
-  if n == 0 then Nil else Cons(n, build(n - 1))
-fun len(xs: list<a>): int32
-  match xs
-    Nil -> 0
-    Cons(_, xx) -> 1 + len(xx)
-fun sum(xs: list<int32>): int32
+pub(crate) const LENT_PARAMETER: &str = with_lists!(
+    "fun sum(xs: list<int32>): int32
   match xs
     Nil -> 0
     Cons(x, xx) -> x + sum(xx)
@@ -64,34 +89,25 @@ fun f(xs: list<int32>): int32
     Cons(x, _) -> sum(build(x))
 fun main()
   println(f(Cons(3, Nil)))
-";
+"
+);
 
 /// The text of examples/shared-pair.kk.
-pub(crate) const SHARED_PAIR: &str = "type list<a> { Nil; Cons(head: a, tail: list<a>) }
-fun build(n: int32): list<int32>
-  if n == 0 then Nil else Cons(n, build(n - 1))
-fun len(xs: list<a>): int32
-  match xs
-    Nil -> 0
-    Cons(_, xx) -> 1 + len(xx)
-type pair { Pair(fst: list<int32>, snd: list<int32>) }
+pub(crate) const SHARED_PAIR: &str = with_lists!(
+    "type pair { Pair(fst: list<int32>, snd: list<int32>) }
 fun main()
   val s = Cons(1, Nil)
   match Pair(s, s)
     Pair(a, b) -> println(len(a) + len(b))
-";
+"
+);
 
 /// The text of examples/depth.kk.
-const DEPTH_OF_CALLS: &str = "type list<a> { Nil; Cons(head: a, tail: list<a>) }
-fun build(n: int32): list<int32>
-  if n == 0 then Nil else Cons(n, build(n - 1))
-fun len(xs: list<a>): int32
-  match xs
-    Nil -> 0
-    Cons(_, xx) -> 1 + len(xx)
-fun main()
+const DEPTH_OF_CALLS: &str = with_lists!(
+    "fun main()
   println(len(build(3)))
-";
+"
+);
 
 /// The cells of the list are held as tokens while `summed` goes down it.
 pub(crate) const HELD: &str = "type list<a> { Nil; Cons(head: a, tail: list<a>) }

@@ -2,16 +2,15 @@
 
 ghost use Rattle.kk_base.specs.Sizes.{AreSizes};
 
-use crate::layers::{DEPTH, HELD, REVERSE, SHARED_PAIR};
+use crate::layers::{DEPTH, HELD, REVERSE, SHARED_PAIR, with_increment};
 use crate::token_heap::{Heap, Value};
 use crate::token_machine::{End, TokenMachine};
+use crate::tokens::compiled;
 use kk_base::{GREATEST_CELLS, GREATEST_DEPTH, NoMemory};
 use kk_build::build;
 use kk_core::ConstructorShape;
 use kk_counted::Tokened;
-use kk_front::{accepted_programs_are_typed, read};
 use kk_memio::{MemSink, MemSource};
-use kk_middle::compile;
 use kk_syntax::{Accepted, StringLiteral};
 use rv_sim::{Halt, Machine};
 use std::alloc::Global;
@@ -107,14 +106,8 @@ fun main()
 ";
 
 /// Lists that are shared and lists that are not are incremented, and one is put before another.
-const INCREMENT: &str = "type list<a> { Nil; Cons(head: a, tail: list<a>) }
-fun build(n: int32): list<int32>
-  if n == 0 then Nil else Cons(n, build(n - 1))
-fun inc(xs: list<int32>): list<int32>
-  match xs
-    Nil -> Nil
-    Cons(x, xx) -> Cons(x + 1, inc(xx))
-fun append(xs: list<int32>, ys: list<int32>): list<int32>
+const INCREMENT: &str = with_increment!(
+    "fun append(xs: list<int32>, ys: list<int32>): list<int32>
   match xs
     Nil -> ys
     Cons(x, xx) -> Cons(x, append(xx, ys))
@@ -127,7 +120,8 @@ fun main()
   val ys = append(inc(xs), xs)
   println(sum(inc(ys)))
   println(sum(inc(append(xs, xs))))
-";
+"
+);
 
 /// A field stays as it is, and a tree is mirrored in its own cells. Its leaves are shared.
 const MIRROR: &str = "type tree { Leaf(value: int32); Node(left: tree, right: tree) }
@@ -218,17 +212,14 @@ struct Compiled {
 }
 
 fn compile_text(alloc: Global, text: &'static str) -> Result<Compiled, Fail> {
-    let accepted = match read(alloc, text.as_bytes()) {
-        Ok(accepted) => accepted,
-        Err(_) => return Err(Fail::new("the text is refused")),
-    };
-    accepted_programs_are_typed();
-    let tokened = compile(alloc, &accepted)?;
-    Ok(Compiled {
-        text,
-        accepted,
-        tokened,
-    })
+    match compiled(alloc, text)? {
+        Some((accepted, tokened)) => Ok(Compiled {
+            text,
+            accepted,
+            tokened,
+        }),
+        None => Err(Fail::new("the text is refused")),
+    }
 }
 
 /// An image that has run on an empty input.

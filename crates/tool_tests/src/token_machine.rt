@@ -167,14 +167,14 @@ impl<'a> TokenMachine<'a> {
                 fields,
                 used,
                 slot,
-            } => self.open(*variable, *constructor, fields, used, *slot),
+            } => self.open(false, *variable, *constructor, fields, used, *slot),
             TokenedStep::IfUnique {
                 variable,
                 constructor,
                 fields,
                 used,
                 slot,
-            } => self.open_by_count(*variable, *constructor, fields, used, *slot),
+            } => self.open(true, *variable, *constructor, fields, used, *slot),
             TokenedStep::Dup { variable } => {
                 let value = self.value_of(*variable);
                 self.heap.dup(value)
@@ -264,9 +264,10 @@ impl<'a> TokenMachine<'a> {
         Ok(())
     }
 
-    /// A cell is opened: its used fields get a reference more, and one of the cell is given up.
+    /// A cell is opened, by its count or not, and the slot takes it if it is free then.
     fn open(
         &mut self,
+        by_count: bool,
         variable: u32,
         constructor: u32,
         fields: &[u32],
@@ -275,14 +276,44 @@ impl<'a> TokenMachine<'a> {
     ) -> Result<(), Fail> {
         let value = self.value_of(variable);
         let values = self.heap.fields(value, constructor, fields.len())?;
+        let mut opened = Vec::new(self.alloc);
         for (field, value) in fields.iter().zip(&values) {
-            if used.contains(field) {
-                self.heap.dup(*value)?;
-            }
+            opened.push((*value, used.contains(field)))?;
         }
-        self.heap.drop_value(value)?;
+        if by_count {
+            self.give_away(value, &opened)?;
+        } else {
+            self.give_more(value, &opened)?;
+        }
         self.gain_opened(value, slot)?;
         self.bind_all(fields, &values)
+    }
+
+    /// The used fields of a cell get a reference more, and one of the cell is given up.
+    fn give_more(&mut self, value: Value, fields: &[(Value, bool)]) -> Result<(), Fail> {
+        for (field, is_used) in fields {
+            if *is_used {
+                self.heap.dup(*field)?;
+            }
+        }
+        self.heap.drop_value(value)
+    }
+
+    /// A cell with one reference gives the used fields away, and the others are given up.
+    fn give_away(&mut self, value: Value, fields: &[(Value, bool)]) -> Result<(), Fail> {
+        let Value::Place(name) = value else {
+            return Err(Fail::new("no cell is opened"));
+        };
+        let left = self.heap.lower(name)?;
+        for (field, is_used) in fields {
+            if left == 0 && !*is_used {
+                self.heap.drop_value(*field)?;
+            }
+            if left > 0 && *is_used {
+                self.heap.dup(*field)?;
+            }
+        }
+        Ok(())
     }
 
     /// The slot takes a cell that was opened, if it is free.
@@ -293,34 +324,6 @@ impl<'a> TokenMachine<'a> {
         };
         let slot = self.slot(slot);
         self.heap.gain(slot, free)
-    }
-
-    /// A cell is opened by its count: its only reference gives the used fields away, and the others are given up.
-    fn open_by_count(
-        &mut self,
-        variable: u32,
-        constructor: u32,
-        fields: &[u32],
-        used: &[u32],
-        slot: u32,
-    ) -> Result<(), Fail> {
-        let value = self.value_of(variable);
-        let values = self.heap.fields(value, constructor, fields.len())?;
-        let Value::Place(name) = value else {
-            return Err(Fail::new("no cell is opened"));
-        };
-        let left = self.heap.lower(name)?;
-        for (field, value) in fields.iter().zip(&values) {
-            let is_used = used.contains(field);
-            if left == 0 && !is_used {
-                self.heap.drop_value(*value)?;
-            }
-            if left > 0 && is_used {
-                self.heap.dup(*value)?;
-            }
-        }
-        self.gain_opened(value, slot)?;
-        self.bind_all(fields, &values)
     }
 
     /// A form on values, whose value the variable takes.

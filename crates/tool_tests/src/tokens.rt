@@ -1,21 +1,22 @@
 //! The tokens of compiled programs.
 
-use crate::layers::{ARITHMETIC, REVERSE};
+use crate::layers::{ARITHMETIC, REVERSE, with_increment};
 use kk_base::NoMemory;
 use kk_counted::{Tokened, TokenedBlock, TokenedLast, TokenedStep};
 use kk_front::{accepted_programs_are_typed, read};
 use kk_middle::compile;
+use kk_syntax::Accepted;
 use std::alloc::Global;
 
-/// The code of a text with its tokens; none where the text is refused.
-fn compiled(alloc: Global, text: &str) -> Result<Option<Tokened>, NoMemory> {
+/// A text as it is accepted, and its code with tokens; none where the text is refused.
+pub(crate) fn compiled(alloc: Global, text: &str) -> Result<Option<(Accepted, Tokened)>, NoMemory> {
     let accepted = match read(alloc, text.as_bytes()) {
         Ok(accepted) => accepted,
         Err(_) => return Ok(None),
     };
     accepted_programs_are_typed();
     let made = compile(alloc, &accepted)?;
-    Ok(Some(made))
+    Ok(Some((accepted, made)))
 }
 
 /// Whether a block has a construction in the cell of a token.
@@ -81,24 +82,19 @@ fn arms_of(program: &Tokened) -> Arms {
 #[test]
 fn a_list_is_reversed_in_its_own_cells(rt: HostRuntime) -> Result<(), NoMemory> {
     let reverse = compiled(rt.alloc(), REVERSE)?;
-    assert!(rt; matches!(&reverse, Some(program) if arms_of(program).fill));
+    assert!(rt; matches!(&reverse, Some((_, program)) if arms_of(program).fill));
     let arithmetic = compiled(rt.alloc(), ARITHMETIC)?;
-    assert!(rt; matches!(&arithmetic, Some(program) if !arms_of(program).fill));
+    assert!(rt; matches!(&arithmetic, Some((_, program)) if !arms_of(program).fill));
     Ok(())
 }
 
-const INCREMENT: &str = "type list<a> { Nil; Cons(head: a, tail: list<a>) }
-fun build(n: int32): list<int32>
-  if n == 0 then Nil else Cons(n, build(n - 1))
-fun inc(xs: list<int32>): list<int32>
-  match xs
-    Nil -> Nil
-    Cons(x, xx) -> Cons(x + 1, inc(xx))
-fun main()
+const INCREMENT: &str = with_increment!(
+    "fun main()
   match inc(build(3))
     Cons(x, _) -> println(x)
     Nil -> println(0)
-";
+"
+);
 
 const KEEP: &str = "type two { P(a: int32, b: int32) }
 fun keep(p: two): two { match p { P(x, y) -> { val x = 9; P(x, y) } } }
@@ -114,7 +110,9 @@ fun main() { match j(Box(1)) { Box(r) -> println(r) } }
 #[test]
 fn a_row_opens_its_cell_once(rt: HostRuntime) -> Result<(), NoMemory> {
     let increment = compiled(rt.alloc(), INCREMENT)?;
-    assert!(rt; matches!(&increment, Some(program) if arms_of(program).open_a_cell_and_fill_it));
+    assert!(rt;
+        matches!(&increment, Some((_, program)) if arms_of(program).open_a_cell_and_fill_it)
+    );
     Ok(())
 }
 
@@ -122,7 +120,7 @@ fn a_row_opens_its_cell_once(rt: HostRuntime) -> Result<(), NoMemory> {
 #[test]
 fn a_field_that_stays_is_left(rt: HostRuntime) -> Result<(), NoMemory> {
     let keep = compiled(rt.alloc(), KEEP)?;
-    assert!(rt; matches!(&keep, Some(program) if arms_of(program).leave_the_second_field));
+    assert!(rt; matches!(&keep, Some((_, program)) if arms_of(program).leave_the_second_field));
     Ok(())
 }
 
@@ -130,7 +128,7 @@ fn a_field_that_stays_is_left(rt: HostRuntime) -> Result<(), NoMemory> {
 #[test]
 fn a_cell_leaves_a_match(rt: HostRuntime) -> Result<(), NoMemory> {
     let leaves = compiled(rt.alloc(), LEAVES_MATCH)?;
-    let Some(program) = leaves else {
+    let Some((_, program)) = leaves else {
         assert!(rt; false);
         return Ok(());
     };

@@ -1,4 +1,4 @@
-use Rattle.std.proofs.Common.{◌≡◌, true, false, List, [], ◌∷◌, refl, ap, ◌∙◌}
+use Rattle.std.proofs.Common.{false, [], ◌∷◌, refl, ap, ◌∙◌}
 use Rattle.kk_counted.specs.Drafts.{given, unpacked, forked, ended_by_value}
 use Rattle.kk_counted.specs.CountedForms.{decisions_of}
 use Rattle.counted_tests.proofs.FunctionMarks.{same_begun, entered_same, two_ends}

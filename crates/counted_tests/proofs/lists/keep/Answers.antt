@@ -1,12 +1,12 @@
-use Rattle.std.proofs.Common.{◌≡◌, true, pos, List, [], ◌∷◌, refl, sym, ap, ◌∙◌}
+use Rattle.std.proofs.Common.{true, pos, [], ◌∷◌, sym, ap, ◌∙◌}
 use Rattle.kk_syntax.specs.declared.program.Form.TheVariants.{Number, Construct}
-use Rattle.kk_counted.specs.Drafts.{unpacked, given, computed, fields_given}
+use Rattle.kk_counted.specs.Drafts.{fields_given}
 use Rattle.kk_counted.specs.TokenEmissions.{counted_of}
 use Rattle.counted_tests.proofs.FunctionMarks.{same_begun, given_same, unpacked_same, computed_same, only_taken, ended_marked, keep_marked}
 use Rattle.counted_tests.proofs.lists.keep.Goals as goal
 
-pub finish-requires-clause-marked : goal.finish-requires-clause-marked
-finish-requires-clause-marked c =
+pub completed-requires-clause-marked : goal.completed-requires-clause-marked
+completed-requires-clause-marked c =
     let begun = same_begun _ _ _ _ _ _ _ c.requires.positions c.requires.fields c.requires.marks c.in_ok-emitter.ensures.ok in
     let cell = given_same _ _ _ c.in_ok-cell.ensures.ok begun in
     let opened = unpacked_same true _ 0 2 _ _ _ c.in-Ok.ensures.ok cell c.in_ok-cell.ensures.owed.1 in

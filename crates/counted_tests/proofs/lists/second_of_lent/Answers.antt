@@ -1,11 +1,11 @@
-use Rattle.std.proofs.Common.{◌≡◌, ◌+◌, refl, ap, ◌∙◌}
+use Rattle.std.proofs.Common.{◌+◌, ap, ◌∙◌}
 use Rattle.kk_counted.specs.Drafts.{looked, duplicated}
 use Rattle.kk_counted.specs.TokenEmissions.{counted_of}
 use Rattle.counted_tests.proofs.FunctionMarks.{same_begun, ended_marked, second_marked}
 use Rattle.counted_tests.proofs.lists.second_of_lent.Goals as goal
 
-pub finish-requires-clause-marked : goal.finish-requires-clause-marked
-finish-requires-clause-marked c =
+pub completed-requires-clause-marked : goal.completed-requires-clause-marked
+completed-requires-clause-marked c =
     let begun = same_begun _ _ _ _ _ _ _ c.requires.positions c.requires.fields c.requires.marks c.in_ok-emitter.ensures.ok in
     let read = c.in_ok-field.ensures.ok ∙ ap (λ d. looked d 0 0 0) begun in
     let field = c.in_ok-field.ensures.variable ∙ ap (λ d. d.next + 1) begun in
